@@ -1,0 +1,17 @@
+//! The language: a script's parts, a part's tokens, and the statement that they spell.
+#![tactic(auto)]
+
+mod fault;
+mod name;
+mod rows;
+mod token;
+mod tree;
+
+pub use fault::SqlFault;
+pub use name::Name;
+pub use rows::ValueRows;
+pub use token::{CompareOp, Span, Symbol, Token, TokenKind};
+pub use tree::{
+    ColumnDefinition, Condition, CreateTable, Insert, KindWord, LayoutWord, Operand, Select,
+    SelectItems, Statement, Value,
+};

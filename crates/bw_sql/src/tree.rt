@@ -1,0 +1,84 @@
+//! Statement trees.
+
+use crate::name::Name;
+use crate::rows::ValueRows;
+use crate::token::CompareOp;
+
+/// A number, or `None` for NULL.
+pub type Value = Option<i64>;
+
+/// A statement.
+#[derive(Debug, Drop)]
+pub enum Statement {
+    CreateTable(CreateTable),
+    Insert(Insert),
+    Select(Select),
+}
+
+/// `CREATE TABLE table (columns)`.
+#[derive(Debug, Drop)]
+pub struct CreateTable {
+    pub table: Name,
+    pub columns: Vec<ColumnDefinition>,
+}
+
+/// `name INTEGER [USING layout] [kind]`.
+#[derive(Debug, Drop)]
+pub struct ColumnDefinition {
+    pub name: Name,
+    pub layout: Option<LayoutWord>,
+    pub kind: Option<KindWord>,
+}
+
+/// How a column lies in memory, as it is spelled.
+#[derive(Clone, Copy, Debug, PartialEq, Eq)]
+pub enum LayoutWord {
+    P,
+    V,
+    H,
+    S,
+}
+
+/// How a column's values become codes, as it is spelled.
+#[derive(Clone, Copy, Debug, PartialEq, Eq)]
+pub enum KindWord {
+    Offset,
+    Dictionary,
+}
+
+/// `INSERT INTO table [(columns)] VALUES rows`.
+#[derive(Debug, Drop)]
+pub struct Insert {
+    pub table: Name,
+    pub columns: Option<Vec<Name>>,
+    pub rows: ValueRows,
+}
+
+/// `SELECT items FROM table [WHERE condition]`.
+#[derive(Debug, Drop)]
+pub struct Select {
+    pub items: SelectItems,
+    pub table: Name,
+    pub condition: Option<Condition>,
+}
+
+/// What a SELECT shows.
+#[derive(Debug, Drop)]
+pub enum SelectItems {
+    /// `*`: every column.
+    All,
+    Columns(Vec<Name>),
+}
+
+/// A condition on a row.
+#[derive(Debug, Drop)]
+pub enum Condition {
+    Compare(Operand, CompareOp, Operand),
+}
+
+/// What a comparison looks at.
+#[derive(Debug, Drop)]
+pub enum Operand {
+    Column(Name),
+    Constant(Value),
+}
