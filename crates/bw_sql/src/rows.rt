@@ -38,14 +38,14 @@ impl ValueRows {
     pub fn len(&self) -> usize
         ensures { result ≡ length self.now }
     {
-        self.widths.len()
+        self.widths.as_slice().len()
     }
 
     /// Whether every row has this many values.
     pub fn are_all_of_width(&self, width: usize) -> bool
         ensures { IsTrue result ↔ All (λ row. length row ≡ width) self.now }
     {
-        self.widths.iter().all(|w| *w == width)
+        are_all(self.widths.as_slice(), width)
     }
 
     /// The values of all rows, one row after the other.
@@ -54,4 +54,10 @@ impl ValueRows {
     {
         self.values.as_slice()
     }
+}
+
+fn are_all(widths: &[usize], width: usize) -> bool
+    ensures { IsTrue result ↔ All (λ w. w ≡ width) widths.now }
+{
+    widths.iter().all(|w| *w == width)
 }

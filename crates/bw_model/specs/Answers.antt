@@ -1,0 +1,19 @@
+-- The rows that a statement answers: headings, and lines of as many cells (SQL-92, query expression).
+use Rattle.std.specs.Prelude.{◌≡◌, ◌*◌, ◌/◌, ◌<◌, ℕ, List, [], ◌∷◌, length, replicate}
+use Rattle.bw_sql.specs.Rows.{rows_of}
+use Rattle.bw_model.specs.declared.answer.Heading.{Heading}
+use Rattle.bw_model.specs.declared.answer.Cell.{Cell}
+
+pub record Shown : Type 0 where
+  pub headings : List Heading
+  pub lines : List (List Cell)
+
+-- cells that lie flat are lines of this width, and none is left over
+pub record AreWholeLines (width : ℕ) (cells : List Cell) : Type 0 where
+  pub some : 0 < width
+  pub count : ℕ
+  pub whole : length cells ≡ count * width
+
+-- the lines of this width
+abbrev pub lines_of : ℕ → List Cell → List (List Cell)
+lines_of width cells = rows_of (replicate (length cells / width) width) cells

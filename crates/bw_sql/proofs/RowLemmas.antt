@@ -1,0 +1,39 @@
+-- Rows that lie flat.
+use Rattle.std.proofs.Common.{◌≡◌, ℕ, ◌+◌, ◌-◌, ◌≤◌, List, [], ◌∷◌, ◌++◌, length, sum, take, drop, suc, refl, sym, ap, ◌∙◌, arith, append-nil, length-append, length-drop, length-take, take-append-drop, append_assoc}
+use Rattle.std.proofs.lemmas.List.{take_all, take-append-le}
+use Rattle.std.proofs.lemmas.List.Sums.{sum_by-cons}
+use Rattle.std.specs.List.{All}
+use Rattle.std.proofs.lemmas.List.Elements.{All-cons, All-head, All-tail, All-nil}
+use Rattle.bw_sql.specs.Rows.{joined, rows_of}
+
+sum-cons : (w : ℕ) (widths : List ℕ) → sum (w ∷ widths) ≡ w + sum widths
+sum-cons w widths = sum_by-cons (λ n. n) w widths
+
+-- a sum that starts at the first row's width
+rest_fits : {A : Type 0} (w : ℕ) (widths : List ℕ) (values : List A) → sum (w ∷ widths) ≡ length values → sum widths ≡ length (drop w values)
+rest_fits w widths values e = omega (arith, sum-cons w widths, length-drop w values)
+
+first_fits : {A : Type 0} (w : ℕ) (widths : List ℕ) (values : List A) → sum (w ∷ widths) ≡ length values → length (take w values) ≡ w
+first_fits w widths values e = omega (arith, sum-cons w widths, length-take w values)
+
+module _ {A : Type 0} where
+  pub length-rows_of : (widths : List ℕ) (values : List A) → length (rows_of widths values) ≡ length widths
+  length-rows_of [] values = refl
+  length-rows_of (w ∷ widths) values = ap (λ n. suc n) (length-rows_of widths (drop w values))
+
+  pub joined-rows_of : (widths : List ℕ) (values : List A) → sum widths ≡ length values → joined (rows_of widths values) ≡ values
+  joined-rows_of [] [] e = refl
+  joined-rows_of [] (v ∷ values) e = absurd (omega arith)
+  joined-rows_of (w ∷ widths) values e =
+      ap (λ l. take w values ++ l) (joined-rows_of widths (drop w values) (rest_fits w widths values e)) ∙ take-append-drop w values
+
+  -- each row is as long as its width
+  pub rows_as_wide : (n : ℕ) (widths : List ℕ) (values : List A) → sum widths ≡ length values → All (λ w. w ≡ n) widths → All (λ row. length row ≡ n) (rows_of widths values)
+  rows_as_wide n [] values e all = All-nil (λ row. length row ≡ n)
+  rows_as_wide n (w ∷ widths) values e all =
+      All-cons (λ row. length row ≡ n) (take w values) (rows_of widths (drop w values)) (first_fits w widths values e ∙ All-head (λ w. w ≡ n) w widths all) (rows_as_wide n widths (drop w values) (rest_fits w widths values e) (All-tail (λ w. w ≡ n) w widths all))
+
+  pub widths_as_rows : (n : ℕ) (widths : List ℕ) (values : List A) → sum widths ≡ length values → All (λ row. length row ≡ n) (rows_of widths values) → All (λ w. w ≡ n) widths
+  widths_as_rows n [] values e all = All-nil (λ w. w ≡ n)
+  widths_as_rows n (w ∷ widths) values e all =
+      All-cons (λ w. w ≡ n) w widths (sym (first_fits w widths values e) ∙ All-head (λ row. length row ≡ n) (take w values) (rows_of widths (drop w values)) all) (widths_as_rows n widths (drop w values) (rest_fits w widths values e) (All-tail (λ row. length row ≡ n) (take w values) (rows_of widths (drop w values)) all))
