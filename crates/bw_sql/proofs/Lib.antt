@@ -1,1 +1,4 @@
 pub mod RowLemmas
+pub mod RowRuns
+pub mod Runs
+pub mod Spelling

@@ -1,7 +1,7 @@
 -- Rows that lie flat.
-use Rattle.std.proofs.Common.{◌≡◌, ℕ, ◌+◌, ◌-◌, ◌≤◌, List, [], ◌∷◌, ◌++◌, length, sum, take, drop, suc, refl, sym, ap, ◌∙◌, arith, append-nil, length-append, length-drop, length-take, take-append-drop, append_assoc}
-use Rattle.std.proofs.lemmas.List.{take_all, take-append-le}
-use Rattle.std.proofs.lemmas.List.Sums.{sum_by-cons}
+use Rattle.std.proofs.Common.{◌≡◌, ℕ, ◌+◌, ◌-◌, ◌≤◌, List, [], ◌∷◌, ◌++◌, length, sum, take, drop, suc, refl, sym, ap, ◌∙◌, arith, append-nil, length-append, length-drop, length-take, take-append-drop, append_assoc, add-zero}
+use Rattle.std.proofs.lemmas.List.{drop-append-le, take_all, take-append-le}
+use Rattle.std.proofs.lemmas.List.Sums.{sum_by-append, sum_by-cons}
 use Rattle.std.specs.List.{All}
 use Rattle.std.proofs.lemmas.List.Elements.{All-cons, All-head, All-tail, All-nil}
 use Rattle.bw_sql.specs.Rows.{joined, rows_of}
@@ -37,3 +37,18 @@ module _ {A : Type 0} where
   widths_as_rows n [] values e all = All-nil (λ w. w ≡ n)
   widths_as_rows n (w ∷ widths) values e all =
       All-cons (λ w. w ≡ n) w widths (sym (first_fits w widths values e) ∙ All-head (λ row. length row ≡ n) (take w values) (rows_of widths (drop w values)) all) (widths_as_rows n widths (drop w values) (rest_fits w widths values e) (All-tail (λ row. length row ≡ n) (take w values) (rows_of widths (drop w values)) all))
+
+pub sum-push : (widths : List ℕ) (w : ℕ) → sum (widths ++ w ∷ []) ≡ sum widths + w
+sum-push widths w = sum_by-append (λ n. n) widths (w ∷ []) ∙ ap (λ n. sum widths + n) (sum-cons w [] ∙ add-zero w)
+
+take_front : {A : Type 0} (xs ys : List A) (n : ℕ) → n ≡ length xs → take n (xs ++ ys) ≡ xs
+take_front xs ys n e = rw e (take-append-le (length xs) xs ys (omega arith) ∙ take_all (length xs) xs (omega arith))
+
+-- one more row at the end
+pub rows_of-push : {A : Type 0} (widths : List ℕ) (values row : List A) (width : ℕ) → sum widths ≡ length values → width ≡ length row → rows_of (widths ++ width ∷ []) (values ++ row) ≡ rows_of widths values ++ row ∷ []
+rows_of-push [] [] row width e wide = ap (λ l. l ∷ []) (take_all width row (omega arith))
+rows_of-push [] (v ∷ values) row width e wide = absurd (omega arith)
+rows_of-push (w ∷ widths) values row width e wide =
+    let fits : w ≤ length values = omega (arith, sum-cons w widths) in
+    rw (take-append-le w values row fits, drop-append-le w values row fits)
+    (ap (λ l. take w values ∷ l) (rows_of-push widths (drop w values) row width (rest_fits w widths values e) wide))

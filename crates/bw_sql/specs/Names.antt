@@ -1,21 +1,32 @@
 -- Names and reserved words: SQL-92's regular identifiers, of at most 128 bytes, kept in upper case.
-use Rattle.std.specs.Prelude.{◌≡◌, ℕ, ◌≤◌, Bool, true, false, ◌&&◌, ◌||◌, ◌==◌, not, nat_le, List, [], ◌∷◌, length, codes, IsTrue}
-use Rattle.std.specs.List.{list_all, list_any}
+use Rattle.std.specs.Prelude.{◌≡◌, ℕ, ◌≤◌, Bool, true, false, ◌&&◌, ◌||◌, ◌==◌, not, nat_le, List, [], ◌∷◌, length, codes, IsTrue, Option, Some, None, is_none, if◌then◌else◌}
+use Rattle.std.specs.List.{list_all}
 use Rattle.std.specs.Char.{is_ascii_uppercase, is_ascii_digit}
 use Rattle.std.specs.Str.{bytes_eq}
+use Rattle.bw_sql.specs.declared.keyword.Keyword.{Keyword}
+use Rattle.bw_sql.specs.declared.keyword.Keyword.TheVariants as k
 
--- the words that are never a name
-unfoldable pub reserved_words : List (List ℕ)
+-- the reserved words and their spellings, in upper case
+unfoldable pub reserved_words : List (List ℕ × Keyword)
 reserved_words =
-    codes "AND" ∷ codes "BETWEEN" ∷ codes "BIGINT" ∷ codes "BY" ∷ codes "COUNT" ∷ codes "CREATE"
-    ∷ codes "DELETE" ∷ codes "DROP" ∷ codes "FALSE" ∷ codes "FROM" ∷ codes "GROUP" ∷ codes "IN"
-    ∷ codes "INSERT" ∷ codes "INT" ∷ codes "INTEGER" ∷ codes "INTO" ∷ codes "IS" ∷ codes "MAX"
-    ∷ codes "MEDIAN" ∷ codes "MIN" ∷ codes "NOT" ∷ codes "NULL" ∷ codes "OPEN" ∷ codes "OR"
-    ∷ codes "SELECT" ∷ codes "SET" ∷ codes "SUM" ∷ codes "TABLE" ∷ codes "TO" ∷ codes "TRUE"
-    ∷ codes "UNKNOWN" ∷ codes "UPDATE" ∷ codes "USING" ∷ codes "VALUES" ∷ codes "WHERE" ∷ codes "WITH" ∷ []
+    (codes "AND", k.And) ∷ (codes "BETWEEN", k.Between) ∷ (codes "BIGINT", k.Bigint) ∷ (codes "BY", k.By)
+    ∷ (codes "COUNT", k.Count) ∷ (codes "CREATE", k.Create) ∷ (codes "DELETE", k.Delete) ∷ (codes "DROP", k.Drop)
+    ∷ (codes "FALSE", k.False) ∷ (codes "FROM", k.From) ∷ (codes "GROUP", k.Group) ∷ (codes "IN", k.In)
+    ∷ (codes "INSERT", k.Insert) ∷ (codes "INT", k.Int) ∷ (codes "INTEGER", k.Integer) ∷ (codes "INTO", k.Into)
+    ∷ (codes "IS", k.Is) ∷ (codes "MAX", k.Max) ∷ (codes "MEDIAN", k.Median) ∷ (codes "MIN", k.Min)
+    ∷ (codes "NOT", k.Not) ∷ (codes "NULL", k.Null) ∷ (codes "OPEN", k.Open) ∷ (codes "OR", k.Or)
+    ∷ (codes "SELECT", k.Select) ∷ (codes "SET", k.Set) ∷ (codes "SUM", k.Sum) ∷ (codes "TABLE", k.Table)
+    ∷ (codes "TO", k.To) ∷ (codes "TRUE", k.True) ∷ (codes "UNKNOWN", k.Unknown) ∷ (codes "UPDATE", k.Update)
+    ∷ (codes "USING", k.Using) ∷ (codes "VALUES", k.Values) ∷ (codes "WHERE", k.Where) ∷ (codes "WITH", k.With) ∷ []
 
-unfoldable pub is_reserved : List ℕ → Bool
-is_reserved word = list_any (bytes_eq word) reserved_words
+-- the reserved word among these that is spelled so
+abbrev pub spelled_among : List (List ℕ × Keyword) → List ℕ → Option Keyword
+spelled_among [] word = None
+spelled_among (entry ∷ entries) word = if bytes_eq word entry.0 then Some entry.1 else spelled_among entries word
+
+-- the reserved word that is spelled so, in upper case
+unfoldable pub keyword_of : List ℕ → Option Keyword
+keyword_of word = spelled_among reserved_words word
 
 -- a capital letter, a digit or _
 abbrev pub is_name_byte : ℕ → Bool
@@ -27,7 +38,7 @@ begins_with_letter (b ∷ bytes) = is_ascii_uppercase b
 
 -- whether these bytes are a name, in upper case
 unfoldable pub is_name : List ℕ → Bool
-is_name bytes = begins_with_letter bytes && list_all is_name_byte bytes && nat_le (length bytes) 128 && not (is_reserved bytes)
+is_name bytes = begins_with_letter bytes && list_all is_name_byte bytes && nat_le (length bytes) 128 && is_none (keyword_of bytes)
 
 abbrev pub IsName : List ℕ → Type 0
 IsName bytes = IsTrue (is_name bytes)

@@ -2,12 +2,16 @@
 #![tactic(auto)]
 
 mod fault;
+mod keyword;
 mod name;
+mod parser;
 mod rows;
+mod terminal;
 mod token;
 mod tree;
 
 pub use fault::SqlFault;
+pub use keyword::Keyword;
 pub use name::Name;
 pub use rows::ValueRows;
 pub use token::{CompareOp, Span, Symbol, Token, TokenKind};

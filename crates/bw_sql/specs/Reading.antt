@@ -1,0 +1,239 @@
+-- Reading terminals from the left: the grammar as functions, which the parser's private functions cite.
+use Rattle.std.specs.Prelude.{◌≡◌, ℕ, ℤ, ◌^◌, ◌<◌, zero, suc, pos, neg_ℤ, nat_lt, nat_le, if◌then◌else◌, List, [], ◌∷◌, ◌++◌, length, codes, Option, Some, None, Result, Ok, Err}
+use Rattle.std.specs.Option.{option_and_then}
+use Rattle.std.specs.Str.{bytes_eq}
+use Rattle.bw_sql.specs.declared.fault.SqlFault.{SqlFault}
+use Rattle.bw_sql.specs.declared.fault.SqlFault.TheVariants as faults
+use Rattle.bw_sql.specs.declared.keyword.Keyword.TheVariants as k
+use Rattle.bw_sql.specs.declared.token.CompareOp.{CompareOp}
+use Rattle.bw_sql.specs.declared.token.Symbol.TheVariants as s
+use Rattle.bw_sql.specs.declared.terminal.Terminal.{Terminal}
+use Rattle.bw_sql.specs.declared.terminal.Terminal.TheVariants as t
+use Rattle.bw_sql.specs.declared.tree.LayoutWord.{LayoutWord}
+use Rattle.bw_sql.specs.declared.tree.LayoutWord.TheVariants.{P, V, H, S}
+use Rattle.bw_sql.specs.declared.tree.KindWord.{KindWord}
+use Rattle.bw_sql.specs.declared.tree.KindWord.TheVariants.{Offset, Dictionary}
+use Rattle.bw_sql.specs.declared.tree.Operand.TheVariants.{Column, Constant}
+use Rattle.bw_sql.specs.declared.tree.ColumnDefinition.{ColumnDefinition}
+use Rattle.bw_sql.specs.Words.{kind_of, layout_of}
+use Rattle.bw_sql.specs.Tree.{ConditionTree, comparison, ItemsTree, all_columns, columns, StatementTree, create_table, insert, select}
+
+-- what is read, and the terminals after it; none is a syntax error
+abbrev pub Read : Type 0 → Type 0
+Read A = Option (A × List Terminal)
+
+infixl 10 ◌>>=◌
+abbrev pub ◌>>=◌ : {A B : Type 0} → Option A → (A → Option B) → Option B
+o >>= f = option_and_then f o
+
+-- What a function returned, and the terminals that it left, are what reading gives, unless memory ran out.
+abbrev pub Fails : {A : Type 0} → SqlFault → Option A → Type 0
+Fails faults.Memory read = Unit {0}
+Fails faults.Syntax read = read ≡ None
+Fails faults.TooLong read = ⊥
+Fails faults.TooDeep read = ⊥
+Fails faults.BigNumber read = ⊥
+
+abbrev pub Gives : {X A : Type 0} → (X → A) → Result X SqlFault → List Terminal → Read A → Type 0
+Gives view (Ok x) rest read = read ≡ Some (view x, rest)
+Gives view (Err e) rest read = Fails e read
+
+-- the same of a whole statement, behind which nothing is left
+abbrev pub GivesAll : {X A : Type 0} → (X → A) → Result X SqlFault → Option A → Type 0
+GivesAll view (Ok x) read = read ≡ Some (view x)
+GivesAll view (Err e) read = Fails e read
+
+-- a row was appended to the values
+pub record AppendsRow (old_values new_values : List (Option ℤ)) (width : ℕ) (read : ℕ → List Terminal → Read (List (Option ℤ))) (old new : List Terminal) : Type 0 where
+  pub row : List (Option ℤ)
+  pub appended : new_values ≡ old_values ++ row
+  pub wide : width ≡ length row
+  pub found : (n : ℕ) → length old < n → read n old ≡ Some (row, new)
+
+abbrev pub GivesRow : List (Option ℤ) → List (Option ℤ) → Result ℕ SqlFault → (ℕ → List Terminal → Read (List (Option ℤ))) → List Terminal → List Terminal → Type 0
+GivesRow old_values new_values (Ok width) read old new = AppendsRow old_values new_values width read old new
+GivesRow old_values new_values (Err e) read old new = (n : ℕ) → length old < n → Fails e (read n old)
+
+abbrev pub after_comma : List Terminal → Option (List Terminal)
+after_comma (t.Symbol s.Comma ∷ ts) = Some ts
+after_comma _ = None
+
+abbrev pub after_open : List Terminal → Option (List Terminal)
+after_open (t.Symbol s.Open ∷ ts) = Some ts
+after_open _ = None
+
+abbrev pub after_close : List Terminal → Option (List Terminal)
+after_close (t.Symbol s.Close ∷ ts) = Some ts
+after_close _ = None
+
+abbrev pub after_table : List Terminal → Option (List Terminal)
+after_table (t.Keyword k.Table ∷ ts) = Some ts
+after_table _ = None
+
+abbrev pub after_into : List Terminal → Option (List Terminal)
+after_into (t.Keyword k.Into ∷ ts) = Some ts
+after_into _ = None
+
+abbrev pub after_values : List Terminal → Option (List Terminal)
+after_values (t.Keyword k.Values ∷ ts) = Some ts
+after_values _ = None
+
+abbrev pub after_from : List Terminal → Option (List Terminal)
+after_from (t.Keyword k.From ∷ ts) = Some ts
+after_from _ = None
+
+abbrev pub after_type : List Terminal → Option (List Terminal)
+after_type (t.Keyword k.Integer ∷ ts) = Some ts
+after_type (t.Keyword k.Int ∷ ts) = Some ts
+after_type _ = None
+
+-- with one more value in front
+abbrev pub with_first : {A : Type 0} → A → Read (List A) → Read (List A)
+with_first x read = read >>= λ y. Some (x ∷ y.0, y.1)
+
+-- with more values in front
+abbrev pub with_front : {A : Type 0} → List A → Read (List A) → Read (List A)
+with_front xs read = read >>= λ y. Some (xs ++ y.0, y.1)
+
+-- one more value and what follows it, behind a separator; else nothing
+abbrev pub go_on : {A : Type 0} → (List Terminal → Read A) → (List Terminal → Read (List A)) → List Terminal → Option (List Terminal) → Read (List A)
+go_on read more rest None = Some ([], rest)
+go_on read more rest (Some ts) = read ts >>= λ x. with_first x.0 (more x.1)
+
+-- values with a separator before each, n at most
+unfoldable pub more_at : {A : Type 0} → (List Terminal → Option (List Terminal)) → (List Terminal → Read A) → ℕ → List Terminal → Read (List A)
+more_at after read zero ts = None
+more_at after read (suc n) ts = go_on read (more_at after read n) ts (after ts)
+
+-- values with a separator between two of them
+unfoldable pub parts_at : {A : Type 0} → (List Terminal → Option (List Terminal)) → (List Terminal → Read A) → ℕ → List Terminal → Read (List A)
+parts_at after read n ts = read ts >>= λ x. with_first x.0 (more_at after read n x.1)
+
+abbrev pub map_first : {A B : Type 0} → (A → B) → Read A → Read B
+map_first f read = read >>= λ x. Some (f x.0, x.1)
+
+-- a value, where there is one, and the rest
+abbrev pub with_rest : {A : Type 0} → Option A → List Terminal → Read A
+with_rest None rest = None
+with_rest (Some x) rest = Some (x, rest)
+
+-- a value, where something that is wanted stood before the rest
+abbrev pub closed : {A : Type 0} → A → Option (List Terminal) → Read A
+closed x None = None
+closed x (Some rest) = Some (x, rest)
+
+unfoldable pub name_at : List Terminal → Read (List ℕ)
+name_at (t.Name name ∷ ts) = Some (name, ts)
+name_at _ = None
+
+unfoldable pub names_at : ℕ → List Terminal → Read (List (List ℕ))
+names_at n ts = parts_at after_comma name_at n ts
+
+unfoldable pub number_at : List Terminal → Read ℕ
+number_at (t.Number n ∷ ts) = Some (n, ts)
+number_at _ = None
+
+-- the number with a sign, where 64 bits hold it
+unfoldable pub positive : ℕ → Option ℤ
+positive n = if nat_lt n (2 ^ 63) then Some (pos n) else None
+
+unfoldable pub negative : ℕ → Option ℤ
+negative n = if nat_le n (2 ^ 63) then Some (neg_ℤ (pos n)) else None
+
+unfoldable pub literal_at : List Terminal → Read ℤ
+literal_at (t.Symbol s.Minus ∷ ts) = number_at ts >>= λ n. with_rest (negative n.0) n.1
+literal_at (t.Symbol s.Plus ∷ ts) = number_at ts >>= λ n. with_rest (positive n.0) n.1
+literal_at ts = number_at ts >>= λ n. with_rest (positive n.0) n.1
+
+unfoldable pub value_at : List Terminal → Read (Option ℤ)
+value_at (t.Keyword k.Null ∷ ts) = Some (None, ts)
+value_at ts = map_first Some (literal_at ts)
+
+unfoldable pub values_at : ℕ → List Terminal → Read (List (Option ℤ))
+values_at n ts = parts_at after_comma value_at n ts
+
+unfoldable pub row_at : ℕ → List Terminal → Read (List (Option ℤ))
+row_at n (t.Symbol s.Open ∷ ts) = values_at n ts >>= λ values. closed values.0 (after_close values.1)
+row_at n _ = None
+
+unfoldable pub rows_at : ℕ → List Terminal → Read (List (List (Option ℤ)))
+rows_at n ts = parts_at after_comma (row_at n) n ts
+
+unfoldable pub layout_at : List Terminal → Read LayoutWord
+layout_at (t.Name word ∷ ts) = with_rest (layout_of word) ts
+layout_at _ = None
+
+unfoldable pub using_at : List Terminal → Read (Option LayoutWord)
+using_at (t.Keyword k.Using ∷ ts) = map_first Some (layout_at ts)
+using_at ts = Some (None, ts)
+
+-- a kind is taken where there is one
+abbrev pub kind_taken : Option KindWord → List Terminal → List Terminal → Option KindWord × List Terminal
+kind_taken None before after = (None, before)
+kind_taken (Some word) before after = (Some word, after)
+
+unfoldable pub kind_at : List Terminal → Option KindWord × List Terminal
+kind_at (t.Name word ∷ ts) = kind_taken (kind_of word) (t.Name word ∷ ts) ts
+kind_at ts = (None, ts)
+
+abbrev pub defined : List ℕ → Option LayoutWord → Option KindWord × List Terminal → Read ColumnDefinition
+defined name layout kind = Some (record { name = name; layout = layout; kind = kind.0 }, kind.1)
+
+unfoldable pub column_at : List Terminal → Read ColumnDefinition
+column_at ts = name_at ts >>= λ name. after_type name.1 >>= λ us. using_at us >>= λ layout. defined name.0 layout.0 (kind_at layout.1)
+
+unfoldable pub columns_at : ℕ → List Terminal → Read (List ColumnDefinition)
+columns_at n ts = parts_at after_comma column_at n ts
+
+-- what follows CREATE
+unfoldable pub create_at : ℕ → List Terminal → Read StatementTree
+create_at n ts =
+    after_table ts >>= λ us. name_at us >>= λ name. after_open name.1 >>= λ vs. columns_at n vs >>= λ definitions.
+    closed (create_table name.0 definitions.0) (after_close definitions.1)
+
+unfoldable pub column_list_at : ℕ → List Terminal → Read (Option (List (List ℕ)))
+column_list_at n (t.Symbol s.Open ∷ ts) = names_at n ts >>= λ names. closed (Some names.0) (after_close names.1)
+column_list_at n ts = Some (None, ts)
+
+-- what follows INSERT
+unfoldable pub insert_at : ℕ → List Terminal → Read StatementTree
+insert_at n ts =
+    after_into ts >>= λ us. name_at us >>= λ name. column_list_at n name.1 >>= λ names. after_values names.1 >>= λ vs.
+    rows_at n vs >>= λ rows. Some (insert name.0 names.0 rows.0, rows.1)
+
+unfoldable pub items_at : ℕ → List Terminal → Read ItemsTree
+items_at n (t.Symbol s.Star ∷ ts) = Some (all_columns, ts)
+items_at n ts = map_first columns (names_at n ts)
+
+unfoldable pub compare_at : List Terminal → Read CompareOp
+compare_at (t.Symbol (s.Compare op) ∷ ts) = Some (op, ts)
+compare_at _ = None
+
+unfoldable pub condition_at : List Terminal → Read ConditionTree
+condition_at ts =
+    name_at ts >>= λ name. compare_at name.1 >>= λ op. literal_at op.1 >>= λ z.
+    Some (comparison (Column name.0) op.0 (Constant (Some z.0)), z.1)
+
+unfoldable pub filter_at : List Terminal → Read (Option ConditionTree)
+filter_at (t.Keyword k.Where ∷ ts) = map_first Some (condition_at ts)
+filter_at ts = Some (None, ts)
+
+-- what follows SELECT
+unfoldable pub select_at : ℕ → List Terminal → Read StatementTree
+select_at n ts =
+    items_at n ts >>= λ items. after_from items.1 >>= λ us. name_at us >>= λ table. filter_at table.1 >>= λ filter.
+    Some (select items.0 table.0 filter.0, filter.1)
+
+unfoldable pub statement_at : ℕ → List Terminal → Read StatementTree
+statement_at n (t.Keyword k.Create ∷ ts) = create_at n ts
+statement_at n (t.Keyword k.Insert ∷ ts) = insert_at n ts
+statement_at n (t.Keyword k.Select ∷ ts) = select_at n ts
+statement_at n _ = None
+
+-- nothing is left
+abbrev pub ended : {A : Type 0} → A → List Terminal → Option A
+ended x [] = Some x
+ended x (t ∷ ts) = None
+
+unfoldable pub whole_at : ℕ → List Terminal → Option StatementTree
+whole_at n ts = statement_at n ts >>= λ statement. ended statement.0 statement.1

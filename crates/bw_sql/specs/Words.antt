@@ -1,0 +1,29 @@
+-- Words that are names, and stand for a layout or a kind where the grammar has one.
+use Rattle.std.specs.Prelude.{ℕ, List, codes, Option, Some, None, if◌then◌else◌}
+use Rattle.std.specs.Str.{bytes_eq}
+use Rattle.bw_sql.specs.declared.tree.LayoutWord.{LayoutWord}
+use Rattle.bw_sql.specs.declared.tree.LayoutWord.TheVariants.{P, V, H, S}
+use Rattle.bw_sql.specs.declared.tree.KindWord.{KindWord}
+use Rattle.bw_sql.specs.declared.tree.KindWord.TheVariants.{Offset, Dictionary}
+
+-- how a layout is spelled
+abbrev pub layout_spelling : LayoutWord → List ℕ
+layout_spelling P = codes "P"
+layout_spelling V = codes "V"
+layout_spelling H = codes "H"
+layout_spelling S = codes "S"
+
+-- how a kind is spelled
+abbrev pub kind_spelling : KindWord → List ℕ
+kind_spelling Offset = codes "OFFSET"
+kind_spelling Dictionary = codes "DICTIONARY"
+
+unfoldable pub layout_of : List ℕ → Option LayoutWord
+layout_of word =
+    if bytes_eq word (codes "P") then Some P
+    else (if bytes_eq word (codes "V") then Some V
+    else (if bytes_eq word (codes "H") then Some H
+    else (if bytes_eq word (codes "S") then Some S else None)))
+
+unfoldable pub kind_of : List ℕ → Option KindWord
+kind_of word = if bytes_eq word (codes "OFFSET") then Some Offset else (if bytes_eq word (codes "DICTIONARY") then Some Dictionary else None)

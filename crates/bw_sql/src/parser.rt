@@ -1,0 +1,485 @@
+//! Statements out of terminals, read from the left.
+
+ghost use Rattle.std.specs.Prelude.{◌≡◌, ◌<◌, ◌≤◌, ◌∷◌, ℕ, List, MatchBool, MatchResult, OnOk, length, option_map};
+ghost use Rattle.bw_sql.specs.declared.terminal.Terminal.{Terminal};
+ghost use Rattle.bw_sql.specs.Reading as reading;
+ghost use Rattle.bw_sql.specs.Reading.{Gives, GivesAll, GivesRow};
+ghost use Rattle.bw_sql.specs.Tree.{condition_of, items_of, statement_of};
+
+use crate::fault::SqlFault;
+use crate::keyword::Keyword;
+use crate::name::Name;
+use crate::rows::ValueRows;
+use crate::terminal::Terminal;
+use crate::token::{CompareOp, Symbol};
+use crate::tree::{
+    ColumnDefinition, Condition, CreateTable, Insert, KindWord, LayoutWord, Operand, Select,
+    SelectItems, Statement, Value,
+};
+use std::alloc::Global;
+
+/// What is left of the terminals.
+#[derive(Drop)]
+struct Parser<'a> {
+    rest: &'a [Terminal<'a>],
+    alloc: Global,
+}
+
+impl<'a> Parser<'a> {
+    // Takes the next terminal where it is this symbol.
+    fn eat(&mut self, symbol: Symbol) -> bool
+        ensures { MatchBool result
+            (self.old.rest.now ≡ Terminal.Symbol symbol ∷ self.new.rest.now)
+            ((self.new.rest.now ≡ self.old.rest.now) × ((ts : List Terminal) → self.old.rest.now ≡ Terminal.Symbol symbol ∷ ts → ⊥)) }
+    {
+        match self.rest {
+            [first, rest @ ..] => match first {
+                Terminal::Symbol(found) if *found == symbol => {
+                    self.rest = rest;
+                    true
+                }
+                _ => false,
+            },
+            [] => false,
+        }
+    }
+
+    // Takes the next terminal where it is this reserved word.
+    fn eat_word(&mut self, keyword: Keyword) -> bool
+        ensures { MatchBool result
+            (self.old.rest.now ≡ Terminal.Keyword keyword ∷ self.new.rest.now)
+            ((self.new.rest.now ≡ self.old.rest.now) × ((ts : List Terminal) → self.old.rest.now ≡ Terminal.Keyword keyword ∷ ts → ⊥)) }
+    {
+        match self.rest {
+            [first, rest @ ..] => match first {
+                Terminal::Keyword(found) if *found == keyword => {
+                    self.rest = rest;
+                    true
+                }
+                _ => false,
+            },
+            [] => false,
+        }
+    }
+
+    // Takes this symbol, which has to be next.
+    fn take(&mut self, symbol: Symbol) -> Result<(), SqlFault>
+        ensures { MatchResult result
+            (λ _. self.old.rest.now ≡ Terminal.Symbol symbol ∷ self.new.rest.now)
+            (λ fault. (fault ≡ SqlFault.Syntax) × ((ts : List Terminal) → self.old.rest.now ≡ Terminal.Symbol symbol ∷ ts → ⊥)) }
+    {
+        if self.eat(symbol) {
+            Ok(())
+        } else {
+            Err(SqlFault::Syntax)
+        }
+    }
+
+    // Takes this reserved word, which has to be next.
+    fn take_word(&mut self, keyword: Keyword) -> Result<(), SqlFault>
+        ensures { MatchResult result
+            (λ _. self.old.rest.now ≡ Terminal.Keyword keyword ∷ self.new.rest.now)
+            (λ fault. (fault ≡ SqlFault.Syntax) × ((ts : List Terminal) → self.old.rest.now ≡ Terminal.Keyword keyword ∷ ts → ⊥)) }
+    {
+        if self.eat_word(keyword) {
+            Ok(())
+        } else {
+            Err(SqlFault::Syntax)
+        }
+    }
+
+    // name
+    #[tactic(auto, unfolding(crate::specs::Reading::name_at))]
+    fn name(&mut self) -> Result<Name, SqlFault>
+        ensures shorter { OnOk result (length self.new.rest.now < length self.old.rest.now) }
+        ensures read { Gives (λ name. name) result self.new.rest.now (reading.name_at self.old.rest.now) }
+    {
+        match self.rest {
+            [first, rest @ ..] => match first {
+                Terminal::Name(word) => {
+                    self.rest = rest;
+                    Ok(word.to_name(self.alloc)?)
+                }
+                _ => Err(SqlFault::Syntax),
+            },
+            [] => Err(SqlFault::Syntax),
+        }
+    }
+
+    // name {, name}
+    #[tactic(auto, unfolding(crate::specs::Reading::names_at))]
+    fn names(&mut self) -> Result<Vec<Name>, SqlFault>
+        ensures shorter { OnOk result (length self.new.rest.now < length self.old.rest.now) }
+        ensures read { (n : ℕ) → length self.old.rest.now < n
+            → Gives (λ names. names.items) result self.new.rest.now (reading.names_at n self.old.rest.now) }
+    {
+        let mut names = Vec::new(self.alloc);
+        names.push(self.name()?)?;
+        while self.eat(Symbol::Comma) {
+            names.push(self.name()?)?;
+        }
+        Ok(names)
+    }
+
+    // number
+    #[tactic(auto, unfolding(crate::specs::Reading::number_at))]
+    fn number(&mut self) -> Result<u64, SqlFault>
+        ensures shorter { OnOk result (length self.new.rest.now < length self.old.rest.now) }
+        ensures read { Gives (λ n. n) result self.new.rest.now (reading.number_at self.old.rest.now) }
+    {
+        match self.rest {
+            [first, rest @ ..] => match first {
+                Terminal::Number(n) => {
+                    self.rest = rest;
+                    Ok(*n)
+                }
+                _ => Err(SqlFault::Syntax),
+            },
+            [] => Err(SqlFault::Syntax),
+        }
+    }
+
+    // literal = [+ | -] number
+    #[tactic(auto, unfolding(crate::specs::Reading::literal_at))]
+    fn literal(&mut self) -> Result<i64, SqlFault>
+        ensures shorter { OnOk result (length self.new.rest.now < length self.old.rest.now) }
+        ensures read { Gives (λ z. z) result self.new.rest.now (reading.literal_at self.old.rest.now) }
+    {
+        if self.eat(Symbol::Minus) {
+            let n = self.number()?;
+            negative(n).ok_or(SqlFault::Syntax)
+        } else if self.eat(Symbol::Plus) {
+            let n = self.number()?;
+            positive(n).ok_or(SqlFault::Syntax)
+        } else {
+            let n = self.number()?;
+            positive(n).ok_or(SqlFault::Syntax)
+        }
+    }
+
+    // value = literal | NULL
+    #[tactic(auto, unfolding(crate::specs::Reading::value_at))]
+    fn value(&mut self) -> Result<Value, SqlFault>
+        ensures shorter { OnOk result (length self.new.rest.now < length self.old.rest.now) }
+        ensures read { Gives (λ value. value) result self.new.rest.now (reading.value_at self.old.rest.now) }
+    {
+        if self.eat_word(Keyword::Null) {
+            Ok(None)
+        } else {
+            Ok(Some(self.literal()?))
+        }
+    }
+
+    // ( value {, value} ): the values go behind those that are there; says how many
+    #[tactic(auto, unfolding(crate::specs::Reading::row_at))]
+    fn row(&mut self, values: &mut Vec<Value>) -> Result<usize, SqlFault>
+        ensures shorter { OnOk result (length self.new.rest.now < length self.old.rest.now) }
+        ensures read { GivesRow values.old.items values.new.items result reading.row_at self.old.rest.now self.new.rest.now }
+    {
+        self.take(Symbol::Open)?;
+        let width = self.values(values)?;
+        self.take(Symbol::Close)?;
+        Ok(width)
+    }
+
+    // value {, value}, likewise
+    fn values(&mut self, values: &mut Vec<Value>) -> Result<usize, SqlFault>
+        ensures shorter { OnOk result (length self.new.rest.now < length self.old.rest.now) }
+        ensures read { GivesRow values.old.items values.new.items result reading.values_at self.old.rest.now self.new.rest.now }
+    {
+        values.push(self.value()?)?;
+        let mut width = 1;
+        while self.eat(Symbol::Comma) {
+            values.push(self.value()?)?;
+            width += 1;
+        }
+        Ok(width)
+    }
+
+    // tuple {, tuple}
+    #[tactic(auto, unfolding(crate::specs::Reading::rows_at))]
+    fn rows(&mut self) -> Result<ValueRows, SqlFault>
+        ensures shorter { OnOk result (length self.new.rest.now < length self.old.rest.now) }
+        ensures read { (n : ℕ) → length self.old.rest.now < n
+            → Gives (λ rows. rows) result self.new.rest.now (reading.rows_at n self.old.rest.now) }
+    {
+        let mut values = Vec::new(self.alloc);
+        let mut widths = Vec::new(self.alloc);
+        widths.push(self.row(&mut values)?)?;
+        while self.eat(Symbol::Comma) {
+            widths.push(self.row(&mut values)?)?;
+        }
+        Ok(ValueRows::new(values, widths))
+    }
+
+    // INTEGER | INT
+    fn column_type(&mut self) -> Result<(), SqlFault>
+        ensures shorter { OnOk result (length self.new.rest.now < length self.old.rest.now) }
+        ensures read { MatchResult result (λ _. reading.after_type self.old.rest.now ≡ Some self.new.rest.now) (λ fault. (fault ≡ SqlFault.Syntax) × (reading.after_type self.old.rest.now ≡ None)) }
+    {
+        if self.eat_word(Keyword::Integer) {
+            Ok(())
+        } else {
+            self.take_word(Keyword::Int)
+        }
+    }
+
+    // layout = P | V | H | S
+    #[tactic(auto, unfolding(crate::specs::Reading::layout_at))]
+    fn layout(&mut self) -> Result<LayoutWord, SqlFault>
+        ensures shorter { OnOk result (length self.new.rest.now < length self.old.rest.now) }
+        ensures read { Gives (λ layout. layout) result self.new.rest.now (reading.layout_at self.old.rest.now) }
+    {
+        match self.rest {
+            [first, rest @ ..] => match first {
+                Terminal::Name(word) => {
+                    self.rest = rest;
+                    word.layout().ok_or(SqlFault::Syntax)
+                }
+                _ => Err(SqlFault::Syntax),
+            },
+            [] => Err(SqlFault::Syntax),
+        }
+    }
+
+    // [USING layout]
+    #[tactic(auto, unfolding(crate::specs::Reading::using_at))]
+    fn using(&mut self) -> Result<Option<LayoutWord>, SqlFault>
+        ensures no_longer { OnOk result (length self.new.rest.now ≤ length self.old.rest.now) }
+        ensures read { Gives (λ layout. layout) result self.new.rest.now (reading.using_at self.old.rest.now) }
+    {
+        if self.eat_word(Keyword::Using) {
+            Ok(Some(self.layout()?))
+        } else {
+            Ok(None)
+        }
+    }
+
+    // [kind], where kind = OFFSET | DICTIONARY
+    #[tactic(auto, unfolding(crate::specs::Reading::kind_at))]
+    fn kind(&mut self) -> Option<KindWord>
+        ensures no_longer { length self.new.rest.now ≤ length self.old.rest.now }
+        ensures read { (result, self.new.rest.now) ≡ reading.kind_at self.old.rest.now }
+    {
+        match self.rest {
+            [first, rest @ ..] => match first {
+                Terminal::Name(word) => {
+                    let kind = word.kind();
+                    if kind.is_some() {
+                        self.rest = rest;
+                    }
+                    kind
+                }
+                _ => None,
+            },
+            [] => None,
+        }
+    }
+
+    // coldef = name (INTEGER | INT) [USING layout] [kind]
+    #[tactic(auto, unfolding(crate::specs::Reading::column_at))]
+    fn column(&mut self) -> Result<ColumnDefinition, SqlFault>
+        ensures shorter { OnOk result (length self.new.rest.now < length self.old.rest.now) }
+        ensures read { Gives (λ column. column) result self.new.rest.now (reading.column_at self.old.rest.now) }
+    {
+        let name = self.name()?;
+        self.column_type()?;
+        let layout = self.using()?;
+        let kind = self.kind();
+        Ok(ColumnDefinition { name, layout, kind })
+    }
+
+    // coldef {, coldef}
+    #[tactic(auto, unfolding(crate::specs::Reading::columns_at))]
+    fn columns(&mut self) -> Result<Vec<ColumnDefinition>, SqlFault>
+        ensures shorter { OnOk result (length self.new.rest.now < length self.old.rest.now) }
+        ensures read { (n : ℕ) → length self.old.rest.now < n
+            → Gives (λ columns. columns.items) result self.new.rest.now (reading.columns_at n self.old.rest.now) }
+    {
+        let mut columns = Vec::new(self.alloc);
+        columns.push(self.column()?)?;
+        while self.eat(Symbol::Comma) {
+            columns.push(self.column()?)?;
+        }
+        Ok(columns)
+    }
+
+    // behind CREATE: TABLE name ( coldef {, coldef} )
+    #[tactic(auto, unfolding(crate::specs::Reading::create_at))]
+    fn create_table(&mut self) -> Result<Statement, SqlFault>
+        ensures shorter { OnOk result (length self.new.rest.now < length self.old.rest.now) }
+        ensures read { (n : ℕ) → length self.old.rest.now < n
+            → Gives statement_of result self.new.rest.now (reading.create_at n self.old.rest.now) }
+    {
+        self.take_word(Keyword::Table)?;
+        let table = self.name()?;
+        self.take(Symbol::Open)?;
+        let columns = self.columns()?;
+        self.take(Symbol::Close)?;
+        Ok(Statement::CreateTable(CreateTable { table, columns }))
+    }
+
+    // [( name {, name} )]
+    #[tactic(auto, unfolding(crate::specs::Reading::column_list_at))]
+    fn column_list(&mut self) -> Result<Option<Vec<Name>>, SqlFault>
+        ensures no_longer { OnOk result (length self.new.rest.now ≤ length self.old.rest.now) }
+        ensures read { (n : ℕ) → length self.old.rest.now < n
+            → Gives (option_map (λ names. names.items)) result self.new.rest.now (reading.column_list_at n self.old.rest.now) }
+    {
+        if self.eat(Symbol::Open) {
+            let names = self.names()?;
+            self.take(Symbol::Close)?;
+            Ok(Some(names))
+        } else {
+            Ok(None)
+        }
+    }
+
+    // behind INSERT: INTO name [( name {, name} )] VALUES tuple {, tuple}
+    #[tactic(auto, unfolding(crate::specs::Reading::insert_at))]
+    fn insert(&mut self) -> Result<Statement, SqlFault>
+        ensures shorter { OnOk result (length self.new.rest.now < length self.old.rest.now) }
+        ensures read { (n : ℕ) → length self.old.rest.now < n
+            → Gives statement_of result self.new.rest.now (reading.insert_at n self.old.rest.now) }
+    {
+        self.take_word(Keyword::Into)?;
+        let table = self.name()?;
+        let columns = self.column_list()?;
+        self.take_word(Keyword::Values)?;
+        let rows = self.rows()?;
+        Ok(Statement::Insert(Insert {
+            table,
+            columns,
+            rows,
+        }))
+    }
+
+    // items = * | name {, name}
+    #[tactic(auto, unfolding(crate::specs::Reading::items_at))]
+    fn items(&mut self) -> Result<SelectItems, SqlFault>
+        ensures shorter { OnOk result (length self.new.rest.now < length self.old.rest.now) }
+        ensures read { (n : ℕ) → length self.old.rest.now < n
+            → Gives items_of result self.new.rest.now (reading.items_at n self.old.rest.now) }
+    {
+        if self.eat(Symbol::Star) {
+            Ok(SelectItems::All)
+        } else {
+            Ok(SelectItems::Columns(self.names()?))
+        }
+    }
+
+    // compare
+    #[tactic(auto, unfolding(crate::specs::Reading::compare_at))]
+    fn comparison(&mut self) -> Result<CompareOp, SqlFault>
+        ensures shorter { OnOk result (length self.new.rest.now < length self.old.rest.now) }
+        ensures read { Gives (λ op. op) result self.new.rest.now (reading.compare_at self.old.rest.now) }
+    {
+        match self.rest {
+            [first, rest @ ..] => match first {
+                Terminal::Symbol(Symbol::Compare(op)) => {
+                    self.rest = rest;
+                    Ok(*op)
+                }
+                _ => Err(SqlFault::Syntax),
+            },
+            [] => Err(SqlFault::Syntax),
+        }
+    }
+
+    // cond = name compare literal
+    #[tactic(auto, unfolding(crate::specs::Reading::condition_at))]
+    fn condition(&mut self) -> Result<Condition, SqlFault>
+        ensures shorter { OnOk result (length self.new.rest.now < length self.old.rest.now) }
+        ensures read { Gives condition_of result self.new.rest.now (reading.condition_at self.old.rest.now) }
+    {
+        let column = self.name()?;
+        let op = self.comparison()?;
+        let literal = self.literal()?;
+        Ok(Condition::Compare(
+            Operand::Column(column),
+            op,
+            Operand::Constant(Some(literal)),
+        ))
+    }
+
+    // [WHERE cond]
+    #[tactic(auto, unfolding(crate::specs::Reading::filter_at))]
+    fn filter(&mut self) -> Result<Option<Condition>, SqlFault>
+        ensures no_longer { OnOk result (length self.new.rest.now ≤ length self.old.rest.now) }
+        ensures read { Gives (option_map condition_of) result self.new.rest.now (reading.filter_at self.old.rest.now) }
+    {
+        if self.eat_word(Keyword::Where) {
+            Ok(Some(self.condition()?))
+        } else {
+            Ok(None)
+        }
+    }
+
+    // behind SELECT: items FROM name [WHERE cond]
+    #[tactic(auto, unfolding(crate::specs::Reading::select_at))]
+    fn select(&mut self) -> Result<Statement, SqlFault>
+        ensures shorter { OnOk result (length self.new.rest.now < length self.old.rest.now) }
+        ensures read { (n : ℕ) → length self.old.rest.now < n
+            → Gives statement_of result self.new.rest.now (reading.select_at n self.old.rest.now) }
+    {
+        let items = self.items()?;
+        self.take_word(Keyword::From)?;
+        let table = self.name()?;
+        let condition = self.filter()?;
+        Ok(Statement::Select(Select {
+            items,
+            table,
+            condition,
+        }))
+    }
+
+    // statement
+    #[tactic(auto, unfolding(crate::specs::Reading::statement_at))]
+    fn statement(&mut self) -> Result<Statement, SqlFault>
+        ensures shorter { OnOk result (length self.new.rest.now < length self.old.rest.now) }
+        ensures read { (n : ℕ) → length self.old.rest.now < n
+            → Gives statement_of result self.new.rest.now (reading.statement_at n self.old.rest.now) }
+    {
+        if self.eat_word(Keyword::Create) {
+            self.create_table()
+        } else if self.eat_word(Keyword::Insert) {
+            self.insert()
+        } else if self.eat_word(Keyword::Select) {
+            self.select()
+        } else {
+            Err(SqlFault::Syntax)
+        }
+    }
+}
+
+// The number with a sign, where 64 bits hold it.
+#[tactic(auto, unfolding(crate::specs::Reading::positive))]
+fn positive(n: u64) -> Option<i64>
+    ensures { result ≡ reading.positive n }
+{
+    i64::try_from(n).ok()
+}
+
+#[tactic(auto, unfolding(crate::specs::Reading::negative))]
+fn negative(n: u64) -> Option<i64>
+    ensures { result ≡ reading.negative n }
+{
+    i64::try_from(-i128::from(n)).ok()
+}
+
+/// The statement that the terminals spell, with nothing left behind it.
+#[tactic(auto, unfolding(crate::specs::Reading::whole_at))]
+pub(crate) fn parse(alloc: Global, terminals: &[Terminal]) -> Result<Statement, SqlFault>
+    ensures { (n : ℕ) → length terminals.now < n → GivesAll statement_of result (reading.whole_at n terminals.now) }
+{
+    let mut parser = Parser {
+        rest: terminals,
+        alloc,
+    };
+    let statement = parser.statement()?;
+    if parser.rest.is_empty() {
+        Ok(statement)
+    } else {
+        Err(SqlFault::Syntax)
+    }
+}
