@@ -1,2 +1,4 @@
 pub mod Names
+pub mod Pieces
 pub mod Rows
+pub mod Tokens

@@ -2,12 +2,15 @@
 #![tactic(auto)]
 
 mod fault;
+mod lexer;
 mod name;
+mod piece;
 mod rows;
 mod token;
 mod tree;
 
 pub use fault::SqlFault;
+pub use lexer::{one_reading, tokens};
 pub use name::Name;
 pub use rows::ValueRows;
 pub use token::{CompareOp, Span, Symbol, Token, TokenKind};
