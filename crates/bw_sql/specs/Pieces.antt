@@ -1,18 +1,14 @@
 -- The first piece of a text, as a computation: SQL-92's tokens and separators, each as long as it can be.
-use Rattle.std.specs.Prelude.{ℕ, ◌+◌, ◌<◌, ◌≤◌, Bool, false, not, ◌&&◌, ◌||◌, ◌==◌, nat_le, nat_lt, if◌then◌else◌, List, [], ◌∷◌, length, drop, Option, Some, None}
-use Rattle.std.specs.List.{list_any, prefix_len}
-use Rattle.std.specs.Char.{is_ascii_alphabetic, is_ascii_alphanumeric, is_ascii_digit}
-use Rattle.std.specs.Str.{is_utf8}
+use Rattle.std.specs.Prelude.{ℕ, ◌+◌, ◌<◌, ◌≤◌, Bool, false, not, ◌&&◌, ◌||◌, ◌==◌, nat_le, if◌then◌else◌, List, [], ◌∷◌, length, drop, Option, Some, None}
+use Rattle.std.specs.List.{prefix_len}
+use Rattle.std.specs.Char.{is_ascii_alphabetic, is_ascii_digit}
 use Rattle.bw_sql.specs.declared.token.Symbol.{Symbol}
 use Rattle.bw_sql.specs.declared.token.Symbol.TheVariants.{Open, Close, Comma, Star, Plus, Minus, Compare}
 use Rattle.bw_sql.specs.declared.token.CompareOp.TheVariants.{Eq, Ne, Lt, Le, Gt, Ge}
 use Rattle.bw_sql.specs.declared.token.TokenKind.TheVariants as k
+use Rattle.bw_sql.specs.Spellings.{is_good_text, is_word_byte}
 use Rattle.bw_sql.specs.declared.piece.Piece.{Piece}
 use Rattle.bw_sql.specs.declared.piece.Piece.TheVariants.{Separator, Token, Bad}
-
--- a letter, a digit or _
-abbrev pub is_word_byte : ℕ → Bool
-is_word_byte b = is_ascii_alphanumeric b || b == 95
 
 -- tab, end of line, return and space
 abbrev pub is_blank : ℕ → Bool
@@ -87,10 +83,6 @@ abbrev mutual
   pub quote_contents : List ℕ → List ℕ
   quote_contents [] = []
   quote_contents (b ∷ bytes) = if b == 39 then 39 ∷ contents bytes else []
-
--- what a text may say
-abbrev pub is_good_text : List ℕ → Bool
-is_good_text bytes = nat_lt 0 (length bytes) && nat_le (length bytes) 255 && not (list_any (λ b. b == 0) bytes) && is_utf8 bytes
 
 abbrev pub closed_text : List ℕ → Option ℕ → Piece
 closed_text bytes None = Bad

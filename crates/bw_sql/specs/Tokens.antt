@@ -4,6 +4,8 @@ use Rattle.bw_sql.specs.declared.piece.Piece.{Piece}
 use Rattle.bw_sql.specs.declared.piece.Piece.TheVariants as p
 use Rattle.bw_sql.specs.declared.lexer.TextEnd.{TextEnd}
 use Rattle.bw_sql.specs.declared.lexer.TextEnd.TheVariants as e
+use Rattle.bw_sql.specs.declared.fault.SqlFault.{SqlFault}
+use Rattle.bw_sql.specs.declared.fault.SqlFault.TheVariants as f
 use Rattle.bw_sql.specs.declared.token.Token.{Token}
 use Rattle.bw_sql.specs.Pieces.{first_piece}
 
@@ -49,3 +51,9 @@ HasBadToken text = (tokens : List Token) × AreTokensToBad text tokens
 abbrev pub AreTokensUpTo : TextEnd → List ℕ → List Token → Type 0
 AreTokensUpTo e.BadToken text tokens = AreTokensToBad text tokens
 AreTokensUpTo e.Reached text tokens = AreTokens text tokens
+
+-- a fault that the tokens alone have: a bad one, or want of memory
+abbrev pub IsTokensFault : SqlFault → List ℕ → Type 0
+IsTokensFault f.Syntax text = HasBadToken text
+IsTokensFault f.Memory text = Unit {0}
+IsTokensFault _ text = ⊥

@@ -1,8 +1,9 @@
 //! The tokens of a text.
 
-ghost use Rattle.std.specs.Prelude.{◌≡◌, ◌^◌, ◌<◌, ◌≢◌, ℕ, IfOk, List, length};
+ghost use Rattle.std.specs.Prelude.{◌≡◌, ◌^◌, ◌<◌, ◌≢◌, ℕ, All, IfErr, IfOk, List, length};
 ghost use Rattle.bw_sql.specs.declared.token.Token.{Token};
-ghost use Rattle.bw_sql.specs.Tokens.{AreTokens, AreTokensUpTo, HasBadToken};
+ghost use Rattle.bw_sql.specs.Spellings.{IsTokenOf};
+ghost use Rattle.bw_sql.specs.Tokens.{AreTokens, AreTokensUpTo, HasBadToken, IsTokensFault};
 
 use crate::fault::SqlFault;
 use crate::piece::{Piece, first_piece};
@@ -28,7 +29,8 @@ pub(crate) struct Lexed {
 /// The tokens of a text up to its end, or up to the first bad one.
 pub(crate) fn lex(alloc: Global, text: &[u8]) -> Result<Lexed, AllocError>
     requires { length text.now < 2 ^ 63 }
-    ensures { IfOk result (λ lexed. AreTokensUpTo lexed.end text.now lexed.tokens.items) }
+    ensures tokens { IfOk result (λ lexed. AreTokensUpTo lexed.end text.now lexed.tokens.items) }
+    ensures each { IfOk result (λ lexed. All (IsTokenOf text.now) lexed.tokens.items) }
 {
     let mut tokens = Vec::new(alloc);
     let mut at = 0;
@@ -60,7 +62,8 @@ pub(crate) fn lex(alloc: Global, text: &[u8]) -> Result<Lexed, AllocError>
 pub fn tokens(alloc: Global, text: &[u8]) -> Result<Vec<Token>, SqlFault>
     requires { length text.now < 2 ^ 63 }
     ensures found { IfOk result (λ tokens. AreTokens text.now tokens.items) }
-    ensures bad { result ≡ Err SqlFault.Syntax → HasBadToken text.now }
+    ensures each { IfOk result (λ tokens. All (IsTokenOf text.now) tokens.items) }
+    ensures fault { IfErr result (λ fault. IsTokensFault fault text.now) }
 {
     let lexed = lex(alloc, text)?;
     match lexed.end {
