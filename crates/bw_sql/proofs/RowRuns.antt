@@ -5,7 +5,7 @@ use Rattle.bw_sql.specs.declared.fault.SqlFault.{SqlFault}
 use Rattle.bw_sql.specs.Reading.{AppendsRow, Fails, after_comma, parts_at, row_at, rows_at, value_at, values_at}
 use Rattle.bw_sql.specs.Rows.{rows_of}
 use Rattle.bw_sql.proofs.RowLemmas.{rows_of-push, sum-push}
-use Rattle.bw_sql.proofs.Runs.{Runs, done, fails_first, fails_next, first, next}
+use Rattle.bw_sql.proofs.ListRuns.{Runs, done, fails_first, fails_next, first, next}
 
 -- the values of a row that were read so far
 pub record ValuesSoFar (old_items items : List (Option ℤ)) (width : ℕ) (old rest : List Terminal) : Type 0 where

@@ -1,6 +1,9 @@
 pub mod Grammar
 pub mod Names
+pub mod Pieces
 pub mod Reading
 pub mod Rows
+pub mod Spellings
+pub mod Tokens
 pub mod Tree
 pub mod Words

@@ -3,8 +3,10 @@
 
 mod fault;
 mod keyword;
+mod lexer;
 mod name;
 mod parser;
+mod piece;
 mod rows;
 mod terminal;
 mod token;
@@ -12,6 +14,7 @@ mod tree;
 
 pub use fault::SqlFault;
 pub use keyword::Keyword;
+pub use lexer::{one_reading, tokens};
 pub use name::Name;
 pub use rows::ValueRows;
 pub use token::{CompareOp, Span, Symbol, Token, TokenKind};

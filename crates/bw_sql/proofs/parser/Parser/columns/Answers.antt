@@ -1,7 +1,7 @@
 use Rattle.std.proofs.Common.{◌≡◌, ◌∷◌, length, ap, rules, arith, [], Some}
 use Rattle.std.proofs.lemmas.Result.{err_from_is_err_and}
 use Rattle.bw_sql.specs.Reading.{after_comma, column_at, columns_at}
-use Rattle.bw_sql.proofs.Runs.{after_comma-none, done, fails_first, fails_next, first, next}
+use Rattle.bw_sql.proofs.ListRuns.{after_comma-none, done, fails_first, fails_next, first, next}
 use Rattle.bw_sql.proofs.parser.Parser.columns.Goals as goal
 
 pub returns-in_err-column-clause-read : goal.returns-in_err-column-clause-read

@@ -1,6 +1,6 @@
 use Rattle.std.proofs.Common.{length}
 use Rattle.bw_sql.specs.Reading.{after_comma, column_at}
-use Rattle.bw_sql.proofs.Runs.{Runs}
+use Rattle.bw_sql.proofs.ListRuns.{Runs}
 use Rattle.bw_sql.proofs.parser.Parser.columns.Given as goal
 
 abbrev pub invariant-loop-columns : goal.invariant-loop-columns

@@ -1,6 +1,6 @@
 use Rattle.std.proofs.Common.{length}
 use Rattle.bw_sql.specs.Reading.{after_comma, name_at}
-use Rattle.bw_sql.proofs.Runs.{Runs}
+use Rattle.bw_sql.proofs.ListRuns.{Runs}
 use Rattle.bw_sql.proofs.parser.Parser.names.Given as goal
 
 abbrev pub invariant-loop-names : goal.invariant-loop-names

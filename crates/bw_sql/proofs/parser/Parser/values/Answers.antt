@@ -1,7 +1,7 @@
 use Rattle.std.proofs.Common.{◌≡◌, ◌∷◌, ◌++◌, length, ap, rules, arith, [], Some}
 use Rattle.std.proofs.lemmas.Result.{err_from_is_err_and}
 use Rattle.bw_sql.specs.Reading.{after_comma}
-use Rattle.bw_sql.proofs.Runs.{after_comma-none}
+use Rattle.bw_sql.proofs.ListRuns.{after_comma-none}
 use Rattle.bw_sql.proofs.RowRuns.{values_done, values_fail_first, values_fail_next, values_first, values_next}
 use Rattle.bw_sql.proofs.parser.Parser.values.Goals as goal
 
