@@ -4,6 +4,7 @@
 mod fault;
 mod keyword;
 mod lexer;
+mod limits;
 mod name;
 mod parser;
 mod piece;

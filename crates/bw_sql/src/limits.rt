@@ -1,0 +1,147 @@
+//! What the grammar sees of each token, and the two limits on tokens.
+
+ghost use Rattle.std.specs.Prelude.{◌≡◌, ◌+◌, ◌-◌, ◌*◌, ◌^◌, ◌<◌, ◌≤◌, [], All, IfErr, IfOk, IsTrue, MatchResult, None, OnOk, Some, SomeIff, if◌then◌else◌, length, map};
+ghost use Rattle.std.specs.Char.{is_ascii_digit, to_ascii_uppercase};
+ghost use Rattle.std.specs.List.{list_all};
+ghost use Rattle.bw_sql.specs.Names.{keyword_of};
+ghost use Rattle.bw_sql.specs.Spellings.{IsSpelled, IsTokenOf, IsWord};
+ghost use Rattle.bw_sql.specs.Terminals.{IsLimitFault, depth_fault, first_limit_fault, is_close, is_minus, is_open, number_fault, number_value, terminal_of, terminals_of, word_or_name};
+
+use crate::fault::SqlFault;
+use crate::keyword::reserved_word;
+use crate::terminal::{NameWord, Terminal};
+use crate::token::{Symbol, Token, TokenKind};
+use std::alloc::Global;
+
+// How many `(` and `)` stood before, and whether a `-` came last.
+#[derive(Clone, Copy)]
+struct Limits {
+    opened: usize,
+    closed: usize,
+    after_minus: bool,
+}
+
+impl Limits {
+    fn largest_number(&self) -> u64
+        ensures { result ≡ (if self.now.after_minus then 2 ^ 63 else 2 ^ 63 - 1) }
+    {
+        if self.after_minus {
+            1 << 63
+        } else {
+            (1 << 63) - 1
+        }
+    }
+
+    // Notes the next terminal, unless it is a `(` too deep.
+    fn admit(&mut self, terminal: &Terminal) -> Result<(), SqlFault>
+        requires opened { self.old.opened < 2 ^ 63 }
+        requires closed { self.old.closed < 2 ^ 63 }
+        ensures depth { MatchResult result
+            (λ _. depth_fault self.old.opened self.old.closed terminal.now ≡ None)
+            (λ fault. (fault ≡ SqlFault.TooDeep) × (depth_fault self.old.opened self.old.closed terminal.now ≡ Some SqlFault.TooDeep)) }
+        ensures opened { OnOk result (self.new.opened ≡ self.old.opened + (if is_open terminal.now then 1 else 0)) }
+        ensures closed { OnOk result (self.new.closed ≡ self.old.closed + (if is_close terminal.now then 1 else 0)) }
+        ensures minus { OnOk result (self.new.after_minus ≡ is_minus terminal.now) }
+    {
+        self.after_minus = false;
+        match terminal {
+            Terminal::Symbol(Symbol::Open) => {
+                if self.opened >= self.closed + 64 {
+                    return Err(SqlFault::TooDeep);
+                }
+                self.opened += 1;
+            }
+            Terminal::Symbol(Symbol::Close) => self.closed += 1,
+            Terminal::Symbol(Symbol::Minus) => self.after_minus = true,
+            _ => {}
+        }
+        Ok(())
+    }
+}
+
+// The number with one more digit behind it, where 64 bits hold it.
+fn with_digit(n: u64, digit: u8) -> Option<u64>
+    requires { IsTrue (is_ascii_digit digit) }
+    ensures { SomeIff result (10 * n + (digit - 48) < 2 ^ 64) (10 * n + (digit - 48)) }
+{
+    match n.checked_mul(10) {
+        Some(tens) => tens.checked_add(u64::from(digit - b'0')),
+        None => None,
+    }
+}
+
+// The number that the digits spell, unless it is above the largest.
+fn number(digits: &[u8], largest: u64) -> Option<u64>
+    requires { IsTrue (list_all is_ascii_digit digits.now) }
+    ensures { SomeIff result (number_value digits.now ≤ largest) (number_value digits.now) }
+{
+    let mut rest = digits;
+    let mut n: u64 = 0;
+    while let [digit, after @ ..] = rest {
+        match with_digit(n, *digit) {
+            Some(more) => n = more,
+            None => return None,
+        }
+        rest = after;
+    }
+    if n <= largest { Some(n) } else { None }
+}
+
+fn word<'a>(bytes: &'a [u8]) -> Terminal<'a>
+    requires word { IsWord bytes.now }
+    requires short { length bytes.now ≤ 128 }
+    ensures { result ≡ word_or_name (keyword_of (map to_ascii_uppercase bytes.entry.now)) (map to_ascii_uppercase bytes.entry.now) }
+{
+    match reserved_word(bytes) {
+        Some(keyword) => Terminal::Keyword(keyword),
+        None => Terminal::Name(NameWord::new(bytes)),
+    }
+}
+
+// What the grammar sees of the bytes of a token, unless they are a number above the largest.
+fn terminal<'a>(
+    kind: TokenKind,
+    bytes: &'a [u8],
+    largest: u64,
+) -> Result<Terminal<'a>, SqlFault>
+    requires { IsSpelled kind bytes.now }
+    ensures { MatchResult result
+        (λ terminal. (terminal ≡ terminal_of kind bytes.entry.now) × (number_fault largest terminal ≡ None))
+        (λ fault. (fault ≡ SqlFault.BigNumber) × (number_fault largest (terminal_of kind bytes.entry.now) ≡ Some SqlFault.BigNumber)) }
+{
+    match kind {
+        TokenKind::Word => Ok(word(bytes)),
+        TokenKind::Number => match number(bytes, largest) {
+            Some(n) => Ok(Terminal::Number(n)),
+            None => Err(SqlFault::BigNumber),
+        },
+        TokenKind::Text => Ok(Terminal::Text),
+        TokenKind::Symbol(symbol) => Ok(Terminal::Symbol(symbol)),
+    }
+}
+
+/// What the grammar sees of the tokens of a text, or the fault of the first that is over a limit.
+pub(crate) fn terminals<'a>(
+    alloc: Global,
+    text: &'a [u8],
+    tokens: &[Token],
+) -> Result<Vec<Terminal<'a>>, SqlFault>
+    requires { All (IsTokenOf text.now) tokens.now }
+    ensures terminals { IfOk result (λ terminals. terminals.items ≡ terminals_of text.entry.now tokens.now) }
+    ensures within { IfOk result (λ terminals. first_limit_fault [] terminals.items ≡ None) }
+    ensures fault { IfErr result (λ fault. IsLimitFault fault (terminals_of text.entry.now tokens.now)) }
+{
+    let mut terminals = Vec::with_capacity(alloc, tokens.len())?;
+    let mut limits = Limits {
+        opened: 0,
+        closed: 0,
+        after_minus: false,
+    };
+    for token in tokens {
+        let bytes = &text[token.span.start..token.span.end];
+        let next = terminal(token.kind, bytes, limits.largest_number())?;
+        limits.admit(&next)?;
+        terminals.push(next)?;
+    }
+    Ok(terminals)
+}
