@@ -1,0 +1,46 @@
+-- Words for layouts and kinds.
+use Rattle.std.proofs.Common.{◌≡◌, ℕ, Bool, true, false, cond, List, codes, Option, Some, None, refl, sym, ap, ◌∙◌}
+use Rattle.std.specs.Str.{bytes_eq}
+use Rattle.std.specs.Cmp.Lexicographic.{bytes_decides}
+use Rattle.bw_sql.specs.declared.tree.LayoutWord.{LayoutWord}
+use Rattle.bw_sql.specs.declared.tree.LayoutWord.TheVariants.{P, V, H, S}
+use Rattle.bw_sql.specs.declared.tree.KindWord.{KindWord}
+use Rattle.bw_sql.specs.declared.tree.KindWord.TheVariants.{Offset, Dictionary}
+use Rattle.bw_sql.specs.Words.{kind_of, kind_spelling, layout_of, layout_spelling}
+
+-- either the first is chosen, or the others are
+module _ {A : Type 0} (spelling : A → List ℕ) (word : List ℕ) (y : A) where
+  pub chosen_word : (b : Bool) (x : A) (others : Option A) → (b ≡ true → word ≡ spelling x) → (others ≡ Some y → word ≡ spelling y) → cond b (Some x) others ≡ Some y → word ≡ spelling y
+  chosen_word true x others here there h = let e : x ≡ y = cc in here refl ∙ ap spelling e
+  chosen_word false x others here there h = there h
+
+is : (word : List ℕ) (spelling : List ℕ) → bytes_eq word spelling ≡ true → word ≡ spelling
+is word spelling = (bytes_decides word spelling).0
+
+pub layout_of-is : (word : List ℕ) (l : LayoutWord) → layout_of word ≡ Some l → word ≡ layout_spelling l
+unfolding layout_of
+layout_of-is word l h =
+    chosen_word layout_spelling word l (bytes_eq word (codes "P")) P _ (is word (codes "P"))
+    (chosen_word layout_spelling word l (bytes_eq word (codes "V")) V _ (is word (codes "V"))
+    (chosen_word layout_spelling word l (bytes_eq word (codes "H")) H _ (is word (codes "H"))
+    (chosen_word layout_spelling word l (bytes_eq word (codes "S")) S None (is word (codes "S")) (λ e. cc))))
+    h
+
+pub kind_of-is : (word : List ℕ) (d : KindWord) → kind_of word ≡ Some d → word ≡ kind_spelling d
+unfolding kind_of
+kind_of-is word d h =
+    chosen_word kind_spelling word d (bytes_eq word (codes "OFFSET")) Offset _ (is word (codes "OFFSET"))
+    (chosen_word kind_spelling word d (bytes_eq word (codes "DICTIONARY")) Dictionary None (is word (codes "DICTIONARY")) (λ e. cc))
+    h
+
+pub layout_of-spelling : (l : LayoutWord) → layout_of (layout_spelling l) ≡ Some l
+unfolding layout_of
+layout_of-spelling P = refl
+layout_of-spelling V = refl
+layout_of-spelling H = refl
+layout_of-spelling S = refl
+
+pub kind_of-spelling : (d : KindWord) → kind_of (kind_spelling d) ≡ Some d
+unfolding kind_of
+kind_of-spelling Offset = refl
+kind_of-spelling Dictionary = refl
