@@ -254,7 +254,7 @@ create_sound n ts tree rest h nothing =
     let d = bound (columns_at n c.0) _ (tree, rest) c.2 in
     let e = closes (ListOf ColumnPart) (create_table b.0.0) c.0 d.0.0 d.0.1 (columns_sound n c.0 d.0.0 d.0.1 d.1) (after_close d.0.1) refl tree rest d.2 in
     let front : ts ≡ t.Keyword k.Table ∷ t.Name b.0.0 ∷ t.Symbol s.Open ∷ c.0 =
-        after_table-is ts a.0 a.1 ∙ ap (λ l. t.Keyword k.Table ∷ l) (name_is a.0 b.0.0 b.0.1 (name_sound a.0 b.0.0 b.0.1 b.1) ∙ ap (λ l. t.Name b.0.0 ∷ l) (after_open-is b.0.1 c.0 c.1)) in
+    after_table-is ts a.0 a.1 ∙ ap (λ l. t.Keyword k.Table ∷ l) (name_is a.0 b.0.0 b.0.1 (name_sound a.0 b.0.0 b.0.1 b.1) ∙ ap (λ l. t.Name b.0.0 ∷ l) (after_open-is b.0.1 c.0 c.1)) in
     spelled (t.Keyword k.Create) ts _ (create_table b.0.0 d.0.0) tree front e.1 (creates (subst (λ l. ListOf ColumnPart c.0 d.0.0 (t.Symbol s.Close ∷ l)) nothing e.0))
 
 list_part_sound : (n : ℕ) (ts : List Terminal) (names : Option (List (List ℕ))) (us vs : List Terminal) (table : List ℕ) (rows : List (List (Option ℤ))) → column_list_at n ts ≡ Some (names, us) → us ≡ t.Keyword k.Values ∷ vs → ListOf RowPart vs rows [] → Spells (t.Keyword k.Insert ∷ t.Keyword k.Into ∷ t.Name table ∷ ts) (insert table names rows)
@@ -277,7 +277,7 @@ insert_sound n ts tree rest h nothing =
     let e = bound (rows_at n d.0) _ (tree, rest) d.2 in
     let f = answers_once (insert b.0.0 c.0.0 e.0.0) tree e.0.1 rest e.2 in
     let front : ts ≡ t.Keyword k.Into ∷ t.Name b.0.0 ∷ b.0.1 =
-        after_into-is ts a.0 a.1 ∙ ap (λ l. t.Keyword k.Into ∷ l) (name_is a.0 b.0.0 b.0.1 (name_sound a.0 b.0.0 b.0.1 b.1)) in
+    after_into-is ts a.0 a.1 ∙ ap (λ l. t.Keyword k.Into ∷ l) (name_is a.0 b.0.0 b.0.1 (name_sound a.0 b.0.0 b.0.1 b.1)) in
     spelled (t.Keyword k.Insert) ts _ (insert b.0.0 c.0.0 e.0.0) tree front f.0
     (list_part_sound n b.0.1 c.0.0 c.0.1 d.0 b.0.0 e.0.0 c.1 (after_values-is c.0.1 d.0 d.1) (subst (ListOf RowPart d.0 e.0.0) (f.1 ∙ nothing) (rows_sound n d.0 e.0.0 e.0.1 e.1)))
 

@@ -4,6 +4,7 @@ pub mod Pieces
 pub mod Reading
 pub mod Rows
 pub mod Spellings
+pub mod Statements
 pub mod Terminals
 pub mod Tokens
 pub mod Tree

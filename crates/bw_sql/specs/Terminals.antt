@@ -88,5 +88,8 @@ first_limit_fault before (x ∷ xs) = or_else (limit_fault before x) (first_limi
 
 -- the fault of the first that is over a limit, or want of memory
 abbrev pub IsLimitFault : SqlFault → List Terminal → Type 0
+IsLimitFault faults.TooDeep xs = first_limit_fault [] xs ≡ Some faults.TooDeep
+IsLimitFault faults.BigNumber xs = first_limit_fault [] xs ≡ Some faults.BigNumber
 IsLimitFault faults.Memory xs = Unit {0}
-IsLimitFault fault xs = first_limit_fault [] xs ≡ Some fault
+IsLimitFault faults.Syntax xs = ⊥
+IsLimitFault faults.TooLong xs = ⊥

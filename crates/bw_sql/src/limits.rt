@@ -99,11 +99,7 @@ fn word<'a>(bytes: &'a [u8]) -> Terminal<'a>
 }
 
 // What the grammar sees of the bytes of a token, unless they are a number above the largest.
-fn terminal<'a>(
-    kind: TokenKind,
-    bytes: &'a [u8],
-    largest: u64,
-) -> Result<Terminal<'a>, SqlFault>
+fn terminal<'a>(kind: TokenKind, bytes: &'a [u8], largest: u64) -> Result<Terminal<'a>, SqlFault>
     requires { IsSpelled kind bytes.now }
     ensures { MatchResult result
         (λ terminal. (terminal ≡ terminal_of kind bytes.entry.now) × (number_fault largest terminal ≡ None))

@@ -1,9 +1,11 @@
 //! Statements out of terminals, read from the left.
 
-ghost use Rattle.std.specs.Prelude.{◌≡◌, ◌<◌, ◌≤◌, ◌∷◌, ℕ, List, MatchBool, MatchResult, OnOk, length, option_map};
+ghost use Rattle.std.specs.Prelude.{◌≡◌, ◌<◌, ◌≤◌, ◌∷◌, ℕ, IfErr, IfOk, List, MatchBool, MatchResult, OnOk, length, option_map};
 ghost use Rattle.bw_sql.specs.declared.terminal.Terminal.{Terminal};
+ghost use Rattle.bw_sql.specs.Grammar.{Spells};
 ghost use Rattle.bw_sql.specs.Reading as reading;
 ghost use Rattle.bw_sql.specs.Reading.{Gives, GivesAll, GivesRow};
+ghost use Rattle.bw_sql.specs.Statements.{IsParseFault};
 ghost use Rattle.bw_sql.specs.Tree.{condition_of, items_of, statement_of};
 
 use crate::fault::SqlFault;
@@ -467,9 +469,9 @@ fn negative(n: u64) -> Option<i64>
     i64::try_from(-i128::from(n)).ok()
 }
 
-/// The statement that the terminals spell, with nothing left behind it.
+// The statement that the terminals spell, with nothing left behind it.
 #[tactic(auto, unfolding(crate::specs::Reading::whole_at))]
-pub(crate) fn parse(alloc: Global, terminals: &[Terminal]) -> Result<Statement, SqlFault>
+fn read_whole(alloc: Global, terminals: &[Terminal]) -> Result<Statement, SqlFault>
     ensures { (n : ℕ) → length terminals.now < n → GivesAll statement_of result (reading.whole_at n terminals.now) }
 {
     let mut parser = Parser {
@@ -482,4 +484,12 @@ pub(crate) fn parse(alloc: Global, terminals: &[Terminal]) -> Result<Statement, 
     } else {
         Err(SqlFault::Syntax)
     }
+}
+
+/// The statement that the terminals spell.
+pub(crate) fn parse(alloc: Global, terminals: &[Terminal]) -> Result<Statement, SqlFault>
+    ensures found { IfOk result (λ statement. Spells terminals.now (statement_of statement)) }
+    ensures fault { IfErr result (λ fault. IsParseFault fault terminals.now) }
+{
+    read_whole(alloc, terminals)
 }

@@ -1,0 +1,48 @@
+//! The statement that a text says.
+
+ghost use Rattle.std.specs.Prelude.{◌≡◌, ◌<◌, ◌≤◌, ℕ, IfErr, IfOk, List, length};
+ghost use Rattle.bw_sql.specs.Statements.{IsStatementFault, Says, longest_statement};
+ghost use Rattle.bw_sql.specs.Tree.{StatementTree, statement_of};
+
+use crate::fault::SqlFault;
+use crate::lexer::{TextEnd, lex};
+use crate::limits::terminals;
+use crate::parser::parse;
+use crate::tree::Statement;
+use std::alloc::Global;
+
+/// How many bytes a statement may have.
+pub const LONGEST_STATEMENT: usize = 65_536;
+
+/// The statement that a text says.
+///
+/// The fault of a text of at most `LONGEST_STATEMENT` bytes is that of its first token that is bad
+/// or over a limit. Where there is no such token, it is `Syntax` if the tokens spell no statement.
+pub fn statement(alloc: Global, text: &[u8]) -> Result<Statement, SqlFault>
+    ensures found { IfOk result (λ statement. Says text.now (statement_of statement)) }
+    ensures fault { IfErr result (λ fault. IsStatementFault fault text.now) }
+    ensures too_long { longest_statement < length text.now → result ≡ Err SqlFault.TooLong }
+{
+    if text.len() > LONGEST_STATEMENT {
+        return Err(SqlFault::TooLong);
+    }
+    short_statement(alloc, text)
+}
+
+fn short_statement(alloc: Global, text: &[u8]) -> Result<Statement, SqlFault>
+    requires { length text.now ≤ longest_statement }
+    ensures found { IfOk result (λ statement. Says text.now (statement_of statement)) }
+    ensures fault { IfErr result (λ fault. IsStatementFault fault text.now) }
+{
+    let lexed = lex(alloc, text)?;
+    let terminals = terminals(alloc, text, &lexed.tokens)?;
+    match lexed.end {
+        TextEnd::Reached => parse(alloc, &terminals),
+        TextEnd::BadToken => Err(SqlFault::Syntax),
+    }
+}
+
+/// A text says one statement at most, and none where it has a fault other than want of memory.
+pub fn one_statement()
+    ensures same { (text : List ℕ) (a b : StatementTree) → Says text a → Says text b → a ≡ b }
+{}
