@@ -42,7 +42,7 @@ pub record Progress (text : List ℕ) (tokens : List Token) (at : ℕ) : Type 0 
   pub to : AreTokensTo text (drop at text) tokens
   pub place : pieces_len to.pieces ≡ at
 
-drop_none : (text : List ℕ) → drop 0 text ≡ text
+pub drop_none : (text : List ℕ) → drop 0 text ≡ text
 drop_none [] = refl
 drop_none (b ∷ text) = refl
 

@@ -10,14 +10,14 @@ use Rattle.bw_sql.specs.declared.token.TokenKind.TheVariants.{Number, Word}
 use Rattle.bw_sql.specs.declared.token.Symbol.{Symbol}
 use Rattle.bw_sql.specs.declared.piece.Piece.{Piece}
 use Rattle.bw_sql.specs.declared.piece.Piece.TheVariants as p
-use Rattle.bw_sql.specs.Pieces.{FitsIn, closed_text, comment_len, contents, first_piece, is_blank, is_comment, number_piece, pair_of, pair_piece, quote_end, quoted_end, single_of, single_piece, symbol_piece, word_goes_on, word_piece}
-use Rattle.bw_sql.specs.Spellings.{is_good_text, is_word_byte}
+use Rattle.bw_sql.specs.Pieces.{FitsIn, closed_text, comment_len, contents, first_piece, is_comment, number_piece, pair_of, pair_piece, quote_end, quoted_end, single_of, single_piece, symbol_piece, word_goes_on, word_piece}
+use Rattle.bw_sql.specs.Spellings.{is_blank, is_good_text, is_word_byte}
 
 either : (bytes : List ℕ) (b : Bool) (x y : Piece) → (b ≡ true → FitsIn x bytes) → (b ≡ false → FitsIn y bytes) → FitsIn (cond b x y) bytes
 either bytes true x y on_true on_false = on_true refl
 either bytes false x y on_true on_false = on_false refl
 
-starts : (p : ℕ → Bool) (b : ℕ) (bytes : List ℕ) → p b ≡ true → 0 < prefix_len p (b ∷ bytes)
+pub starts : (p : ℕ → Bool) (b : ℕ) (bytes : List ℕ) → p b ≡ true → 0 < prefix_len p (b ∷ bytes)
 starts p b bytes e = rw e (omega arith)
 
 letter : (d u l x : Bool) → (u || l) ≡ true → (((d || u) || l) || x) ≡ true

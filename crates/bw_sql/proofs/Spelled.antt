@@ -14,8 +14,8 @@ use Rattle.bw_sql.specs.declared.token.TokenKind.TheVariants as k
 use Rattle.bw_sql.specs.declared.token.Symbol.{Symbol}
 use Rattle.bw_sql.specs.declared.piece.Piece.{Piece}
 use Rattle.bw_sql.specs.declared.piece.Piece.TheVariants as p
-use Rattle.bw_sql.specs.Pieces.{closed_text, comment_len, contents, first_piece, is_blank, is_comment, number_piece, pair_of, pair_piece, quote_contents, quote_end, quoted_end, single_of, single_piece, symbol_piece, text_piece, word_goes_on, word_piece}
-use Rattle.bw_sql.specs.Spellings.{IsNumber, IsSpelled, IsTokenOf, IsWord, doubled, is_good_text, is_word_byte, quoted}
+use Rattle.bw_sql.specs.Pieces.{closed_text, comment_len, contents, first_piece, is_comment, number_piece, pair_of, pair_piece, quote_contents, quote_end, quoted_end, single_of, single_piece, symbol_piece, text_piece, word_goes_on, word_piece}
+use Rattle.bw_sql.specs.Spellings.{IsNumber, IsSpelled, IsTokenOf, IsWord, doubled, is_blank, is_good_text, is_word_byte, quoted}
 
 -- a token at the front of these bytes is of its kind
 abbrev pub IsGood : List ℕ → Piece → Type 0
@@ -26,7 +26,7 @@ all_step : (p : ℕ → Bool) (x : ℕ) (xs : List ℕ) (t : Bool) → p x ≡ t
 all_step p x xs true e rest = rw one-add (and_from (p x) _ e rest)
 all_step p x xs false e rest = refl
 
-all_prefix : (p : ℕ → Bool) (xs : List ℕ) → list_all p (take (prefix_len p xs) xs) ≡ true
+pub all_prefix : (p : ℕ → Bool) (xs : List ℕ) → list_all p (take (prefix_len p xs) xs) ≡ true
 all_prefix p [] = refl
 all_prefix p (x ∷ xs) = all_step p x xs (p x) refl (all_prefix p xs)
 

@@ -1,4 +1,6 @@
+pub mod Fronts
 pub mod Names
+pub mod Parts
 pub mod Pieces
 pub mod Rows
 pub mod Spellings

@@ -14,6 +14,10 @@ use Rattle.bw_sql.specs.declared.token.CompareOp.TheVariants.{Eq, Ne, Lt, Le, Gt
 abbrev pub is_word_byte : ℕ → Bool
 is_word_byte b = is_ascii_alphanumeric b || b == 95
 
+-- tab, end of line, return and space
+abbrev pub is_blank : ℕ → Bool
+is_blank b = b == 9 || b == 10 || b == 13 || b == 32
+
 -- a letter, and then letters, digits and _
 abbrev pub IsWord : List ℕ → Type 0
 IsWord [] = ⊥

@@ -6,6 +6,7 @@ mod lexer;
 mod name;
 mod piece;
 mod rows;
+mod script;
 mod token;
 mod tree;
 
@@ -13,6 +14,7 @@ pub use fault::SqlFault;
 pub use lexer::{one_reading, tokens};
 pub use name::Name;
 pub use rows::ValueRows;
+pub use script::{Part, parts};
 pub use token::{CompareOp, Span, Symbol, Token, TokenKind};
 pub use tree::{
     ColumnDefinition, Condition, CreateTable, Insert, KindWord, LayoutWord, Operand, Select,
