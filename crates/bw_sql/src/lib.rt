@@ -14,7 +14,7 @@ pub use fault::SqlFault;
 pub use lexer::{one_reading, tokens};
 pub use name::Name;
 pub use rows::ValueRows;
-pub use script::{Part, parts};
+pub use script::{Part, one_splitting, parts};
 pub use token::{CompareOp, Span, Symbol, Token, TokenKind};
 pub use tree::{
     ColumnDefinition, Condition, CreateTable, Insert, KindWord, LayoutWord, Operand, Select,

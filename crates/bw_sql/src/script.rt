@@ -5,6 +5,7 @@ ghost use Rattle.std.specs.List.{list_all, prefix_len};
 ghost use Rattle.bw_sql.specs.Fronts.{EndsRun, IsFront, first_front, is_plain, plain_front, plain_len, says_len, text_len};
 ghost use Rattle.bw_sql.specs.Parts.{AreParts, IsPartOf, begins_with};
 ghost use Rattle.bw_sql.specs.Spellings.{is_blank};
+ghost use Rattle.bw_sql.specs.declared.script.Part.{Part};
 
 use crate::piece::{comment_len, is_blank};
 use crate::token::Span;
@@ -144,3 +145,8 @@ pub fn parts(alloc: Global, script: &[u8]) -> Result<Vec<Part>, AllocError>
         start = end + 1;
     }
 }
+
+/// A script has its parts in one way only.
+pub fn one_splitting()
+    ensures { (script : List ℕ) (a b : List Part) → AreParts script a → AreParts script b → a ≡ b }
+{}
