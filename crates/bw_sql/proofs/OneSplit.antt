@@ -7,7 +7,8 @@ use Rattle.std.proofs.Math.Seq.{drop-append_seam, take-append_seam}
 use Rattle.std.proofs.lemmas.Bool.{and_parts, eqb-true, ne_eqb}
 use Rattle.bw_sql.specs.declared.script.Part.{Part}
 use Rattle.bw_sql.specs.Fronts.{EndsRun, says_len}
-use Rattle.bw_sql.specs.Parts.{ArePartsFrom, IsRun, Piece, StandsBefore, begins_with, bytes_of, comment, cut, has_no, last, open_text, other, run_len, text, with_part}
+use Rattle.bw_sql.specs.Spellings.{begins_with, has_no}
+use Rattle.bw_sql.specs.Parts.{ArePartsFrom, IsRun, Piece, StandsBefore, bytes_of, comment, cut, last, open_text, other, run_len, text, with_part}
 
 text_next : List ℕ → List ℕ → Piece × List ℕ
 text_next says [] = (open_text says, [])

@@ -10,11 +10,10 @@ use Rattle.std.proofs.lemmas.List.Folds.{length-prefix_len, list_all-append, lis
 use Rattle.std.proofs.lemmas.List.Sums.{prefix_len-le-length}
 use Rattle.bw_sql.specs.declared.script.Front.{Front}
 use Rattle.bw_sql.specs.Fronts.{EndsRun, IsFront, first_front, front, is_plain, plain_front, plain_len, says_len, text_len}
-use Rattle.bw_sql.specs.Parts.{IsRun, Piece, StandsBefore, begins_with, bytes_of, comment, has_no, is_blank_piece, is_blank_run, open_text, other, run_len, text}
+use Rattle.bw_sql.specs.Parts.{IsRun, Piece, StandsBefore, bytes_of, comment, is_blank_piece, is_blank_run, open_text, other, run_len, text}
 use Rattle.bw_sql.specs.Pieces.{comment_len}
-use Rattle.bw_sql.specs.Spellings.{is_blank}
-use Rattle.bw_sql.proofs.Spelled.{all_prefix}
-use Rattle.bw_sql.proofs.Fits.{starts}
+use Rattle.bw_sql.specs.Spellings.{begins_with, has_no, is_blank}
+use Rattle.bw_sql.proofs.Prefixes.{all_prefix, starts}
 
 run_append : (a b : List Piece) (script mid rest : List ℕ) → IsRun a script mid → IsRun b mid rest → IsRun (a ++ b) script rest
 run_append [] b script mid rest x y = subst (λ s. IsRun b s rest) (sym x) y

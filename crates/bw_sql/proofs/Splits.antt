@@ -8,8 +8,9 @@ use Rattle.std.proofs.lemmas.List.Elements.{All-append, All-cons, All-nil}
 use Rattle.bw_sql.specs.declared.script.Front.{Front}
 use Rattle.bw_sql.specs.declared.script.Part.{Part}
 use Rattle.bw_sql.specs.Fronts.{EndsRun, IsFront}
-use Rattle.bw_sql.specs.Parts.{AreParts, ArePartsFrom, EndsPart, IsPartOf, IsRun, Piece, begins_with, bytes_of, cut, is_blank_run, last, run_len, with_part}
-use Rattle.bw_sql.proofs.Cuts.{drop_none}
+use Rattle.bw_sql.specs.Spellings.{begins_with}
+use Rattle.bw_sql.specs.Parts.{AreParts, ArePartsFrom, EndsPart, IsPartOf, IsRun, Piece, bytes_of, cut, is_blank_run, last, run_len, with_part}
+use Rattle.bw_sql.proofs.Lexing.{drop_none}
 use Rattle.bw_sql.proofs.Runs.{head_is}
 
 -- the bytes of a run are those of its pieces

@@ -1,9 +1,9 @@
 -- The front of a script that holds no cut, as a computation: comments, texts and other bytes.
 use Rattle.std.specs.Prelude.{◌≡◌, ℕ, ◌+◌, ◌<◌, ◌≤◌, Bool, true, false, not, ◌&&◌, ◌==◌, if◌then◌else◌, nat_lt, List, [], ◌∷◌, length, take, drop, Option, Some, None, IsTrue, ◌⊎◌}
 use Rattle.std.specs.List.{list_all, prefix_len}
-use Rattle.bw_sql.specs.Parts.{IsRun, Piece, begins_with, is_blank_run}
+use Rattle.bw_sql.specs.Parts.{IsRun, Piece, is_blank_run}
 use Rattle.bw_sql.specs.Pieces.{comment_len}
-use Rattle.bw_sql.specs.Spellings.{is_blank}
+use Rattle.bw_sql.specs.Spellings.{begins_with, is_blank}
 use Rattle.bw_sql.specs.declared.script.Front.{Front}
 
 -- how many bytes these are, and whether they are blank

@@ -1,7 +1,7 @@
 -- The parts of a script: SQL-92's direct SQL statements, each up to the semicolon that ends it outside texts and comments.
 use Rattle.std.specs.Prelude.{◌≡◌, ◌≢◌, ℕ, ◌+◌, ◌≤◌, Bool, true, false, not, ◌==◌, if◌then◌else◌, List, [], ◌∷◌, ◌++◌, length, drop, IsTrue, IsFalse, ◌⊎◌}
 use Rattle.std.specs.List.{list_all}
-use Rattle.bw_sql.specs.Spellings.{is_blank}
+use Rattle.bw_sql.specs.Spellings.{begins_with, has_no, is_blank}
 use Rattle.bw_sql.specs.declared.script.Part.{Part}
 
 -- What stands between the cuts. A text here ends at the next quote, so that a doubled quote ends one text and begins another.
@@ -16,14 +16,6 @@ bytes_of (comment says) = 45 ∷ 45 ∷ says
 bytes_of (text says) = 39 ∷ says ++ 39 ∷ []
 bytes_of (open_text says) = 39 ∷ says
 bytes_of (other b) = b ∷ []
-
--- none of the bytes is this one
-abbrev pub has_no : ℕ → List ℕ → Bool
-has_no byte bytes = list_all (λ b. not (b == byte)) bytes
-
-abbrev pub begins_with : ℕ → List ℕ → Bool
-begins_with byte [] = false
-begins_with byte (b ∷ bytes) = b == byte
 
 -- A piece before this rest: a comment goes on to the end of its line, a text that isn't closed to the end, and any other byte begins no comment, text or cut.
 abbrev pub StandsBefore : List ℕ → Piece → Type 0

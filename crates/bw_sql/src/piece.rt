@@ -4,8 +4,8 @@ ghost use Rattle.std.specs.Prelude.{◌≡◌, ◌==◌, ◌≢◌, ◌+◌, ◌
 ghost use Rattle.std.specs.List.{list_any, prefix_len};
 ghost use Rattle.std.specs.Char.{is_ascii_digit};
 ghost use Rattle.std.specs.Str.{is_utf8};
-ghost use Rattle.bw_sql.specs.Pieces.{FitsIn, comment_len, contents, first_piece, is_comment, number_piece, pair_of, quoted_end, single_of, single_piece, symbol_piece, text_piece, word_goes_on, word_piece};
-ghost use Rattle.bw_sql.specs.Spellings.{is_blank, is_good_text, is_word_byte};
+ghost use Rattle.bw_sql.specs.Pieces.{FitsIn, comment_len, contents, first_piece, is_comment, number_piece, pair_of, quoted_end, single_of, single_piece, symbol_piece, text_piece, word_piece};
+ghost use Rattle.bw_sql.specs.Spellings.{is_blank, is_good_text, is_word_byte, word_goes_on};
 
 use crate::token::{CompareOp, Symbol, TokenKind};
 use std::alloc::{AllocError, Global};

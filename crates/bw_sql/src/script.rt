@@ -3,8 +3,8 @@
 ghost use Rattle.std.specs.Prelude.{◌≡◌, ◌==◌, ◌^◌, ◌<◌, ◌++◌, ◌∷◌, [], ℕ, All, IfOk, List, drop, if◌then◌else◌, length, not};
 ghost use Rattle.std.specs.List.{list_all, prefix_len};
 ghost use Rattle.bw_sql.specs.Fronts.{EndsRun, IsFront, first_front, is_plain, plain_front, plain_len, says_len, text_len};
-ghost use Rattle.bw_sql.specs.Parts.{AreParts, IsPartOf, begins_with};
-ghost use Rattle.bw_sql.specs.Spellings.{is_blank};
+ghost use Rattle.bw_sql.specs.Parts.{AreParts, IsPartOf};
+ghost use Rattle.bw_sql.specs.Spellings.{begins_with, is_blank};
 ghost use Rattle.bw_sql.specs.declared.script.Part.{Part};
 
 use crate::piece::{comment_len, is_blank};
