@@ -14,7 +14,7 @@ use Rattle.bw_sql.specs.Tokens.{AreTokens, AreTokensToBad, AreTokensUpTo}
 use Rattle.bw_sql.specs.Statements.{IsMalformed, IsParseFault, IsStatementFault, Says, bad_token, longest_statement, no_statement}
 use Rattle.bw_sql.specs.Tree.{StatementTree, statement_of}
 use Rattle.bw_sql.proofs.Complete.{whole_reads}
-use Rattle.bw_sql.proofs.Cuts.{same_tokens}
+use Rattle.bw_sql.proofs.Lexing.{same_tokens}
 use Rattle.bw_sql.proofs.Sound.{whole_sound}
 
 -- terminals spell one statement at most

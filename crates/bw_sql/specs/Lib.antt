@@ -1,5 +1,7 @@
+pub mod Fronts
 pub mod Grammar
 pub mod Names
+pub mod Parts
 pub mod Pieces
 pub mod Reading
 pub mod Rows

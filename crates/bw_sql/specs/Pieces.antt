@@ -6,22 +6,13 @@ use Rattle.bw_sql.specs.declared.token.Symbol.{Symbol}
 use Rattle.bw_sql.specs.declared.token.Symbol.TheVariants.{Open, Close, Comma, Star, Plus, Minus, Compare}
 use Rattle.bw_sql.specs.declared.token.CompareOp.TheVariants.{Eq, Ne, Lt, Le, Gt, Ge}
 use Rattle.bw_sql.specs.declared.token.TokenKind.TheVariants as k
-use Rattle.bw_sql.specs.Spellings.{is_good_text, is_word_byte}
+use Rattle.bw_sql.specs.Spellings.{is_blank, is_good_text, is_word_byte, word_goes_on}
 use Rattle.bw_sql.specs.declared.piece.Piece.{Piece}
 use Rattle.bw_sql.specs.declared.piece.Piece.TheVariants.{Separator, Token, Bad}
-
--- tab, end of line, return and space
-abbrev pub is_blank : ℕ → Bool
-is_blank b = b == 9 || b == 10 || b == 13 || b == 32
 
 -- a word goes as far as there are word bytes, and has 128 at most
 abbrev pub word_piece : List ℕ → Piece
 word_piece bytes = if nat_le (prefix_len is_word_byte bytes) 128 then Token k.Word (prefix_len is_word_byte bytes) else Bad
-
--- whether a letter, a digit or _ comes first
-abbrev pub word_goes_on : List ℕ → Bool
-word_goes_on [] = false
-word_goes_on (b ∷ bytes) = is_word_byte b
 
 -- a number goes as far as there are digits, and no letter or _ is next
 abbrev pub number_piece : List ℕ → Piece

@@ -1,5 +1,5 @@
 -- What a token is, as a run of bytes: SQL-92's regular identifiers, unsigned integers, character string literals and special characters.
-use Rattle.std.specs.Prelude.{◌≡◌, ◌≢◌, ℕ, ◌<◌, ◌≤◌, Bool, not, ◌&&◌, ◌||◌, ◌==◌, nat_le, nat_lt, if◌then◌else◌, List, [], ◌∷◌, ◌++◌, length, slice_range, codes, IsTrue, ◌⊎◌}
+use Rattle.std.specs.Prelude.{◌≡◌, ◌≢◌, ℕ, ◌<◌, ◌≤◌, Bool, false, not, ◌&&◌, ◌||◌, ◌==◌, nat_le, nat_lt, if◌then◌else◌, List, [], ◌∷◌, ◌++◌, length, slice_range, codes, IsTrue, ◌⊎◌}
 use Rattle.std.specs.List.{list_all, list_any}
 use Rattle.std.specs.Char.{is_ascii_alphabetic, is_ascii_alphanumeric, is_ascii_digit}
 use Rattle.std.specs.Str.{is_utf8}
@@ -13,6 +13,30 @@ use Rattle.bw_sql.specs.declared.token.CompareOp.TheVariants.{Eq, Ne, Lt, Le, Gt
 -- a letter, a digit or _
 abbrev pub is_word_byte : ℕ → Bool
 is_word_byte b = is_ascii_alphanumeric b || b == 95
+
+-- tab, end of line, return and space
+abbrev pub is_blank : ℕ → Bool
+is_blank b = b == 9 || b == 10 || b == 13 || b == 32
+
+-- none of the bytes is this one
+abbrev pub has_no : ℕ → List ℕ → Bool
+has_no byte bytes = list_all (λ b. not (b == byte)) bytes
+
+abbrev pub begins_with : ℕ → List ℕ → Bool
+begins_with byte [] = false
+begins_with byte (b ∷ bytes) = b == byte
+
+-- whether a letter, a digit or _ comes first
+abbrev pub word_goes_on : List ℕ → Bool
+word_goes_on [] = false
+word_goes_on (b ∷ bytes) = is_word_byte b
+
+abbrev pub IsOneBlank : List ℕ → Type 0
+IsOneBlank bytes = (b : ℕ) × (bytes ≡ b ∷ []) × IsTrue (is_blank b)
+
+-- -- and what follows in its line
+abbrev pub IsComment : List ℕ → Type 0
+IsComment bytes = (says : List ℕ) × (bytes ≡ 45 ∷ 45 ∷ says) × IsTrue (has_no 10 says)
 
 -- a letter, and then letters, digits and _
 abbrev pub IsWord : List ℕ → Type 0

@@ -1,47 +1,61 @@
--- The tokens of a text: SQL-92's tokens and separators, each as long as it can be.
-use Rattle.std.specs.Prelude.{◌≡◌, ◌≢◌, ℕ, ◌+◌, List, [], ◌∷◌, drop}
-use Rattle.bw_sql.specs.declared.piece.Piece.{Piece}
-use Rattle.bw_sql.specs.declared.piece.Piece.TheVariants as p
-use Rattle.bw_sql.specs.declared.lexer.TextEnd.{TextEnd}
-use Rattle.bw_sql.specs.declared.lexer.TextEnd.TheVariants as e
+-- The tokens of a text: SQL-92's tokens and separators, each the longest that fits.
+use Rattle.std.specs.Prelude.{◌≡◌, ◌≢◌, ℕ, ◌+◌, ◌≤◌, Bool, false, ◌==◌, List, [], ◌∷◌, ◌++◌, length, IsTrue, IsFalse, ◌⊎◌}
 use Rattle.bw_sql.specs.declared.fault.SqlFault.{SqlFault}
 use Rattle.bw_sql.specs.declared.fault.SqlFault.TheVariants as f
+use Rattle.bw_sql.specs.declared.lexer.TextEnd.{TextEnd}
+use Rattle.bw_sql.specs.declared.lexer.TextEnd.TheVariants as e
 use Rattle.bw_sql.specs.declared.token.Token.{Token}
-use Rattle.bw_sql.specs.Pieces.{first_piece}
+use Rattle.bw_sql.specs.declared.token.TokenKind.{TokenKind}
+use Rattle.bw_sql.specs.declared.token.TokenKind.TheVariants as k
+use Rattle.bw_sql.specs.Spellings.{IsComment, IsNumber, IsOneBlank, IsSymbol, IsWord, begins_with, is_good_text, quoted, word_goes_on}
 
--- how many bytes a piece has
-abbrev pub piece_len : Piece → ℕ
-piece_len (p.Separator n) = n
-piece_len (p.Token kind n) = n
-piece_len p.Bad = 0
+-- what may stand at the front of a text
+pub data Shape : Type 0 where
+  separator : Shape
+  token : TokenKind → Shape
 
--- The text is these pieces, and then the rest: each is the first piece of what is left, and none is bad.
-abbrev pub IsCut : List Piece → List ℕ → List ℕ → Type 0
-IsCut [] text rest = rest ≡ text
-IsCut (piece ∷ pieces) text rest = (text ≢ []) × (piece ≡ first_piece text) × (piece ≢ p.Bad) × IsCut pieces (drop (piece_len piece) text) rest
+-- These bytes have the shape where this rest follows: no letter, digit or _ directly follows a number, and no quote a text.
+abbrev pub Fits : Shape → List ℕ → List ℕ → Type 0
+Fits separator bytes rest = IsOneBlank bytes ⊎ IsComment bytes
+Fits (token k.Word) bytes rest = IsWord bytes
+Fits (token k.Number) bytes rest = IsNumber bytes × IsFalse (word_goes_on rest)
+Fits (token k.Text) bytes rest = (says : List ℕ) × (bytes ≡ quoted says) × IsFalse (begins_with 39 rest)
+Fits (token (k.Symbol symbol)) bytes rest = IsSymbol symbol bytes
 
-abbrev pub with_token : Piece → ℕ → List Token → List Token
-with_token (p.Token kind n) at ts = record { kind = kind; span = record { start = at; end = at + n } } ∷ ts
-with_token _ at ts = ts
+-- the bytes fit, and no more of the text does
+pub record IsLongest (shape : Shape) (bytes rest : List ℕ) : Type 0 where
+  pub fits : Fits shape bytes rest
+  pub longest : (other : Shape) (more left : List ℕ) → more ++ left ≡ bytes ++ rest → Fits other more left → length more ≤ length bytes
 
--- the tokens among the pieces from this place on
-abbrev pub tokens_from : ℕ → List Piece → List Token
-tokens_from at [] = []
-tokens_from at (piece ∷ pieces) = with_token piece at (tokens_from (at + piece_len piece) pieces)
+-- the limits of a word and of what a text says
+abbrev pub IsAllowed : Shape → List ℕ → Type 0
+IsAllowed (token k.Word) bytes = length bytes ≤ 128
+IsAllowed (token k.Text) bytes = (says : List ℕ) × (bytes ≡ quoted says) × IsTrue (is_good_text says)
+IsAllowed _ bytes = Unit {0}
 
--- these are the tokens of the text up to this rest
-pub record AreTokensTo (text rest : List ℕ) (tokens : List Token) : Type 0 where
-  pub pieces : List Piece
-  pub cut : IsCut pieces text rest
-  pub tokens_are : tokens ≡ tokens_from 0 pieces
+abbrev pub IsNext : Shape → List ℕ → List ℕ → Type 0
+IsNext shape bytes rest = IsLongest shape bytes rest × IsAllowed shape bytes
+
+-- The text, from this place on and up to the rest, is separators and tokens one after the other, and these are the tokens.
+pub data AreTokensFrom : ℕ → List ℕ → List ℕ → List Token → Type 0 where
+  done : {at : ℕ} {text rest : List ℕ} → text ≡ rest → AreTokensFrom at text rest []
+  past_separator : {at : ℕ} {text rest : List ℕ} {tokens : List Token} (bytes left : List ℕ) → text ≡ bytes ++ left → IsNext separator bytes left → AreTokensFrom (at + length bytes) left rest tokens → AreTokensFrom at text rest tokens
+  past_token : {at : ℕ} {text rest : List ℕ} {tokens : List Token} (kind : TokenKind) (bytes left : List ℕ) → text ≡ bytes ++ left → IsNext (token kind) bytes left → AreTokensFrom (at + length bytes) left rest tokens → AreTokensFrom at text rest (record { kind = kind; span = record { start = at; end = at + length bytes } } ∷ tokens)
 
 -- these are the tokens of the text
 abbrev pub AreTokens : List ℕ → List Token → Type 0
-AreTokens text tokens = AreTokensTo text [] tokens
+AreTokens text tokens = AreTokensFrom 0 text [] tokens
+
+-- something is left, and it begins with no separator and no token
+pub record IsBad (rest : List ℕ) : Type 0 where
+  pub some : rest ≢ []
+  pub none : (shape : Shape) (bytes left : List ℕ) → rest ≡ bytes ++ left → IsNext shape bytes left → ⊥
 
 -- these are the tokens of the text up to a bad one
-abbrev pub AreTokensToBad : List ℕ → List Token → Type 0
-AreTokensToBad text tokens = (rest : List ℕ) × (rest ≢ []) × (first_piece rest ≡ p.Bad) × AreTokensTo text rest tokens
+pub record AreTokensToBad (text : List ℕ) (tokens : List Token) : Type 0 where
+  pub rest : List ℕ
+  pub is_bad : IsBad rest
+  pub tokens_are : AreTokensFrom 0 text rest tokens
 
 -- a token of the text is bad
 abbrev pub HasBadToken : List ℕ → Type 0

@@ -9,6 +9,7 @@ mod name;
 mod parser;
 mod piece;
 mod rows;
+mod script;
 mod statement_text;
 mod terminal;
 mod token;
@@ -19,6 +20,7 @@ pub use keyword::Keyword;
 pub use lexer::{one_reading, tokens};
 pub use name::Name;
 pub use rows::ValueRows;
+pub use script::{Part, one_splitting, parts};
 pub use statement_text::{LONGEST_STATEMENT, one_statement, statement};
 pub use token::{CompareOp, Span, Symbol, Token, TokenKind};
 pub use tree::{

@@ -4,8 +4,8 @@ ghost use Rattle.std.specs.Prelude.{◌≡◌, ◌==◌, ◌≢◌, ◌+◌, ◌
 ghost use Rattle.std.specs.List.{list_any, prefix_len};
 ghost use Rattle.std.specs.Char.{is_ascii_digit};
 ghost use Rattle.std.specs.Str.{is_utf8};
-ghost use Rattle.bw_sql.specs.Pieces.{FitsIn, comment_len, contents, first_piece, is_blank, is_comment, number_piece, pair_of, quoted_end, single_of, single_piece, symbol_piece, text_piece, word_goes_on, word_piece};
-ghost use Rattle.bw_sql.specs.Spellings.{is_good_text, is_word_byte};
+ghost use Rattle.bw_sql.specs.Pieces.{FitsIn, comment_len, contents, first_piece, is_comment, number_piece, pair_of, quoted_end, single_of, single_piece, symbol_piece, text_piece, word_piece};
+ghost use Rattle.bw_sql.specs.Spellings.{is_blank, is_good_text, is_word_byte, word_goes_on};
 
 use crate::token::{CompareOp, Symbol, TokenKind};
 use std::alloc::{AllocError, Global};
@@ -198,7 +198,7 @@ fn text(alloc: Global, bytes: &[u8]) -> Result<Piece, AllocError>
     }
 }
 
-fn comment_len(bytes: &[u8]) -> usize
+pub(crate) fn comment_len(bytes: &[u8]) -> usize
     ensures { result ≡ comment_len bytes.now }
 {
     bytes.iter().take_while(|b| **b != b'\n').count()
@@ -210,7 +210,7 @@ fn is_comment(bytes: &[u8]) -> bool
     matches!(bytes, [b'-', b'-', ..])
 }
 
-fn is_blank(b: u8) -> bool
+pub(crate) fn is_blank(b: u8) -> bool
     ensures { result ≡ is_blank b }
 {
     b == b'\t' || b == b'\n' || b == b'\r' || b == b' '

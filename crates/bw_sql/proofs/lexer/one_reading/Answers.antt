@@ -1,4 +1,4 @@
-use Rattle.bw_sql.proofs.Cuts.{not_both, same_tokens}
+use Rattle.bw_sql.proofs.Lexing.{not_both, same_tokens}
 use Rattle.bw_sql.proofs.lexer.one_reading.Goals as goal
 
 pub returns-clause-same : goal.returns-clause-same

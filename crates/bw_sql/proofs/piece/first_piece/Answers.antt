@@ -1,4 +1,4 @@
-use Rattle.bw_sql.proofs.Fits.{within}
+use Rattle.bw_sql.proofs.Longest.{within}
 use Rattle.bw_sql.proofs.piece.first_piece.Goals as goal
 
 pub returns-clause-within : goal.returns-clause-within
