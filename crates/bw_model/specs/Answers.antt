@@ -9,11 +9,11 @@ pub record Shown : Type 0 where
   pub lines : List (List Cell)
 
 -- cells that lie flat are lines of this width, and none is left over
-pub record AreWholeLines (width : ℕ) (cells : List Cell) : Type 0 where
+pub record AreWholeLines {A : Type 0} (width : ℕ) (cells : List A) : Type 0 where
   pub some : 0 < width
   pub count : ℕ
   pub whole : length cells ≡ count * width
 
 -- the lines of this width
-abbrev pub lines_of : ℕ → List Cell → List (List Cell)
+abbrev pub lines_of : {A : Type 0} → ℕ → List A → List (List A)
 lines_of width cells = rows_of (replicate (length cells / width) width) cells

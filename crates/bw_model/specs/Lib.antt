@@ -1,2 +1,5 @@
 pub mod Answers
+pub mod Condition
 pub mod Refusals
+pub mod Select
+pub mod Store

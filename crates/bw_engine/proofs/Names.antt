@@ -1,0 +1,140 @@
+-- Lists of names in which no name stands twice.
+use Rattle.std.proofs.Common.{◌≡◌, ℕ, ◌+◌, ◌<◌, ◌≤◌, Bor, IsTrue, if◌then◌else◌, Bool, true, false, ◌&&◌, ◌||◌, not, List, [], ◌∷◌, ◌++◌, length, map, get_or, zero, suc, refl, sym, ap, subst, ◌∙◌, arith, take, drop, take-append-drop}
+use Rattle.std.specs.List.{list_any}
+use Rattle.std.specs.Str.{bytes_eq}
+use Rattle.std.proofs.lemmas.Bool.{true≢false, both_ways}
+use Rattle.std.proofs.lemmas.List.{length-map, take_more}
+use Rattle.std.proofs.lemmas.List.Folds.{list_any-append}
+use Rattle.std.proofs.lemmas.Slice.Eq.{bytes_eq-Decides}
+use Rattle.bw_model.specs.Store.{AreHeaders, are_distinct, header_of, names}
+use Rattle.bw_sql.specs.declared.tree.ColumnDefinition.{ColumnDefinition}
+
+-- a is in the list, b the new one, d the rest is distinct, e the new one is in the rest
+pushed : (a b d e : Bool) → (not (a || (b || false)) && (d && not e)) ≡ ((not a && d) && not (b || e))
+pushed true b d e = refl
+pushed false true true true = refl
+pushed false true true false = refl
+pushed false true false true = refl
+pushed false true false false = refl
+pushed false false true e = refl
+pushed false false false e = refl
+
+pub are_distinct-push : (xs : List (List ℕ)) (x : List ℕ) → are_distinct (xs ++ x ∷ []) ≡ (are_distinct xs && not (list_any (λ y. bytes_eq y x) xs))
+are_distinct-push [] x = refl
+are_distinct-push (y ∷ ys) x =
+    ap (λ b. not b && are_distinct (ys ++ x ∷ [])) (list_any-append (bytes_eq y) ys (x ∷ []))
+    ∙ ap (λ b. not (list_any (bytes_eq y) ys || (bytes_eq y x || false)) && b) (are_distinct-push ys x)
+    ∙ pushed (list_any (bytes_eq y) ys) (bytes_eq y x) (are_distinct ys) (list_any (λ z. bytes_eq z x) ys)
+
+fronts : (a b c d : Bool) → (c ≡ true → d ≡ true) → (not (a || b) && c) ≡ true → (not a && d) ≡ true
+fronts true b c d rest e = e
+fronts false true c d rest e = absurd (true≢false (sym e))
+fronts false false c d rest e = rest e
+
+-- the front of a list without a name that stands twice
+pub are_distinct_front : (xs ys : List (List ℕ)) → are_distinct (xs ++ ys) ≡ true → are_distinct xs ≡ true
+are_distinct_front [] ys e = refl
+are_distinct_front (x ∷ xs) ys e =
+    fronts (list_any (bytes_eq x) xs) (list_any (bytes_eq x) ys) (are_distinct (xs ++ ys)) (are_distinct xs) (are_distinct_front xs ys)
+    (subst (λ b. (not b && are_distinct (xs ++ ys)) ≡ true) (list_any-append (bytes_eq x) xs ys) e)
+
+not_both : (d e : Bool) → e ≡ true → (d && not e) ≡ false
+not_both true true p = refl
+not_both true false p = sym p
+not_both false e p = refl
+
+and_both : (d e : Bool) → d ≡ true → e ≡ false → (d && not e) ≡ true
+and_both true true p q = sym q
+and_both true false p q = refl
+and_both false e p q = p
+
+by_cases : (b : Bool) → (b ≡ true → b ≡ false) → b ≡ false
+by_cases true f = f refl
+by_cases false f = refl
+
+module _ (names : List (List ℕ)) (i : ℕ) (x : List ℕ) (within : i < length names) (at : x ≡ get_or names i x) where
+  one_more : take (i + 1) names ≡ take i names ++ x ∷ []
+  one_more = take_more names i x within ∙ ap (λ y. take i names ++ y ∷ []) (sym at)
+
+  -- a name that stands in front of its place stands twice
+  pub twice_at : list_any (λ y. bytes_eq y x) (take i names) ≡ true → not (are_distinct names) ≡ true
+  twice_at seen =
+      let front : are_distinct (take (i + 1) names) ≡ false = ap are_distinct one_more ∙ are_distinct-push (take i names) x ∙ not_both _ _ seen in
+      ap not (by_cases (are_distinct names)
+      (λ e. absurd (both_ways (are_distinct (take (i + 1) names)) front (are_distinct_front (take (i + 1) names) (drop (i + 1) names) (ap are_distinct (take-append-drop (i + 1) names) ∙ e)))))
+
+  -- one that doesn't leaves the names distinct
+  pub once_to : are_distinct (take i names) ≡ true → list_any (λ y. bytes_eq y x) (take i names) ≡ false → are_distinct (take (i + 1) names) ≡ true
+  once_to before unseen = ap are_distinct one_more ∙ are_distinct-push (take i names) x ∙ and_both _ _ before unseen
+
+-- it doesn't matter which name is compared with which
+pub bytes_eq-comm : (x y : List ℕ) → bytes_eq x y ≡ bytes_eq y x
+bytes_eq-comm x y = same (bytes_eq x y) (bytes_eq y x) (λ e. (bytes_eq-Decides y x).1 (sym ((bytes_eq-Decides x y).0 e))) (λ e. (bytes_eq-Decides x y).1 (sym ((bytes_eq-Decides y x).0 e)))
+  where
+    same : (a b : Bool) → (a ≡ true → b ≡ true) → (b ≡ true → a ≡ true) → a ≡ b
+    same true b f g = sym (f refl)
+    same false true f g = g refl
+    same false false f g = refl
+
+names_of_definitions : (columns : List ColumnDefinition) → names (map header_of columns) ≡ map (λ c. c.name) columns
+names_of_definitions [] = refl
+names_of_definitions (column ∷ columns) = ap (λ l. column.name ∷ l) (names_of_definitions columns)
+
+-- definitions of 1 to 64 columns, each with a name of its own, make headers
+pub headers_from : (columns : List ColumnDefinition) → 0 < length columns → length columns ≤ 64 → IsTrue (are_distinct (map (λ c. c.name) columns)) → AreHeaders (map header_of columns)
+headers_from columns some few distinct = record {
+  some = omega (arith, length-map columns header_of);
+  few = omega (arith, length-map columns header_of);
+  distinct = rw names_of_definitions distinct;
+}
+
+-- the names that a set has seen
+pub seen_is : (ks : List (Bor (List ℕ))) (x : List ℕ) → list_any (λ k. bytes_eq x k.now) ks ≡ list_any (λ y. bytes_eq y x) (map (λ k. k.now) ks)
+seen_is [] x = refl
+seen_is (k ∷ ks) x = ap (λ b. b || list_any (λ j. bytes_eq x j.now) ks) (bytes_eq-comm x k.now) ∙ ap (λ b. bytes_eq k.now x || b) (seen_is ks x)
+
+get_or-map : {A B : Type 0} (f : A → B) (xs : List A) (i : ℕ) (x : A) → x ≡ get_or xs i x → i < length xs → f x ≡ get_or (map f xs) i (f x)
+get_or-map f [] i x e within = absurd (omega arith)
+get_or-map f (y ∷ ys) zero x e within = ap f e
+get_or-map f (y ∷ ys) (suc i) x e within = get_or-map f ys i x e (omega arith)
+
+map-push : {A B : Type 0} (f : A → B) (xs : List A) (x : A) → map f (xs ++ x ∷ []) ≡ map f xs ++ f x ∷ []
+map-push f [] x = refl
+map-push f (y ∷ ys) x = ap (λ l. f y ∷ l) (map-push f ys x)
+
+pushed_if : {A : Type 0} (b : Bool) (xs : List A) (x : A) → b ≡ false → (if b then xs else xs ++ x ∷ []) ≡ xs ++ x ∷ []
+pushed_if true xs x e = absurd (true≢false e)
+pushed_if false xs x e = refl
+
+not_is : (a b : Bool) → a ≡ not b → a ≡ false → b ≡ true
+not_is a true p q = refl
+not_is a false p q = absurd (true≢false (sym p ∙ q))
+
+not_isnt : (a b : Bool) → a ≡ not b → a ≡ true → b ≡ false
+not_isnt a true p q = sym q ∙ p
+not_isnt a false p q = refl
+
+-- a set of the names so far
+module _ (columns : List ColumnDefinition) (i : ℕ) (column : ColumnDefinition) (keys : List (Bor (List ℕ))) (added : Bool)
+    (within : i < length columns) (at : column ≡ get_or columns i column)
+    (seen : map (λ k. k.now) keys ≡ take i (map (λ c. c.name) columns))
+    (says : added ≡ not (list_any (λ k. bytes_eq column.name k.now) keys)) where
+  fits : i < length (map (λ c. c.name) columns)
+  fits = omega (arith, length-map columns (λ c. c.name))
+
+  looked : list_any (λ k. bytes_eq column.name k.now) keys ≡ list_any (λ y. bytes_eq y column.name) (take i (map (λ c. c.name) columns))
+  looked = seen_is keys column.name ∙ ap (list_any (λ y. bytes_eq y column.name)) seen
+
+  pub twice_in : added ≡ false → true ≡ not (are_distinct (map (λ c. c.name) columns))
+  twice_in old = sym (twice_at (map (λ c. c.name) columns) i column.name fits (get_or-map (λ c. c.name) columns i column at within) (sym looked ∙ not_is added _ says old))
+
+  pub once_in : added ≡ true → are_distinct (take i (map (λ c. c.name) columns)) ≡ true → are_distinct (take (i + 1) (map (λ c. c.name) columns)) ≡ true
+  once_in new before = once_to (map (λ c. c.name) columns) i column.name fits (get_or-map (λ c. c.name) columns i column at within) before (sym looked ∙ not_isnt added _ says new)
+
+  pub seen_in : (key : Bor (List ℕ)) → key.now ≡ column.name → added ≡ true → (after : List (Bor (List ℕ))) → after ≡ (if list_any (λ k. bytes_eq column.name k.now) keys then keys else keys ++ key ∷ []) → map (λ k. k.now) after ≡ take (i + 1) (map (λ c. c.name) columns)
+  seen_in key is new after e =
+      ap (map (λ k. k.now)) (e ∙ pushed_if _ keys key (not_isnt added _ says new))
+      ∙ map-push (λ k. k.now) keys key
+      ∙ ap (λ l. l ++ key.now ∷ []) seen
+      ∙ ap (λ x. take i (map (λ c. c.name) columns) ++ x ∷ []) is
+      ∙ sym (one_more (map (λ c. c.name) columns) i column.name fits (get_or-map (λ c. c.name) columns i column at within))

@@ -1,0 +1,4 @@
+pub mod Flat
+pub mod Items
+pub mod Searches
+pub mod Words

@@ -1,0 +1,63 @@
+//! The engine.
+
+ghost use Rattle.std.specs.Prelude.{◌≡◌, [], IfOk, None};
+
+use crate::create::{TABLE_LIMIT, create_table};
+use crate::file_answer::FileAnswer;
+use crate::insert::insert;
+use crate::select::select;
+use crate::table::Table;
+use bw_model::{Refusal, Reply};
+use bw_sql::{Name, Statement};
+use indexmap::IndexMap;
+use std::alloc::{AllocError, Global};
+use std::marker::Model;
+
+/// Tables in memory, in the order in which they were made. A contract sees the store that they are.
+#[derive(Drop)]
+pub struct Engine {
+    tables: IndexMap<Name, Table>,
+    alloc: Global,
+}
+
+impl Model for Engine {
+    ghost use Rattle.bw_model.specs.Store.{Store};
+
+    ghost Value = { Store };
+
+    ghost view = { λ e. e.tables.entries };
+}
+
+impl Engine {
+    /// An engine without tables, with room for as many as it may hold.
+    pub fn new(alloc: Global) -> Result<Engine, AllocError>
+        ensures { IfOk result (λ engine. engine ≡ []) }
+    {
+        let tables = IndexMap::with_capacity(alloc, TABLE_LIMIT)?;
+        Ok(Engine { tables, alloc })
+    }
+
+    /// The name of the file that a statement reads.
+    pub fn wants<'s>(&self, _statement: &'s Statement) -> Option<&'s str>
+        ensures { result ≡ None }
+    {
+        None
+    }
+
+    /// Carries out a statement. No statement reads a file yet, so the file isn't looked at.
+    pub fn execute(&mut self, statement: Statement, _file: FileAnswer<'_>) -> Reply {
+        let outcome = match statement {
+            Statement::CreateTable(statement) => create_table(
+                self.alloc,
+                &mut self.tables,
+                statement,
+            ),
+            Statement::Insert(statement) => insert(self.alloc, &mut self.tables, statement),
+            Statement::Select(statement) => select(self.alloc, &self.tables, statement),
+        };
+        match outcome {
+            Ok(reply) => reply,
+            Err(refusal) => Reply::Refused(refusal),
+        }
+    }
+}

@@ -1,0 +1,206 @@
+//! INSERT.
+
+ghost use Rattle.std.specs.Prelude.{◌≡◌, ◌*◌, ◌≤◌, ◌<◌, length, IfOk, IsTrue, map, ◌↔◌, ◌++◌, OnOk, not, position};
+ghost use Rattle.std.specs.Str.{bytes_eq};
+ghost use Rattle.bw_model.specs.Answers.{AreWholeLines, lines_of};
+ghost use Rattle.bw_sql.specs.Rows.{joined};
+ghost use Rattle.bw_model.specs.Store.{are_distinct, value_from};
+
+use crate::headers::{Header, place_in};
+use crate::table::{ROW_LIMIT, Table, value_at};
+use bw_model::{Refusal, Reply};
+use bw_sql::{Insert, Name, Value, ValueRows};
+use indexmap::IndexMap;
+use std::alloc::{AllocError, Global};
+
+/// Puts rows last in a table. A column that isn't listed gets NULL.
+pub fn insert(
+    alloc: Global,
+    tables: &mut IndexMap<Name, Table>,
+    statement: Insert,
+) -> Result<Reply, Refusal> {
+    let Insert {
+        table,
+        columns,
+        rows,
+    } = statement;
+    match tables.get_mut(&table) {
+        Some(table) => insert_rows(alloc, table, &columns, &rows),
+        None => Err(Refusal::NoSuchTable),
+    }
+}
+
+/// Puts rows last in this table. All that can be refused comes before the table changes.
+fn insert_rows(
+    alloc: Global,
+    table: &mut Table,
+    columns: &Option<Vec<Name>>,
+    rows: &ValueRows,
+) -> Result<Reply, Refusal> {
+    let cells = new_cells(alloc, table.headers(), columns, rows)?;
+    if rows.len() > ROW_LIMIT - table.row_count() {
+        return Err(Refusal::TableFull);
+    }
+    table.append(cells.as_slice())?;
+    Ok(Reply::Count(rows.len() as u64))
+}
+
+/// The cells of the rows for a table of these columns.
+fn new_cells(
+    alloc: Global,
+    headers: &[Header],
+    columns: &Option<Vec<Name>>,
+    rows: &ValueRows,
+) -> Result<Vec<Option<i32>>, Refusal>
+    requires { 0 < length headers.now }
+    ensures { IfOk result (λ cells. length cells.items ≡ length rows.now * length headers.now) }
+{
+    match columns {
+        Some(names) => listed_cells(alloc, headers, names.as_slice(), rows),
+        None => cells_of_width(alloc, headers.len(), rows),
+    }
+}
+
+/// The cells of rows that name some columns, in the order of the table's columns.
+fn listed_cells(
+    alloc: Global,
+    headers: &[Header],
+    names: &[Name],
+    rows: &ValueRows,
+) -> Result<Vec<Option<i32>>, Refusal>
+    requires { 0 < length headers.now }
+    ensures { IfOk result (λ cells. length cells.items ≡ length rows.now * length headers.now) }
+{
+    if names.is_empty() {
+        return Err(Refusal::Syntax);
+    }
+    if !names.iter().all(|name| place_in(headers, name).is_some()) {
+        return Err(Refusal::NoSuchColumn);
+    }
+    if name_twice(names) {
+        return Err(Refusal::ColumnNamedTwice);
+    }
+    let values = cells_of_width(alloc, names.len(), rows)?;
+    let sources = sources_of(alloc, headers, names)?;
+    let cells = spread(alloc, values.as_slice(), names.len(), sources.as_slice())?;
+    Ok(cells)
+}
+
+/// Whether a name stands twice. Among more names than columns one stands twice near the front, so
+/// this is quick where all of them are columns.
+fn name_twice(names: &[Name]) -> bool
+    ensures { result ≡ not (are_distinct names.now) }
+{
+    for (i, name) in names.iter().enumerate() {
+        if names[..i].contains(name) {
+            return true;
+        }
+    }
+    false
+}
+
+/// The cells of rows of this width, row after row.
+fn cells_of_width(
+    alloc: Global,
+    width: usize,
+    rows: &ValueRows,
+) -> Result<Vec<Option<i32>>, Refusal>
+    requires { 0 < width }
+    ensures width { IfOk result (λ cells. length cells.items ≡ length rows.now * width) }
+    ensures value { IfOk result (λ cells. cells.items ≡ joined rows.now) }
+{
+    if !rows.are_all_of_width(width) {
+        return Err(Refusal::WrongNumberOfValues);
+    }
+    narrowed(alloc, rows.values())
+}
+
+/// The values, each as an INTEGER.
+fn narrowed(alloc: Global, values: &[Value]) -> Result<Vec<Option<i32>>, Refusal>
+    ensures { IfOk result (λ cells. cells.items ≡ values.now) }
+{
+    let mut cells = Vec::with_capacity(alloc, values.len())?;
+    for value in values {
+        cells.push(integer(*value)?)?;
+    }
+    Ok(cells)
+}
+
+/// The value as an INTEGER, which is -2147483648 to 2147483647 or NULL.
+fn integer(value: Value) -> Result<Option<i32>, Refusal>
+    ensures { IfOk result (λ cell. cell ≡ value) }
+{
+    match value {
+        None => Ok(None),
+        Some(number) => match i32::try_from(number) {
+            Ok(number) => Ok(Some(number)),
+            Err(_) => Err(Refusal::OutOfRange),
+        },
+    }
+}
+
+/// For each column the place in the list at which it is named.
+fn sources_of(
+    alloc: Global,
+    headers: &[Header],
+    names: &[Name],
+) -> Result<Vec<Option<usize>>, AllocError>
+    ensures { IfOk result (λ sources. sources.items ≡ map (λ h. position (bytes_eq h.name) names.now) headers.now) }
+{
+    headers
+        .iter()
+        .map(|header| place_among(names, header.name()))
+        .collect(alloc)
+}
+
+/// The place of this name in the list.
+fn place_among(names: &[Name], name: &Name) -> Option<usize>
+    ensures { result ≡ position (bytes_eq name.now) names.now }
+{
+    names.iter().position(|other| name == other)
+}
+
+/// Rows of this width, with their values in the places of their columns, and NULL in the others.
+fn spread(
+    alloc: Global,
+    values: &[Option<i32>],
+    width: usize,
+    sources: &[Option<usize>],
+) -> Result<Vec<Option<i32>>, AllocError>
+    requires { AreWholeLines width values.now }
+    ensures { IfOk result (λ cells. cells.items ≡ joined (map (λ row. map (value_from row) sources.now) (lines_of width values.now))) }
+{
+    let capacity = (values.len() / width).saturating_mul(sources.len());
+    let mut cells = Vec::with_capacity(alloc, capacity)?;
+    let mut rest = values;
+    while !rest.is_empty() {
+        let (row, after) = rest.split_at(width);
+        place(&mut cells, row, sources)?;
+        rest = after;
+    }
+    Ok(cells)
+}
+
+/// Puts the values from these places of a row last.
+fn place(
+    cells: &mut Vec<Option<i32>>,
+    row: &[Option<i32>],
+    sources: &[Option<usize>],
+) -> Result<(), AllocError>
+    ensures { OnOk result (cells.new.items ≡ cells.old.items ++ map (value_from row.now) sources.now) }
+{
+    for source in sources {
+        cells.push(value_from(row, *source))?;
+    }
+    Ok(())
+}
+
+/// The value at this place, or NULL where there is none.
+fn value_from(row: &[Option<i32>], source: Option<usize>) -> Option<i32>
+    ensures { result ≡ value_from row.now source }
+{
+    match source {
+        Some(place) => value_at(row, place),
+        None => None,
+    }
+}

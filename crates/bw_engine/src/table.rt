@@ -1,0 +1,90 @@
+//! A table in memory.
+
+ghost use Rattle.std.specs.Prelude.{◌≡◌, ◌+◌, ◌*◌, ◌/◌, ◌≤◌, ◌++◌, [], length, OnOk, OnErr};
+ghost use Rattle.bw_model.specs.Answers.{AreWholeLines, lines_of};
+ghost use Rattle.bw_model.specs.Store.{AreHeaders, row_limit, value_at};
+
+use crate::headers::{Header, Headers};
+use std::alloc::{AllocError, Global};
+use std::marker::Model;
+
+/// The most rows that a table holds.
+pub const ROW_LIMIT: usize = 16_777_216;
+
+/// Columns, and rows of as many cells. The rows lie flat in one buffer, one after the other. A
+/// contract sees the columns and the list of the rows.
+#[derive(Debug, Drop)]
+pub struct Table {
+    headers: Headers,
+    cells: Vec<Option<i32>>,
+}
+
+impl Model for Table {
+    ghost use Rattle.std.specs.Prelude.{length};
+    ghost use Rattle.bw_model.specs.Answers.{lines_of};
+    ghost use Rattle.bw_model.specs.Store.{Table};
+
+    ghost Value = { Table };
+
+    ghost use Rattle.bw_engine.specs.Flat.{AreRows};
+
+    ghost view = { λ t. record { headers = t.headers; rows = lines_of (length t.headers) t.cells.items } };
+
+    ghost invariant = { λ t. AreRows (length t.headers) t.cells.items };
+}
+
+impl Table {
+    /// A table without rows.
+    pub fn new(alloc: Global, headers: Headers) -> Table
+        ensures { result ≡ record { headers = headers; rows = [] } }
+    {
+        Table {
+            headers,
+            cells: Vec::new(alloc),
+        }
+    }
+
+    /// The columns, in order.
+    pub fn headers(&self) -> &[Header]
+        ensures value { result.now ≡ self.now.headers }
+        ensures valid { AreHeaders result.now }
+    {
+        self.headers.as_slice()
+    }
+
+    /// How many rows there are.
+    pub fn row_count(&self) -> usize
+        ensures value { result ≡ length self.now.rows }
+        ensures bound { result ≤ row_limit }
+    {
+        self.cells.as_slice().len() / self.headers.as_slice().len()
+    }
+
+    /// The cells of all rows, row after row.
+    pub fn cells(&self) -> &[Option<i32>]
+        ensures whole { AreWholeLines (length self.now.headers) result.now }
+        ensures rows { lines_of (length self.now.headers) result.now ≡ self.now.rows }
+    {
+        self.cells.as_slice()
+    }
+
+    /// Puts the rows of these cells last.
+    pub fn append(&mut self, cells: &[Option<i32>]) -> Result<(), AllocError>
+        requires whole { AreWholeLines (length self.old.headers) cells.now }
+        requires room { length self.old.rows + length (lines_of (length self.old.headers) cells.now) ≤ row_limit }
+        ensures ok { OnOk result (self.new ≡ record { headers = self.old.headers; rows = self.old.rows ++ lines_of (length self.old.headers) cells.now }) }
+        ensures err { OnErr result (self.new ≡ self.old) }
+    {
+        self.cells.extend_from_slice(cells)
+    }
+}
+
+/// The value at this place of a row, or NULL past its end.
+pub fn value_at(row: &[Option<i32>], place: usize) -> Option<i32>
+    ensures { result ≡ value_at row.now place }
+{
+    match row.get(place) {
+        Some(value) => *value,
+        None => None,
+    }
+}
