@@ -1,0 +1,3 @@
+pub mod Items
+pub mod Lines
+pub mod Texts

@@ -1,0 +1,3 @@
+pub mod Folders
+pub mod Script
+pub mod Writing

@@ -1,0 +1,99 @@
+//! Folders, where a statement's files lie.
+
+ghost use Rattle.std.specs.Prelude.{◌≡◌, ℕ, ◌+◌, ◌<◌, ◌^◌, Result, IfErr};
+ghost use Rattle.bw_shell.specs.Folders.{failures_after};
+ghost use Rattle.bw_shell.specs.declared.folders.FolderFault.TheVariants.{Memory};
+
+use std::alloc::{AllocError, AllocFailed, Global};
+use std::collections::BTreeMap;
+
+/// Why a folder didn't do what it was asked.
+#[derive(Clone, Copy, Debug, PartialEq, Eq, Drop)]
+pub enum FolderFault {
+    /// There is no such file.
+    Missing,
+    /// The file is longer than the limit.
+    TooLarge,
+    /// The folder failed.
+    Failed,
+    /// A growth was refused.
+    Memory,
+}
+
+impl From<AllocError> for FolderFault {
+    ghost from_gives = { λ _ fault. fault ≡ Memory };
+
+    fn from(_error: AllocError) -> FolderFault {
+        FolderFault::Memory
+    }
+}
+
+impl<T: Drop> From<AllocFailed<T>> for FolderFault {
+    ghost from_gives = { λ _ fault. fault ≡ Memory };
+
+    fn from(_error: AllocFailed<T>) -> FolderFault {
+        FolderFault::Memory
+    }
+}
+
+/// Where a statement's files lie. It counts how often it failed.
+pub trait Folder {
+    /// How often it failed so far.
+    ghost failure_count: { Self → ℕ };
+
+    /// The bytes of a file of at most `limit` bytes.
+    fn read(&mut self, name: &str, limit: usize) -> Result<Vec<u8>, FolderFault>
+        requires { failure_count self.old < 2 ^ 63 }
+        ensures { failure_count self.new ≡ failures_after result (failure_count self.old) };
+
+    /// Makes the file anew with these bytes.
+    fn write(&mut self, name: &str, bytes: &[u8]) -> Result<(), FolderFault>
+        requires { failure_count self.old < 2 ^ 63 }
+        ensures { failure_count self.new ≡ failures_after result (failure_count self.old) };
+
+    /// How many calls answered `Failed`.
+    fn failures(&self) -> u64
+        ensures { result ≡ failure_count self.now };
+}
+
+/// A folder in memory, which never fails.
+#[derive(Drop)]
+pub struct MemoryFolder {
+    alloc: Global,
+    files: BTreeMap<String, Vec<u8>>,
+}
+
+impl MemoryFolder {
+    /// A folder without files.
+    pub fn new(alloc: Global) -> MemoryFolder {
+        MemoryFolder {
+            alloc,
+            files: BTreeMap::new(alloc),
+        }
+    }
+}
+
+impl Folder for MemoryFolder {
+    ghost failure_count = { λ _. 0 };
+
+    fn read(&mut self, name: &str, limit: usize) -> Result<Vec<u8>, FolderFault> {
+        let Some(bytes) = self.files.get(name) else {
+            return Err(FolderFault::Missing);
+        };
+        if bytes.len() > limit {
+            return Err(FolderFault::TooLarge);
+        }
+        Ok(Vec::from_slice(self.alloc, bytes.as_slice())?)
+    }
+
+    fn write(&mut self, name: &str, bytes: &[u8]) -> Result<(), FolderFault> {
+        let name = String::from_str(self.alloc, name)?;
+        let bytes = Vec::from_slice(self.alloc, bytes)?;
+        self.files.insert(name, bytes)?;
+        Ok(())
+    }
+
+    fn failures(&self) -> u64 {
+        0
+    }
+}

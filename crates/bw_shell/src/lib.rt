@@ -1,0 +1,14 @@
+//! A script of statements run over a reader, a writer and a folder, and the text of the replies.
+#![tactic(auto)]
+
+mod folders;
+mod reading;
+mod session;
+mod text;
+mod writing;
+
+pub use folders::{Folder, FolderFault, MemoryFolder};
+pub use reading::ScriptEnd;
+pub use session::{OnError, RunEnd, run};
+pub use text::write_reply;
+pub use writing::WriteFault;
