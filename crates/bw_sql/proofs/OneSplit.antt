@@ -8,7 +8,7 @@ use Rattle.std.proofs.lemmas.Bool.{and_parts, eqb-true, ne_eqb}
 use Rattle.bw_sql.specs.declared.script.Part.{Part}
 use Rattle.bw_sql.specs.Fronts.{EndsRun, says_len}
 use Rattle.bw_sql.specs.Spellings.{begins_with, has_no}
-use Rattle.bw_sql.specs.Parts.{ArePartsFrom, IsRun, Piece, StandsBefore, bytes_of, comment, cut, last, open_text, other, run_len, text, with_part}
+use Rattle.bw_sql.specs.Parts.{ArePartsFrom, IsJoined, IsRun, Piece, StandsBefore, bytes_of, comment, cut, last, open_text, other, run_bytes, run_len, text, with_part}
 
 text_next : List ℕ → List ℕ → Piece × List ℕ
 text_next says [] = (open_text says, [])
@@ -117,3 +117,20 @@ same_parts at script a b (last r f) (cut s y g e) =
 same_parts at script a b (last r f) (last s g) =
     let same = same_run r s script [] [] f g (inl refl) (inl refl) in
     ap (λ run. with_part at run false []) same.runs
+
+run_whole : (run : List Piece) (script rest : List ℕ) → IsRun run script rest → script ≡ run_bytes run ++ rest
+run_whole [] script rest is = is
+run_whole (piece ∷ run) script rest is =
+    is.1 ∙ ap (λ l. bytes_of piece ++ l) (run_whole run is.0 rest is.3) ∙ sym (append_assoc (bytes_of piece) (run_bytes run) rest)
+
+pub put_together : (at : ℕ) (script : List ℕ) (parts : List Part) → ArePartsFrom at script parts → IsJoined at script parts
+put_together at script parts (cut run rest is after) =
+    let more = put_together (at + run_len run + 1) rest _ after in
+    record {
+      run = run;
+      runs = more.run ∷ more.runs;
+      whole = run_whole run script (59 ∷ rest) is ∙ ap (λ l. run_bytes run ++ 59 ∷ l) more.whole;
+      parts_are = ap (with_part at run true) more.parts_are;
+    }
+put_together at script parts (last run is) =
+    record { run = run; runs = []; whole = run_whole run script [] is ∙ append-nil (run_bytes run); parts_are = refl }

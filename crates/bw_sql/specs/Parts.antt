@@ -56,6 +56,26 @@ pub data ArePartsFrom : ℕ → List ℕ → List Part → Type 0 where
 abbrev pub AreParts : List ℕ → List Part → Type 0
 AreParts script parts = ArePartsFrom 0 script parts
 
+-- The script put together again: runs with a cut between any two, and the parts that they give.
+
+abbrev pub run_bytes : List Piece → List ℕ
+run_bytes [] = []
+run_bytes (piece ∷ run) = bytes_of piece ++ run_bytes run
+
+abbrev pub joined : List Piece → List (List Piece) → List ℕ
+joined run [] = run_bytes run
+joined run (next ∷ runs) = run_bytes run ++ 59 ∷ joined next runs
+
+abbrev pub parts_of : ℕ → List Piece → List (List Piece) → List Part
+parts_of at run [] = with_part at run false []
+parts_of at run (next ∷ runs) = with_part at run true (parts_of (at + run_len run + 1) next runs)
+
+pub record IsJoined (at : ℕ) (script : List ℕ) (parts : List Part) : Type 0 where
+  pub run : List Piece
+  pub runs : List (List Piece)
+  pub whole : script ≡ joined run runs
+  pub parts_are : parts ≡ parts_of at run runs
+
 -- a `;` where the part ends, or the end of the script
 abbrev pub EndsPart : Bool → List ℕ → Type 0
 EndsPart true rest = IsTrue (begins_with 59 rest)

@@ -3,7 +3,7 @@
 ghost use Rattle.std.specs.Prelude.{◌≡◌, ◌==◌, ◌^◌, ◌<◌, ◌++◌, ◌∷◌, [], ℕ, All, IfOk, List, drop, if◌then◌else◌, length, not};
 ghost use Rattle.std.specs.List.{list_all, prefix_len};
 ghost use Rattle.bw_sql.specs.Fronts.{EndsRun, IsFront, first_front, is_plain, plain_front, plain_len, says_len, text_len};
-ghost use Rattle.bw_sql.specs.Parts.{AreParts, IsPartOf};
+ghost use Rattle.bw_sql.specs.Parts.{AreParts, IsJoined, IsPartOf};
 ghost use Rattle.bw_sql.specs.Spellings.{begins_with, is_blank};
 ghost use Rattle.bw_sql.specs.declared.script.Part.{Part};
 
@@ -146,7 +146,8 @@ pub fn parts(alloc: Global, script: &[u8]) -> Result<Vec<Part>, AllocError>
     }
 }
 
-/// A script has its parts in one way only.
+/// A script has its parts in one way only, and is the runs that they come from with the cuts between.
 pub fn one_splitting()
-    ensures { (script : List ℕ) (a b : List Part) → AreParts script a → AreParts script b → a ≡ b }
+    ensures whole { (script : List ℕ) (parts : List Part) → AreParts script parts → IsJoined 0 script parts }
+    ensures same { (script : List ℕ) (a b : List Part) → AreParts script a → AreParts script b → a ≡ b }
 {}

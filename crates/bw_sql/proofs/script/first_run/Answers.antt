@@ -1,5 +1,5 @@
-use Rattle.std.proofs.Common.{◌∙◌, sym, arith}
-use Rattle.bw_sql.proofs.Runs.{at_end, first_of_both, onward, second_of}
+use Rattle.std.proofs.Common.{sym, arith}
+use Rattle.bw_sql.proofs.Runs.{first_of_both, onward, second_of}
 use Rattle.bw_sql.proofs.script.first_run.Goals as goal
 
 pub overflow_add-len : goal.overflow_add-len
