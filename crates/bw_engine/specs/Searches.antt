@@ -1,10 +1,7 @@
 -- What a search finds: a condition whose names are places in a row.
-use Rattle.std.specs.Prelude.{Bool, true, List, Option, Some, None}
-use Rattle.bw_sql.specs.Tree.{Condition, condition_of}
-use Rattle.bw_sql.specs.declared.tree.Condition.{Condition as CodeCondition}
-use Rattle.bw_sql.specs.declared.tree.Operand.{Operand}
-use Rattle.bw_model.specs.Condition.{compared, is_found, is_true, value_of}
-use Rattle.bw_model.specs.Store.{Header, Row, Value, value_at}
+use Rattle.std.specs.Prelude.{Bool, true, Option, Some, None}
+use Rattle.bw_model.specs.Condition.{compared, is_true}
+use Rattle.bw_model.specs.Store.{Row, Value, value_at}
 use Rattle.bw_engine.specs.declared.search.Search.{Search}
 use Rattle.bw_engine.specs.declared.search.Source.{Source}
 use Rattle.bw_engine.specs.declared.search.Source.TheVariants.{Place, Constant}

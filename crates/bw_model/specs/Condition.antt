@@ -3,7 +3,7 @@ use Rattle.std.specs.Prelude.{Bool, true, false, List, Option, Some, None, filte
 use Rattle.std.specs.Ordering.{int_cmp}
 use Rattle.std.specs.declared.cmp.Ordering.{Ordering}
 use Rattle.std.specs.declared.cmp.Ordering.TheVariants.{Less, Equal, Greater}
-use Rattle.bw_sql.specs.Tree.{Condition, comparison}
+use Rattle.bw_sql.specs.Tree.{ConditionTree, comparison}
 use Rattle.bw_sql.specs.declared.token.CompareOp.{CompareOp}
 use Rattle.bw_sql.specs.declared.token.CompareOp.TheVariants.{Eq, Ne, Lt, Le, Gt, Ge}
 use Rattle.bw_sql.specs.declared.tree.Operand.{Operand}
@@ -49,13 +49,13 @@ abbrev pub value_of : List Header → Row → Operand → Value
 value_of headers row (Column name) = value_from row (place_of headers name)
 value_of headers row (Constant value) = value
 
-abbrev pub truth_at : List Header → Row → Condition → Truth
+abbrev pub truth_at : List Header → Row → ConditionTree → Truth
 truth_at headers row (comparison left op right) = compared op (value_of headers row left) (value_of headers row right)
 
 -- every row is found where there is no condition
-abbrev pub is_found : List Header → Option Condition → Row → Bool
+abbrev pub is_found : List Header → Option ConditionTree → Row → Bool
 is_found headers None row = true
 is_found headers (Some condition) row = is_true (truth_at headers row condition)
 
-abbrev pub found_rows : Table → Option Condition → List Row
+abbrev pub found_rows : Table → Option ConditionTree → List Row
 found_rows table condition = filter (is_found table.headers condition) table.rows

@@ -1,38 +1,38 @@
--- Statements without where they lie in memory: names, lists and values alone (SQL-92, the statements' formats).
-use Rattle.std.specs.Prelude.{ℕ, ℤ, List, Option, Some, None}
+-- Statements as the language has them (SQL-92: table definition, insert statement, query specification,
+-- comparison predicate), without where they lie in memory. A name is its bytes, a value a number or none.
+use Rattle.std.specs.Prelude.{ℕ, ℤ, List, [], ◌∷◌, Option, option_map}
+use Rattle.std.specs.Global.{Vec}
 use Rattle.bw_sql.specs.declared.token.CompareOp.{CompareOp}
-use Rattle.bw_sql.specs.declared.tree.ColumnDefinition.{ColumnDefinition}
-use Rattle.bw_sql.specs.declared.tree.Condition.{Condition as CodeCondition}
-use Rattle.bw_sql.specs.declared.tree.Condition.TheVariants.{Compare}
 use Rattle.bw_sql.specs.declared.tree.Operand.{Operand}
+use Rattle.bw_sql.specs.declared.tree.Condition.{Condition}
+use Rattle.bw_sql.specs.declared.tree.Condition.TheVariants as conditions
+use Rattle.bw_sql.specs.declared.tree.ColumnDefinition.{ColumnDefinition}
 use Rattle.bw_sql.specs.declared.tree.SelectItems.{SelectItems}
-use Rattle.bw_sql.specs.declared.tree.SelectItems.TheVariants.{All, Columns}
-use Rattle.bw_sql.specs.declared.tree.Statement.{Statement as CodeStatement}
-use Rattle.bw_sql.specs.declared.tree.Statement.TheVariants.{CreateTable, Insert, Select}
+use Rattle.bw_sql.specs.declared.tree.SelectItems.TheVariants as items
+use Rattle.bw_sql.specs.declared.tree.Statement.{Statement}
+use Rattle.bw_sql.specs.declared.tree.Statement.TheVariants as statements
 
--- a condition on a row
-pub data Condition : Type 0 where
-  comparison : Operand → CompareOp → Operand → Condition
+pub data ConditionTree : Type 0 where
+  comparison : Operand → CompareOp → Operand → ConditionTree
 
--- what a SELECT shows: every column, or these
-pub data Items : Type 0 where
-  every_column : Items
-  columns : List (List ℕ) → Items
+pub data ItemsTree : Type 0 where
+  all_columns : ItemsTree
+  columns : List (List ℕ) → ItemsTree
 
--- a table's name, and then what the statement says of it
-pub data Statement : Type 0 where
-  create_table : List ℕ → List ColumnDefinition → Statement
-  insert : List ℕ → Option (List (List ℕ)) → List (List (Option ℤ)) → Statement
-  select : Items → List ℕ → Option Condition → Statement
+pub data StatementTree : Type 0 where
+  create_table : (table : List ℕ) → List ColumnDefinition → StatementTree
+  insert : (table : List ℕ) → (columns : Option (List (List ℕ))) → (rows : List (List (Option ℤ))) → StatementTree
+  select : ItemsTree → (table : List ℕ) → Option ConditionTree → StatementTree
 
-abbrev pub condition_of : CodeCondition → Condition
-condition_of (Compare left op right) = comparison left op right
+abbrev pub condition_of : Condition → ConditionTree
+condition_of (conditions.Compare x op y) = comparison x op y
 
-abbrev pub items_of : SelectItems → Items
-items_of All = every_column
-items_of (Columns names) = columns names.items
+abbrev pub items_of : SelectItems → ItemsTree
+items_of items.All = all_columns
+items_of (items.Columns names) = columns names.items
 
-abbrev pub statement_of : CodeStatement → Statement
-statement_of (CreateTable s) = create_table s.table s.columns.items
-statement_of (Insert s) = insert s.table (elim s.columns [ None ↦ None | Some names ↦ Some names.items ]) s.rows
-statement_of (Select s) = select (items_of s.items) s.table (elim s.condition [ None ↦ None | Some c ↦ Some (condition_of c) ])
+-- the statement that a Rust value holds
+abbrev pub statement_of : Statement → StatementTree
+statement_of (statements.CreateTable s) = create_table s.table s.columns.items
+statement_of (statements.Insert s) = insert s.table (option_map (λ names. names.items) s.columns) s.rows
+statement_of (statements.Select s) = select (items_of s.items) s.table (option_map condition_of s.condition)
