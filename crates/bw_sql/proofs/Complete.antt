@@ -10,7 +10,7 @@ use Rattle.bw_sql.specs.declared.tree.KindWord.{KindWord}
 use Rattle.bw_sql.specs.declared.tree.KindWord.TheVariants.{Offset, Dictionary}
 use Rattle.bw_sql.specs.declared.tree.ColumnDefinition.{ColumnDefinition}
 use Rattle.bw_sql.specs.Words.{kind_of, kind_spelling, layout_of, layout_spelling}
-use Rattle.bw_sql.specs.Tree.{Condition, Items, columns, Statement, create_table, insert, select}
+use Rattle.bw_sql.specs.Tree.{ConditionTree, ItemsTree, columns, StatementTree, create_table, insert, select}
 use Rattle.bw_sql.specs.Grammar.{ListOf, last, next, NamePart, name, LiteralPart, number, plus, minus, ValuePart, null_value, literal_value, RowPart, row, TypePart, integer, int, UsingPart, no_layout, using_layout, KindPart, no_kind, kind, ColumnPart, column, ItemsPart, star, some_columns, ConditionPart, compare, Spells, creates, inserts, inserts_into, selects, selects_where}
 use Rattle.bw_sql.specs.Reading.{Read, after_comma, after_type, column_at, column_list_at, columns_at, compare_at, condition_at, create_at, filter_at, insert_at, items_at, kind_at, layout_at, literal_at, more_at, name_at, names_at, negative, number_at, parts_at, positive, row_at, rows_at, select_at, statement_at, using_at, value_at, values_at, whole_at, with_first}
 use Rattle.bw_sql.proofs.WordLemmas.{kind_of-spelling, layout_of-spelling}
@@ -166,21 +166,21 @@ unfolding items_at
 names_first n (last name) e = rw e refl
 names_first n (next name ds) e = rw e refl
 
-items_read : {ts rest : List Terminal} {x : Items} → ItemsPart ts x rest → after_comma rest ≡ None → (n : ℕ) → length ts < n → items_at n ts ≡ Some (x, rest)
+items_read : {ts rest : List Terminal} {x : ItemsTree} → ItemsPart ts x rest → after_comma rest ≡ None → (n : ℕ) → length ts < n → items_at n ts ≡ Some (x, rest)
 unfolding items_at
 items_read star stops n h = refl
 items_read (some_columns d) stops n h = names_first n d (names_read d stops n h)
 
-condition_reads : (ts rest : List Terminal) (c : Condition) → ConditionPart ts c rest → condition_at ts ≡ Some (c, rest)
+condition_reads : (ts rest : List Terminal) (c : ConditionTree) → ConditionPart ts c rest → condition_at ts ≡ Some (c, rest)
 unfolding condition_at name_at compare_at
 condition_reads ts rest c (compare {word} {op} {z} {ts = us} d) = rw (literal_reads us rest z d) refl
 
-items_shorter : {ts rest : List Terminal} {x : Items} → ItemsPart ts x rest → length rest < length ts
+items_shorter : {ts rest : List Terminal} {x : ItemsTree} → ItemsPart ts x rest → length rest < length ts
 items_shorter star = omega arith
 items_shorter (some_columns d) = names_shorter d
 
 -- a statement is read, with enough fuel
-pub whole_reads : {ts : List Terminal} {tree : Statement} → Spells ts tree → (n : ℕ) → length ts < n → whole_at n ts ≡ Some tree
+pub whole_reads : {ts : List Terminal} {tree : StatementTree} → Spells ts tree → (n : ℕ) → length ts < n → whole_at n ts ≡ Some tree
 unfolding whole_at statement_at create_at insert_at select_at name_at column_list_at filter_at
 whole_reads (creates d) n h = rw (columns_read d n (omega arith)) refl
 whole_reads (inserts d) n h = rw (rows_read d refl n (omega arith)) refl

@@ -13,7 +13,7 @@ use Rattle.bw_sql.specs.declared.tree.KindWord.{KindWord}
 use Rattle.bw_sql.specs.declared.tree.ColumnDefinition.{ColumnDefinition}
 use Rattle.bw_sql.specs.declared.tree.Operand.TheVariants.{Column, Constant}
 use Rattle.bw_sql.specs.Words.{kind_of, kind_spelling, layout_of, layout_spelling}
-use Rattle.bw_sql.specs.Tree.{Condition, comparison, Items, every_column, columns, Statement, create_table, insert, select}
+use Rattle.bw_sql.specs.Tree.{ConditionTree, comparison, ItemsTree, all_columns, columns, StatementTree, create_table, insert, select}
 use Rattle.bw_sql.specs.Grammar.{ListOf, last, next, NamePart, name, LiteralPart, number, plus, minus, ValuePart, null_value, literal_value, RowPart, row, TypePart, integer, int, UsingPart, no_layout, using_layout, KindPart, no_kind, kind, ColumnPart, column, ItemsPart, star, some_columns, ConditionPart, compare, Spells, creates, inserts, inserts_into, selects, selects_where}
 use Rattle.bw_sql.specs.Reading.{Read, after_close, after_comma, after_from, after_into, after_open, after_table, after_type, after_values, closed, column_at, column_list_at, columns_at, compare_at, condition_at, create_at, defined, ended, filter_at, go_on, insert_at, items_at, kind_at, kind_taken, layout_at, literal_at, map_first, more_at, name_at, names_at, negative, number_at, parts_at, positive, row_at, rows_at, select_at, statement_at, using_at, value_at, values_at, whole_at, with_first, with_rest, ◌>>=◌}
 use Rattle.bw_sql.proofs.WordLemmas.{kind_of-is, layout_of-is}
@@ -238,14 +238,14 @@ name_is : (ts : List Terminal) (word : List ℕ) (rest : List Terminal) → Name
 name_is ts word rest name = refl
 
 -- a statement so far, and what is left behind it
-abbrev IsStatement : List Terminal → Statement → List Terminal → Type 0
+abbrev IsStatement : List Terminal → StatementTree → List Terminal → Type 0
 IsStatement ts tree rest = rest ≡ [] → Spells ts tree
 
 -- a spelling under equal names
-spelled : (word : Terminal) (ts us : List Terminal) (x y : Statement) → ts ≡ us → x ≡ y → Spells (word ∷ us) x → Spells (word ∷ ts) y
+spelled : (word : Terminal) (ts us : List Terminal) (x y : StatementTree) → ts ≡ us → x ≡ y → Spells (word ∷ us) x → Spells (word ∷ ts) y
 spelled word ts us x y e f d = rw (e, ← f) d
 
-create_sound : (n : ℕ) (ts : List Terminal) → (tree : Statement) (rest : List Terminal) → create_at n ts ≡ Some (tree, rest) → IsStatement (t.Keyword k.Create ∷ ts) tree rest
+create_sound : (n : ℕ) (ts : List Terminal) → (tree : StatementTree) (rest : List Terminal) → create_at n ts ≡ Some (tree, rest) → IsStatement (t.Keyword k.Create ∷ ts) tree rest
 unfolding create_at
 create_sound n ts tree rest h nothing =
     let a = bound (after_table ts) _ (tree, rest) h in
@@ -267,7 +267,7 @@ list_part_sound n ts names us vs table rows h is many =
     let e = answers_once None names ts us h in
     rw (← e.0, e.1, is) (inserts many)
 
-insert_sound : (n : ℕ) (ts : List Terminal) → (tree : Statement) (rest : List Terminal) → insert_at n ts ≡ Some (tree, rest) → IsStatement (t.Keyword k.Insert ∷ ts) tree rest
+insert_sound : (n : ℕ) (ts : List Terminal) → (tree : StatementTree) (rest : List Terminal) → insert_at n ts ≡ Some (tree, rest) → IsStatement (t.Keyword k.Insert ∷ ts) tree rest
 unfolding insert_at
 insert_sound n ts tree rest h nothing =
     let a = bound (after_into ts) _ (tree, rest) h in
@@ -283,7 +283,7 @@ insert_sound n ts tree rest h nothing =
 
 items_sound : (n : ℕ) → IsSound ItemsPart (items_at n)
 unfolding items_at
-items_sound n (t.Symbol s.Star ∷ ts) x rest h = moved ItemsPart (t.Symbol s.Star ∷ ts) every_column x ts rest star h
+items_sound n (t.Symbol s.Star ∷ ts) x rest h = moved ItemsPart (t.Symbol s.Star ∷ ts) all_columns x ts rest star h
 items_sound n ts x rest h = mapped columns ItemsPart ts (names_at n ts) x rest h (λ names reads. some_columns (names_sound n ts names rest reads))
 
 abbrev IsCompare : List Terminal → CompareOp → List Terminal → Type 0
@@ -305,7 +305,7 @@ condition_sound ts x rest h =
     compared : (ts : List Terminal) (word : List ℕ) (us : List Terminal) (op : CompareOp) (vs : List Terminal) (z : ℤ) (ws : List Terminal) → ts ≡ t.Name word ∷ us → us ≡ t.Symbol (s.Compare op) ∷ vs → LiteralPart vs z ws → ConditionPart ts (comparison (Column word) op (Constant (Some z))) ws
     compared ts word us op vs z ws e f d = rw (e, f) (compare d)
 
-filter_sound : (ts us vs : List Terminal) (items : Items) (table : List ℕ) (filter : Option Condition) → ItemsPart ts items (t.Keyword k.From ∷ t.Name table ∷ us) → filter_at us ≡ Some (filter, vs) → vs ≡ [] → Spells (t.Keyword k.Select ∷ ts) (select items table filter)
+filter_sound : (ts us vs : List Terminal) (items : ItemsTree) (table : List ℕ) (filter : Option ConditionTree) → ItemsPart ts items (t.Keyword k.From ∷ t.Name table ∷ us) → filter_at us ≡ Some (filter, vs) → vs ≡ [] → Spells (t.Keyword k.Select ∷ ts) (select items table filter)
 unfolding filter_at
 filter_sound ts (t.Keyword k.Where ∷ us) vs items table filter shown h nothing =
     mapped Some (λ _ f rest. rest ≡ [] → Spells (t.Keyword k.Select ∷ ts) (select items table f)) us (condition_at us) filter vs h (λ c reads ended. selects_where shown (subst (ConditionPart us c) ended (condition_sound us c vs reads))) nothing
@@ -313,7 +313,7 @@ filter_sound ts us vs items table filter shown h nothing =
     let e = answers_once None filter us vs h in
     rw (← e.0) (selects (subst (λ l. ItemsPart ts items (t.Keyword k.From ∷ t.Name table ∷ l)) (e.1 ∙ nothing) shown))
 
-select_sound : (n : ℕ) (ts : List Terminal) → (tree : Statement) (rest : List Terminal) → select_at n ts ≡ Some (tree, rest) → IsStatement (t.Keyword k.Select ∷ ts) tree rest
+select_sound : (n : ℕ) (ts : List Terminal) → (tree : StatementTree) (rest : List Terminal) → select_at n ts ≡ Some (tree, rest) → IsStatement (t.Keyword k.Select ∷ ts) tree rest
 unfolding select_at
 select_sound n ts tree rest h nothing =
     let a = bound (items_at n ts) _ (tree, rest) h in
@@ -324,18 +324,18 @@ select_sound n ts tree rest h nothing =
     spelled (t.Keyword k.Select) ts ts (select a.0.0 c.0.0 d.0.0) tree refl e.0
     (filter_sound ts c.0.1 d.0.1 a.0.0 c.0.0 d.0.0 (subst (ItemsPart ts a.0.0) (after_from-is a.0.1 b.0 b.1 ∙ ap (λ l. t.Keyword k.From ∷ l) (name_is b.0 c.0.0 c.0.1 (name_sound b.0 c.0.0 c.0.1 c.1))) (items_sound n ts a.0.0 a.0.1 a.1)) d.1 (e.1 ∙ nothing))
 
-statement_sound : (n : ℕ) (ts : List Terminal) (tree : Statement) (rest : List Terminal) → statement_at n ts ≡ Some (tree, rest) → IsStatement ts tree rest
+statement_sound : (n : ℕ) (ts : List Terminal) (tree : StatementTree) (rest : List Terminal) → statement_at n ts ≡ Some (tree, rest) → IsStatement ts tree rest
 unfolding statement_at
 statement_sound n (t.Keyword k.Create ∷ ts) tree rest h = create_sound n ts tree rest h
 statement_sound n (t.Keyword k.Insert ∷ ts) tree rest h = insert_sound n ts tree rest h
 statement_sound n (t.Keyword k.Select ∷ ts) tree rest h = select_sound n ts tree rest h
 statement_sound n _ tree rest h = cc
 
-all_ended : (tree : Statement) (rest : List Terminal) (y : Statement) → ended tree rest ≡ Some y → (rest ≡ []) × (tree ≡ y)
+all_ended : (tree : StatementTree) (rest : List Terminal) (y : StatementTree) → ended tree rest ≡ Some y → (rest ≡ []) × (tree ≡ y)
 all_ended tree [] y h = (refl, cc)
 all_ended tree (_ ∷ rest) y h = cc
 
-pub whole_sound : (n : ℕ) (ts : List Terminal) (tree : Statement) → whole_at n ts ≡ Some tree → Spells ts tree
+pub whole_sound : (n : ℕ) (ts : List Terminal) (tree : StatementTree) → whole_at n ts ≡ Some tree → Spells ts tree
 unfolding whole_at
 whole_sound n ts tree h =
     let a = bound (statement_at n ts) _ tree h in

@@ -3,7 +3,7 @@ use Rattle.std.proofs.Common.{◌≡◌, ◌∙◌, ℕ, ◌<◌, suc, List, [],
 use Rattle.bw_sql.specs.declared.fault.SqlFault.{SqlFault}
 use Rattle.bw_sql.specs.declared.fault.SqlFault.TheVariants as faults
 use Rattle.bw_sql.specs.declared.terminal.Terminal.{Terminal}
-use Rattle.bw_sql.specs.declared.tree.Statement.{Statement as CodeStatement}
+use Rattle.bw_sql.specs.declared.tree.Statement.{Statement}
 use Rattle.bw_sql.specs.Grammar.{Spells}
 use Rattle.bw_sql.specs.Reading.{GivesAll, whole_at}
 use Rattle.bw_sql.specs.declared.lexer.TextEnd.{TextEnd}
@@ -12,23 +12,23 @@ use Rattle.bw_sql.specs.declared.token.Token.{Token}
 use Rattle.bw_sql.specs.Terminals.{IsLimitFault, first_limit_fault, terminals_of}
 use Rattle.bw_sql.specs.Tokens.{AreTokens, AreTokensToBad, AreTokensUpTo}
 use Rattle.bw_sql.specs.Statements.{IsMalformed, IsParseFault, IsStatementFault, Says, bad_token, longest_statement, no_statement}
-use Rattle.bw_sql.specs.Tree.{Statement, statement_of}
+use Rattle.bw_sql.specs.Tree.{StatementTree, statement_of}
 use Rattle.bw_sql.proofs.Complete.{whole_reads}
 use Rattle.bw_sql.proofs.Lexing.{same_tokens}
 use Rattle.bw_sql.proofs.Sound.{whole_sound}
 
 -- terminals spell one statement at most
-pub spells_once : (ts : List Terminal) (a b : Statement) → Spells ts a → Spells ts b → a ≡ b
+pub spells_once : (ts : List Terminal) (a b : StatementTree) → Spells ts a → Spells ts b → a ≡ b
 spells_once ts a b x y =
     let n = suc (length ts) in
     let p = whole_reads x n (omega arith) in
     let q = whole_reads y n (omega arith) in
     cc
 
-abbrev pub AlwaysGives : Result CodeStatement SqlFault → List Terminal → Type 0
+abbrev pub AlwaysGives : Result Statement SqlFault → List Terminal → Type 0
 AlwaysGives r ts = (n : ℕ) → length ts < n → GivesAll statement_of r (whole_at n ts)
 
-pub found : (ts : List Terminal) (r : Result CodeStatement SqlFault) → AlwaysGives r ts → IfOk r (λ s. Spells ts (statement_of s))
+pub found : (ts : List Terminal) (r : Result Statement SqlFault) → AlwaysGives r ts → IfOk r (λ s. Spells ts (statement_of s))
 found ts (Ok s) gives = whole_sound (suc (length ts)) ts (statement_of s) (gives (suc (length ts)) (omega arith))
 found ts (Err e) gives = tt
 
@@ -43,7 +43,7 @@ fault_is ts faults.TooLong gives = gives (suc (length ts)) (omega arith)
 fault_is ts faults.TooDeep gives = gives (suc (length ts)) (omega arith)
 fault_is ts faults.BigNumber gives = gives (suc (length ts)) (omega arith)
 
-pub only : (ts : List Terminal) (r : Result CodeStatement SqlFault) → AlwaysGives r ts → IfErr r (λ e. IsParseFault e ts)
+pub only : (ts : List Terminal) (r : Result Statement SqlFault) → AlwaysGives r ts → IfErr r (λ e. IsParseFault e ts)
 only ts (Ok s) gives = tt
 only ts (Err e) gives = fault_is ts e gives
 
@@ -66,10 +66,10 @@ module _ (text : List ℕ) (end : TextEnd) (tokens : List Token) (short : length
   no_parse faults.BigNumber is within h = absurd h
   no_parse faults.TooLong is within h = absurd h
 
-  pub parse_fault : (r : Result CodeStatement SqlFault) → end ≡ ends.Reached → first_limit_fault [] (terminals_of text tokens) ≡ None → IfErr r (λ e. IsParseFault e (terminals_of text tokens)) → IfErr r (λ e. IsStatementFault e text)
+  pub parse_fault : (r : Result Statement SqlFault) → end ≡ ends.Reached → first_limit_fault [] (terminals_of text tokens) ≡ None → IfErr r (λ e. IsParseFault e (terminals_of text tokens)) → IfErr r (λ e. IsStatementFault e text)
   parse_fault (Ok s) is within h = tt
   parse_fault (Err e) is within h = no_parse e is within h
 
-pub says_once : (text : List ℕ) (a b : Statement) → Says text a → Says text b → a ≡ b
+pub says_once : (text : List ℕ) (a b : StatementTree) → Says text a → Says text b → a ≡ b
 says_once text a b x y =
     spells_once (terminals_of text x.tokens) a b x.spelled (subst (λ tokens. Spells (terminals_of text tokens) b) (same_tokens text y.tokens x.tokens y.are_tokens x.are_tokens) y.spelled)

@@ -14,7 +14,7 @@ use Rattle.bw_sql.specs.declared.tree.KindWord.TheVariants.{Offset, Dictionary}
 use Rattle.bw_sql.specs.declared.tree.Operand.TheVariants.{Column, Constant}
 use Rattle.bw_sql.specs.declared.tree.ColumnDefinition.{ColumnDefinition}
 use Rattle.bw_sql.specs.Words.{kind_spelling, layout_spelling}
-use Rattle.bw_sql.specs.Tree.{Condition, comparison, Items, every_column, columns, Statement, create_table, insert, select}
+use Rattle.bw_sql.specs.Tree.{ConditionTree, comparison, ItemsTree, all_columns, columns, StatementTree, create_table, insert, select}
 
 -- one {, one}
 pub data ListOf {A : Type 0} (One : List Terminal → A → List Terminal → Type 0) : List Terminal → List A → List Terminal → Type 0 where
@@ -60,17 +60,17 @@ pub data ColumnPart : List Terminal → ColumnDefinition → List Terminal → T
       TypePart ts us → UsingPart us l vs → KindPart vs d rest → ColumnPart (t.Name word ∷ ts) (record { name = word; layout = l; kind = d }) rest
 
 -- items = * | name {, name}
-pub data ItemsPart : List Terminal → Items → List Terminal → Type 0 where
-  star : {rest : List Terminal} → ItemsPart (t.Symbol s.Star ∷ rest) every_column rest
+pub data ItemsPart : List Terminal → ItemsTree → List Terminal → Type 0 where
+  star : {rest : List Terminal} → ItemsPart (t.Symbol s.Star ∷ rest) all_columns rest
   some_columns : {names : List (List ℕ)} {ts rest : List Terminal} → ListOf NamePart ts names rest → ItemsPart ts (columns names) rest
 
 -- cond = name compare literal
-pub data ConditionPart : List Terminal → Condition → List Terminal → Type 0 where
+pub data ConditionPart : List Terminal → ConditionTree → List Terminal → Type 0 where
   compare : {word : List ℕ} {op : CompareOp} {z : ℤ} {ts rest : List Terminal} → LiteralPart ts z rest →
       ConditionPart (t.Name word ∷ t.Symbol (s.Compare op) ∷ ts) (comparison (Column word) op (Constant (Some z))) rest
 
 -- statement, and nothing after it
-pub data Spells : List Terminal → Statement → Type 0 where
+pub data Spells : List Terminal → StatementTree → Type 0 where
   -- CREATE TABLE name ( coldef {, coldef} )
   creates : {table : List ℕ} {definitions : List ColumnDefinition} {ts : List Terminal} →
       ListOf ColumnPart ts definitions (t.Symbol s.Close ∷ []) →
@@ -84,10 +84,10 @@ pub data Spells : List Terminal → Statement → Type 0 where
       ListOf NamePart ts names (t.Symbol s.Close ∷ t.Keyword k.Values ∷ us) → ListOf RowPart us rows [] →
       Spells (t.Keyword k.Insert ∷ t.Keyword k.Into ∷ t.Name table ∷ t.Symbol s.Open ∷ ts) (insert table (Some names) rows)
   -- SELECT items FROM name
-  selects : {table : List ℕ} {items : Items} {ts : List Terminal} →
+  selects : {table : List ℕ} {items : ItemsTree} {ts : List Terminal} →
       ItemsPart ts items (t.Keyword k.From ∷ t.Name table ∷ []) →
       Spells (t.Keyword k.Select ∷ ts) (select items table None)
   -- SELECT items FROM name WHERE cond
-  selects_where : {table : List ℕ} {items : Items} {c : Condition} {ts us : List Terminal} →
+  selects_where : {table : List ℕ} {items : ItemsTree} {c : ConditionTree} {ts us : List Terminal} →
       ItemsPart ts items (t.Keyword k.From ∷ t.Name table ∷ t.Keyword k.Where ∷ us) → ConditionPart us c [] →
       Spells (t.Keyword k.Select ∷ ts) (select items table (Some c))

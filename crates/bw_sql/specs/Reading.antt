@@ -16,7 +16,7 @@ use Rattle.bw_sql.specs.declared.tree.KindWord.TheVariants.{Offset, Dictionary}
 use Rattle.bw_sql.specs.declared.tree.Operand.TheVariants.{Column, Constant}
 use Rattle.bw_sql.specs.declared.tree.ColumnDefinition.{ColumnDefinition}
 use Rattle.bw_sql.specs.Words.{kind_of, layout_of}
-use Rattle.bw_sql.specs.Tree.{Condition, comparison, Items, every_column, columns, Statement, create_table, insert, select}
+use Rattle.bw_sql.specs.Tree.{ConditionTree, comparison, ItemsTree, all_columns, columns, StatementTree, create_table, insert, select}
 
 -- what is read, and the terminals after it; none is a syntax error
 abbrev pub Read : Type 0 → Type 0
@@ -186,7 +186,7 @@ unfoldable pub columns_at : ℕ → List Terminal → Read (List ColumnDefinitio
 columns_at n ts = parts_at after_comma column_at n ts
 
 -- what follows CREATE
-unfoldable pub create_at : ℕ → List Terminal → Read Statement
+unfoldable pub create_at : ℕ → List Terminal → Read StatementTree
 create_at n ts =
     after_table ts >>= λ us. name_at us >>= λ name. after_open name.1 >>= λ vs. columns_at n vs >>= λ definitions.
     closed (create_table name.0 definitions.0) (after_close definitions.1)
@@ -196,35 +196,35 @@ column_list_at n (t.Symbol s.Open ∷ ts) = names_at n ts >>= λ names. closed (
 column_list_at n ts = Some (None, ts)
 
 -- what follows INSERT
-unfoldable pub insert_at : ℕ → List Terminal → Read Statement
+unfoldable pub insert_at : ℕ → List Terminal → Read StatementTree
 insert_at n ts =
     after_into ts >>= λ us. name_at us >>= λ name. column_list_at n name.1 >>= λ names. after_values names.1 >>= λ vs.
     rows_at n vs >>= λ rows. Some (insert name.0 names.0 rows.0, rows.1)
 
-unfoldable pub items_at : ℕ → List Terminal → Read Items
-items_at n (t.Symbol s.Star ∷ ts) = Some (every_column, ts)
+unfoldable pub items_at : ℕ → List Terminal → Read ItemsTree
+items_at n (t.Symbol s.Star ∷ ts) = Some (all_columns, ts)
 items_at n ts = map_first columns (names_at n ts)
 
 unfoldable pub compare_at : List Terminal → Read CompareOp
 compare_at (t.Symbol (s.Compare op) ∷ ts) = Some (op, ts)
 compare_at _ = None
 
-unfoldable pub condition_at : List Terminal → Read Condition
+unfoldable pub condition_at : List Terminal → Read ConditionTree
 condition_at ts =
     name_at ts >>= λ name. compare_at name.1 >>= λ op. literal_at op.1 >>= λ z.
     Some (comparison (Column name.0) op.0 (Constant (Some z.0)), z.1)
 
-unfoldable pub filter_at : List Terminal → Read (Option Condition)
+unfoldable pub filter_at : List Terminal → Read (Option ConditionTree)
 filter_at (t.Keyword k.Where ∷ ts) = map_first Some (condition_at ts)
 filter_at ts = Some (None, ts)
 
 -- what follows SELECT
-unfoldable pub select_at : ℕ → List Terminal → Read Statement
+unfoldable pub select_at : ℕ → List Terminal → Read StatementTree
 select_at n ts =
     items_at n ts >>= λ items. after_from items.1 >>= λ us. name_at us >>= λ table. filter_at table.1 >>= λ filter.
     Some (select items.0 table.0 filter.0, filter.1)
 
-unfoldable pub statement_at : ℕ → List Terminal → Read Statement
+unfoldable pub statement_at : ℕ → List Terminal → Read StatementTree
 statement_at n (t.Keyword k.Create ∷ ts) = create_at n ts
 statement_at n (t.Keyword k.Insert ∷ ts) = insert_at n ts
 statement_at n (t.Keyword k.Select ∷ ts) = select_at n ts
@@ -235,5 +235,5 @@ abbrev pub ended : {A : Type 0} → A → List Terminal → Option A
 ended x [] = Some x
 ended x (t ∷ ts) = None
 
-unfoldable pub whole_at : ℕ → List Terminal → Option Statement
+unfoldable pub whole_at : ℕ → List Terminal → Option StatementTree
 whole_at n ts = statement_at n ts >>= λ statement. ended statement.0 statement.1

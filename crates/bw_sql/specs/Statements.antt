@@ -7,7 +7,7 @@ use Rattle.bw_sql.specs.declared.terminal.Terminal.{Terminal}
 use Rattle.bw_sql.specs.declared.token.Token.{Token}
 use Rattle.bw_sql.specs.Tokens.{AreTokens, AreTokensToBad, AreTokensUpTo}
 use Rattle.bw_sql.specs.Terminals.{first_limit_fault, terminals_of}
-use Rattle.bw_sql.specs.Tree.{Statement}
+use Rattle.bw_sql.specs.Tree.{StatementTree}
 use Rattle.bw_sql.specs.Grammar.{Spells}
 
 -- how many bytes a statement may have
@@ -15,7 +15,7 @@ abbrev pub longest_statement : ℕ
 longest_statement = 65536
 
 -- the text is no longer than a statement may be, no token is bad or over a limit, and they spell the statement
-pub record Says (text : List ℕ) (statement : Statement) : Type 0 where
+pub record Says (text : List ℕ) (statement : StatementTree) : Type 0 where
   pub short : length text ≤ longest_statement
   pub tokens : List Token
   pub are_tokens : AreTokens text tokens
@@ -24,7 +24,7 @@ pub record Says (text : List ℕ) (statement : Statement) : Type 0 where
 
 -- no statement is spelled so
 abbrev pub SpellsNothing : List Terminal → Type 0
-SpellsNothing terminals = (statement : Statement) → Spells terminals statement → ⊥
+SpellsNothing terminals = (statement : StatementTree) → Spells terminals statement → ⊥
 
 -- No token is over a limit before the first bad one, or there is no bad one, and no statement is spelled.
 pub data IsMalformed (text : List ℕ) : Type 0 where

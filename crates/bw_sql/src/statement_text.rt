@@ -2,7 +2,7 @@
 
 ghost use Rattle.std.specs.Prelude.{◌≡◌, ◌<◌, ◌≤◌, ℕ, IfErr, IfOk, List, length};
 ghost use Rattle.bw_sql.specs.Statements.{IsStatementFault, Says, longest_statement};
-ghost use Rattle.bw_sql.specs.Tree.{Statement as StatementTree, statement_of};
+ghost use Rattle.bw_sql.specs.Tree.{StatementTree, statement_of};
 
 use crate::fault::SqlFault;
 use crate::lexer::{TextEnd, lex};

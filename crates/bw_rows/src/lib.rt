@@ -1,0 +1,18 @@
+//! Worked examples as tests: scripts with the replies that the language's rules give them, streams
+//! that fail, and each call that may want memory, seen answering.
+#![tactic(auto)]
+
+#[cfg(test)]
+mod calls;
+#[cfg(test)]
+mod harness;
+#[cfg(test)]
+mod limits;
+#[cfg(test)]
+mod refusals;
+#[cfg(test)]
+mod selects;
+#[cfg(test)]
+mod splitting;
+#[cfg(test)]
+mod streams;

@@ -1,0 +1,107 @@
+//! Readers and writers that give or take a few bytes at a time, and fail.
+
+use bw_shell::{MemoryFolder, OnError, RunEnd, run};
+use std::io;
+use std::io::{ErrorKind, Read, Write};
+
+const SCRIPT: &[u8] =
+    b"CREATE TABLE t (a INTEGER); INSERT INTO t VALUES (3), (NULL), (-1); SELECT a FROM t WHERE a < 3;";
+
+// Gives so many bytes a call, and then fails.
+#[derive(Drop)]
+struct FailingReader<'a> {
+    rest: &'a [u8],
+    step: usize,
+}
+
+impl Read for FailingReader<'_> {
+    fn read(&mut self, buf: &mut [u8]) -> io::Result<usize> {
+        let n = self.step.min(self.rest.len()).min(buf.len());
+        if n == 0 {
+            return Err(io::Error::from(ErrorKind::Other));
+        }
+        let (front, rest) = self.rest.split_at(n);
+        for (to, from) in buf.iter_mut().zip(front) {
+            *to = *from;
+        }
+        self.rest = rest;
+        Ok(n)
+    }
+}
+
+// Takes so many bytes in all, so many a call, and then fails.
+#[derive(Drop)]
+struct FullWriter {
+    taken: Vec<u8>,
+    room: usize,
+    step: usize,
+}
+
+impl Write for FullWriter {
+    fn write(&mut self, buf: &[u8]) -> io::Result<usize> {
+        let n = self.room.saturating_sub(self.taken.len()).min(self.step).min(buf.len());
+        if n == 0 {
+            return Ok(0);
+        }
+        self.taken.extend_from_slice(&buf[..n])?;
+        Ok(n)
+    }
+
+    fn flush(&mut self) -> io::Result<()> {
+        Ok(())
+    }
+}
+
+#[test]
+fn a_writer_that_takes_four_bytes(rt: HostRuntime) {
+    for step in 1..5 {
+        let mut reader = SCRIPT;
+        let mut writer = FullWriter {
+            taken: Vec::new(rt.alloc()),
+            room: 4,
+            step,
+        };
+        let mut folder = MemoryFolder::new(rt.alloc());
+        let end = run(rt.alloc(), &mut reader, &mut writer, &mut folder, OnError::Continue);
+        assert_eq!(rt; end, RunEnd::WriteFault);
+        assert_eq!(rt; writer.taken.as_slice(), b"ok\no".as_slice());
+    }
+}
+
+#[test]
+fn a_reader_that_fails_behind_a_cut(rt: HostRuntime) {
+    for step in [1, 5, 27] {
+        let mut reader = FailingReader {
+            rest: b"CREATE TABLE t (a INTEGER);",
+            step,
+        };
+        let mut output = Vec::new(rt.alloc());
+        let mut folder = MemoryFolder::new(rt.alloc());
+        let end = run(rt.alloc(), &mut reader, &mut output, &mut folder, OnError::Continue);
+        assert_eq!(rt; end, RunEnd::ReadFault);
+        assert_eq!(rt; output.as_slice(), b"ok\n".as_slice());
+    }
+}
+
+#[test]
+fn a_reader_that_fails_before_a_cut(rt: HostRuntime) {
+    let mut reader = FailingReader {
+        rest: b"CREATE TABLE t (a INTEGER); SELECT a FROM t",
+        step: 7,
+    };
+    let mut output = Vec::new(rt.alloc());
+    let mut folder = MemoryFolder::new(rt.alloc());
+    let end = run(rt.alloc(), &mut reader, &mut output, &mut folder, OnError::Continue);
+    assert_eq!(rt; end, RunEnd::ReadFault);
+    assert_eq!(rt; output.as_slice(), b"ok\n".as_slice());
+}
+
+#[test]
+fn a_stop_at_the_first_error(rt: HostRuntime) {
+    let mut reader: &[u8] = b"SELECT a FROM t; CREATE TABLE t (a INT);";
+    let mut output = Vec::new(rt.alloc());
+    let mut folder = MemoryFolder::new(rt.alloc());
+    let end = run(rt.alloc(), &mut reader, &mut output, &mut folder, OnError::Stop);
+    assert_eq!(rt; end, RunEnd::Stopped);
+    assert_eq!(rt; output.as_slice(), b"error 20: no such table\n".as_slice());
+}
