@@ -44,6 +44,10 @@ abbrev pub single_piece : Option Symbol → Piece
 single_piece None = Bad
 single_piece (Some symbol) = Token (k.Symbol symbol) 1
 
+-- a symbol that begins nothing longer: ( ) , * +
+abbrev pub is_alone : ℕ → Bool
+is_alone b = b == 40 || b == 41 || b == 44 || b == 42 || b == 43
+
 abbrev pub pair_piece : Option Symbol → ℕ → Piece
 pair_piece None a = single_piece (single_of a)
 pair_piece (Some symbol) a = Token (k.Symbol symbol) 2
@@ -96,9 +100,10 @@ piece_from b bytes =
     if is_blank b then Separator 1
     else (if is_ascii_alphabetic b then word_piece (b ∷ bytes)
     else (if is_ascii_digit b then number_piece (b ∷ bytes)
+    else (if is_alone b then single_piece (single_of b)
     else (if b == 39 then text_piece bytes
     else (if is_comment (b ∷ bytes) then Separator (comment_len (b ∷ bytes))
-    else symbol_piece (b ∷ bytes)))))
+    else symbol_piece (b ∷ bytes))))))
 
 abbrev pub first_piece : List ℕ → Piece
 first_piece [] = Bad
