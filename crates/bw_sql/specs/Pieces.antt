@@ -1,4 +1,4 @@
--- The first piece of a text, as a computation: SQL-92's tokens and separators, each as long as it can be.
+-- The first separator or token of a text, as a computation (SQL-92, <token> and <separator>).
 use Rattle.std.specs.Prelude.{ℕ, ◌+◌, ◌<◌, ◌≤◌, Bool, false, not, ◌&&◌, ◌||◌, ◌==◌, nat_le, if◌then◌else◌, List, [], ◌∷◌, length, drop, Option, Some, None}
 use Rattle.std.specs.List.{prefix_len}
 use Rattle.std.specs.Char.{is_ascii_alphabetic, is_ascii_digit}

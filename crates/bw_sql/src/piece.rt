@@ -11,7 +11,7 @@ use crate::token::{CompareOp, Symbol, TokenKind};
 use std::alloc::{AllocError, Global};
 
 /// A blank or a comment, a token, or what begins neither; with the number of its bytes.
-#[derive(Clone, Copy, Debug, PartialEq, Eq)]
+#[derive(Clone, Copy)]
 pub(crate) enum Piece {
     Separator(usize),
     Token(TokenKind, usize),
