@@ -16,7 +16,7 @@ use Rattle.bw_sql.specs.declared.token.Symbol.TheVariants.{Open, Close, Comma, S
 use Rattle.bw_sql.specs.declared.token.CompareOp.TheVariants.{Eq, Ne, Lt, Le, Gt, Ge}
 use Rattle.bw_sql.specs.declared.piece.Piece.{Piece}
 use Rattle.bw_sql.specs.declared.piece.Piece.TheVariants as p
-use Rattle.bw_sql.specs.Pieces.{FitsIn, comment_len, contents, first_piece, pair_of, single_of}
+use Rattle.bw_sql.specs.Pieces.{FitsIn, comment_len, contents, first_piece, is_alone, pair_of, single_of}
 use Rattle.bw_sql.specs.Spellings.{IsComment, IsOneBlank, IsSymbol, begins_with, doubled, is_blank, is_good_text, is_word_byte, quoted, word_goes_on}
 use Rattle.bw_sql.specs.Tokens.{Fits, IsAllowed, IsLongest, IsNext, Shape, separator, token}
 use Rattle.bw_sql.proofs.Prefixes.{letter, no_digit, prefix_exact, prefix_over}
@@ -106,14 +106,20 @@ pair_reaches : (a : ℕ) (symbol : Symbol) (o : Option Symbol) → single_of a �
 pair_reaches a symbol None e = rw e (omega arith, λ _. refl)
 pair_reaches a symbol (Some other) e = (omega arith, λ h. absurd (omega arith))
 
--- a symbol of one byte that begins no comment
-alone : (a : ℕ) (symbol : Symbol) (rest : List ℕ) → is_blank a ≡ false → is_ascii_alphabetic a ≡ false → is_ascii_digit a ≡ false → (a == 39) ≡ false → (a == 45) ≡ false → single_of a ≡ Some symbol → Reaches (token (k.Symbol symbol)) 1 (first_shape (a ∷ rest))
-alone a symbol [] blank letter digit quote dash e =
+-- a symbol that begins nothing longer
+alone : (a : ℕ) (symbol : Symbol) (rest : List ℕ) → is_blank a ≡ false → is_ascii_alphabetic a ≡ false → is_ascii_digit a ≡ false → is_alone a ≡ true → single_of a ≡ Some symbol → Reaches (token (k.Symbol symbol)) 1 (first_shape (a ∷ rest))
+alone a symbol rest blank letter digit is e =
     let R = Reaches (token (k.Symbol symbol)) 1 in
-    skip R _ _ _ blank (skip R _ _ _ letter (skip R _ _ _ digit (skip R _ _ _ quote (pair_reaches a symbol None e))))
-alone a symbol (c ∷ rest) blank letter digit quote dash e =
+    skip R _ _ _ blank (skip R _ _ _ letter (skip R _ _ _ digit (here R _ _ _ is (pair_reaches a symbol None e))))
+
+-- one that may begin a longer symbol
+less : (a : ℕ) (symbol : Symbol) (rest : List ℕ) → is_blank a ≡ false → is_ascii_alphabetic a ≡ false → is_ascii_digit a ≡ false → is_alone a ≡ false → (a == 39) ≡ false → (a == 45) ≡ false → single_of a ≡ Some symbol → Reaches (token (k.Symbol symbol)) 1 (first_shape (a ∷ rest))
+less a symbol [] blank letter digit other quote dash e =
     let R = Reaches (token (k.Symbol symbol)) 1 in
-    skip R _ _ _ blank (skip R _ _ _ letter (skip R _ _ _ digit (skip R _ _ _ quote (skip R _ _ _ (and_left (a == 45) (c == 45) dash) (pair_reaches a symbol (pair_of a c) e)))))
+    skip R _ _ _ blank (skip R _ _ _ letter (skip R _ _ _ digit (skip R _ _ _ other (skip R _ _ _ quote (pair_reaches a symbol None e)))))
+less a symbol (c ∷ rest) blank letter digit other quote dash e =
+    let R = Reaches (token (k.Symbol symbol)) 1 in
+    skip R _ _ _ blank (skip R _ _ _ letter (skip R _ _ _ digit (skip R _ _ _ other (skip R _ _ _ quote (skip R _ _ _ (and_left (a == 45) (c == 45) dash) (pair_reaches a symbol (pair_of a c) e))))))
 
 comment_more : (c : ℕ) (rest : List ℕ) → (c == 45) ≡ true → Reaches (token (k.Symbol Minus)) 1 (sized separator (comment_len (45 ∷ c ∷ rest)))
 comment_more c rest e =
@@ -126,18 +132,18 @@ minus_reaches (c ∷ rest) =
     cond_both (c == 45) _ _ (Reaches (token (k.Symbol Minus)) 1) (comment_more c rest) (λ _. (omega arith, λ _. refl))
 
 symbol_reaches : (symbol : Symbol) (bytes rest : List ℕ) → IsSymbol symbol bytes → Reaches (token (k.Symbol symbol)) (length bytes) (first_shape (bytes ++ rest))
-symbol_reaches Open bytes rest is = rw is (alone 40 Open rest refl refl refl refl refl refl)
-symbol_reaches Close bytes rest is = rw is (alone 41 Close rest refl refl refl refl refl refl)
-symbol_reaches Comma bytes rest is = rw is (alone 44 Comma rest refl refl refl refl refl refl)
-symbol_reaches Star bytes rest is = rw is (alone 42 Star rest refl refl refl refl refl refl)
-symbol_reaches Plus bytes rest is = rw is (alone 43 Plus rest refl refl refl refl refl refl)
+symbol_reaches Open bytes rest is = rw is (alone 40 Open rest refl refl refl refl refl)
+symbol_reaches Close bytes rest is = rw is (alone 41 Close rest refl refl refl refl refl)
+symbol_reaches Comma bytes rest is = rw is (alone 44 Comma rest refl refl refl refl refl)
+symbol_reaches Star bytes rest is = rw is (alone 42 Star rest refl refl refl refl refl)
+symbol_reaches Plus bytes rest is = rw is (alone 43 Plus rest refl refl refl refl refl)
 symbol_reaches Minus bytes rest is = rw is (minus_reaches rest)
-symbol_reaches (Compare Eq) bytes rest is = rw is (alone 61 (Compare Eq) rest refl refl refl refl refl refl)
+symbol_reaches (Compare Eq) bytes rest is = rw is (less 61 (Compare Eq) rest refl refl refl refl refl refl refl)
 symbol_reaches (Compare Ne) bytes rest (inl is) = rw is (omega arith, λ _. refl)
 symbol_reaches (Compare Ne) bytes rest (inr is) = rw is (omega arith, λ _. refl)
-symbol_reaches (Compare Lt) bytes rest is = rw is (alone 60 (Compare Lt) rest refl refl refl refl refl refl)
+symbol_reaches (Compare Lt) bytes rest is = rw is (less 60 (Compare Lt) rest refl refl refl refl refl refl refl)
 symbol_reaches (Compare Le) bytes rest is = rw is (omega arith, λ _. refl)
-symbol_reaches (Compare Gt) bytes rest is = rw is (alone 62 (Compare Gt) rest refl refl refl refl refl refl)
+symbol_reaches (Compare Gt) bytes rest is = rw is (less 62 (Compare Gt) rest refl refl refl refl refl refl refl)
 symbol_reaches (Compare Ge) bytes rest is = rw is (omega arith, λ _. refl)
 
 reaches : (shape : Shape) (bytes rest : List ℕ) → Fits shape bytes rest → Reaches shape (length bytes) (first_shape (bytes ++ rest))

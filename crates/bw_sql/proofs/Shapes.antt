@@ -12,7 +12,7 @@ use Rattle.bw_sql.specs.declared.token.TokenKind.TheVariants as k
 use Rattle.bw_sql.specs.declared.token.Symbol.{Symbol}
 use Rattle.bw_sql.specs.declared.piece.Piece.{Piece}
 use Rattle.bw_sql.specs.declared.piece.Piece.TheVariants as p
-use Rattle.bw_sql.specs.Pieces.{closed_text, comment_len, contents, first_piece, is_comment, pair_of, pair_piece, quoted_end, single_of, single_piece, symbol_piece, text_piece}
+use Rattle.bw_sql.specs.Pieces.{closed_text, comment_len, contents, first_piece, is_alone, is_comment, pair_of, pair_piece, quoted_end, single_of, single_piece, symbol_piece, text_piece}
 use Rattle.bw_sql.specs.Spellings.{IsNumber, IsWord, begins_with, has_no, is_blank, is_good_text, is_word_byte, quoted, word_goes_on}
 use Rattle.bw_sql.specs.Tokens.{Fits, Shape, separator, token}
 use Rattle.bw_sql.proofs.Prefixes.{all_prefix, letter, prefix_first, starts}
@@ -51,9 +51,10 @@ shape_from b bytes =
     if is_blank b then sized separator 1
     else (if is_ascii_alphabetic b then sized (token k.Word) (prefix_len is_word_byte (b ∷ bytes))
     else (if is_ascii_digit b then number_shape (b ∷ bytes)
+    else (if is_alone b then single_shape (single_of b)
     else (if b == 39 then text_shape (quoted_end 1 bytes)
     else (if is_comment (b ∷ bytes) then sized separator (comment_len (b ∷ bytes))
-    else symbol_shape (b ∷ bytes)))))
+    else symbol_shape (b ∷ bytes))))))
 
 abbrev pub first_shape : List ℕ → Option Sized
 first_shape [] = None
@@ -100,8 +101,9 @@ judged (b ∷ bytes) =
     let t = b ∷ bytes in
     same_choice t (is_blank b) _ _ _ _ refl (same_choice t (is_ascii_alphabetic b) _ _ _ _ refl
     (same_choice t (is_ascii_digit b) _ _ _ _ (same_choice t (word_goes_on (drop (prefix_len is_ascii_digit t) t)) _ _ _ _ refl refl)
+    (same_choice t (is_alone b) _ _ _ _ (judged_single t (single_of b))
     (same_choice t (b == 39) _ _ _ _ (judged_text b bytes (quoted_end 1 bytes))
-    (same_choice t (is_comment t) _ _ _ _ refl (judged_symbol t t)))))
+    (same_choice t (is_comment t) _ _ _ _ refl (judged_symbol t t))))))
 
 -- It fits, and lies in the text.
 
@@ -153,7 +155,7 @@ comment_holds b (c ∷ bytes) h =
     let one : b ≡ 45 = eqb-true b 45 both.0 in
     let two : c ≡ 45 = eqb-true c 45 both.1 in
     rw (one, two) (record {
-      fits = inr (take (prefix_len (λ x. not (x == 10)) bytes) bytes, rw (one-add, one-add) refl, all_prefix (λ x. not (x == 10)) bytes);
+      fits = inr (take (prefix_len (λ x. not (x == 10)) bytes) bytes, simp one-add refl, all_prefix (λ x. not (x == 10)) bytes);
       some = omega arith;
       within = prefix_len-le-length (λ x. not (x == 10)) (45 ∷ 45 ∷ bytes);
     })
@@ -195,8 +197,9 @@ holds (b ∷ bytes) =
     cond_both (is_blank b) _ _ H (blank_holds b bytes) (λ _.
     cond_both (is_ascii_alphabetic b) _ _ H (word_holds b bytes) (λ _.
     cond_both (is_ascii_digit b) _ _ H (number_holds b bytes) (λ _.
+    cond_both (is_alone b) _ _ H (λ _. single_holds b bytes) (λ _.
     cond_both (b == 39) _ _ H (λ e. text_holds b bytes _ e refl) (λ _.
-    cond_both (is_comment (b ∷ bytes)) _ _ H (comment_holds b bytes) (λ _. symbol_holds b bytes)))))
+    cond_both (is_comment (b ∷ bytes)) _ _ H (comment_holds b bytes) (λ _. symbol_holds b bytes))))))
 
 pub stands : (text : List ℕ) (s : Sized) → first_shape text ≡ Some s → Stands text s
 stands text s e = subst (Holds text) e (holds text)

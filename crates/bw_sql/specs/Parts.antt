@@ -1,4 +1,4 @@
--- The parts of a script: SQL-92's direct SQL statements, each up to the semicolon that ends it outside texts and comments.
+-- The parts of a script: what stands between its semicolons outside texts and comments (SQL-92, <direct SQL statement>).
 use Rattle.std.specs.Prelude.{◌≡◌, ◌≢◌, ℕ, ◌+◌, ◌≤◌, Bool, true, false, not, ◌==◌, if◌then◌else◌, List, [], ◌∷◌, ◌++◌, length, drop, IsTrue, IsFalse, ◌⊎◌}
 use Rattle.std.specs.List.{list_all}
 use Rattle.bw_sql.specs.Spellings.{begins_with, has_no, is_blank}

@@ -1,4 +1,4 @@
--- The first piece of a text, as a computation: SQL-92's tokens and separators, each as long as it can be.
+-- The first separator or token of a text, as a computation (SQL-92, <token> and <separator>).
 use Rattle.std.specs.Prelude.{ℕ, ◌+◌, ◌<◌, ◌≤◌, Bool, false, not, ◌&&◌, ◌||◌, ◌==◌, nat_le, if◌then◌else◌, List, [], ◌∷◌, length, drop, Option, Some, None}
 use Rattle.std.specs.List.{prefix_len}
 use Rattle.std.specs.Char.{is_ascii_alphabetic, is_ascii_digit}
@@ -43,6 +43,10 @@ single_of b =
 abbrev pub single_piece : Option Symbol → Piece
 single_piece None = Bad
 single_piece (Some symbol) = Token (k.Symbol symbol) 1
+
+-- a symbol that begins nothing longer: ( ) , * +
+abbrev pub is_alone : ℕ → Bool
+is_alone b = b == 40 || b == 41 || b == 44 || b == 42 || b == 43
 
 abbrev pub pair_piece : Option Symbol → ℕ → Piece
 pair_piece None a = single_piece (single_of a)
@@ -96,9 +100,10 @@ piece_from b bytes =
     if is_blank b then Separator 1
     else (if is_ascii_alphabetic b then word_piece (b ∷ bytes)
     else (if is_ascii_digit b then number_piece (b ∷ bytes)
+    else (if is_alone b then single_piece (single_of b)
     else (if b == 39 then text_piece bytes
     else (if is_comment (b ∷ bytes) then Separator (comment_len (b ∷ bytes))
-    else symbol_piece (b ∷ bytes)))))
+    else symbol_piece (b ∷ bytes))))))
 
 abbrev pub first_piece : List ℕ → Piece
 first_piece [] = Bad

@@ -1,4 +1,4 @@
--- What a token is, as a run of bytes: SQL-92's regular identifiers, unsigned integers, character string literals and special characters.
+-- What a token and a separator are, as runs of bytes (SQL-92, <regular identifier>, <unsigned integer>, <character string literal>, <SQL special character>, <separator>).
 use Rattle.std.specs.Prelude.{◌≡◌, ◌≢◌, ℕ, ◌<◌, ◌≤◌, Bool, false, not, ◌&&◌, ◌||◌, ◌==◌, nat_le, nat_lt, if◌then◌else◌, List, [], ◌∷◌, ◌++◌, length, slice_range, codes, IsTrue, ◌⊎◌}
 use Rattle.std.specs.List.{list_all, list_any}
 use Rattle.std.specs.Char.{is_ascii_alphabetic, is_ascii_alphanumeric, is_ascii_digit}

@@ -1,4 +1,4 @@
--- The tokens of a text: SQL-92's tokens and separators, each the longest that fits.
+-- The tokens of a text: separators and tokens one after the other, each the longest that fits (SQL-92, <token> and <separator>).
 use Rattle.std.specs.Prelude.{◌≡◌, ◌≢◌, ℕ, ◌+◌, ◌≤◌, Bool, false, ◌==◌, List, [], ◌∷◌, ◌++◌, length, IsTrue, IsFalse, ◌⊎◌}
 use Rattle.bw_sql.specs.declared.fault.SqlFault.{SqlFault}
 use Rattle.bw_sql.specs.declared.fault.SqlFault.TheVariants as f

@@ -11,7 +11,7 @@ use crate::token::{Span, Token};
 use std::alloc::{AllocError, Global};
 
 /// Where the tokens of a text end.
-#[derive(Clone, Copy, Debug, PartialEq, Eq)]
+#[derive(Clone, Copy)]
 pub(crate) enum TextEnd {
     /// At the end of the text.
     Reached,

@@ -4,14 +4,14 @@ ghost use Rattle.std.specs.Prelude.{◌≡◌, ◌==◌, ◌≢◌, ◌+◌, ◌
 ghost use Rattle.std.specs.List.{list_any, prefix_len};
 ghost use Rattle.std.specs.Char.{is_ascii_digit};
 ghost use Rattle.std.specs.Str.{is_utf8};
-ghost use Rattle.bw_sql.specs.Pieces.{FitsIn, comment_len, contents, first_piece, is_comment, number_piece, pair_of, quoted_end, single_of, single_piece, symbol_piece, text_piece, word_piece};
+ghost use Rattle.bw_sql.specs.Pieces.{FitsIn, comment_len, contents, first_piece, is_alone, is_comment, number_piece, pair_of, quoted_end, single_of, single_piece, symbol_piece, text_piece, word_piece};
 ghost use Rattle.bw_sql.specs.Spellings.{is_blank, is_good_text, is_word_byte, word_goes_on};
 
 use crate::token::{CompareOp, Symbol, TokenKind};
 use std::alloc::{AllocError, Global};
 
 /// A blank or a comment, a token, or what begins neither; with the number of its bytes.
-#[derive(Clone, Copy, Debug, PartialEq, Eq)]
+#[derive(Clone, Copy)]
 pub(crate) enum Piece {
     Separator(usize),
     Token(TokenKind, usize),
@@ -87,6 +87,13 @@ fn single_piece(b: u8) -> Piece
         Some(symbol) => Piece::Token(TokenKind::Symbol(symbol), 1),
         None => Piece::Bad,
     }
+}
+
+// The most common symbols come first, and without a look at the next byte.
+fn is_alone(b: u8) -> bool
+    ensures { result ≡ is_alone b }
+{
+    b == b'(' || b == b')' || b == b',' || b == b'*' || b == b'+'
 }
 
 fn pair(a: u8, b: u8) -> Option<Symbol>
@@ -238,6 +245,8 @@ fn piece_of(alloc: Global, bytes: &[u8]) -> Result<Piece, AllocError>
         Ok(word(bytes))
     } else if b.is_ascii_digit() {
         Ok(number(bytes))
+    } else if is_alone(*b) {
+        Ok(single_piece(*b))
     } else if *b == b'\'' {
         text(alloc, after)
     } else if is_comment(bytes) {
