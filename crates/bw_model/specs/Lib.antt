@@ -1,5 +1,7 @@
 pub mod Answers
 pub mod Condition
+pub mod Insert
 pub mod Refusals
 pub mod Select
+pub mod Step
 pub mod Store
