@@ -40,14 +40,17 @@ impl Engine {
         Ok(Engine { tables, alloc })
     }
 
-    /// The name of the file that a statement reads.
-    pub fn wants<'s>(&self, _statement: &'s Statement) -> Option<&'s str>
+    /// The name of the file that a statement reads. None of these statements reads one.
+    pub fn wants<'s>(&self, statement: &'s Statement) -> Option<&'s str>
         ensures { result ≡ None }
     {
-        None
+        match statement {
+            Statement::CreateTable(_) | Statement::Insert(_) | Statement::Select(_) => None,
+        }
     }
 
-    /// Carries out a statement. No statement reads a file yet, so the file isn't looked at.
+    /// Carries out a statement, which changes nothing where it is refused. No statement reads a
+    /// file, so the file isn't looked at.
     pub fn execute(&mut self, statement: Statement, _file: FileAnswer<'_>) -> Reply
         ensures { Step self.old (statement_of statement) result self.new }
     {
