@@ -1,2 +1,6 @@
 pub mod Lines
 pub mod Names
+pub mod Places
+pub mod Shows
+pub mod Steps
+pub mod Tests

@@ -1,10 +1,11 @@
 -- Lines of one width that lie flat.
-use Rattle.std.proofs.Common.{◌≡◌, ℕ, ◌+◌, ◌-◌, ◌*◌, ◌/◌, ◌<◌, ◌≤◌, Result, Ok, Err, OnOk, is_ok, Bool, true, false, if◌then◌else◌, List, [], ◌∷◌, ◌++◌, append_assoc, append-nil, filter, map, ◌==◌, length, replicate, take, drop, zero, suc, refl, sym, ap, ◌∙◌, arith, length-append, length-drop, length-take, take-append-drop}
+use Rattle.std.proofs.Common.{◌≡◌, ℕ, ◌+◌, ◌*◌, ◌/◌, ◌<◌, ◌≤◌, Result, Ok, Err, OnOk, is_ok, Bool, true, false, if◌then◌else◌, List, [], ◌∷◌, ◌++◌, append_assoc, append-nil, filter, map, ◌==◌, length, replicate, take, drop, zero, suc, refl, sym, ap, ◌∙◌, arith, length-append, length-drop}
 use Rattle.std.proofs.lemmas.List.{length-map, length-replicate, take-append-le, drop-append-le}
 use Rattle.std.proofs.Math.Nat.{mul-div_cancel}
 use Rattle.std.proofs.lemmas.Bool.{eqb-true, true≢false}
 use Rattle.std.specs.List.{All}
-use Rattle.std.proofs.lemmas.List.Elements.{All-head, All-tail}
+use Rattle.std.proofs.lemmas.List.Elements.{All-cons, All-head, All-nil, All-tail}
+use Rattle.std.proofs.Math.Seq.{drop-append_seam, take-append_seam}
 use Rattle.bw_sql.specs.Rows.{joined, rows_of}
 use Rattle.bw_sql.proofs.RowLemmas.{length-rows_of}
 use Rattle.bw_model.specs.Answers.{AreWholeLines, lines_of}
@@ -168,3 +169,21 @@ pub length-spread : {A B S : Type 0} (g : List A → S → B) (sources : List S)
 length-spread g sources w n values cells some e is =
     ap length is ∙ length-joined_map (λ row. map (g row) sources) (length sources) (lines_of w values) (λ row. length-map sources (g row))
     ∙ ap (λ k. k * length sources) (count-lines_of w n values some e)
+
+-- joined lines are lines again
+rows_of-joined : {A : Type 0} (w : ℕ) (rows : List (List A)) → All (λ row. length row ≡ w) rows → rows_of (replicate (length rows) w) (joined rows) ≡ rows
+rows_of-joined w [] all = refl
+rows_of-joined w (row ∷ rows) all =
+    let same : length row ≡ w = All-head (λ r. length r ≡ w) row rows all in
+    let rest = rows_of-joined w rows (All-tail (λ r. length r ≡ w) row rows all) in
+    ap (λ k. take k (row ++ joined rows) ∷ rows_of (replicate (length rows) w) (drop k (row ++ joined rows))) (sym same)
+    ∙ ap (λ l. l ∷ rows_of (replicate (length rows) w) (drop (length row) (row ++ joined rows))) (take-append_seam row (joined rows))
+    ∙ ap (λ l. row ∷ rows_of (replicate (length rows) w) l) (drop-append_seam row (joined rows))
+    ∙ ap (λ l. row ∷ l) rest
+
+pub lines_of-joined : {A : Type 0} (w : ℕ) (rows : List (List A)) → 0 < w → All (λ row. length row ≡ w) rows → lines_of w (joined rows) ≡ rows
+lines_of-joined w rows some all = ap (λ k. rows_of (replicate k w) (joined rows)) (count-of w (length rows) (joined rows) some (length-joined w rows all)) ∙ rows_of-joined w rows all
+
+pub All-map : {A B : Type 0} (f : A → List B) (w : ℕ) (rows : List A) → ((row : A) → length (f row) ≡ w) → All (λ row. length row ≡ w) (map f rows)
+All-map f w [] each = All-nil (λ row. length row ≡ w)
+All-map f w (row ∷ rows) each = All-cons (λ r. length r ≡ w) (f row) (map f rows) (each row) (All-map f w rows each)

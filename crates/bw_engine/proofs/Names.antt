@@ -53,7 +53,7 @@ by_cases true f = f refl
 by_cases false f = refl
 
 module _ (names : List (List ℕ)) (i : ℕ) (x : List ℕ) (within : i < length names) (at : x ≡ get_or names i x) where
-  one_more : take (i + 1) names ≡ take i names ++ x ∷ []
+  pub one_more : take (i + 1) names ≡ take i names ++ x ∷ []
   one_more = take_more names i x within ∙ ap (λ y. take i names ++ y ∷ []) (sym at)
 
   -- a name that stands in front of its place stands twice
@@ -98,7 +98,7 @@ get_or-map f [] i x e within = absurd (omega arith)
 get_or-map f (y ∷ ys) zero x e within = ap f e
 get_or-map f (y ∷ ys) (suc i) x e within = get_or-map f ys i x e (omega arith)
 
-map-push : {A B : Type 0} (f : A → B) (xs : List A) (x : A) → map f (xs ++ x ∷ []) ≡ map f xs ++ f x ∷ []
+pub map-push : {A B : Type 0} (f : A → B) (xs : List A) (x : A) → map f (xs ++ x ∷ []) ≡ map f xs ++ f x ∷ []
 map-push f [] x = refl
 map-push f (y ∷ ys) x = ap (λ l. f y ∷ l) (map-push f ys x)
 

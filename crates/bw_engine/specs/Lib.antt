@@ -1,4 +1,4 @@
 pub mod Flat
-pub mod Items
+pub mod Outcomes
 pub mod Searches
 pub mod Words

@@ -1,7 +1,10 @@
 //! CREATE TABLE.
 
-ghost use Rattle.std.specs.Prelude.{◌≡◌, IfOk, map, not, length, ◌≤◌, ◌<◌, IsTrue};
-ghost use Rattle.bw_model.specs.Store.{are_distinct, header_of};
+ghost use Rattle.std.specs.Prelude.{◌≡◌, ◌++◌, ◌≤◌, ◌<◌, [], ◌∷◌, length, map, nat_le, nat_lt, not, ◌||◌, IfOk, IsTrue, OnErr};
+ghost use Rattle.bw_model.specs.Refusals.{create_tests};
+ghost use Rattle.bw_model.specs.Store.{are_distinct, column_limit, header_of, table_limit};
+ghost use Rattle.bw_model.specs.declared.reply.Reply.TheVariants.{Done};
+ghost use Rattle.bw_engine.specs.Outcomes.{Answers};
 
 use crate::headers::{Header, Headers};
 use crate::table::Table;
@@ -21,23 +24,46 @@ pub fn create_table(
     alloc: Global,
     tables: &mut IndexMap<Name, Table>,
     statement: CreateTable,
-) -> Result<Reply, Refusal> {
+) -> Result<Reply, Refusal>
+    ensures reply { Answers (create_tests (map (λ c. c.name) statement.columns.items) statement.table tables.old.entries) result (λ reply. (reply ≡ Done) × (tables.new.entries ≡ tables.old.entries ++ (statement.table, record { headers = map header_of statement.columns.items; rows = [] }) ∷ [])) }
+    ensures refused { OnErr result (tables.new.entries ≡ tables.old.entries) }
+{
     let CreateTable { table, columns } = statement;
-    if columns.is_empty() {
-        return Err(Refusal::Syntax);
-    }
-    if tables.contains_key(&table) {
-        return Err(Refusal::TableExists);
-    }
-    if name_twice(alloc, columns.as_slice())? {
-        return Err(Refusal::ColumnNamedTwice);
-    }
-    if columns.len() > COLUMN_LIMIT || tables.len() >= TABLE_LIMIT {
-        return Err(Refusal::OverLimit);
-    }
+    check(alloc, tables, &table, columns.as_slice())?;
     let headers = headers_of(alloc, columns)?;
     tables.insert(table, Table::new(alloc, headers))?;
     Ok(Reply::Done)
+}
+
+/// Refuses what can't be made.
+fn check(
+    alloc: Global,
+    tables: &IndexMap<Name, Table>,
+    table: &Name,
+    columns: &[ColumnDefinition],
+) -> Result<(), Refusal>
+    ensures { Answers (create_tests (map (λ c. c.name) columns.now) table.now tables.now.entries) result (λ _. Unit {0}) }
+{
+    if columns.is_empty() {
+        return Err(Refusal::Syntax);
+    }
+    if tables.contains_key(table) {
+        return Err(Refusal::TableExists);
+    }
+    if name_twice(alloc, columns)? {
+        return Err(Refusal::ColumnNamedTwice);
+    }
+    if is_over_limit(columns.len(), tables.len()) {
+        return Err(Refusal::OverLimit);
+    }
+    Ok(())
+}
+
+/// Whether a table of so many columns is too wide, or is one more than the tables there may be.
+fn is_over_limit(columns: usize, tables: usize) -> bool
+    ensures { result ≡ (nat_lt column_limit columns || nat_le table_limit tables) }
+{
+    columns > COLUMN_LIMIT || tables >= TABLE_LIMIT
 }
 
 /// Whether two columns have one name.

@@ -1,6 +1,9 @@
 //! The engine.
 
 ghost use Rattle.std.specs.Prelude.{◌≡◌, [], IfOk, None};
+ghost use Rattle.bw_model.specs.Step.{Step};
+ghost use Rattle.bw_sql.specs.Tree.{statement_of};
+ghost use Rattle.bw_engine.specs.Outcomes.{reply_of};
 
 use crate::create::{TABLE_LIMIT, create_table};
 use crate::file_answer::FileAnswer;
@@ -37,27 +40,38 @@ impl Engine {
         Ok(Engine { tables, alloc })
     }
 
-    /// The name of the file that a statement reads.
-    pub fn wants<'s>(&self, _statement: &'s Statement) -> Option<&'s str>
+    /// The name of the file that a statement reads. None of these statements reads one.
+    pub fn wants<'s>(&self, statement: &'s Statement) -> Option<&'s str>
         ensures { result ≡ None }
     {
-        None
+        match statement {
+            Statement::CreateTable(_) | Statement::Insert(_) | Statement::Select(_) => None,
+        }
     }
 
-    /// Carries out a statement. No statement reads a file yet, so the file isn't looked at.
-    pub fn execute(&mut self, statement: Statement, _file: FileAnswer<'_>) -> Reply {
-        let outcome = match statement {
-            Statement::CreateTable(statement) => create_table(
+    /// Carries out a statement, which changes nothing where it is refused. No statement reads a
+    /// file, so the file isn't looked at.
+    pub fn execute(&mut self, statement: Statement, _file: FileAnswer<'_>) -> Reply
+        ensures { Step self.old (statement_of statement) result self.new }
+    {
+        match statement {
+            Statement::CreateTable(create) => replied(create_table(
                 self.alloc,
                 &mut self.tables,
-                statement,
-            ),
-            Statement::Insert(statement) => insert(self.alloc, &mut self.tables, statement),
-            Statement::Select(statement) => select(self.alloc, &self.tables, statement),
-        };
-        match outcome {
-            Ok(reply) => reply,
-            Err(refusal) => Reply::Refused(refusal),
+                create,
+            )),
+            Statement::Insert(rows) => replied(insert(self.alloc, &mut self.tables, rows)),
+            Statement::Select(query) => replied(select(self.alloc, &self.tables, query)),
         }
+    }
+}
+
+/// The reply to what was carried out or refused.
+fn replied(outcome: Result<Reply, Refusal>) -> Reply
+    ensures { result ≡ reply_of outcome }
+{
+    match outcome {
+        Ok(reply) => reply,
+        Err(refusal) => Reply::Refused(refusal),
     }
 }

@@ -1,10 +1,17 @@
 //! INSERT.
 
-ghost use Rattle.std.specs.Prelude.{◌≡◌, ◌*◌, ◌≤◌, ◌<◌, length, IfOk, IsTrue, map, ◌↔◌, ◌++◌, OnOk, not, position};
+ghost use Rattle.std.specs.Prelude.{◌≡◌, ◌*◌, ◌++◌, ◌≤◌, ◌<◌, [], ◌∷◌, length, map, not, option_map, position, IfOk, OnOk, OnErr};
+ghost use Rattle.std.specs.List.{list_any};
 ghost use Rattle.std.specs.Str.{bytes_eq};
 ghost use Rattle.bw_model.specs.Answers.{AreWholeLines, lines_of};
+ghost use Rattle.bw_model.specs.Insert.{row_for, target_columns, with_rows};
+ghost use Rattle.bw_model.specs.Refusals.{insert_tests, is_in_range, is_missing, over};
+ghost use Rattle.bw_model.specs.Step.{with_table};
+ghost use Rattle.bw_model.specs.Store.{AreHeaders, are_distinct, names, table_of, value_from};
+ghost use Rattle.bw_model.specs.declared.refusal.Refusal.TheVariants.{OutOfRange};
+ghost use Rattle.bw_model.specs.declared.reply.Reply.TheVariants.{Count};
 ghost use Rattle.bw_sql.specs.Rows.{joined};
-ghost use Rattle.bw_model.specs.Store.{are_distinct, value_from};
+ghost use Rattle.bw_engine.specs.Outcomes.{Answers, listed_tests, range_tests, value_tests};
 
 use crate::headers::{Header, place_in};
 use crate::table::{ROW_LIMIT, Table, value_at};
@@ -18,7 +25,10 @@ pub fn insert(
     alloc: Global,
     tables: &mut IndexMap<Name, Table>,
     statement: Insert,
-) -> Result<Reply, Refusal> {
+) -> Result<Reply, Refusal>
+    ensures reply { Answers (over (table_of tables.old.entries statement.table) (λ table. insert_tests (target_columns table.headers (option_map (λ names. names.items) statement.columns)) statement.rows table)) result (λ reply. (reply ≡ Count (length statement.rows)) × (tables.new.entries ≡ with_table tables.old.entries statement.table (with_rows (option_map (λ names. names.items) statement.columns) statement.rows))) }
+    ensures refused { OnErr result (tables.new.entries ≡ tables.old.entries) }
+{
     let Insert {
         table,
         columns,
@@ -36,7 +46,10 @@ fn insert_rows(
     table: &mut Table,
     columns: &Option<Vec<Name>>,
     rows: &ValueRows,
-) -> Result<Reply, Refusal> {
+) -> Result<Reply, Refusal>
+    ensures reply { Answers (insert_tests (target_columns table.old.headers (option_map (λ names. names.items) columns.now)) rows.now table.old) result (λ reply. (reply ≡ Count (length rows.now)) × (table.new ≡ with_rows (option_map (λ names. names.items) columns.now) rows.now table.old)) }
+    ensures refused { OnErr result (table.new ≡ table.old) }
+{
     let cells = new_cells(alloc, table.headers(), columns, rows)?;
     if rows.len() > ROW_LIMIT - table.row_count() {
         return Err(Refusal::TableFull);
@@ -52,13 +65,25 @@ fn new_cells(
     columns: &Option<Vec<Name>>,
     rows: &ValueRows,
 ) -> Result<Vec<Option<i32>>, Refusal>
-    requires { 0 < length headers.now }
-    ensures { IfOk result (λ cells. length cells.items ≡ length rows.now * length headers.now) }
+    requires { AreHeaders headers.now }
+    ensures { let targets = target_columns headers.now (option_map (λ names. names.items) columns.now) in Answers (listed_tests headers.now targets ++ value_tests (length targets) rows.now) result (λ cells. cells.items ≡ joined (map (row_for headers.now targets) rows.now)) }
 {
     match columns {
         Some(names) => listed_cells(alloc, headers, names.as_slice(), rows),
-        None => cells_of_width(alloc, headers.len(), rows),
+        None => whole_cells(alloc, headers, rows),
     }
+}
+
+/// The cells of rows that name all columns in order.
+fn whole_cells(
+    alloc: Global,
+    headers: &[Header],
+    rows: &ValueRows,
+) -> Result<Vec<Option<i32>>, Refusal>
+    requires { AreHeaders headers.now }
+    ensures { Answers (listed_tests headers.now (names headers.now) ++ value_tests (length (names headers.now)) rows.now) result (λ cells. cells.items ≡ joined (map (row_for headers.now (names headers.now)) rows.now)) }
+{
+    cells_of_width(alloc, headers.len(), rows)
 }
 
 /// The cells of rows that name some columns, in the order of the table's columns.
@@ -68,22 +93,36 @@ fn listed_cells(
     names: &[Name],
     rows: &ValueRows,
 ) -> Result<Vec<Option<i32>>, Refusal>
-    requires { 0 < length headers.now }
-    ensures { IfOk result (λ cells. length cells.items ≡ length rows.now * length headers.now) }
+    ensures { Answers (listed_tests headers.now names.now ++ value_tests (length names.now) rows.now) result (λ cells. cells.items ≡ joined (map (row_for headers.now names.now) rows.now)) }
+{
+    check_listed(headers, names)?;
+    let values = cells_of_width(alloc, names.len(), rows)?;
+    let sources = sources_of(alloc, headers, names)?;
+    let cells = spread(alloc, values.as_slice(), names.len(), sources.as_slice())?;
+    Ok(cells)
+}
+
+/// Refuses a list that is empty, or names no column, or a column twice.
+fn check_listed(headers: &[Header], names: &[Name]) -> Result<(), Refusal>
+    ensures { Answers (listed_tests headers.now names.now) result (λ _. Unit {0}) }
 {
     if names.is_empty() {
         return Err(Refusal::Syntax);
     }
-    if !names.iter().all(|name| place_in(headers, name).is_some()) {
+    if lacks_any(headers, names) {
         return Err(Refusal::NoSuchColumn);
     }
     if name_twice(names) {
         return Err(Refusal::ColumnNamedTwice);
     }
-    let values = cells_of_width(alloc, names.len(), rows)?;
-    let sources = sources_of(alloc, headers, names)?;
-    let cells = spread(alloc, values.as_slice(), names.len(), sources.as_slice())?;
-    Ok(cells)
+    Ok(())
+}
+
+/// Whether one of the names isn't that of a column.
+fn lacks_any(headers: &[Header], names: &[Name]) -> bool
+    ensures { result ≡ list_any (is_missing headers.now) names.now }
+{
+    names.iter().any(|name| place_in(headers, name).is_none())
 }
 
 /// Whether a name stands twice. Among more names than columns one stands twice near the front, so
@@ -105,9 +144,7 @@ fn cells_of_width(
     width: usize,
     rows: &ValueRows,
 ) -> Result<Vec<Option<i32>>, Refusal>
-    requires { 0 < width }
-    ensures width { IfOk result (λ cells. length cells.items ≡ length rows.now * width) }
-    ensures value { IfOk result (λ cells. cells.items ≡ joined rows.now) }
+    ensures { Answers (value_tests width rows.now) result (λ cells. cells.items ≡ joined rows.now) }
 {
     if !rows.are_all_of_width(width) {
         return Err(Refusal::WrongNumberOfValues);
@@ -117,7 +154,7 @@ fn cells_of_width(
 
 /// The values, each as an INTEGER.
 fn narrowed(alloc: Global, values: &[Value]) -> Result<Vec<Option<i32>>, Refusal>
-    ensures { IfOk result (λ cells. cells.items ≡ values.now) }
+    ensures { Answers (range_tests values.now) result (λ cells. cells.items ≡ values.now) }
 {
     let mut cells = Vec::with_capacity(alloc, values.len())?;
     for value in values {
@@ -128,7 +165,7 @@ fn narrowed(alloc: Global, values: &[Value]) -> Result<Vec<Option<i32>>, Refusal
 
 /// The value as an INTEGER, which is -2147483648 to 2147483647 or NULL.
 fn integer(value: Value) -> Result<Option<i32>, Refusal>
-    ensures { IfOk result (λ cell. cell ≡ value) }
+    ensures { Answers ((OutOfRange, not (is_in_range value)) ∷ []) result (λ cell. cell ≡ value) }
 {
     match value {
         None => Ok(None),

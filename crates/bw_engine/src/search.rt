@@ -1,7 +1,11 @@
 //! Which rows a condition finds.
 
-ghost use Rattle.std.specs.Prelude.{◌≡◌};
+ghost use Rattle.std.specs.Prelude.{◌≡◌, [], ◌∷◌, Some};
 ghost use Rattle.bw_model.specs.Condition.{order_meets};
+ghost use Rattle.bw_model.specs.Refusals.{operand_is_missing};
+ghost use Rattle.bw_model.specs.declared.refusal.Refusal.TheVariants.{NoSuchColumn};
+ghost use Rattle.bw_sql.specs.Tree.{condition_of};
+ghost use Rattle.bw_engine.specs.Outcomes.{Answers, condition_tests};
 
 use crate::headers::{Header, place_in};
 use crate::table::value_at;
@@ -26,10 +30,12 @@ enum Source {
 }
 
 impl Search {
-    ghost use Rattle.bw_engine.specs.Searches.{finds};
+    ghost use Rattle.bw_engine.specs.Searches.{IsSearch, finds};
 
     /// The condition over the rows of these columns.
-    pub fn new(headers: &[Header], condition: &Condition) -> Result<Search, Refusal> {
+    pub fn new(headers: &[Header], condition: &Condition) -> Result<Search, Refusal>
+        ensures { Answers (condition_tests headers.now (Some (condition_of condition.now))) result (λ search. IsSearch headers.now (Some (condition_of condition.now)) (Some search)) }
+    {
         let Condition::Compare(left, op, right) = condition;
         Ok(Search {
             left: Source::new(headers, left)?,
@@ -50,9 +56,11 @@ impl Search {
 }
 
 impl Source {
-    ghost use Rattle.bw_engine.specs.Searches.{value_by};
+    ghost use Rattle.bw_engine.specs.Searches.{IsSource, value_by};
 
-    fn new(headers: &[Header], operand: &Operand) -> Result<Source, Refusal> {
+    fn new(headers: &[Header], operand: &Operand) -> Result<Source, Refusal>
+        ensures { Answers ((NoSuchColumn, operand_is_missing headers.now operand.now) ∷ []) result (IsSource headers.now operand.now) }
+    {
         match operand {
             Operand::Column(name) => match place_in(headers, name) {
                 Some(place) => Ok(Source::Place(place)),

@@ -1,13 +1,16 @@
 //! SELECT.
 
-ghost use Rattle.std.specs.Prelude.{◌≡◌, ◌≤◌, ◌<◌, ◌++◌, Some, length, map, filter, IfOk, OnOk};
-ghost use Rattle.bw_model.specs.Answers.{AreWholeLines};
-ghost use Rattle.bw_model.specs.Select.{shown};
-ghost use Rattle.bw_model.specs.Store.{place_of, value_at};
+ghost use Rattle.std.specs.Prelude.{◌≡◌, ◌≤◌, ◌<◌, ◌++◌, Some, length, map, filter, option_map, IfOk, OnOk};
+ghost use Rattle.bw_model.specs.Refusals.{over, select_tests};
+ghost use Rattle.bw_model.specs.Select.{answer, shown, shown_columns};
+ghost use Rattle.bw_model.specs.Step.{table_or_none};
+ghost use Rattle.bw_model.specs.Store.{AreHeaders, names, place_of, table_of, value_at};
 ghost use Rattle.bw_model.specs.declared.answer.Heading.TheVariants.{Column};
-ghost use Rattle.bw_engine.specs.Items.{count_of};
-ghost use Rattle.bw_engine.specs.Searches.{finds_or_all};
+ghost use Rattle.bw_model.specs.declared.reply.Reply.TheVariants.{Rows};
 ghost use Rattle.bw_sql.specs.Rows.{joined};
+ghost use Rattle.bw_sql.specs.Tree.{condition_of, items_of};
+ghost use Rattle.bw_engine.specs.Outcomes.{Answers, condition_tests, shown_tests};
+ghost use Rattle.bw_engine.specs.Searches.{IsSearch, finds_or_all};
 
 use crate::headers::{Header, place_in};
 use crate::search::Search;
@@ -22,25 +25,40 @@ pub fn select(
     alloc: Global,
     tables: &IndexMap<Name, Table>,
     statement: Select,
-) -> Result<Reply, Refusal> {
+) -> Result<Reply, Refusal>
+    ensures { Answers (over (table_of tables.now.entries statement.table) (λ table. select_tests (shown_columns table.headers (items_of statement.items)) (option_map condition_of statement.condition) table)) result (λ reply. reply ≡ Rows (answer (table_or_none (table_of tables.now.entries statement.table)) (items_of statement.items) (option_map condition_of statement.condition))) }
+{
     let Select {
         items,
         table,
         condition,
     } = statement;
-    let Some(table) = tables.get(&table) else {
-        return Err(Refusal::NoSuchTable);
-    };
-    let headers = table.headers();
-    let places = places_of(alloc, headers, &items)?;
-    let search = search_of(headers, &condition)?;
-    let headings = headings_of(alloc, headers, items)?;
+    match tables.get(&table) {
+        Some(table) => Ok(Reply::Rows(answer_of(alloc, table, items, &condition)?)),
+        None => Err(Refusal::NoSuchTable),
+    }
+}
+
+/// What a table's found rows show.
+fn answer_of(
+    alloc: Global,
+    table: &Table,
+    items: SelectItems,
+    condition: &Option<Condition>,
+) -> Result<Answer, Refusal>
+    ensures { Answers (select_tests (shown_columns table.now.headers (items_of items)) (option_map condition_of condition.now) table.now) result (λ shows. shows ≡ answer table.now (items_of items) (option_map condition_of condition.now)) }
+{
+    let places = places_of(alloc, table.headers(), &items)?;
+    let search = search_of(table.headers(), condition)?;
+    let headings = headings_of(alloc, table.headers(), items)?;
     let cells = found_cells(alloc, table, places.as_slice(), search)?;
-    Ok(Reply::Rows(Answer::new(headings, cells)))
+    Ok(Answer::new(headings, cells))
 }
 
 /// The condition over the rows of these columns.
-fn search_of(headers: &[Header], condition: &Option<Condition>) -> Result<Option<Search>, Refusal> {
+fn search_of(headers: &[Header], condition: &Option<Condition>) -> Result<Option<Search>, Refusal>
+    ensures { Answers (condition_tests headers.now (option_map condition_of condition.now)) result (IsSearch headers.now (option_map condition_of condition.now)) }
+{
     match condition {
         Some(condition) => Ok(Some(Search::new(headers, condition)?)),
         None => Ok(None),
@@ -49,20 +67,30 @@ fn search_of(headers: &[Header], condition: &Option<Condition>) -> Result<Option
 
 /// The places of the columns that are shown.
 fn places_of(alloc: Global, headers: &[Header], items: &SelectItems) -> Result<Vec<usize>, Refusal>
-    requires { 0 < length headers.now }
-    ensures some { IfOk result (λ places. 0 < length places.items) }
-    ensures count { IfOk result (λ places. length places.items ≡ count_of headers.now items.now) }
+    requires { AreHeaders headers.now }
+    ensures { Answers (shown_tests headers.now (shown_columns headers.now (items_of items.now))) result (λ places. map (λ place. Some place) places.items ≡ map (place_of headers.now) (shown_columns headers.now (items_of items.now))) }
 {
     match items {
-        SelectItems::All => Ok((0..headers.len()).collect(alloc)?),
+        SelectItems::All => all_places(alloc, headers),
         SelectItems::Columns(names) => places_of_names(alloc, headers, names.as_slice()),
     }
 }
 
+/// The places of all columns.
+fn all_places(alloc: Global, headers: &[Header]) -> Result<Vec<usize>, Refusal>
+    requires { AreHeaders headers.now }
+    ensures { Answers (shown_tests headers.now (names headers.now)) result (λ places. map (λ place. Some place) places.items ≡ map (place_of headers.now) (names headers.now)) }
+{
+    let mut places = Vec::with_capacity(alloc, headers.len())?;
+    for place in 0..headers.len() {
+        places.push(place)?;
+    }
+    Ok(places)
+}
+
 /// The places of these columns.
 fn places_of_names(alloc: Global, headers: &[Header], names: &[Name]) -> Result<Vec<usize>, Refusal>
-    ensures some { IfOk result (λ places. 0 < length places.items) }
-    ensures places { IfOk result (λ places. map (λ place. Some place) places.items ≡ map (place_of headers.now) names.now) }
+    ensures { Answers (shown_tests headers.now names.now) result (λ places. map (λ place. Some place) places.items ≡ map (place_of headers.now) names.now) }
 {
     if names.is_empty() {
         return Err(Refusal::Syntax);
@@ -83,7 +111,7 @@ fn headings_of(
     headers: &[Header],
     items: SelectItems,
 ) -> Result<Vec<Heading>, AllocError>
-    ensures { IfOk result (λ headings. length headings.items ≡ count_of headers.now items) }
+    ensures { IfOk result (λ headings. headings.items ≡ map (λ name. Column name) (shown_columns headers.now (items_of items))) }
 {
     match items {
         SelectItems::All => all_headings(alloc, headers),
@@ -92,7 +120,7 @@ fn headings_of(
 }
 
 fn all_headings(alloc: Global, headers: &[Header]) -> Result<Vec<Heading>, AllocError>
-    ensures { IfOk result (λ headings. headings.items ≡ map (λ h. Column h.name) headers.now) }
+    ensures { IfOk result (λ headings. headings.items ≡ map (λ name. Column name) (names headers.now)) }
 {
     let mut headings = Vec::with_capacity(alloc, headers.len())?;
     for header in headers {

@@ -1,5 +1,5 @@
 -- The rows that a statement answers: headings, and lines of as many cells (SQL-92, query expression).
-use Rattle.std.specs.Prelude.{◌≡◌, ◌*◌, ◌/◌, ◌<◌, ℕ, List, [], ◌∷◌, length, replicate}
+use Rattle.std.specs.Prelude.{◌≡◌, ◌*◌, ◌/◌, ◌<◌, ℕ, List, length, replicate}
 use Rattle.bw_sql.specs.Rows.{rows_of}
 use Rattle.bw_model.specs.declared.answer.Heading.{Heading}
 use Rattle.bw_model.specs.declared.answer.Cell.{Cell}

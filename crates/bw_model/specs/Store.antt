@@ -1,5 +1,5 @@
 -- What a store holds: tables in the order in which they were made, each with its columns and its rows (SQL-92, tables).
-use Rattle.std.specs.Prelude.{◌≡◌, ◌<◌, ◌≤◌, ℕ, ℤ, Bool, true, false, ◌&&◌, not, List, [], ◌∷◌, Option, Some, None, map, length, position, slice_get, if◌then◌else◌, IsTrue}
+use Rattle.std.specs.Prelude.{◌<◌, ◌≤◌, ℕ, ℤ, Bool, true, ◌&&◌, not, List, [], ◌∷◌, Option, Some, None, map, length, position, slice_get, if◌then◌else◌, IsTrue}
 use Rattle.std.specs.List.{list_any}
 use Rattle.std.specs.Str.{bytes_eq}
 use Rattle.bw_sql.specs.declared.tree.ColumnDefinition.{ColumnDefinition}

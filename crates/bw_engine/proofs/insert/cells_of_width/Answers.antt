@@ -1,8 +1,12 @@
-use Rattle.std.proofs.Common.{◌∙◌, ap, length}
-use Rattle.std.proofs.lemmas.Result.{IfOk-weaker}
-use Rattle.bw_engine.proofs.Lines.{length-joined}
+use Rattle.std.proofs.Common.{◌≡◌, ◌∙◌}
+use Rattle.bw_sql.specs.Rows.{joined}
+use Rattle.bw_engine.specs.Outcomes.{range_tests, value_tests}
+use Rattle.bw_engine.proofs.Tests.{answers_same, first-value_tests}
 use Rattle.bw_engine.proofs.insert.cells_of_width.Goals as goal
 
-pub returns-clause-width : goal.returns-clause-width
-returns-clause-width c =
-    IfOk-weaker c.narrowed.result _ _ (λ cells e. ap length e ∙ ap length c.values.ensures ∙ length-joined c.args.width c.args.rows.now (c.are_all_of_width.ensures.0 c.if-not-are_all_of_width.false)) c.narrowed.ensures
+pub returns : goal.returns
+returns c =
+    answers_same (range_tests c.values.result.now) (value_tests c.args.width c.args.rows.now) c.narrowed.result (λ cells. cells.items ≡ c.values.result.now) (λ cells. cells.items ≡ joined c.args.rows.now)
+    (first-value_tests c.args.width c.args.rows.now c.values.result.now (c.are_all_of_width.ensures.0 c.if-not-are_all_of_width.false) c.values.ensures)
+    (λ cells none same. same ∙ c.values.ensures)
+    c.narrowed.ensures

@@ -1,4 +1,4 @@
-use Rattle.std.proofs.Common.{◌∙◌, ap, sym}
+use Rattle.std.proofs.Common.{◌∙◌, sym}
 use Rattle.bw_engine.proofs.Names.{once_to, twice_at}
 use Rattle.bw_engine.proofs.insert.name_twice.Goals as goal
 

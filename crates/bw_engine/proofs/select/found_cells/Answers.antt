@@ -1,4 +1,4 @@
-use Rattle.std.proofs.Common.{◌∙◌, ap, sym, length, map, filter, [], if◌then◌else◌}
+use Rattle.std.proofs.Common.{◌∙◌, ap, sym, length, map, filter}
 use Rattle.bw_sql.specs.Rows.{joined}
 use Rattle.bw_model.specs.Answers.{lines_of}
 use Rattle.bw_model.specs.Select.{shown}

@@ -1,4 +1,4 @@
-use Rattle.std.proofs.Common.{◌≡◌, ◌∙◌, sym, ap, length}
+use Rattle.std.proofs.Common.{◌∙◌, sym, ap, length}
 use Rattle.bw_engine.proofs.Lines.{length-lines_of}
 use Rattle.bw_engine.proofs.table.Table.row_count.Goals as goal
 

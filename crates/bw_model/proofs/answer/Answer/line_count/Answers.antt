@@ -1,4 +1,4 @@
-use Rattle.std.proofs.Common.{◌≡◌, ◌∙◌, ◌/◌, length, sym, ap, replicate}
+use Rattle.std.proofs.Common.{◌∙◌, ◌/◌, length, sym, ap, replicate}
 use Rattle.std.proofs.lemmas.List.{length-replicate}
 use Rattle.bw_sql.proofs.RowLemmas.{length-rows_of}
 use Rattle.bw_model.proofs.answer.Answer.line_count.Goals as goal

@@ -1,0 +1,41 @@
+-- What a statement does: the reply and the store after it (SQL-92, the general rules of the statements).
+use Rattle.std.specs.Prelude.{◌≡◌, ◌⊎◌, ℕ, List, [], ◌∷◌, ◌++◌, Option, Some, None, length, map, if◌then◌else◌}
+use Rattle.std.specs.Str.{bytes_eq}
+use Rattle.bw_sql.specs.Tree.{StatementTree, create_table, insert, select}
+use Rattle.bw_model.specs.Insert.{with_rows}
+use Rattle.bw_model.specs.Refusals.{first_that_holds, tests_of}
+use Rattle.bw_model.specs.Select.{answer}
+use Rattle.bw_model.specs.Store.{Store, Table, header_of, table_of}
+use Rattle.bw_model.specs.declared.refusal.Refusal.{Refusal}
+use Rattle.bw_model.specs.declared.refusal.Refusal.TheVariants.{OutOfMemory}
+use Rattle.bw_model.specs.declared.reply.Reply.{Reply}
+use Rattle.bw_model.specs.declared.reply.Reply.TheVariants.{Done, Count, Rows, Refused}
+
+-- the table, or one without columns and rows where there is none
+abbrev pub table_or_none : Option Table → Table
+table_or_none None = record { headers = []; rows = [] }
+table_or_none (Some table) = table
+
+-- the store with the table of this name changed so, in its place
+abbrev pub with_table : Store → List ℕ → (Table → Table) → Store
+with_table [] name change = []
+with_table (entry ∷ store) name change = if bytes_eq name entry.0 then (entry.0, change entry.1) ∷ store else entry ∷ with_table store name change
+
+-- the reply and the store after a statement that isn't refused
+abbrev pub carried_out : Store → StatementTree → Reply × Store
+carried_out store (create_table name columns) = (Done, store ++ (name, record { headers = map header_of columns; rows = [] }) ∷ [])
+carried_out store (insert name listed rows) = (Count (length rows), with_table store name (with_rows listed rows))
+carried_out store (select items name condition) = (Rows (answer (table_or_none (table_of store name)) items condition), store)
+
+-- a refusal changes nothing
+abbrev pub refused_or : Option Refusal → Store → Reply × Store → Reply × Store
+refused_or None store done = done
+refused_or (Some refusal) store done = (Refused refusal, store)
+
+abbrev pub outcome_of : Store → StatementTree → Reply × Store
+outcome_of store statement = refused_or (first_that_holds (tests_of store statement)) store (carried_out store statement)
+
+-- A statement may take the store to `after` with this reply. Want of memory may stand in place of any reply, and changes nothing.
+abbrev pub Step : Store → StatementTree → Reply → Store → Type 0
+Step store statement reply after =
+    ((reply ≡ Refused OutOfMemory) × (after ≡ store)) ⊎ (◌≡◌ {A = Reply × Store} (reply, after) (outcome_of store statement))

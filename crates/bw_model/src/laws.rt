@@ -1,0 +1,13 @@
+//! Laws of the definitions.
+
+ghost use Rattle.std.specs.Prelude.{◌≡◌};
+ghost use Rattle.bw_model.specs.Step.{Step};
+ghost use Rattle.bw_model.specs.Store.{Store};
+ghost use Rattle.bw_model.specs.declared.refusal.Refusal.{Refusal as AnyRefusal};
+ghost use Rattle.bw_model.specs.declared.reply.Reply.TheVariants.{Refused};
+ghost use Rattle.bw_sql.specs.Tree.{StatementTree};
+
+/// A statement that is refused changes nothing.
+pub fn refusals_change_nothing()
+    ensures { (store after : Store) (statement : StatementTree) (refusal : AnyRefusal) → Step store statement (Refused refusal) after → after ≡ store }
+{}
