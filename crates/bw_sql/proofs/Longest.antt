@@ -1,5 +1,5 @@
 -- The first piece of a text is the longest that fits, within its limits.
-use Rattle.std.proofs.Common.{◌≡◌, ◌≢◌, ℕ, ◌+◌, ◌<◌, ◌≤◌, Bool, true, false, ◌||◌, ◌&&◌, ◌==◌, not, cond, List, [], ◌∷◌, ◌++◌, length, take, drop, Option, Some, None, refl, sym, ap, ◌∙◌, subst, arith, inl, inr, nat_le, Result, append_assoc, eqb-true, length-append, length-take, ◌⊎◌}
+use Rattle.std.proofs.Common.{◌≡◌, ◌≢◌, ℕ, ◌<◌, ◌≤◌, Bool, true, false, ◌==◌, not, cond, List, [], ◌∷◌, ◌++◌, length, take, drop, Option, Some, None, refl, sym, ap, ◌∙◌, subst, arith, inl, inr, nat_le, Result, append_assoc, eqb-true, length-append, length-take}
 use Rattle.std.specs.List.{list_all, prefix_len}
 use Rattle.std.specs.Char.{is_ascii_alphabetic, is_ascii_digit}
 use Rattle.std.specs.Bool.{IsTrue, IsFalse}
@@ -9,7 +9,6 @@ use Rattle.std.proofs.Math.Seq.{drop-append_seam}
 use Rattle.std.proofs.lemmas.Bool.{and_from, and_left, and_parts, cond_both, le-leb, leb-true, lt-leb, ne_eqb, or_cases}
 use Rattle.std.proofs.lemmas.List.{take-append-drop}
 use Rattle.std.proofs.lemmas.Result.{IfOk-weaker}
-use Rattle.bw_sql.specs.declared.token.TokenKind.{TokenKind}
 use Rattle.bw_sql.specs.declared.token.TokenKind.TheVariants as k
 use Rattle.bw_sql.specs.declared.token.Symbol.{Symbol}
 use Rattle.bw_sql.specs.declared.token.Symbol.TheVariants.{Open, Close, Comma, Star, Plus, Minus, Compare}
@@ -17,11 +16,11 @@ use Rattle.bw_sql.specs.declared.token.CompareOp.TheVariants.{Eq, Ne, Lt, Le, Gt
 use Rattle.bw_sql.specs.declared.piece.Piece.{Piece}
 use Rattle.bw_sql.specs.declared.piece.Piece.TheVariants as p
 use Rattle.bw_sql.specs.Pieces.{FitsIn, comment_len, contents, first_piece, is_alone, pair_of, single_of}
-use Rattle.bw_sql.specs.Spellings.{IsComment, IsOneBlank, IsSymbol, begins_with, doubled, is_blank, is_good_text, is_word_byte, quoted, word_goes_on}
-use Rattle.bw_sql.specs.Tokens.{Fits, IsAllowed, IsLongest, IsNext, Shape, separator, token}
+use Rattle.bw_sql.specs.Spellings.{IsSymbol, begins_with, doubled, is_blank, is_good_text, is_word_byte, quoted, word_goes_on}
+use Rattle.bw_sql.specs.Tokens.{Fits, IsAllowed, IsNext, Shape, separator, token}
 use Rattle.bw_sql.proofs.Prefixes.{letter, no_digit, prefix_exact, prefix_over}
 use Rattle.bw_sql.proofs.Quotes.{doubled_ends, doubled_says}
-use Rattle.bw_sql.proofs.Shapes.{Holds, Sized, Stands, first_shape, holds, judge, judge_shape, judged, pair_shape, sized, stands}
+use Rattle.bw_sql.proofs.Shapes.{Holds, Sized, first_shape, holds, judge, judge_shape, judged, pair_shape, sized, stands}
 
 abbrev pub piece_of : Shape → ℕ → Piece
 piece_of separator n = p.Separator n

@@ -1,12 +1,12 @@
 -- A script is split in one way only.
-use Rattle.std.proofs.Common.{◌≡◌, ◌≢◌, ℕ, ◌+◌, ◌<◌, Bool, true, false, ◌&&◌, ◌==◌, not, cond, List, [], ◌∷◌, ◌++◌, length, take, drop, if◌then◌else◌, refl, sym, ap, ◌∙◌, subst, arith, inl, inr, append_assoc, append-nil, ◌⊎◌}
-use Rattle.std.specs.List.{list_all, prefix_len}
-use Rattle.std.specs.Bool.{IsTrue, IsFalse}
+use Rattle.std.proofs.Common.{◌≡◌, ℕ, ◌+◌, Bool, true, false, ◌&&◌, ◌==◌, not, List, [], ◌∷◌, ◌++◌, length, take, drop, if◌then◌else◌, refl, sym, ap, ◌∙◌, subst, inl, inr, append_assoc, append-nil, ◌⊎◌}
+use Rattle.std.specs.List.{prefix_len}
+use Rattle.std.specs.Bool.{IsTrue}
 use Rattle.std.proofs.Math.Numerals.{one-add}
 use Rattle.std.proofs.Math.Seq.{drop-append_seam, take-append_seam}
 use Rattle.std.proofs.lemmas.Bool.{and_parts, eqb-true, ne_eqb}
 use Rattle.bw_sql.specs.declared.script.Part.{Part}
-use Rattle.bw_sql.specs.Fronts.{EndsRun, says_len}
+use Rattle.bw_sql.specs.Fronts.{EndsRun}
 use Rattle.bw_sql.specs.Spellings.{begins_with, has_no}
 use Rattle.bw_sql.specs.Parts.{ArePartsFrom, IsJoined, IsRun, Piece, StandsBefore, bytes_of, comment, cut, last, open_text, other, run_bytes, run_len, text, with_part}
 

@@ -1,8 +1,7 @@
 -- Texts in quotes: where one ends, and what it says.
-use Rattle.std.proofs.Common.{◌≡◌, ℕ, ◌+◌, suc, Bool, true, false, ◌==◌, cond, List, [], ◌∷◌, ◌++◌, length, ◌≤◌, take, drop, Option, Some, None, refl, sym, ap, ◌∙◌, subst, arith, eqb-true}
+use Rattle.std.proofs.Common.{◌≡◌, ℕ, ◌+◌, suc, Bool, true, false, ◌==◌, cond, List, [], ◌∷◌, ◌++◌, length, ◌≤◌, take, drop, Option, Some, refl, ap, ◌∙◌, arith, eqb-true}
 use Rattle.std.specs.Bool.{IsFalse}
 use Rattle.std.proofs.Math.Numerals.{one-add}
-use Rattle.std.proofs.lemmas.Bool.{cond_both}
 use Rattle.bw_sql.specs.Pieces.{contents, quote_contents, quote_end, quoted_end}
 use Rattle.bw_sql.specs.Spellings.{begins_with, doubled, quoted}
 

@@ -1,7 +1,7 @@
 -- The front of a script, in pieces.
-use Rattle.std.proofs.Common.{◌≡◌, ◌≢◌, ℕ, ◌+◌, ◌-◌, ◌<◌, ◌≤◌, Bool, true, false, ◌&&◌, ◌==◌, not, cond, List, [], ◌∷◌, ◌++◌, length, map, take, drop, Option, Some, None, refl, sym, ap, ◌∙◌, subst, arith, inl, inr, suc, eqb-true, append_assoc, length-append, length-drop, drop-drop, nat_lt, ltb-true, ltb-false, ◌⊎◌}
-use Rattle.std.specs.List.{list_all, prefix_len}
-use Rattle.std.specs.Bool.{IsTrue, IsFalse}
+use Rattle.std.proofs.Common.{◌≡◌, ℕ, ◌+◌, ◌-◌, ◌<◌, Bool, true, false, ◌&&◌, ◌==◌, not, cond, List, [], ◌∷◌, ◌++◌, length, map, take, drop, Option, Some, None, refl, sym, ap, ◌∙◌, subst, arith, inl, inr, eqb-true, append_assoc, length-append, length-drop, drop-drop, nat_lt, ltb-true, ltb-false, ◌⊎◌}
+use Rattle.std.specs.List.{prefix_len}
+use Rattle.std.specs.Bool.{IsTrue}
 use Rattle.std.proofs.Math.Numerals.{one-add}
 use Rattle.std.proofs.Math.Seq.{drop-append_seam}
 use Rattle.std.proofs.lemmas.Bool.{and_parts, cond_both, eqb-false, not-true}
@@ -10,9 +10,9 @@ use Rattle.std.proofs.lemmas.List.Folds.{length-prefix_len, list_all-append, lis
 use Rattle.std.proofs.lemmas.List.Sums.{prefix_len-le-length}
 use Rattle.bw_sql.specs.declared.script.Front.{Front}
 use Rattle.bw_sql.specs.Fronts.{EndsRun, IsFront, first_front, front, is_plain, plain_front, plain_len, says_len, text_len}
-use Rattle.bw_sql.specs.Parts.{IsRun, Piece, StandsBefore, bytes_of, comment, is_blank_piece, is_blank_run, open_text, other, run_len, text}
+use Rattle.bw_sql.specs.Parts.{IsRun, Piece, StandsBefore, bytes_of, comment, is_blank_piece, open_text, other, text}
 use Rattle.bw_sql.specs.Pieces.{comment_len}
-use Rattle.bw_sql.specs.Spellings.{begins_with, has_no, is_blank}
+use Rattle.bw_sql.specs.Spellings.{begins_with}
 use Rattle.bw_sql.proofs.Prefixes.{all_prefix, starts}
 
 run_append : (a b : List Piece) (script mid rest : List ℕ) → IsRun a script mid → IsRun b mid rest → IsRun (a ++ b) script rest

@@ -1,19 +1,17 @@
 -- What stands at the front of a text, limits aside, as a computation.
-use Rattle.std.proofs.Common.{◌≡◌, ℕ, ◌+◌, ◌<◌, ◌≤◌, Bool, true, false, ◌||◌, ◌&&◌, ◌==◌, not, cond, if◌then◌else◌, List, [], ◌∷◌, ◌++◌, length, take, drop, Option, Some, None, refl, sym, ap, ◌∙◌, subst, arith, eqb-true, nat_le, inl, inr}
-use Rattle.std.specs.List.{list_all, prefix_len}
+use Rattle.std.proofs.Common.{◌≡◌, ℕ, ◌<◌, ◌≤◌, Bool, true, false, ◌&&◌, ◌==◌, not, cond, if◌then◌else◌, List, [], ◌∷◌, length, take, drop, Option, Some, None, refl, sym, ap, subst, arith, eqb-true, nat_le, inl, inr}
+use Rattle.std.specs.List.{prefix_len}
 use Rattle.std.specs.Char.{is_ascii_alphabetic, is_ascii_digit}
-use Rattle.std.specs.Bool.{IsTrue}
 use Rattle.std.specs.Int.{is_in_range}
 use Rattle.std.proofs.Math.Numerals.{one-add}
 use Rattle.std.proofs.lemmas.Bool.{and_from, and_parts, cond_both}
 use Rattle.std.proofs.lemmas.List.Sums.{prefix_len-le-length}
-use Rattle.bw_sql.specs.declared.token.TokenKind.{TokenKind}
 use Rattle.bw_sql.specs.declared.token.TokenKind.TheVariants as k
 use Rattle.bw_sql.specs.declared.token.Symbol.{Symbol}
 use Rattle.bw_sql.specs.declared.piece.Piece.{Piece}
 use Rattle.bw_sql.specs.declared.piece.Piece.TheVariants as p
-use Rattle.bw_sql.specs.Pieces.{closed_text, comment_len, contents, first_piece, is_alone, is_comment, pair_of, pair_piece, quoted_end, single_of, single_piece, symbol_piece, text_piece}
-use Rattle.bw_sql.specs.Spellings.{IsNumber, IsWord, begins_with, has_no, is_blank, is_good_text, is_word_byte, quoted, word_goes_on}
+use Rattle.bw_sql.specs.Pieces.{closed_text, comment_len, contents, first_piece, is_alone, is_comment, pair_of, pair_piece, quoted_end, single_of, single_piece, symbol_piece}
+use Rattle.bw_sql.specs.Spellings.{IsNumber, IsWord, is_blank, is_good_text, is_word_byte, word_goes_on}
 use Rattle.bw_sql.specs.Tokens.{Fits, Shape, separator, token}
 use Rattle.bw_sql.proofs.Prefixes.{all_prefix, letter, prefix_first, starts}
 use Rattle.bw_sql.proofs.Quotes.{quoted_end_spelled, text_after, text_spelled}

@@ -1,5 +1,5 @@
 -- The front of a script up to a semicolon, as a computation: comments, texts and other bytes (SQL-92, <direct SQL statement>).
-use Rattle.std.specs.Prelude.{◌≡◌, ℕ, ◌+◌, ◌<◌, ◌≤◌, Bool, true, false, not, ◌&&◌, ◌==◌, if◌then◌else◌, nat_lt, List, [], ◌∷◌, length, take, drop, Option, Some, None, IsTrue, ◌⊎◌}
+use Rattle.std.specs.Prelude.{◌≡◌, ℕ, ◌+◌, ◌≤◌, Bool, true, false, not, ◌&&◌, ◌==◌, if◌then◌else◌, nat_lt, List, [], ◌∷◌, length, take, drop, Option, Some, None, IsTrue, ◌⊎◌}
 use Rattle.std.specs.List.{list_all, prefix_len}
 use Rattle.bw_sql.specs.Parts.{IsRun, Piece, is_blank_run}
 use Rattle.bw_sql.specs.Pieces.{comment_len}

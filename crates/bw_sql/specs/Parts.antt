@@ -1,5 +1,5 @@
 -- The parts of a script: what stands between its semicolons outside texts and comments (SQL-92, <direct SQL statement>).
-use Rattle.std.specs.Prelude.{◌≡◌, ◌≢◌, ℕ, ◌+◌, ◌≤◌, Bool, true, false, not, ◌==◌, if◌then◌else◌, List, [], ◌∷◌, ◌++◌, length, drop, IsTrue, IsFalse, ◌⊎◌}
+use Rattle.std.specs.Prelude.{◌≡◌, ◌≢◌, ℕ, ◌+◌, ◌≤◌, Bool, true, false, if◌then◌else◌, List, [], ◌∷◌, ◌++◌, length, drop, IsTrue, IsFalse, ◌⊎◌}
 use Rattle.std.specs.List.{list_all}
 use Rattle.bw_sql.specs.Spellings.{begins_with, has_no, is_blank}
 use Rattle.bw_sql.specs.declared.script.Part.{Part}

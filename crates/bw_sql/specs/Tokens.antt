@@ -1,5 +1,5 @@
 -- The tokens of a text: separators and tokens one after the other, each the longest that fits (SQL-92, <token> and <separator>).
-use Rattle.std.specs.Prelude.{◌≡◌, ◌≢◌, ℕ, ◌+◌, ◌≤◌, Bool, false, ◌==◌, List, [], ◌∷◌, ◌++◌, length, IsTrue, IsFalse, ◌⊎◌}
+use Rattle.std.specs.Prelude.{◌≡◌, ◌≢◌, ℕ, ◌+◌, ◌≤◌, List, [], ◌∷◌, ◌++◌, length, IsTrue, IsFalse, ◌⊎◌}
 use Rattle.bw_sql.specs.declared.fault.SqlFault.{SqlFault}
 use Rattle.bw_sql.specs.declared.fault.SqlFault.TheVariants as f
 use Rattle.bw_sql.specs.declared.lexer.TextEnd.{TextEnd}
