@@ -3,7 +3,9 @@
 use bw_engine::{Engine, FileAnswer};
 use bw_model::Reply;
 use bw_shell::{Folder, FolderFault, MemoryFolder};
-use bw_sql::{CompareOp, Part, Span, SqlFault, Statement, Symbol, Token, TokenKind, parts, statement, tokens};
+use bw_sql::{
+    CompareOp, Part, Span, SqlFault, Statement, Symbol, Token, TokenKind, parts, statement, tokens,
+};
 use std::test::Fail;
 
 fn token(kind: TokenKind, start: usize, end: usize) -> Token {
@@ -16,14 +18,18 @@ fn token(kind: TokenKind, start: usize, end: usize) -> Token {
 #[test]
 fn tokens_of_a_text(rt: HostRuntime) -> Result<(), Fail> {
     let found = tokens(rt.alloc(), b"a<>-12 'it''s'--x\n>=")?;
-    assert_eq!(rt; found.as_slice(), [
-        token(TokenKind::Word, 0, 1),
-        token(TokenKind::Symbol(Symbol::Compare(CompareOp::Ne)), 1, 3),
-        token(TokenKind::Symbol(Symbol::Minus), 3, 4),
-        token(TokenKind::Number, 4, 6),
-        token(TokenKind::Text, 7, 14),
-        token(TokenKind::Symbol(Symbol::Compare(CompareOp::Ge)), 18, 20),
-    ].as_slice());
+    assert_eq!(rt;
+        found.as_slice(),
+        [
+            token(TokenKind::Word, 0, 1),
+            token(TokenKind::Symbol(Symbol::Compare(CompareOp::Ne)), 1, 3),
+            token(TokenKind::Symbol(Symbol::Minus), 3, 4),
+            token(TokenKind::Number, 4, 6),
+            token(TokenKind::Text, 7, 14),
+            token(TokenKind::Symbol(Symbol::Compare(CompareOp::Ge)), 18, 20),
+        ]
+        .as_slice()
+    );
     assert_eq!(rt; tokens(rt.alloc(), b"12a").err(), Some(SqlFault::Syntax));
     Ok(())
 }
@@ -35,15 +41,33 @@ fn parts_of_a_script(rt: HostRuntime) -> Result<(), Fail> {
         span: Span { start, end },
         is_closed,
     };
-    assert_eq!(rt; found.as_slice(), [part(0, 1, true), part(4, 9, true), part(10, 12, false)].as_slice());
+    assert_eq!(rt;
+        found.as_slice(),
+        [part(0, 1, true), part(4, 9, true), part(10, 12, false)].as_slice()
+    );
     Ok(())
 }
 
 #[test]
 fn statements_of_texts(rt: HostRuntime) -> Result<(), Fail> {
-    assert!(rt; matches!(statement(rt.alloc(), b"SELECT * FROM t")?, Statement::Select(_)));
-    assert!(rt; matches!(statement(rt.alloc(), b"INSERT INTO t VALUES (1)")?, Statement::Insert(_)));
-    assert!(rt; matches!(statement(rt.alloc(), b"CREATE TABLE t (a INT)")?, Statement::CreateTable(_)));
+    assert!(rt;
+        matches!(
+            statement(rt.alloc(), b"SELECT * FROM t")?,
+            Statement::Select(_)
+        )
+    );
+    assert!(rt;
+        matches!(
+            statement(rt.alloc(), b"INSERT INTO t VALUES (1)")?,
+            Statement::Insert(_)
+        )
+    );
+    assert!(rt;
+        matches!(
+            statement(rt.alloc(), b"CREATE TABLE t (a INT)")?,
+            Statement::CreateTable(_)
+        )
+    );
     Ok(())
 }
 
@@ -54,7 +78,12 @@ fn an_engine_executes(rt: HostRuntime) -> Result<(), Fail> {
     assert_eq!(rt; engine.wants(&create), None);
     assert!(rt; matches!(engine.execute(create, FileAnswer::NotAsked), Reply::Done));
     let insert = statement(rt.alloc(), b"INSERT INTO t VALUES (1), (NULL)")?;
-    assert!(rt; matches!(engine.execute(insert, FileAnswer::NotAsked), Reply::Count(2)));
+    assert!(rt;
+        matches!(
+            engine.execute(insert, FileAnswer::NotAsked),
+            Reply::Count(2)
+        )
+    );
     let select = statement(rt.alloc(), b"SELECT a FROM t")?;
     let Reply::Rows(answer) = engine.execute(select, FileAnswer::NotAsked) else {
         return Err(Fail::from("no rows"));

@@ -22,8 +22,16 @@ fn padded(alloc: Global, length: usize) -> Result<String, AllocError> {
 
 #[test]
 fn bytes_of_a_statement(rt: HostRuntime) -> Result<(), Fail> {
-    check(&rt, padded(rt.alloc(), 65_536)?.as_str(), "ok\nA\nrows 0\nA\nrows 0\n");
-    check(&rt, padded(rt.alloc(), 65_537)?.as_str(), "ok\nerror 11: statement too long\nA\nrows 0\n");
+    check(
+        &rt,
+        padded(rt.alloc(), 65_536)?.as_str(),
+        "ok\nA\nrows 0\nA\nrows 0\n",
+    );
+    check(
+        &rt,
+        padded(rt.alloc(), 65_537)?.as_str(),
+        "ok\nerror 11: statement too long\nA\nrows 0\n",
+    );
     Ok(())
 }
 
@@ -39,10 +47,17 @@ fn bytes_of_a_rest(rt: HostRuntime) -> Result<(), Fail> {
 
 #[test]
 fn depth_of_parentheses(rt: HostRuntime) -> Result<(), Fail> {
-    for (depth, reply) in [(64, "error 10: syntax error\n"), (65, "error 12: nested too deeply\n")] {
+    for (depth, reply) in [
+        (64, "error 10: syntax error\n"),
+        (65, "error 12: nested too deeply\n"),
+    ] {
         let opened = repeated(rt.alloc(), "(", depth)?;
         let closed = repeated(rt.alloc(), ")", depth)?;
-        check(&rt, format!(in rt.alloc(); "SELECT a FROM t WHERE {opened}a = 1{closed};")?.as_str(), reply);
+        check(
+            &rt,
+            format!(in rt.alloc(); "SELECT a FROM t WHERE {opened}a = 1{closed};")?.as_str(),
+            reply,
+        );
     }
     Ok(())
 }
@@ -50,9 +65,21 @@ fn depth_of_parentheses(rt: HostRuntime) -> Result<(), Fail> {
 #[test]
 fn the_first_fault_counts(rt: HostRuntime) -> Result<(), Fail> {
     let opened = repeated(rt.alloc(), "(", 65)?;
-    check(&rt, format!(in rt.alloc(); "{opened} 9223372036854775808 #;")?.as_str(), "error 12: nested too deeply\n");
-    check(&rt, format!(in rt.alloc(); "9223372036854775808 {opened} #;")?.as_str(), "error 13: number too large\n");
-    check(&rt, format!(in rt.alloc(); "# {opened} 9223372036854775808;")?.as_str(), "error 10: syntax error\n");
+    check(
+        &rt,
+        format!(in rt.alloc(); "{opened} 9223372036854775808 #;")?.as_str(),
+        "error 12: nested too deeply\n",
+    );
+    check(
+        &rt,
+        format!(in rt.alloc(); "9223372036854775808 {opened} #;")?.as_str(),
+        "error 13: number too large\n",
+    );
+    check(
+        &rt,
+        format!(in rt.alloc(); "# {opened} 9223372036854775808;")?.as_str(),
+        "error 10: syntax error\n",
+    );
     check(&rt, "1a 9223372036854775808;", "error 10: syntax error\n");
     Ok(())
 }
@@ -63,7 +90,9 @@ fn bytes_of_a_name(rt: HostRuntime) -> Result<(), Fail> {
     let upper = repeated(rt.alloc(), "N", 128)?;
     check(
         &rt,
-        format!(in rt.alloc(); "CREATE TABLE t ({name} INT); SELECT * FROM t; CREATE TABLE u ({name}n INT);")?.as_str(),
+        format!(in rt.alloc();
+            "CREATE TABLE t ({name} INT); SELECT * FROM t; CREATE TABLE u ({name}n INT);"
+        )?.as_str(),
         format!(in rt.alloc(); "ok\n{upper}\nrows 0\nerror 10: syntax error\n")?.as_str(),
     );
     Ok(())
@@ -75,9 +104,21 @@ fn columns_of_a_table(rt: HostRuntime) -> Result<(), Fail> {
     for i in 1..64u32 {
         columns.push_str(format!(in rt.alloc(); ", c{i} INT")?.as_str())?;
     }
-    check(&rt, format!(in rt.alloc(); "CREATE TABLE t ({columns});")?.as_str(), "ok\n");
-    check(&rt, format!(in rt.alloc(); "CREATE TABLE t ({columns}, c64 INT);")?.as_str(), "error 24: over a limit\n");
-    check(&rt, format!(in rt.alloc(); "CREATE TABLE t ({columns}, c0 INT);")?.as_str(), "error 23: column named twice\n");
+    check(
+        &rt,
+        format!(in rt.alloc(); "CREATE TABLE t ({columns});")?.as_str(),
+        "ok\n",
+    );
+    check(
+        &rt,
+        format!(in rt.alloc(); "CREATE TABLE t ({columns}, c64 INT);")?.as_str(),
+        "error 24: over a limit\n",
+    );
+    check(
+        &rt,
+        format!(in rt.alloc(); "CREATE TABLE t ({columns}, c0 INT);")?.as_str(),
+        "error 23: column named twice\n",
+    );
     Ok(())
 }
 

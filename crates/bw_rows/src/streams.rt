@@ -39,7 +39,11 @@ struct FullWriter {
 
 impl Write for FullWriter {
     fn write(&mut self, buf: &[u8]) -> io::Result<usize> {
-        let n = self.room.saturating_sub(self.taken.len()).min(self.step).min(buf.len());
+        let n = self
+            .room
+            .saturating_sub(self.taken.len())
+            .min(self.step)
+            .min(buf.len());
         if n == 0 {
             return Ok(0);
         }
@@ -62,7 +66,13 @@ fn a_writer_that_takes_four_bytes(rt: HostRuntime) {
             step,
         };
         let mut folder = MemoryFolder::new(rt.alloc());
-        let end = run(rt.alloc(), &mut reader, &mut writer, &mut folder, OnError::Continue);
+        let end = run(
+            rt.alloc(),
+            &mut reader,
+            &mut writer,
+            &mut folder,
+            OnError::Continue,
+        );
         assert_eq!(rt; end, RunEnd::WriteFault);
         assert_eq!(rt; writer.taken.as_slice(), b"ok\no".as_slice());
     }
@@ -77,7 +87,13 @@ fn a_reader_that_fails_behind_a_cut(rt: HostRuntime) {
         };
         let mut output = Vec::new(rt.alloc());
         let mut folder = MemoryFolder::new(rt.alloc());
-        let end = run(rt.alloc(), &mut reader, &mut output, &mut folder, OnError::Continue);
+        let end = run(
+            rt.alloc(),
+            &mut reader,
+            &mut output,
+            &mut folder,
+            OnError::Continue,
+        );
         assert_eq!(rt; end, RunEnd::ReadFault);
         assert_eq!(rt; output.as_slice(), b"ok\n".as_slice());
     }
@@ -91,7 +107,13 @@ fn a_reader_that_fails_before_a_cut(rt: HostRuntime) {
     };
     let mut output = Vec::new(rt.alloc());
     let mut folder = MemoryFolder::new(rt.alloc());
-    let end = run(rt.alloc(), &mut reader, &mut output, &mut folder, OnError::Continue);
+    let end = run(
+        rt.alloc(),
+        &mut reader,
+        &mut output,
+        &mut folder,
+        OnError::Continue,
+    );
     assert_eq!(rt; end, RunEnd::ReadFault);
     assert_eq!(rt; output.as_slice(), b"ok\n".as_slice());
 }
@@ -101,7 +123,13 @@ fn a_stop_at_the_first_error(rt: HostRuntime) {
     let mut reader: &[u8] = b"SELECT a FROM t; CREATE TABLE t (a INT);";
     let mut output = Vec::new(rt.alloc());
     let mut folder = MemoryFolder::new(rt.alloc());
-    let end = run(rt.alloc(), &mut reader, &mut output, &mut folder, OnError::Stop);
+    let end = run(
+        rt.alloc(),
+        &mut reader,
+        &mut output,
+        &mut folder,
+        OnError::Stop,
+    );
     assert_eq!(rt; end, RunEnd::Stopped);
     assert_eq!(rt; output.as_slice(), b"error 20: no such table\n".as_slice());
 }

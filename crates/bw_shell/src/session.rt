@@ -34,7 +34,6 @@ pub enum RunEnd {
     Memory,
 }
 
-
 /// Answers each part of a script in order, and writes the replies.
 pub fn run<R: Read, W: Write, F: Folder>(
     alloc: Global,
