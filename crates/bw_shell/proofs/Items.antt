@@ -1,10 +1,10 @@
 -- Items that are written one after the other, with a comma between each two.
-use Rattle.std.proofs.Common.{◌≡◌, ℕ, ◌+◌, ◌-◌, ◌<◌, ◌≤◌, List, [], ◌∷◌, ◌++◌, Option, take, drop, length, get_or, codes, refl, sym, ap, ◌∙◌, subst, append_assoc, arith, drop-cons, add-one, length-drop}
-use Rattle.std.proofs.lemmas.List.{drop_all, take_all}
+use Rattle.std.proofs.Common.{◌≡◌, ℕ, ◌+◌, ◌-◌, ◌<◌, List, [], ◌∷◌, ◌++◌, Option, take, drop, length, get_or, codes, refl, subst, append_assoc, arith, drop-cons, add-one}
+use Rattle.std.proofs.lemmas.List.{take_all}
 use Rattle.std.specs.Io.KnownBytes.{Appends}
 use Rattle.bw_model.specs.ReplyText.{with_commas}
 use Rattle.bw_shell.specs.Writing.{AppendsFront}
-use Rattle.bw_shell.proofs.Texts.{Progress, appends_none, appends_twice, done, fails, front_before, more, others_text}
+use Rattle.bw_shell.proofs.Texts.{Progress, appends_twice, fails, front_before, more, others_text}
 
 module _ {A : Type 0} (text : A → List ℕ) where
   -- the first item, and then the others, as a slice pattern takes them apart

@@ -1,3 +1,4 @@
 pub mod Items
 pub mod Lines
+pub mod Sessions
 pub mod Texts

@@ -1,5 +1,5 @@
 -- What a folder's answer says of the folder.
-use Rattle.std.specs.Prelude.{ℕ, ◌+◌, Result, Ok, Err}
+use Rattle.std.specs.Prelude.{ℕ, ◌+◌, Result, Err}
 use Rattle.bw_shell.specs.declared.folders.FolderFault.{FolderFault}
 use Rattle.bw_shell.specs.declared.folders.FolderFault.TheVariants.{Failed}
 

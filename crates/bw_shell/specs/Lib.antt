@@ -1,3 +1,4 @@
 pub mod Folders
+pub mod Run
 pub mod Script
 pub mod Writing

@@ -1,11 +1,12 @@
 //! Folders, where a statement's files lie.
 
-ghost use Rattle.std.specs.Prelude.{◌≡◌, ℕ, ◌+◌, ◌<◌, ◌^◌, Result, IfErr};
+ghost use Rattle.std.specs.Prelude.{◌≡◌, ℕ, ◌+◌, ◌<◌, ◌^◌, [], Result, IfErr};
 ghost use Rattle.bw_shell.specs.Folders.{failures_after};
 ghost use Rattle.bw_shell.specs.declared.folders.FolderFault.TheVariants.{Memory};
 
 use std::alloc::{AllocError, AllocFailed, Global};
 use std::collections::BTreeMap;
+use std::marker::Model;
 
 /// Why a folder didn't do what it was asked.
 #[derive(Clone, Copy, Debug, PartialEq, Eq, Drop)]
@@ -56,16 +57,26 @@ pub trait Folder {
         ensures { result ≡ failure_count self.now };
 }
 
-/// A folder in memory, which never fails.
+/// A folder in memory, which never fails. A contract sees the names and bytes of its files.
 #[derive(Drop)]
 pub struct MemoryFolder {
     alloc: Global,
     files: BTreeMap<String, Vec<u8>>,
 }
 
+impl Model for MemoryFolder {
+    ghost use Rattle.std.specs.Prelude.{ℕ, List, map, string_bytes};
+
+    ghost Value = { List (List ℕ × List ℕ) };
+
+    ghost view = { λ folder. map (λ file. (string_bytes file.0, file.1.items)) folder.files.entries };
+}
+
 impl MemoryFolder {
     /// A folder without files.
-    pub fn new(alloc: Global) -> MemoryFolder {
+    pub fn new(alloc: Global) -> MemoryFolder
+        ensures { result ≡ [] }
+    {
         MemoryFolder {
             alloc,
             files: BTreeMap::new(alloc),

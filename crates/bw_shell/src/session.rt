@@ -1,13 +1,17 @@
 //! A script run from its bytes to the bytes of its replies.
 
-ghost use Rattle.std.specs.Prelude.{◌≡◌, ◌≢◌, ◌≤◌, ◌^◌, ℕ, length};
+ghost use Rattle.std.specs.Prelude.{◌≡◌, All};
+ghost use Rattle.bw_sql.specs.Parts.{IsPartOf};
+ghost use Rattle.bw_model.specs.ReplyText.{reply_text};
+ghost use Rattle.bw_shell.specs.Run.{HasRun, MayAnswer, RunsTo, is_dropped, last_end, stops};
+ghost use Rattle.bw_shell.specs.Writing.{Wrote};
 
 use crate::folders::Folder;
 use crate::reading::{ScriptEnd, read_script};
 use crate::text::write_reply;
 use crate::writing::WriteFault;
 use bw_engine::{Engine, FileAnswer, Refusal, Reply};
-use bw_sql::{LONGEST_STATEMENT, parts, statement};
+use bw_sql::{LONGEST_STATEMENT, Part, parts, statement};
 use std::alloc::Global;
 use std::io::{Read, Write};
 
@@ -34,14 +38,17 @@ pub enum RunEnd {
     Memory,
 }
 
-/// Answers each part of a script in order, and writes the replies.
+/// Answers each part of a script in order over a store without tables, and writes the replies.
+/// No statement reads or writes a file of the folder yet.
 pub fn run<R: Read, W: Write, F: Folder>(
     alloc: Global,
     reader: &mut R,
     writer: &mut W,
     _folder: &mut F,
     on_error: OnError,
-) -> RunEnd {
+) -> RunEnd
+    ensures { RunsTo on_error (R.remaining reader.old) (W.contents writer.old) (W.contents writer.new) result }
+{
     let Ok(script) = read_script(alloc, reader) else {
         return RunEnd::Memory;
     };
@@ -52,27 +59,82 @@ pub fn run<R: Read, W: Write, F: Folder>(
     let Ok(mut engine) = Engine::new(alloc) else {
         return RunEnd::Memory;
     };
-    for part in &parts {
-        if !part.is_closed && script.end == ScriptEnd::Fault {
-            return RunEnd::ReadFault;
+    let script = Parts {
+        text,
+        parts: parts.as_slice(),
+        end: script.end,
+    };
+    answer_parts(alloc, &mut engine, writer, script, on_error)
+}
+
+// A script that was read and split.
+#[derive(Clone, Copy)]
+struct Parts<'a> {
+    text: &'a [u8],
+    parts: &'a [Part],
+    end: ScriptEnd,
+}
+
+fn answer_parts<W: Write>(
+    alloc: Global,
+    engine: &mut Engine,
+    writer: &mut W,
+    script: Parts<'_>,
+    on_error: OnError,
+) -> RunEnd
+    requires { All (IsPartOf script.text.now) script.parts.now }
+    ensures { HasRun on_error script.entry.end script.entry.text.now script.entry.parts.now engine.old (W.contents writer.old) (W.contents writer.new) result }
+{
+    for part in script.parts {
+        if is_dropped(script.end, part) {
+            return last_end(script.end);
         }
-        let part_text = &text[part.span.start..part.span.end];
-        let reply = reply_to(alloc, &mut engine, part_text, part.is_closed);
-        if hand_over(writer, &reply).is_err() {
+        let text = &script.text[part.span.start..part.span.end];
+        let reply = reply_to(alloc, engine, text, part.is_closed);
+        if let Err(WriteFault) = hand_over(writer, &reply) {
             return RunEnd::WriteFault;
         }
-        if on_error == OnError::Stop && matches!(reply, Reply::Refused(_)) {
+        if stops(on_error, &reply) {
             return RunEnd::Stopped;
         }
     }
-    match script.end {
+    last_end(script.end)
+}
+
+// Whether a part is the rest of a script whose reading failed.
+fn is_dropped(end: ScriptEnd, part: &Part) -> bool
+    ensures { result ≡ is_dropped end part.now }
+{
+    match end {
+        ScriptEnd::Reached => false,
+        ScriptEnd::Fault => !part.is_closed,
+    }
+}
+
+// How a run ends that has no part left.
+fn last_end(end: ScriptEnd) -> RunEnd
+    ensures { result ≡ last_end end }
+{
+    match end {
         ScriptEnd::Reached => RunEnd::Done,
         ScriptEnd::Fault => RunEnd::ReadFault,
     }
 }
 
+// Whether the run is to stop after this reply.
+fn stops(on_error: OnError, reply: &Reply) -> bool
+    ensures { result ≡ stops on_error reply.now }
+{
+    match on_error {
+        OnError::Stop => matches!(reply, Reply::Refused(_)),
+        OnError::Continue => false,
+    }
+}
+
 // The reply to a part of a script.
-fn reply_to(alloc: Global, engine: &mut Engine, text: &[u8], is_closed: bool) -> Reply {
+fn reply_to(alloc: Global, engine: &mut Engine, text: &[u8], is_closed: bool) -> Reply
+    ensures { MayAnswer engine.old is_closed text.now result engine.new }
+{
     if text.len() > LONGEST_STATEMENT {
         return Reply::Refused(Refusal::StatementTooLong);
     }
@@ -86,7 +148,9 @@ fn reply_to(alloc: Global, engine: &mut Engine, text: &[u8], is_closed: bool) ->
 }
 
 // Writes a reply and flushes the writer.
-fn hand_over<W: Write>(writer: &mut W, reply: &Reply) -> Result<(), WriteFault> {
+fn hand_over<W: Write>(writer: &mut W, reply: &Reply) -> Result<(), WriteFault>
+    ensures { Wrote (W.contents writer.old) (W.contents writer.new) (reply_text reply.now) result }
+{
     write_reply(writer, reply)?;
     writer.flush().map_err(|_| WriteFault)
 }

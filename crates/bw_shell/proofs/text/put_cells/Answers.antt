@@ -1,4 +1,3 @@
-use Rattle.std.proofs.Common.{◌-◌, take, drop, length, arith}
 use Rattle.bw_model.specs.ReplyText.{cell_text}
 use Rattle.bw_shell.proofs.Items.{comma_fails, first_fails, first_written, item_fails, item_more}
 use Rattle.bw_shell.proofs.Texts.{wrote_front}
