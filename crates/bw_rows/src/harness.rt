@@ -5,17 +5,17 @@ use std::alloc::{AllocError, Global};
 use std::process::Abort;
 
 /// A script and the replies to it.
-pub type Example = (&'static str, &'static str);
+pub(crate) type Example = (&'static str, &'static str);
 
 /// What a run wrote, and how it ended.
 #[derive(Drop)]
-pub struct Written {
-    pub output: Vec<u8>,
-    pub end: RunEnd,
+pub(crate) struct Written {
+    pub(crate) output: Vec<u8>,
+    pub(crate) end: RunEnd,
 }
 
 /// Runs a script from its first byte to its last.
-pub fn run_script(alloc: Global, script: &[u8], on_error: OnError) -> Written {
+pub(crate) fn run_script(alloc: Global, script: &[u8], on_error: OnError) -> Written {
     let mut reader = script;
     let mut output = Vec::new(alloc);
     let mut folder = MemoryFolder::new(alloc);
@@ -24,7 +24,7 @@ pub fn run_script(alloc: Global, script: &[u8], on_error: OnError) -> Written {
 }
 
 /// Checks that each script gets its replies, and the run is done.
-pub fn check_examples<R: Abort + AllocGlobal>(rt: &R, examples: &[Example]) {
+pub(crate) fn check_examples<R: Abort + AllocGlobal>(rt: &R, examples: &[Example]) {
     for (script, replies) in examples {
         let written = run_script(rt.alloc(), script.as_bytes(), OnError::Continue);
         assert_eq!(rt; written.end, RunEnd::Done, "{script}");
@@ -33,7 +33,7 @@ pub fn check_examples<R: Abort + AllocGlobal>(rt: &R, examples: &[Example]) {
 }
 
 /// A text so many times, one behind the other.
-pub fn repeated(alloc: Global, text: &str, times: usize) -> Result<String, AllocError> {
+pub(crate) fn repeated(alloc: Global, text: &str, times: usize) -> Result<String, AllocError> {
     let mut all = String::new(alloc);
     for _ in 0..times {
         all.push_str(text)?;
