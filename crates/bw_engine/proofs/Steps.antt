@@ -4,14 +4,13 @@ use Rattle.std.specs.Map.{lookup, set_value}
 use Rattle.std.specs.Str.{bytes_eq}
 use Rattle.std.proofs.lemmas.Bool.{true≢false}
 use Rattle.bw_sql.specs.Tree.{StatementTree}
-use Rattle.bw_model.specs.Refusals.{Tests, over, tests_of}
+use Rattle.bw_model.specs.Refusals.{Tests, over}
 use Rattle.bw_model.specs.Step.{Step, carried_out, refused_or, with_table}
 use Rattle.bw_model.specs.Store.{Store, Table, table_of}
 use Rattle.bw_model.specs.declared.refusal.Refusal.{Refusal}
 use Rattle.bw_model.specs.declared.reply.Reply.{Reply}
 use Rattle.bw_model.specs.declared.reply.Reply.TheVariants.{Refused}
-use Rattle.bw_engine.specs.Outcomes.{Answers, MayRefuse, reply_of}
-use Rattle.bw_engine.proofs.Tests.{answers_same}
+use Rattle.bw_engine.specs.Outcomes.{CarriesOut, MayRefuse, reply_of}
 
 pub table_of-lookup : (store : Store) (name : List ℕ) → table_of store name ≡ lookup (bytes_eq name) store
 table_of-lookup [] name = refl
@@ -45,7 +44,7 @@ absent-none (Some x) e = absurd (true≢false e)
 
 -- a statement that answers by its tests takes a step
 pub steps : (store after : Store) (statement : StatementTree) (r : Result Reply Refusal)
-    → Answers (tests_of store statement) r (λ reply. ◌≡◌ {A = Reply × Store} (reply, after) (carried_out store statement)) → OnErr r (after ≡ store) → Step store statement (reply_of r) after
+    → CarriesOut store statement r after → OnErr r (after ≡ store) → Step store statement (reply_of r) after
 steps store after statement (Ok reply) h stays = inr (h.1 ∙ ap (λ o. refused_or o store (carried_out store statement)) (sym h.0))
 steps store after statement (Err e) h stays =
     elim h [
@@ -60,10 +59,3 @@ over_some o table tests e there may = subst (λ p. MayRefuse (over p tests) e) (
 pub on_err : {T E P : Type 0} (r : Result T E) → P → OnErr r P
 on_err (Ok x) p = tt
 on_err (Err e) p = p
-
--- a statement that only reads
-pub reads : (store : Store) (statement : StatementTree) (r : Result Reply Refusal) (shown : Reply) → ◌≡◌ {A = Reply × Store} (shown, store) (carried_out store statement) → Answers (tests_of store statement) r (λ reply. reply ≡ shown) → Step store statement (reply_of r) store
-reads store statement r shown is h =
-    steps store store statement r
-    (answers_same (tests_of store statement) (tests_of store statement) r (λ reply. reply ≡ shown) (λ reply. ◌≡◌ {A = Reply × Store} (reply, store) (carried_out store statement)) refl (λ reply none e. ap (λ x. (x, store)) e ∙ is) h)
-    (on_err r refl)

@@ -1,9 +1,10 @@
 -- What a part of a statement answers, by the tests that it makes.
 use Rattle.std.specs.Prelude.{◌≡◌, ◌⊎◌, ◌==◌, ℕ, List, [], ◌∷◌, Option, Some, None, Result, Ok, Err, MatchResult, length, not}
 use Rattle.std.specs.List.{list_all, list_any}
-use Rattle.bw_sql.specs.Tree.{ConditionTree}
-use Rattle.bw_model.specs.Refusals.{Tests, condition_misses, first_that_holds, is_in_range, is_missing}
-use Rattle.bw_model.specs.Store.{Header, Row, are_distinct}
+use Rattle.bw_sql.specs.Tree.{ConditionTree, StatementTree}
+use Rattle.bw_model.specs.Refusals.{Tests, condition_misses, first_that_holds, is_in_range, is_missing, tests_of}
+use Rattle.bw_model.specs.Step.{carried_out}
+use Rattle.bw_model.specs.Store.{Header, Row, Store, are_distinct}
 use Rattle.bw_model.specs.declared.refusal.Refusal.{Refusal}
 use Rattle.bw_model.specs.declared.refusal.Refusal.TheVariants as refusal
 use Rattle.bw_model.specs.declared.reply.Reply.{Reply}
@@ -42,3 +43,7 @@ value_tests width rows =
 abbrev pub reply_of : Result Reply Refusal → Reply
 reply_of (Ok reply) = reply
 reply_of (Err e) = Refused e
+
+-- where no test holds, the reply and the store after are those of the statement
+abbrev pub CarriesOut : Store → StatementTree → Result Reply Refusal → Store → Type 0
+CarriesOut store statement result after = Answers (tests_of store statement) result (λ reply. ◌≡◌ {A = Reply × Store} (reply, after) (carried_out store statement))

@@ -3,8 +3,9 @@
 ghost use Rattle.std.specs.Prelude.{◌≡◌, ◌++◌, ◌≤◌, ◌<◌, [], ◌∷◌, length, map, nat_le, nat_lt, not, ◌||◌, IfOk, IsTrue, OnErr};
 ghost use Rattle.bw_model.specs.Refusals.{create_tests};
 ghost use Rattle.bw_model.specs.Store.{are_distinct, column_limit, header_of, table_limit};
-ghost use Rattle.bw_model.specs.declared.reply.Reply.TheVariants.{Done};
-ghost use Rattle.bw_engine.specs.Outcomes.{Answers};
+ghost use Rattle.bw_sql.specs.Tree.{statement_of};
+ghost use Rattle.bw_sql.specs.declared.tree.Statement.TheVariants as statements;
+ghost use Rattle.bw_engine.specs.Outcomes.{Answers, CarriesOut};
 
 use crate::headers::{Header, Headers};
 use crate::table::Table;
@@ -25,7 +26,7 @@ pub fn create_table(
     tables: &mut IndexMap<Name, Table>,
     statement: CreateTable,
 ) -> Result<Reply, Refusal>
-    ensures reply { Answers (create_tests (map (λ c. c.name) statement.columns.items) statement.table tables.old.entries) result (λ reply. (reply ≡ Done) × (tables.new.entries ≡ tables.old.entries ++ (statement.table, record { headers = map header_of statement.columns.items; rows = [] }) ∷ [])) }
+    ensures reply { CarriesOut tables.old.entries (statement_of (statements.CreateTable statement)) result tables.new.entries }
     ensures refused { OnErr result (tables.new.entries ≡ tables.old.entries) }
 {
     let CreateTable { table, columns } = statement;

@@ -11,7 +11,9 @@ ghost use Rattle.bw_model.specs.Store.{AreHeaders, are_distinct, names, table_of
 ghost use Rattle.bw_model.specs.declared.refusal.Refusal.TheVariants.{OutOfRange};
 ghost use Rattle.bw_model.specs.declared.reply.Reply.TheVariants.{Count};
 ghost use Rattle.bw_sql.specs.Rows.{joined};
-ghost use Rattle.bw_engine.specs.Outcomes.{Answers, listed_tests, range_tests, value_tests};
+ghost use Rattle.bw_sql.specs.Tree.{statement_of};
+ghost use Rattle.bw_sql.specs.declared.tree.Statement.TheVariants as statements;
+ghost use Rattle.bw_engine.specs.Outcomes.{Answers, CarriesOut, listed_tests, range_tests, value_tests};
 
 use crate::headers::{Header, place_in};
 use crate::table::{ROW_LIMIT, Table, value_at};
@@ -26,7 +28,7 @@ pub fn insert(
     tables: &mut IndexMap<Name, Table>,
     statement: Insert,
 ) -> Result<Reply, Refusal>
-    ensures reply { Answers (over (table_of tables.old.entries statement.table) (λ table. insert_tests (target_columns table.headers (option_map (λ names. names.items) statement.columns)) statement.rows table)) result (λ reply. (reply ≡ Count (length statement.rows)) × (tables.new.entries ≡ with_table tables.old.entries statement.table (with_rows (option_map (λ names. names.items) statement.columns) statement.rows))) }
+    ensures reply { CarriesOut tables.old.entries (statement_of (statements.Insert statement)) result tables.new.entries }
     ensures refused { OnErr result (tables.new.entries ≡ tables.old.entries) }
 {
     let Insert {

@@ -8,8 +8,9 @@ ghost use Rattle.bw_model.specs.Store.{AreHeaders, names, place_of, table_of, va
 ghost use Rattle.bw_model.specs.declared.answer.Heading.TheVariants.{Column};
 ghost use Rattle.bw_model.specs.declared.reply.Reply.TheVariants.{Rows};
 ghost use Rattle.bw_sql.specs.Rows.{joined};
-ghost use Rattle.bw_sql.specs.Tree.{condition_of, items_of};
-ghost use Rattle.bw_engine.specs.Outcomes.{Answers, condition_tests, shown_tests};
+ghost use Rattle.bw_sql.specs.Tree.{condition_of, items_of, statement_of};
+ghost use Rattle.bw_sql.specs.declared.tree.Statement.TheVariants as statements;
+ghost use Rattle.bw_engine.specs.Outcomes.{Answers, CarriesOut, condition_tests, shown_tests};
 ghost use Rattle.bw_engine.specs.Searches.{IsSearch, finds_or_all};
 
 use crate::headers::{Header, place_in};
@@ -26,7 +27,7 @@ pub fn select(
     tables: &IndexMap<Name, Table>,
     statement: Select,
 ) -> Result<Reply, Refusal>
-    ensures { Answers (over (table_of tables.now.entries statement.table) (λ table. select_tests (shown_columns table.headers (items_of statement.items)) (option_map condition_of statement.condition) table)) result (λ reply. reply ≡ Rows (answer (table_or_none (table_of tables.now.entries statement.table)) (items_of statement.items) (option_map condition_of statement.condition))) }
+    ensures { CarriesOut tables.now.entries (statement_of (statements.Select statement)) result tables.now.entries }
 {
     let Select {
         items,

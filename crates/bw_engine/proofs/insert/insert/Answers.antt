@@ -5,7 +5,8 @@ use Rattle.std.specs.Str.{bytes_eq}
 use Rattle.bw_model.specs.Insert.{target_columns, with_rows}
 use Rattle.bw_model.specs.Refusals.{first_that_holds, insert_tests, over}
 use Rattle.bw_model.specs.Step.{with_table}
-use Rattle.bw_model.specs.Store.{table_of}
+use Rattle.bw_model.specs.Store.{Store, table_of}
+use Rattle.bw_model.specs.declared.reply.Reply.{Reply}
 use Rattle.bw_model.specs.declared.reply.Reply.TheVariants.{Count}
 use Rattle.bw_engine.proofs.Steps.{set_value-same, set_value-with_table, table_of-lookup}
 use Rattle.bw_engine.proofs.Tests.{answers_same}
@@ -21,9 +22,9 @@ returns-in-Some-clause-reply c =
     let listed = option_map (λ names. names.items) c.args.statement.columns in
     let there : table_of store name ≡ Some table = table_of-lookup store name ∙ sym c.in-Some.ensures.value in
     answers_same (insert_tests (target_columns table.headers listed) rows table) (over (table_of store name) (λ t. insert_tests (target_columns t.headers listed) rows t)) c.insert_rows.result
-    (λ reply. (reply ≡ Count (length rows)) × (new ≡ with_rows listed rows table)) (λ reply. (reply ≡ Count (length rows)) × ((c.get_mut.follows.lender new).entries ≡ with_table store name (with_rows listed rows)))
+    (λ reply. (reply ≡ Count (length rows)) × (new ≡ with_rows listed rows table)) (λ reply. ◌≡◌ {A = Reply × Store} (reply, (c.get_mut.follows.lender new).entries) (Count (length rows), with_table store name (with_rows listed rows)))
     (ap (λ o. first_that_holds (over o (λ t. insert_tests (target_columns t.headers listed) rows t))) (sym there))
-    (λ reply none p. (p.0, (c.get_mut.follows.holds new).0 ∙ set_value-with_table store name table new (with_rows listed rows) there p.1))
+    (λ reply none p. let after = (c.get_mut.follows.holds new).0 ∙ set_value-with_table store name table new (with_rows listed rows) there p.1 in λ j. (p.0 j, after j))
     c.insert_rows.ensures.reply
 
 pub returns-in-Some-clause-refused : goal.returns-in-Some-clause-refused

@@ -1,17 +1,20 @@
-use Rattle.std.proofs.Common.{option_map, refl}
-use Rattle.bw_sql.specs.Tree.{condition_of, items_of, select}
-use Rattle.bw_model.specs.Select.{answer}
-use Rattle.bw_model.specs.Step.{table_or_none}
-use Rattle.bw_model.specs.Store.{table_of}
-use Rattle.bw_model.specs.declared.reply.Reply.TheVariants.{Rows}
-use Rattle.bw_engine.proofs.Steps.{reads}
+use Rattle.std.proofs.Common.{refl}
+use Rattle.bw_sql.specs.Tree.{statement_of}
+use Rattle.bw_sql.specs.declared.tree.Statement.TheVariants.{CreateTable, Insert, Select}
+use Rattle.bw_engine.proofs.Steps.{on_err, steps}
 use Rattle.bw_engine.proofs.engine.Engine.execute.Goals as goal
+
+pub returns-in-CreateTable : goal.returns-in-CreateTable
+returns-in-CreateTable c =
+    rw (c.in-CreateTable.is, c.replied.ensures, ← c.self.view_is)
+    (steps c.self.inside.tables.entries c.create_table.new.tables.entries (statement_of (CreateTable c.in-CreateTable.create)) c.create_table.result c.create_table.ensures.reply c.create_table.ensures.refused)
+
+pub returns-in-Insert : goal.returns-in-Insert
+returns-in-Insert c =
+    rw (c.in-Insert.is, c.replied-in-Insert.ensures, ← c.self.view_is)
+    (steps c.self.inside.tables.entries c.insert.new.tables.entries (statement_of (Insert c.in-Insert.rows)) c.insert.result c.insert.ensures.reply c.insert.ensures.refused)
 
 pub returns-in-Select : goal.returns-in-Select
 returns-in-Select c =
-    let store = c.self.inside.tables.entries in
-    let query = c.in-Select.query in
-    let items = items_of query.items in
-    let condition = option_map condition_of query.condition in
     rw (c.in-Select.is, c.replied-in-Select.ensures, ← c.self.view_is)
-    (reads store (select items query.table condition) c.select.result (Rows (answer (table_or_none (table_of store query.table)) items condition)) refl c.select.ensures)
+    (steps c.self.inside.tables.entries c.self.inside.tables.entries (statement_of (Select c.in-Select.query)) c.select.result c.select.ensures (on_err c.select.result refl))
