@@ -89,7 +89,7 @@ fn single_piece(b: u8) -> Piece
     }
 }
 
-// The most common symbols come first, and without a look at the next byte.
+// A symbol that needs no look at the next byte.
 fn is_alone(b: u8) -> bool
     ensures { result ≡ is_alone b }
 {
@@ -236,17 +236,18 @@ fn piece_of(alloc: Global, bytes: &[u8]) -> Result<Piece, AllocError>
     requires { length bytes.now < 2 ^ 63 }
     ensures { IfOk result (λ piece. piece ≡ first_piece bytes.now) }
 {
+    // The most common bytes come first.
     let [b, after @ ..] = bytes else {
         return Ok(Piece::Bad);
     };
-    if is_blank(*b) {
+    if is_alone(*b) {
+        Ok(single_piece(*b))
+    } else if b.is_ascii_digit() {
+        Ok(number(bytes))
+    } else if is_blank(*b) {
         Ok(Piece::Separator(1))
     } else if b.is_ascii_alphabetic() {
         Ok(word(bytes))
-    } else if b.is_ascii_digit() {
-        Ok(number(bytes))
-    } else if is_alone(*b) {
-        Ok(single_piece(*b))
     } else if *b == b'\'' {
         text(alloc, after)
     } else if is_comment(bytes) {

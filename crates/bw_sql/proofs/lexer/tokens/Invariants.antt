@@ -1,6 +1,6 @@
 use Rattle.std.proofs.Common.{◌-◌, length}
 use Rattle.bw_sql.proofs.Lexing.{Progress}
-use Rattle.bw_sql.proofs.lexer.lex.Given as goal
+use Rattle.bw_sql.proofs.lexer.tokens.Given as goal
 
 -- the tokens up to here
 abbrev pub invariant-loop-at : goal.invariant-loop-at
