@@ -176,11 +176,13 @@ module _ (text : List ℕ) (at : ℕ) (items : List Terminal) (opened closed : �
     }
 
     seen_fault : (x : Terminal) (fault : SqlFault) → x ≡ here → or_else (number_fault (cond minus (2 ^ 63) (2 ^ 63 - 1)) x) (depth_fault opened closed x) ≡ Some fault → IsOverLimit fault text
-    seen_fault x fault is f =
-        (so_far.tokens ++ token_at kind at n ∷ [], drop (at + n) text,
-        subst (AreTokensFrom 0 text (drop (at + n) text)) (append-nil (so_far.tokens ++ token_at kind at n ∷ []))
-            ((over_token text so_far.tokens at n so_far.progress kind first).goes_on (drop (at + n) text) [] (done refl)),
-        rw seen_tokens (fault-at items here [] fault so_far.within (rw (← is) (next_fault x ∙ f))))
+    seen_fault x fault is f = (
+      so_far.tokens ++ token_at kind at n ∷ [],
+      drop (at + n) text,
+      subst (AreTokensFrom 0 text (drop (at + n) text)) (append-nil (so_far.tokens ++ token_at kind at n ∷ []))
+          ((over_token text so_far.tokens at n so_far.progress kind first).goes_on (drop (at + n) text) [] (done refl)),
+      rw seen_tokens (fault-at items here [] fault so_far.within (rw (← is) (next_fault x ∙ f))),
+    )
 
     pub seen_big_number : number_fault (cond minus (2 ^ 63) (2 ^ 63 - 1)) here ≡ Some faults.BigNumber → IsOverLimit faults.BigNumber text
     seen_big_number big = seen_fault here faults.BigNumber refl (rw big refl)

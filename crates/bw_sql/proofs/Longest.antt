@@ -74,12 +74,12 @@ blank_below : (b : ℕ) → is_blank b ≡ true → b < 40
 blank_below b h =
     elim (or_cases ((b == 9 || b == 10) || b == 13) (b == 32) h) [
       | inl f ↦ elim (or_cases (b == 9 || b == 10) (b == 13) f) [
-          | inl g ↦ elim (or_cases (b == 9) (b == 10) g) [
-              | inl e ↦ omega (arith, eqb-true b 9 e)
-              | inr e ↦ omega (arith, eqb-true b 10 e)
-            ]
-          | inr e ↦ omega (arith, eqb-true b 13 e)
+        | inl g ↦ elim (or_cases (b == 9) (b == 10) g) [
+          | inl e ↦ omega (arith, eqb-true b 9 e)
+          | inr e ↦ omega (arith, eqb-true b 10 e)
         ]
+        | inr e ↦ omega (arith, eqb-true b 13 e)
+      ]
       | inr e ↦ omega (arith, eqb-true b 32 e)
     ]
 

@@ -7,6 +7,7 @@ ghost use Rattle.std.specs.Str.{is_utf8};
 ghost use Rattle.bw_sql.specs.Pieces.{FitsIn, comment_len, contents, first_piece, is_alone, is_comment, number_piece, pair_of, quoted_end, single_of, single_piece, symbol_piece, text_piece, word_piece};
 ghost use Rattle.bw_sql.specs.Spellings.{is_blank, is_good_text, is_word_byte, word_goes_on};
 
+use crate::lanes::digits_len;
 use crate::token::{CompareOp, Symbol, TokenKind};
 use std::alloc::{AllocError, Global};
 
@@ -28,12 +29,6 @@ fn word_len(bytes: &[u8]) -> usize
     ensures { result ≡ prefix_len is_word_byte bytes.now }
 {
     bytes.iter().take_while(|b| is_word_byte(**b)).count()
-}
-
-fn digits_len(bytes: &[u8]) -> usize
-    ensures { result ≡ prefix_len is_ascii_digit bytes.now }
-{
-    bytes.iter().take_while(|b| b.is_ascii_digit()).count()
 }
 
 fn word(bytes: &[u8]) -> Piece

@@ -17,20 +17,20 @@ returns-in_err-next-in-Token-clause-fault c =
     let p = err_from_is_err_and c.from_residual-in_err-next-in-Token.result c.from_residual-in_err-next-in-Token.ensures.1 in
     rw (p.1, p.2, c.in_err-next-in-Token.ensures.0)
     (seen_big_number _ _ _ _ _ _ c.loop-at.invariant c.in-Token.kind c.in-Token.n (rest_is c.loop-at.at c.args.text.now _ (sym c.in-Token.is ∙ c.in_ok-n.ensures.is))
-        (rw c.largest_number.ensures at c.in_err-next-in-Token.ensures.1))
+    (rw c.largest_number.ensures at c.in_err-next-in-Token.ensures.1))
 
 pub returns-in_err-admit-in-Token-clause-fault : goal.returns-in_err-admit-in-Token-clause-fault
 returns-in_err-admit-in-Token-clause-fault c =
     let p = err_from_is_err_and c.from_residual-in_err-admit-in-Token.result c.from_residual-in_err-admit-in-Token.ensures.1 in
     rw (p.1, p.2, c.in_err-admit-in-Token.ensures.depth.0)
     (seen_too_deep _ _ _ _ _ _ c.loop-at.invariant c.in-Token.kind c.in-Token.n (rest_is c.loop-at.at c.args.text.now _ (sym c.in-Token.is ∙ c.in_ok-n.ensures.is))
-        c.in_ok-next-in-Token.next c.in_ok-next-in-Token.ensures.0 (rw c.largest_number.ensures at c.in_ok-next-in-Token.ensures.1) c.in_err-admit-in-Token.ensures.depth.1)
+    c.in_ok-next-in-Token.next c.in_ok-next-in-Token.ensures.0 (rw c.largest_number.ensures at c.in_ok-next-in-Token.ensures.1) c.in_err-admit-in-Token.ensures.depth.1)
 
 pub loop-at-preserved : goal.loop-at-preserved
 loop-at-preserved c =
     seen_next _ _ _ _ _ _ c.loop-at.invariant c.in-Token.kind c.in-Token.n (rest_is c.loop-at.at c.args.text.now _ (sym c.in-Token.is ∙ c.in_ok-n.ensures.is))
-        c.in_ok-next-in-Token.next _ _ _ _ c.in_ok-next-in-Token.ensures.0 (rw c.largest_number.ensures at c.in_ok-next-in-Token.ensures.1)
-        c.in_ok-admit-in-Token.ensures.depth c.in_ok-push-in-Token.ensures.items c.in_ok-admit-in-Token.ensures.opened c.in_ok-admit-in-Token.ensures.closed c.in_ok-admit-in-Token.ensures.minus
+    c.in_ok-next-in-Token.next _ _ _ _ c.in_ok-next-in-Token.ensures.0 (rw c.largest_number.ensures at c.in_ok-next-in-Token.ensures.1)
+    c.in_ok-admit-in-Token.ensures.depth c.in_ok-push-in-Token.ensures.items c.in_ok-admit-in-Token.ensures.opened c.in_ok-admit-in-Token.ensures.closed c.in_ok-admit-in-Token.ensures.minus
 
 pub returns-in-Bad-clause-fault : goal.returns-in-Bad-clause-fault
 returns-in-Bad-clause-fault c =
