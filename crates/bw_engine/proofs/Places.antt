@@ -1,5 +1,5 @@
 -- Columns by their places.
-use Rattle.std.proofs.Common.{◌≡◌, ℕ, ◌+◌, ◌<◌, ◌≤◌, ◌==◌, Bool, true, false, ◌&&◌, ◌||◌, not, List, [], ◌∷◌, ◌++◌, length, map, take, drop, drop-cons, take-append-drop, nat_lt, get_or, position, Option, None, Some, is_some, if◌then◌else◌, zero, suc, refl, sym, ap, ◌∙◌, arith, append_assoc, length-append, length-take}
+use Rattle.std.proofs.Common.{◌≡◌, ℕ, ◌+◌, ◌<◌, ◌≤◌, Bool, true, false, ◌&&◌, ◌||◌, not, List, [], ◌∷◌, ◌++◌, length, map, take, drop, drop-cons, take-append-drop, nat_lt, get_or, position, Option, None, Some, is_some, if◌then◌else◌, zero, suc, refl, sym, ap, ◌∙◌, arith, append_assoc, length-append, length-take}
 use Rattle.std.specs.List.{All, list_any, position_or_len}
 use Rattle.std.specs.Str.{bytes_eq}
 use Rattle.std.proofs.lemmas.Bool.{lt-ltb, true≢false}
@@ -13,11 +13,7 @@ use Rattle.bw_model.specs.Select.{line_of, shown}
 use Rattle.bw_model.specs.Store.{AreHeaders, Header, Row, Value, are_distinct, names, place_of, value_at, value_from}
 use Rattle.bw_engine.specs.Outcomes.{listed_tests, shown_tests}
 use Rattle.bw_engine.proofs.Names.{are_distinct-push, are_distinct_front, bytes_eq-comm, map-push}
-use Rattle.bw_engine.proofs.Tests.{no_test, not_empty}
-
-neither : (b c : Bool) → (b || c) ≡ false → (b ≡ false) × (c ≡ false)
-neither true c e = absurd (true≢false e)
-neither false c e = (refl, e)
+use Rattle.bw_engine.proofs.Tests.{neither, no_test}
 
 isnt : (b c : Bool) → (b && not c) ≡ true → c ≡ false
 isnt true true e = sym e
@@ -126,15 +122,15 @@ none_missing : (headers : List Header) → AreHeaders headers → list_any (is_m
 none_missing headers valid =
     (λ j. list_any (λ n. not (is_some (place_of-names headers n j))) (names headers)) ∙ found_behind [] (names headers) valid.distinct
 
-some_names : (headers : List Header) → AreHeaders headers → (length (names headers) == 0) ≡ false
-some_names headers valid = not_empty (length (names headers)) (omega (arith, length-map headers (λ h. h.name), valid.some))
+pub some_names : (headers : List Header) → AreHeaders headers → 0 < length (names headers)
+some_names headers valid = omega (arith, length-map headers (λ h. h.name), valid.some)
 
 -- all columns in order pass the tests on a list
 pub all_shown : (headers : List Header) → AreHeaders headers → first_that_holds (shown_tests headers (names headers)) ≡ None
-all_shown headers valid = no_test _ _ _ (some_names headers valid) ∙ no_test _ _ _ (none_missing headers valid)
+all_shown headers valid = no_test _ _ _ (none_missing headers valid)
 
 pub all_listed : (headers : List Header) → AreHeaders headers → first_that_holds (listed_tests headers (names headers)) ≡ None
-all_listed headers valid = no_test _ _ _ (some_names headers valid) ∙ no_test _ _ _ (none_missing headers valid) ∙ no_test _ _ _ (ap not valid.distinct)
+all_listed headers valid = no_test _ _ _ (none_missing headers valid) ∙ no_test _ _ _ (ap not valid.distinct)
 
 -- the places so far, and the next
 pub next_place : (headers : List Header) (places : List ℕ) (i : ℕ) → AreHeaders headers → i < length headers → map (λ place. Some place) places ≡ take i (map (place_of headers) (names headers)) → map (λ place. Some place) (places ++ i ∷ []) ≡ take (i + 1) (map (place_of headers) (names headers))

@@ -1,15 +1,15 @@
 -- Tests in their order, and what a part of a statement answers by them.
-use Rattle.std.proofs.Common.{◌≡◌, inl, inr, ℕ, ◌<◌, ◌≤◌, ◌==◌, Bool, true, false, ◌&&◌, ◌||◌, not, is_some, List, [], ◌∷◌, ◌++◌, length, get_or, ltb, Option, None, Some, Result, Ok, Err, IsErrAnd, if◌then◌else◌, zero, suc, refl, sym, ap, subst, ◌∙◌, arith}
+use Rattle.std.proofs.Common.{◌≡◌, inl, inr, ℕ, ◌<◌, ◌≤◌, ◌==◌, Bool, true, false, ◌&&◌, ◌||◌, not, is_some, List, [], ◌∷◌, ◌++◌, length, get_or, nat_le, nat_lt, Option, None, Some, Result, Ok, Err, IsErrAnd, if◌then◌else◌, zero, suc, refl, sym, ap, subst, ◌∙◌, arith}
 use Rattle.std.specs.List.{All, list_all}
-use Rattle.std.proofs.lemmas.Bool.{eq-eqb, eqb-true, ltb-false, ne_eqb, true≢false}
+use Rattle.std.proofs.lemmas.Bool.{eq-eqb, eqb-true, ltb-false, true≢false}
 use Rattle.std.proofs.lemmas.List.Elements.{All-cons, All-head, All-nil, All-tail}
 use Rattle.std.proofs.lemmas.List.Folds.{list_all-append}
 use Rattle.bw_sql.specs.Rows.{joined}
 use Rattle.bw_model.specs.Refusals.{Tests, create_tests, first_that_holds, is_in_range}
-use Rattle.bw_model.specs.Store.{Header, Row, Store, Value, are_distinct, table_of}
+use Rattle.bw_model.specs.Store.{Row, Store, Value, are_distinct, column_limit, table_limit, table_of}
 use Rattle.bw_model.specs.declared.refusal.Refusal.{Refusal}
 use Rattle.bw_model.specs.declared.refusal.Refusal.TheVariants.{OutOfRange, WrongNumberOfValues}
-use Rattle.bw_engine.specs.Outcomes.{Answers, MayRefuse, listed_tests, range_tests, shown_tests, value_tests}
+use Rattle.bw_engine.specs.Outcomes.{Answers, MayRefuse, range_tests, value_tests}
 
 two : (b c : Bool) → (b && c) ≡ true → (b ≡ true) × (c ≡ true)
 two true c e = (refl, e)
@@ -107,17 +107,6 @@ first-value_tests w rows values all e =
 pub all_of_width : (w : ℕ) (rows : List Row) → first_that_holds (value_tests w rows) ≡ None → All (λ row. length row ≡ w) rows
 all_of_width w rows none = widths w rows (not-false _ (if_none _ _ _ none).0)
 
--- a list that the tests on it let pass isn't empty
-pub some_listed : (headers : List Header) (list : List (List ℕ)) → first_that_holds (listed_tests headers list) ≡ None → 0 < length list
-some_listed headers list none = more (length list) (if_none _ _ _ none).0
-
-pub some_shown : (headers : List Header) (list : List (List ℕ)) → first_that_holds (shown_tests headers list) ≡ None → 0 < length list
-some_shown headers list none = more (length list) (if_none _ _ _ none).0
-
-pub not_empty : (n : ℕ) → 0 < n → (n == 0) ≡ false
-not_empty zero some = absurd (omega arith)
-not_empty (suc n) some = ne_eqb (suc n) 0 (λ e. omega arith)
-
 pub no_test : (b : Bool) (x : Refusal) (r : Option Refusal) → b ≡ false → (if b then Some x else r) ≡ r
 no_test true x r e = absurd (true≢false e)
 no_test false x r e = refl
@@ -133,19 +122,20 @@ pub record Passes (columns : List (List ℕ)) (name : List ℕ) (store : Store) 
   pub distinct : are_distinct columns ≡ true
   pub few : length columns ≤ 64
 
-first_or : (b c : Bool) → (b || c) ≡ false → b ≡ false
-first_or true c e = e
-first_or false c e = refl
+pub neither : (b c : Bool) → (b || c) ≡ false → (b ≡ false) × (c ≡ false)
+neither true c e = absurd (true≢false e)
+neither false c e = (refl, e)
 
 pub passes : (columns : List (List ℕ)) (name : List ℕ) (store : Store) → first_that_holds (create_tests columns name store) ≡ None → Passes columns name store
 passes columns name store none =
-    let a = if_none _ _ _ none in
-    let b = if_none _ _ _ a.1 in
+    let b = if_none _ _ _ none in
     let d = if_none _ _ _ b.1 in
     let e = if_none _ _ _ d.1 in
+    let wide = (neither (length columns == 0 || nat_lt column_limit (length columns)) (nat_le table_limit (length store)) e.0).0 in
+    let fits = neither (length columns == 0) (nat_lt column_limit (length columns)) wide in
     record {
-      some = more (length columns) a.0;
+      some = more (length columns) fits.0;
       absent = b.0;
       distinct = not-false (are_distinct columns) d.0;
-      few = ltb-false 64 (length columns) (first_or (ltb 64 (length columns)) _ e.0);
+      few = ltb-false 64 (length columns) fits.1;
     }

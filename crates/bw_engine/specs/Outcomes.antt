@@ -19,15 +19,14 @@ abbrev pub Answers : {T : Type 0} → Tests → Result T Refusal → (T → Type
 Answers tests result P = MatchResult result (λ x. (first_that_holds tests ≡ None) × P x) (MayRefuse tests)
 
 abbrev pub shown_tests : List Header → List (List ℕ) → Tests
-shown_tests headers columns = (refusal.Syntax, length columns == 0) ∷ (refusal.NoSuchColumn, list_any (is_missing headers) columns) ∷ []
+shown_tests headers columns = (refusal.NoSuchColumn, list_any (is_missing headers) columns) ∷ []
 
 abbrev pub condition_tests : List Header → Option ConditionTree → Tests
 condition_tests headers condition = (refusal.NoSuchColumn, condition_misses headers condition) ∷ []
 
 abbrev pub listed_tests : List Header → List (List ℕ) → Tests
 listed_tests headers columns =
-    (refusal.Syntax, length columns == 0)
-    ∷ (refusal.NoSuchColumn, list_any (is_missing headers) columns)
+    (refusal.NoSuchColumn, list_any (is_missing headers) columns)
     ∷ (refusal.ColumnNamedTwice, not (are_distinct columns))
     ∷ []
 

@@ -1,6 +1,6 @@
 //! CREATE TABLE.
 
-ghost use Rattle.std.specs.Prelude.{◌≡◌, ◌++◌, ◌≤◌, ◌<◌, [], ◌∷◌, length, map, nat_le, nat_lt, not, ◌||◌, IfOk, IsTrue, OnErr};
+ghost use Rattle.std.specs.Prelude.{◌≡◌, ◌++◌, ◌≤◌, ◌<◌, [], ◌∷◌, length, map, ◌==◌, nat_le, nat_lt, not, ◌||◌, IfOk, IsTrue, OnErr};
 ghost use Rattle.bw_model.specs.Refusals.{create_tests};
 ghost use Rattle.bw_model.specs.Store.{are_distinct, column_limit, header_of, table_limit};
 ghost use Rattle.bw_sql.specs.Tree.{statement_of};
@@ -45,9 +45,6 @@ fn check(
 ) -> Result<(), Refusal>
     ensures { Answers (create_tests (map (λ c. c.name) columns.now) table.now tables.now.entries) result (λ _. Unit {0}) }
 {
-    if columns.is_empty() {
-        return Err(Refusal::Syntax);
-    }
     if tables.contains_key(table) {
         return Err(Refusal::TableExists);
     }
@@ -60,11 +57,12 @@ fn check(
     Ok(())
 }
 
-/// Whether a table of so many columns is too wide, or is one more than the tables there may be.
+/// Whether a table of so many columns has none or too many, or is one more than the tables there may
+/// be.
 fn is_over_limit(columns: usize, tables: usize) -> bool
-    ensures { result ≡ (nat_lt column_limit columns || nat_le table_limit tables) }
+    ensures { result ≡ (columns == 0 || nat_lt column_limit columns || nat_le table_limit tables) }
 {
-    columns > COLUMN_LIMIT || tables >= TABLE_LIMIT
+    columns == 0 || columns > COLUMN_LIMIT || tables >= TABLE_LIMIT
 }
 
 /// Whether two columns have one name.

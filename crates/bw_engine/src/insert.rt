@@ -1,6 +1,6 @@
 //! INSERT.
 
-ghost use Rattle.std.specs.Prelude.{◌≡◌, ◌*◌, ◌++◌, ◌≤◌, ◌<◌, [], ◌∷◌, length, map, not, option_map, position, IfOk, OnOk, OnErr};
+ghost use Rattle.std.specs.Prelude.{◌≡◌, ◌*◌, ◌++◌, ◌≤◌, ◌<◌, [], ◌∷◌, length, map, not, position, IfOk, OnOk, OnErr};
 ghost use Rattle.std.specs.List.{list_any};
 ghost use Rattle.std.specs.Str.{bytes_eq};
 ghost use Rattle.bw_model.specs.Answers.{AreWholeLines, lines_of};
@@ -18,7 +18,7 @@ ghost use Rattle.bw_engine.specs.Outcomes.{Answers, CarriesOut, listed_tests, ra
 use crate::headers::{Header, place_in};
 use crate::table::{ROW_LIMIT, Table, value_at};
 use bw_model::{Refusal, Reply};
-use bw_sql::{Insert, Name, Value, ValueRows};
+use bw_sql::{Insert, Name, NameList, Value, ValueRows};
 use indexmap::IndexMap;
 use std::alloc::{AllocError, Global};
 
@@ -46,10 +46,10 @@ pub fn insert(
 fn insert_rows(
     alloc: Global,
     table: &mut Table,
-    columns: &Option<Vec<Name>>,
+    columns: &Option<NameList>,
     rows: &ValueRows,
 ) -> Result<Reply, Refusal>
-    ensures reply { Answers (insert_tests (target_columns table.old.headers (option_map (λ names. names.items) columns.now)) rows.now table.old) result (λ reply. (reply ≡ Count (length rows.now)) × (table.new ≡ with_rows (option_map (λ names. names.items) columns.now) rows.now table.old)) }
+    ensures reply { Answers (insert_tests (target_columns table.old.headers columns.now) rows.now table.old) result (λ reply. (reply ≡ Count (length rows.now)) × (table.new ≡ with_rows columns.now rows.now table.old)) }
     ensures refused { OnErr result (table.new ≡ table.old) }
 {
     let cells = new_cells(alloc, table.headers(), columns, rows)?;
@@ -64,11 +64,11 @@ fn insert_rows(
 fn new_cells(
     alloc: Global,
     headers: &[Header],
-    columns: &Option<Vec<Name>>,
+    columns: &Option<NameList>,
     rows: &ValueRows,
 ) -> Result<Vec<Option<i32>>, Refusal>
     requires { AreHeaders headers.now }
-    ensures { let targets = target_columns headers.now (option_map (λ names. names.items) columns.now) in Answers (listed_tests headers.now targets ++ value_tests (length targets) rows.now) result (λ cells. cells.items ≡ joined (map (row_for headers.now targets) rows.now)) }
+    ensures { let targets = target_columns headers.now columns.now in Answers (listed_tests headers.now targets ++ value_tests (length targets) rows.now) result (λ cells. cells.items ≡ joined (map (row_for headers.now targets) rows.now)) }
 {
     match columns {
         Some(names) => listed_cells(alloc, headers, names.as_slice(), rows),
@@ -95,6 +95,7 @@ fn listed_cells(
     names: &[Name],
     rows: &ValueRows,
 ) -> Result<Vec<Option<i32>>, Refusal>
+    requires { 0 < length names.now }
     ensures { Answers (listed_tests headers.now names.now ++ value_tests (length names.now) rows.now) result (λ cells. cells.items ≡ joined (map (row_for headers.now names.now) rows.now)) }
 {
     check_listed(headers, names)?;
@@ -104,13 +105,10 @@ fn listed_cells(
     Ok(cells)
 }
 
-/// Refuses a list that is empty, or names no column, or a column twice.
+/// Refuses a list that names what is no column, or a column twice.
 fn check_listed(headers: &[Header], names: &[Name]) -> Result<(), Refusal>
     ensures { Answers (listed_tests headers.now names.now) result (λ _. Unit {0}) }
 {
-    if names.is_empty() {
-        return Err(Refusal::Syntax);
-    }
     if lacks_any(headers, names) {
         return Err(Refusal::NoSuchColumn);
     }

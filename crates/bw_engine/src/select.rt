@@ -69,7 +69,8 @@ fn search_of(headers: &[Header], condition: &Option<Condition>) -> Result<Option
 /// The places of the columns that are shown.
 fn places_of(alloc: Global, headers: &[Header], items: &SelectItems) -> Result<Vec<usize>, Refusal>
     requires { AreHeaders headers.now }
-    ensures { Answers (shown_tests headers.now (shown_columns headers.now (items_of items.now))) result (λ places. map (λ place. Some place) places.items ≡ map (place_of headers.now) (shown_columns headers.now (items_of items.now))) }
+    ensures some { 0 < length (shown_columns headers.now (items_of items.now)) }
+    ensures found { Answers (shown_tests headers.now (shown_columns headers.now (items_of items.now))) result (λ places. map (λ place. Some place) places.items ≡ map (place_of headers.now) (shown_columns headers.now (items_of items.now))) }
 {
     match items {
         SelectItems::All => all_places(alloc, headers),
@@ -93,9 +94,6 @@ fn all_places(alloc: Global, headers: &[Header]) -> Result<Vec<usize>, Refusal>
 fn places_of_names(alloc: Global, headers: &[Header], names: &[Name]) -> Result<Vec<usize>, Refusal>
     ensures { Answers (shown_tests headers.now names.now) result (λ places. map (λ place. Some place) places.items ≡ map (place_of headers.now) names.now) }
 {
-    if names.is_empty() {
-        return Err(Refusal::Syntax);
-    }
     let mut places = Vec::with_capacity(alloc, names.len())?;
     for name in names {
         match place_in(headers, name) {
@@ -116,7 +114,7 @@ fn headings_of(
 {
     match items {
         SelectItems::All => all_headings(alloc, headers),
-        SelectItems::Columns(names) => column_headings(alloc, names),
+        SelectItems::Columns(names) => column_headings(alloc, names.into_vec()),
     }
 }
 

@@ -52,16 +52,14 @@ is_in_range (Some number) = int_le (negsuc 2147483647) number && int_le number (
 
 abbrev pub create_tests : List (List ℕ) → List ℕ → Store → Tests
 create_tests columns name store =
-    (refusal.Syntax, length columns == 0)
-    ∷ (refusal.TableExists, is_some (table_of store name))
+    (refusal.TableExists, is_some (table_of store name))
     ∷ (refusal.ColumnNamedTwice, not (are_distinct columns))
-    ∷ (refusal.OverLimit, nat_lt column_limit (length columns) || nat_le table_limit (length store))
+    ∷ (refusal.OverLimit, length columns == 0 || nat_lt column_limit (length columns) || nat_le table_limit (length store))
     ∷ []
 
 abbrev pub insert_tests : List (List ℕ) → List Row → Table → Tests
 insert_tests columns rows table =
-    (refusal.Syntax, length columns == 0)
-    ∷ (refusal.NoSuchColumn, list_any (is_missing table.headers) columns)
+    (refusal.NoSuchColumn, list_any (is_missing table.headers) columns)
     ∷ (refusal.ColumnNamedTwice, not (are_distinct columns))
     ∷ (refusal.WrongNumberOfValues, not (list_all (λ row. length row == length columns) rows))
     ∷ (refusal.OutOfRange, not (list_all (list_all is_in_range) rows))
@@ -70,12 +68,11 @@ insert_tests columns rows table =
 
 abbrev pub select_tests : List (List ℕ) → Option ConditionTree → Table → Tests
 select_tests columns condition table =
-    (refusal.Syntax, length columns == 0)
-    ∷ (refusal.NoSuchColumn, list_any (is_missing table.headers) columns)
+    (refusal.NoSuchColumn, list_any (is_missing table.headers) columns)
     ∷ (refusal.NoSuchColumn, condition_misses table.headers condition)
     ∷ []
 
--- A statement's tests. A list of columns that is empty is no statement.
+-- a statement's tests
 abbrev pub tests_of : Store → StatementTree → Tests
 tests_of store (create_table name columns) = create_tests (map (λ c. c.name) columns) name store
 tests_of store (insert name listed rows) = over (table_of store name) (λ table. insert_tests (target_columns table.headers listed) rows table)

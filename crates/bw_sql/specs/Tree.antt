@@ -1,7 +1,6 @@
 -- Statements as the language has them (SQL-92: table definition, insert statement, query specification,
 -- comparison predicate), without where they lie in memory. A name is its bytes, a value a number or none.
-use Rattle.std.specs.Prelude.{ℕ, ℤ, List, [], ◌∷◌, Option, option_map}
-use Rattle.std.specs.Global.{Vec}
+use Rattle.std.specs.Prelude.{ℕ, ℤ, List, Option, option_map}
 use Rattle.bw_sql.specs.declared.token.CompareOp.{CompareOp}
 use Rattle.bw_sql.specs.declared.tree.Operand.{Operand}
 use Rattle.bw_sql.specs.declared.tree.Condition.{Condition}
@@ -29,10 +28,10 @@ condition_of (conditions.Compare x op y) = comparison x op y
 
 abbrev pub items_of : SelectItems → ItemsTree
 items_of items.All = all_columns
-items_of (items.Columns names) = columns names.items
+items_of (items.Columns names) = columns names
 
 -- the statement that a Rust value holds
 abbrev pub statement_of : Statement → StatementTree
 statement_of (statements.CreateTable s) = create_table s.table s.columns.items
-statement_of (statements.Insert s) = insert s.table (option_map (λ names. names.items) s.columns) s.rows
+statement_of (statements.Insert s) = insert s.table s.columns s.rows
 statement_of (statements.Select s) = select (items_of s.items) s.table (option_map condition_of s.condition)

@@ -11,6 +11,7 @@ ghost use Rattle.bw_sql.specs.Tree.{condition_of, items_of, statement_of};
 use crate::fault::SqlFault;
 use crate::keyword::Keyword;
 use crate::name::Name;
+use crate::name_list::NameList;
 use crate::rows::ValueRows;
 use crate::terminal::Terminal;
 use crate::token::{CompareOp, Symbol};
@@ -110,17 +111,17 @@ impl<'a> Parser<'a> {
 
     // name {, name}
     #[tactic(auto, unfolding(crate::specs::Reading::names_at))]
-    fn names(&mut self) -> Result<Vec<Name>, SqlFault>
+    fn names(&mut self) -> Result<NameList, SqlFault>
         ensures shorter { OnOk result (length self.new.rest.now < length self.old.rest.now) }
         ensures read { (n : ℕ) → length self.old.rest.now < n
-            → Gives (λ names. names.items) result self.new.rest.now (reading.names_at n self.old.rest.now) }
+            → Gives (λ names. names) result self.new.rest.now (reading.names_at n self.old.rest.now) }
     {
         let mut names = Vec::new(self.alloc);
         names.push(self.name()?)?;
         while self.eat(Symbol::Comma) {
             names.push(self.name()?)?;
         }
-        Ok(names)
+        Ok(NameList::new(names))
     }
 
     // number
@@ -323,10 +324,10 @@ impl<'a> Parser<'a> {
 
     // [( name {, name} )]
     #[tactic(auto, unfolding(crate::specs::Reading::column_list_at))]
-    fn column_list(&mut self) -> Result<Option<Vec<Name>>, SqlFault>
+    fn column_list(&mut self) -> Result<Option<NameList>, SqlFault>
         ensures no_longer { OnOk result (length self.new.rest.now ≤ length self.old.rest.now) }
         ensures read { (n : ℕ) → length self.old.rest.now < n
-            → Gives (option_map (λ names. names.items)) result self.new.rest.now (reading.column_list_at n self.old.rest.now) }
+            → Gives (λ columns. columns) result self.new.rest.now (reading.column_list_at n self.old.rest.now) }
     {
         if self.eat(Symbol::Open) {
             let names = self.names()?;

@@ -1,6 +1,7 @@
 //! Statement trees.
 
 use crate::name::Name;
+use crate::name_list::NameList;
 use crate::rows::ValueRows;
 use crate::token::CompareOp;
 
@@ -50,7 +51,7 @@ pub enum KindWord {
 #[derive(Debug, Drop)]
 pub struct Insert {
     pub table: Name,
-    pub columns: Option<Vec<Name>>,
+    pub columns: Option<NameList>,
     pub rows: ValueRows,
 }
 
@@ -67,7 +68,7 @@ pub struct Select {
 pub enum SelectItems {
     /// `*`: every column.
     All,
-    Columns(Vec<Name>),
+    Columns(NameList),
 }
 
 /// A condition on a row.

@@ -7,33 +7,29 @@ use Rattle.bw_engine.proofs.create.check.Goals as goal
 
 pub returns-then-contains_key : goal.returns-then-contains_key
 returns-then-contains_key c =
-    let some = ap (λ n. n == 0) (length-map c.args.columns.now (λ c. c.name)) ∙ sym c.is_empty.ensures ∙ c.if-is_empty.false in
-    inr (no_test _ _ _ some ∙ this_test _ _ _ (ap is_some (table_of-lookup c.args.tables.now.entries c.args.table.now) ∙ sym c.contains_key.ensures ∙ c.if-contains_key.true))
+    inr (this_test _ _ _ (ap is_some (table_of-lookup c.args.tables.now.entries c.args.table.now) ∙ sym c.contains_key.ensures ∙ c.if-contains_key.true))
 
 pub returns-then-branch : goal.returns-then-branch
 returns-then-branch c =
-    let some = ap (λ n. n == 0) (length-map c.args.columns.now (λ c. c.name)) ∙ sym c.is_empty.ensures ∙ c.if-is_empty.false in
     let absent = ap is_some (table_of-lookup c.args.tables.now.entries c.args.table.now) ∙ sym c.contains_key.ensures ∙ c.if-contains_key.false in
-    inr (no_test _ _ _ some ∙ no_test _ _ _ absent ∙ this_test _ _ _ (sym c.in_ok-name_twice.ensures ∙ c.if-branch.true))
+    inr (no_test _ _ _ absent ∙ this_test _ _ _ (sym c.in_ok-name_twice.ensures ∙ c.if-branch.true))
 
 pub returns-then-is_over_limit : goal.returns-then-is_over_limit
 returns-then-is_over_limit c =
     let count = length-map c.args.columns.now (λ c. c.name) in
-    let some = ap (λ n. n == 0) count ∙ sym c.is_empty.ensures ∙ c.if-is_empty.false in
     let absent = ap is_some (table_of-lookup c.args.tables.now.entries c.args.table.now) ∙ sym c.contains_key.ensures ∙ c.if-contains_key.false in
     let over =
-    ap (λ n. nat_lt column_limit n || nat_le table_limit (length c.args.tables.now.entries)) count
-    ∙ ap (λ n. nat_lt column_limit (length c.args.columns.now) || nat_le table_limit n) (sym c.len.ensures.len)
+    ap (λ n. n == 0 || nat_lt column_limit n || nat_le table_limit (length c.args.tables.now.entries)) count
+    ∙ ap (λ n. length c.args.columns.now == 0 || nat_lt column_limit (length c.args.columns.now) || nat_le table_limit n) (sym c.len.ensures.len)
     ∙ sym c.is_over_limit.ensures ∙ c.if-is_over_limit.true in
-    inr (no_test _ _ _ some ∙ no_test _ _ _ absent ∙ no_test _ _ _ (sym c.in_ok-name_twice.ensures ∙ c.if-branch.false) ∙ this_test _ _ _ over)
+    inr (no_test _ _ _ absent ∙ no_test _ _ _ (sym c.in_ok-name_twice.ensures ∙ c.if-branch.false) ∙ this_test _ _ _ over)
 
 pub returns : goal.returns
 returns c =
     let count = length-map c.args.columns.now (λ c. c.name) in
-    let some = ap (λ n. n == 0) count ∙ sym c.is_empty.ensures ∙ c.if-is_empty.false in
     let absent = ap is_some (table_of-lookup c.args.tables.now.entries c.args.table.now) ∙ sym c.contains_key.ensures ∙ c.if-contains_key.false in
     let within =
-    ap (λ n. nat_lt column_limit n || nat_le table_limit (length c.args.tables.now.entries)) count
-    ∙ ap (λ n. nat_lt column_limit (length c.args.columns.now) || nat_le table_limit n) (sym c.len.ensures.len)
+    ap (λ n. n == 0 || nat_lt column_limit n || nat_le table_limit (length c.args.tables.now.entries)) count
+    ∙ ap (λ n. length c.args.columns.now == 0 || nat_lt column_limit (length c.args.columns.now) || nat_le table_limit n) (sym c.len.ensures.len)
     ∙ sym c.is_over_limit.ensures ∙ c.if-is_over_limit.false in
-    (no_test _ _ _ some ∙ no_test _ _ _ absent ∙ no_test _ _ _ (sym c.in_ok-name_twice.ensures ∙ c.if-branch.false) ∙ no_test _ _ _ within, tt)
+    (no_test _ _ _ absent ∙ no_test _ _ _ (sym c.in_ok-name_twice.ensures ∙ c.if-branch.false) ∙ no_test _ _ _ within, tt)

@@ -1,4 +1,4 @@
-use Rattle.std.proofs.Common.{◌≡◌, ◌∙◌, None, Some, ap, inr, length, option_map, sym}
+use Rattle.std.proofs.Common.{◌≡◌, ◌∙◌, None, Some, ap, inr, length, sym}
 use Rattle.std.proofs.lemmas.Result.{on_err_weaker}
 use Rattle.std.specs.Map.{set_value}
 use Rattle.std.specs.Str.{bytes_eq}
@@ -19,7 +19,7 @@ returns-in-Some-clause-reply c =
     let table = c.in-Some.table.now in
     let new = c.insert_rows.new.table in
     let rows = c.args.statement.rows in
-    let listed = option_map (λ names. names.items) c.args.statement.columns in
+    let listed = c.args.statement.columns in
     let there : table_of store name ≡ Some table = table_of-lookup store name ∙ sym c.in-Some.ensures.value in
     answers_same (insert_tests (target_columns table.headers listed) rows table) (over (table_of store name) (λ t. insert_tests (target_columns t.headers listed) rows t)) c.insert_rows.result
     (λ reply. (reply ≡ Count (length rows)) × (new ≡ with_rows listed rows table)) (λ reply. ◌≡◌ {A = Reply × Store} (reply, (c.get_mut.follows.lender new).entries) (Count (length rows), with_table store name (with_rows listed rows)))
@@ -41,6 +41,6 @@ returns-clause-reply c =
     let store = c.args.tables.now.entries in
     let name = c.args.statement.table in
     let rows = c.args.statement.rows in
-    let listed = option_map (λ names. names.items) c.args.statement.columns in
+    let listed = c.args.statement.columns in
     let absent : table_of store name ≡ None = table_of-lookup store name ∙ sym c.in-None.ensures.value in
     inr (ap (λ o. first_that_holds (over o (λ t. insert_tests (target_columns t.headers listed) rows t))) absent)

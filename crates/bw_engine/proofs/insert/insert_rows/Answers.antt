@@ -1,4 +1,4 @@
-use Rattle.std.proofs.Common.{◌≡◌, ◌∙◌, ◌++◌, ◌<◌, ◌+◌, ◌∷◌, [], inr, ap, arith, length, map, option_map, true, false, nat_lt}
+use Rattle.std.proofs.Common.{◌≡◌, ◌∙◌, ◌++◌, ◌<◌, ◌+◌, ◌∷◌, [], inr, ap, arith, length, map, true, false, nat_lt}
 use Rattle.std.proofs.lemmas.List.{length-map}
 use Rattle.std.proofs.lemmas.Bool.{le-ltb, lt-ltb}
 use Rattle.bw_model.specs.Answers.{lines_of}
@@ -15,7 +15,7 @@ use Rattle.bw_engine.proofs.insert.insert_rows.Goals as goal
 pub returns-in_err-cells-clause-reply : goal.returns-in_err-cells-clause-reply
 returns-in_err-cells-clause-reply c =
     let table = c.args.table.now in
-    let listed = option_map (λ names. names.items) c.args.columns.now in
+    let listed = c.args.columns.now in
     let targets = target_columns table.headers listed in
     let rows = c.args.rows.now in
     passed_on (insert_tests targets rows table) c.from_residual.result (λ reply. (reply ≡ Count (length rows)) × (table ≡ with_rows listed rows table)) _
@@ -25,7 +25,7 @@ returns-in_err-cells-clause-reply c =
 pub returns-then-len-row_count-clause-reply : goal.returns-then-len-row_count-clause-reply
 returns-then-len-row_count-clause-reply c =
     let table = c.args.table.now in
-    let targets = target_columns table.headers (option_map (λ names. names.items) c.args.columns.now) in
+    let targets = target_columns table.headers c.args.columns.now in
     let rows = c.args.rows.now in
     let full : nat_lt row_limit (length table.rows + length rows) ≡ true =
     lt-ltb row_limit (length table.rows + length rows) (omega (arith, c.row_count.ensures.value, c.row_count.ensures.bound, c.len.ensures, c.if-len-row_count.true)) in
@@ -44,13 +44,13 @@ append-requires-clause-room c =
     let table = c.args.table.now in
     let some : 0 < length table.headers = rw c.headers.ensures.value at c.headers.ensures.valid.some in
     let fits = rw c.headers.ensures.value at c.in_ok-cells.ensures in
-    let count = count-lines_of (length table.headers) (length c.args.rows.now) _ some (length-joined_map (row_for table.headers (target_columns table.headers (option_map (λ names. names.items) c.args.columns.now))) (length table.headers) c.args.rows.now (λ row. length-map table.headers _)) in
+    let count = count-lines_of (length table.headers) (length c.args.rows.now) _ some (length-joined_map (row_for table.headers (target_columns table.headers c.args.columns.now)) (length table.headers) c.args.rows.now (λ row. length-map table.headers _)) in
     rw (c.as_slice.ensures.value, fits.1, count) (omega (arith, c.row_count.ensures.value, c.row_count.ensures.bound, c.len.ensures, c.if-len-row_count.false))
 
 pub returns-clause-reply : goal.returns-clause-reply
 returns-clause-reply c =
     let table = c.args.table.now in
-    let targets = target_columns table.headers (option_map (λ names. names.items) c.args.columns.now) in
+    let targets = target_columns table.headers c.args.columns.now in
     let rows = c.args.rows.now in
     let some : 0 < length table.headers = rw c.headers.ensures.value at c.headers.ensures.valid.some in
     let fits = rw c.headers.ensures.value at c.in_ok-cells.ensures in

@@ -5,7 +5,7 @@ use Rattle.bw_model.specs.Store.{value_from}
 use Rattle.bw_engine.specs.Outcomes.{listed_tests, value_tests}
 use Rattle.bw_engine.proofs.Lines.{length-joined, lines_of-joined, whole_lines}
 use Rattle.bw_engine.proofs.Places.{row_by_sources}
-use Rattle.bw_engine.proofs.Tests.{all_of_width, first-append_none, some_listed}
+use Rattle.bw_engine.proofs.Tests.{all_of_width, first-append_none}
 use Rattle.bw_engine.proofs.insert.listed_cells.Goals as goal
 
 pub spread-requires : goal.spread-requires
@@ -13,7 +13,7 @@ spread-requires c =
     let names = c.args.names.now in
     let rows = c.args.rows.now in
     rw (c.as_slice.ensures.value, c.in_ok-values.ensures.1)
-    (whole_lines (length names) (length rows) (joined rows) (some_listed c.args.headers.now names c.in_ok-check_listed.ensures.0)
+    (whole_lines (length names) (length rows) (joined rows) c.requires
     (length-joined (length names) rows (all_of_width (length names) rows c.in_ok-values.ensures.0)))
 
 pub returns : goal.returns
@@ -22,7 +22,7 @@ returns c =
     let rows = c.args.rows.now in
     let headers = c.args.headers.now in
     let lines : lines_of (length names) c.as_slice.result.now ≡ rows =
-    ap (lines_of (length names)) (c.as_slice.ensures.value ∙ c.in_ok-values.ensures.1) ∙ lines_of-joined (length names) rows (some_listed headers names c.in_ok-check_listed.ensures.0) (all_of_width (length names) rows c.in_ok-values.ensures.0) in (
+    ap (lines_of (length names)) (c.as_slice.ensures.value ∙ c.in_ok-values.ensures.1) ∙ lines_of-joined (length names) rows c.requires (all_of_width (length names) rows c.in_ok-values.ensures.0) in (
       first-append_none (listed_tests headers names) (value_tests (length names) rows) c.in_ok-check_listed.ensures.0 ∙ c.in_ok-values.ensures.0,
       c.in_ok-cells.ensures
           ∙ ap (λ l. joined (map (λ row. map (value_from row) c.as_slice-2.result.now) l)) lines

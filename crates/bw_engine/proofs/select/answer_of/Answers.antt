@@ -4,27 +4,27 @@ use Rattle.bw_model.specs.Select.{line_of, shown_columns}
 use Rattle.bw_engine.specs.Outcomes.{condition_tests, shown_tests}
 use Rattle.bw_engine.specs.Searches.{finds_or_all}
 use Rattle.bw_engine.proofs.Shows.{answer_is, lines_answer, rows_found, whole_answer}
-use Rattle.bw_engine.proofs.Tests.{first-append_none, some_shown}
+use Rattle.bw_engine.proofs.Tests.{first-append_none}
 use Rattle.bw_engine.proofs.select.answer_of.Goals as goal
 
 pub new-requires : goal.new-requires
 new-requires c =
     let table = c.args.table.now in
     let list = shown_columns table.headers (items_of c.args.items) in
-    let placed = rw c.headers.ensures.value at c.in_ok-places.ensures in
+    let placed = rw c.headers.ensures.value at c.in_ok-places.ensures.found in
     whole_answer table.headers list c.in_ok-places.places.items c.in_ok-headings.headings.items c.in_ok-cells.cells.items (filter (finds_or_all c.in_ok-search.search) table.rows)
-    (some_shown table.headers list placed.0) placed.1 (rw c.headers-3.ensures.value at c.in_ok-headings.ensures) (rw c.as_slice.ensures.value at c.in_ok-cells.ensures)
+    (rw c.headers.ensures.value at c.in_ok-places.ensures.some) placed.1 (rw c.headers-3.ensures.value at c.in_ok-headings.ensures) (rw c.as_slice.ensures.value at c.in_ok-cells.ensures)
 
 pub returns : goal.returns
 returns c =
     let table = c.args.table.now in
     let condition = option_map condition_of c.args.condition.now in
     let list = shown_columns table.headers (items_of c.args.items) in
-    let placed = rw c.headers.ensures.value at c.in_ok-places.ensures in
+    let placed = rw c.headers.ensures.value at c.in_ok-places.ensures.found in
     let searched = rw c.headers-2.ensures.value at c.in_ok-search.ensures in
     let headed = rw c.headers-3.ensures.value at c.in_ok-headings.ensures in
     let lines = lines_answer table.headers list c.in_ok-places.places.items c.in_ok-headings.headings.items c.in_ok-cells.cells.items (filter (finds_or_all c.in_ok-search.search) table.rows)
-    (some_shown table.headers list placed.0) placed.1 headed (rw c.as_slice.ensures.value at c.in_ok-cells.ensures) in (
+    (rw c.headers.ensures.value at c.in_ok-places.ensures.some) placed.1 headed (rw c.as_slice.ensures.value at c.in_ok-cells.ensures) in (
       first-append_none (shown_tests table.headers list) (condition_tests table.headers condition) placed.0 ∙ searched.0,
       answer_is table (items_of c.args.items) condition c.new.result (c.new.ensures.headings ∙ headed)
           (c.new.ensures.lines ∙ lines ∙ ap (map (line_of table.headers list)) (rows_found table condition c.in_ok-search.search searched.1)),

@@ -31,4 +31,4 @@ pub returns-clause-read : goal.returns-clause-read
 unfolding names_at
 returns-clause-read c =
     let stops = c.loop-names-test.ensures in
-    rw stops.0 (done after_comma (λ _. name_at) _ _ _ c.loop-names.invariant (after_comma-none _ stops.1))
+    rw (stops.0, c.new.ensures) (done after_comma (λ _. name_at) _ _ _ c.loop-names.invariant (after_comma-none _ stops.1))
