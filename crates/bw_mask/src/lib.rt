@@ -1,0 +1,8 @@
+//! Truth values of SQL-92, and masks: one bit for each row.
+#![tactic(auto)]
+
+mod laws;
+mod truth_value;
+
+pub use laws::{and_of_truths, is_tests, not_of_truths, or_of_truths};
+pub use truth_value::TruthValue;
