@@ -1,1 +1,5 @@
+pub mod Bits
+pub mod Nexts
+pub mod Places
 pub mod Tables
+pub mod Views

@@ -3,6 +3,7 @@
 
 mod laws;
 mod truth_value;
+mod words;
 
 pub use laws::{and_of_truths, is_tests, not_of_truths, or_of_truths};
 pub use truth_value::TruthValue;
