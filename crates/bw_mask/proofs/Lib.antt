@@ -1,4 +1,5 @@
 pub mod Bits
+pub mod Counts
 pub mod Nexts
 pub mod Places
 pub mod Tables

@@ -1,8 +1,13 @@
 -- The first row from a place on.
-use Rattle.std.proofs.Common.{◌≡◌, ℕ, ◌≤◌, ◌<◌, ◌+◌, ◌*◌, ◌/◌, ◌%◌, ◌==◌, Bool, true, false, List, get_or, Option, None, Some, inl, inr, ap, sym, ◌∙◌, arith}
+use Rattle.std.proofs.Common.{◌≡◌, ℕ, ◌≤◌, ◌<◌, ◌+◌, ◌*◌, ◌/◌, ◌%◌, ◌==◌, Bool, true, false, List, get_or, length, Option, None, Some, inl, inr, ap, sym, ◌∙◌, arith}
+use Rattle.std.proofs.lemmas.List.{get_or_default}
 use Rattle.std.proofs.lemmas.Bool.{cases_lt, both_ways}
 use Rattle.std.proofs.lemmas.Nat.Bits.{bit_at-zero}
-use Rattle.bw_mask.specs.Masks.{bit_of, row_in, IsNext}
+use Rattle.std.specs.Prelude.{is_some}
+use Rattle.std.specs.List.{list_any}
+use Rattle.std.proofs.lemmas.List.Folds.{list_any_at, list_any_none}
+use Rattle.bw_mask.specs.Masks.{IsNext, bit_of, row_in, rows_of}
+use Rattle.bw_mask.proofs.Views.{rows_at, rows_clean, rows_len}
 use Rattle.bw_mask.proofs.Bits.{high, bit_of_high, bit_below_high}
 
 pub next_same : (f g : ℕ → Bool) → ((j : ℕ) → f j ≡ g j) → (i : ℕ) (o : Option ℕ) → IsNext g i o → IsNext f i o
@@ -34,3 +39,15 @@ module _ (words : List ℕ) (i : ℕ) where
         sym (here (i / 64 * 64 + r) (omega arith) (omega arith)) ∙ rw row set,
         λ j h m. sym (here j h (omega arith)) ∙ least (j % 64) (omega arith),
       )
+
+-- there is a next row from the start exactly if there is a row
+pub any_is : (n : ℕ) (f : ℕ → Bool) → ((j : ℕ) → n ≤ j → f j ≡ false) → (o : Option ℕ) → IsNext f 0 o → is_some o ≡ list_any (λ b. b) (rows_of n f)
+any_is n f clean None none = sym (list_any_none (λ b. b) (rows_of n f) (λ j d h. get_or_default (rows_of n f) j d false h ∙ rows_clean n f clean j ∙ none j (omega arith)))
+any_is n f clean (Some r) found = sym (list_any_at (λ b. b) (rows_of n f) r false within (rows_clean n f clean r ∙ found.1))
+  where
+    within : r < length (rows_of n f)
+    within =
+        elim (cases_lt r n) [
+          | inl h ↦ omega (arith, rows_len n f)
+          | inr h ↦ absurd (both_ways (f r) (clean r h) found.1)
+        ]

@@ -2,8 +2,10 @@
 #![tactic(auto)]
 
 mod laws;
+mod mask;
 mod truth_value;
 mod words;
 
 pub use laws::{and_of_truths, is_tests, not_of_truths, or_of_truths};
+pub use mask::Mask;
 pub use truth_value::TruthValue;

@@ -68,21 +68,18 @@ fn low_bits(n: usize) -> u64
     requires { n ≤ 64 }
     ensures { (i : ℕ) → bit_of result i ≡ nat_lt i n }
 {
-    if n == 0 {
-        0
-    } else {
-        u64::MAX >> (64 - n)
-    }
+    if n == 0 { 0 } else { u64::MAX >> (64 - n) }
 }
 
 /// A word whose bits are all the same.
-fn word_of(bit: bool) -> u64
+pub(crate) fn word_of(bit: bool) -> u64
     ensures { (i : ℕ) → i < 64 → bit_of result i ≡ bit }
 {
     if bit { u64::MAX } else { 0 }
 }
 
-fn equal_words(alloc: Global, word: u64, count: usize) -> Result<Vec<u64>, AllocError>
+/// So many words that are all the same.
+pub(crate) fn equal_words(alloc: Global, word: u64, count: usize) -> Result<Vec<u64>, AllocError>
     ensures { IfOk result (λ words. words.items ≡ replicate count word) }
 {
     Vec::from_elem(alloc, word, count)
@@ -141,7 +138,12 @@ pub(crate) fn put_bits(words: &mut Vec<u64>, at: usize, n: usize, word: u64)
     let (first, shift) = (at / 64, at % 64);
     let chosen = low_bits(n);
     replace(words, first, up(chosen, shift), up(word, shift));
-    replace(words, first + 1, down(chosen, 64 - shift), down(word, 64 - shift));
+    replace(
+        words,
+        first + 1,
+        down(chosen, 64 - shift),
+        down(word, 64 - shift),
+    );
 }
 
 /// Word k; past the last word 0.
@@ -178,7 +180,8 @@ pub(crate) fn cut(words: &mut Vec<u64>, n: usize)
     }
 }
 
-fn without_rest(mut words: Vec<u64>, n: usize) -> Vec<u64>
+/// No row from n on stays.
+pub(crate) fn without_rest(mut words: Vec<u64>, n: usize) -> Vec<u64>
     requires { vec_len words ≡ (n + 63) / 64 }
     ensures len { vec_len result ≡ vec_len words }
     ensures kept { (j : ℕ) → j < n → row_in result.items j ≡ row_in words.items j }
@@ -186,17 +189,6 @@ fn without_rest(mut words: Vec<u64>, n: usize) -> Vec<u64>
 {
     cut(&mut words, n);
     words
-}
-
-/// Words for n rows that are all in or all out.
-pub(crate) fn filled_words(alloc: Global, n: usize, bit: bool) -> Result<Vec<u64>, AllocError>
-    requires { n ≤ 2 ^ 32 }
-    ensures len { IfOk result (λ words. vec_len words ≡ (n + 63) / 64) }
-    ensures rows { IfOk result (λ words. (i : ℕ) → i < n → row_in words.items i ≡ bit) }
-    ensures clean { IfOk result (λ words. (i : ℕ) → n ≤ i → row_in words.items i ≡ false) }
-{
-    let words = equal_words(alloc, word_of(bit), n.div_ceil(64))?;
-    Ok(without_rest(words, n))
 }
 
 /// A word of zeros in front of row n, where n begins a word.
