@@ -1,11 +1,17 @@
 -- A loop that reads values with a separator between two of them.
-use Rattle.std.proofs.Common.{◌≡◌, ℕ, zero, suc, ◌<◌, List, [], ◌∷◌, ◌++◌, length, Option, Some, None, refl, sym, ap, ◌∙◌, append_assoc, append-nil, length-append, arith}
+use Rattle.std.proofs.Common.{◌≡◌, ℕ, zero, suc, ◌<◌, List, [], ◌∷◌, ◌++◌, length, map, Option, Some, None, refl, sym, ap, ◌∙◌, append_assoc, append-nil, length-append, arith}
 use Rattle.bw_sql.specs.declared.terminal.Terminal.{Terminal}
 use Rattle.bw_sql.specs.declared.terminal.Terminal.TheVariants as t
 use Rattle.bw_sql.specs.declared.token.Symbol.TheVariants as s
 use Rattle.bw_sql.specs.declared.fault.SqlFault.{SqlFault}
 use Rattle.bw_sql.specs.declared.fault.SqlFault.TheVariants as faults
-use Rattle.bw_sql.specs.Reading.{Fails, Read, after_comma, more_at, parts_at, with_first, with_front}
+use Rattle.bw_sql.specs.declared.keyword.Keyword.TheVariants as k
+use Rattle.bw_sql.specs.declared.tree.Condition.{Condition}
+use Rattle.bw_sql.specs.declared.token.CompareOp.{CompareOp}
+use Rattle.bw_sql.specs.declared.tree.Operand.{Operand}
+use Rattle.bw_sql.specs.Reading.{Fails, Read, after_and, after_comma, after_or, more_at, parts_at, range_at, tail_at, with_first, with_front}
+use Rattle.bw_sql.specs.Tree.{condition_of}
+use Rattle.std.proofs.lemmas.List.{map-append}
 
 with_front-with_first : {A : Type 0} (xs : List A) (x : A) (read : Read (List A)) → with_front xs (with_first x read) ≡ with_front (xs ++ x ∷ []) read
 with_front-with_first xs x None = refl
@@ -107,3 +113,28 @@ pub after_comma-none : (ts : List Terminal) → ((us : List Terminal) → ts ≡
 after_comma-none [] h = refl
 after_comma-none (t.Symbol s.Comma ∷ ts) h = absurd (h ts refl)
 after_comma-none (_ ∷ ts) h = refl
+
+-- no OR is next
+pub after_or-none : (ts : List Terminal) → ((us : List Terminal) → ts ≡ t.Keyword k.Or ∷ us → ⊥) → after_or ts ≡ None
+after_or-none [] h = refl
+after_or-none (t.Keyword k.Or ∷ ts) h = absurd (h ts refl)
+after_or-none (_ ∷ ts) h = refl
+
+-- no AND is next
+pub after_and-none : (ts : List Terminal) → ((us : List Terminal) → ts ≡ t.Keyword k.And ∷ us → ⊥) → after_and ts ≡ None
+after_and-none [] h = refl
+after_and-none (t.Keyword k.And ∷ ts) h = absurd (h ts refl)
+after_and-none (_ ∷ ts) h = refl
+
+-- one more condition in a vector
+pub conditions_push : (old new : List Condition) (c : Condition) → new ≡ old ++ c ∷ [] → map condition_of new ≡ map condition_of old ++ condition_of c ∷ []
+conditions_push old new c e = ap (map condition_of) e ∙ map-append condition_of old (c ∷ [])
+
+-- neither IS, NOT nor a comparison is next
+pub tail_at-range : (n : ℕ) (x : Operand) (ts : List Terminal) → ((us : List Terminal) → ts ≡ t.Keyword k.Is ∷ us → ⊥) → ((us : List Terminal) → ts ≡ t.Keyword k.Not ∷ us → ⊥) → ((op : CompareOp) (us : List Terminal) → ts ≡ t.Symbol (s.Compare op) ∷ us → ⊥) → tail_at n x ts ≡ range_at n x ts
+unfolding tail_at
+tail_at-range n x [] no_is no_not no_compare = refl
+tail_at-range n x (t.Symbol (s.Compare op) ∷ ts) no_is no_not no_compare = absurd (no_compare op ts refl)
+tail_at-range n x (t.Keyword k.Is ∷ ts) no_is no_not no_compare = absurd (no_is ts refl)
+tail_at-range n x (t.Keyword k.Not ∷ ts) no_is no_not no_compare = absurd (no_not ts refl)
+tail_at-range n x (_ ∷ ts) no_is no_not no_compare = refl

@@ -1,4 +1,4 @@
--- The grammar (SQL-92: table definition, insert statement, query specification, comparison predicate): which
+-- The grammar (SQL-92: table definition, insert statement, query specification, search condition and predicates): which
 -- terminals spell a statement. Each relation reads: these terminals begin with a spelling of the value, and
 -- the rest follows it.
 use Rattle.std.specs.Prelude.{ℕ, ℤ, ◌<◌, ◌≤◌, ◌^◌, pos, neg_ℤ, List, [], ◌∷◌, Option, Some, None, codes}
@@ -11,10 +11,13 @@ use Rattle.bw_sql.specs.declared.tree.LayoutWord.{LayoutWord}
 use Rattle.bw_sql.specs.declared.tree.LayoutWord.TheVariants.{P, V, H, S}
 use Rattle.bw_sql.specs.declared.tree.KindWord.{KindWord}
 use Rattle.bw_sql.specs.declared.tree.KindWord.TheVariants.{Offset, Dictionary}
+use Rattle.bw_sql.specs.declared.tree.Operand.{Operand}
 use Rattle.bw_sql.specs.declared.tree.Operand.TheVariants.{Column, Constant}
+use Rattle.bw_sql.specs.declared.tree.TruthWord.{TruthWord}
+use Rattle.bw_sql.specs.declared.tree.TruthWord.TheVariants.{True, False, Unknown}
 use Rattle.bw_sql.specs.declared.tree.ColumnDefinition.{ColumnDefinition}
 use Rattle.bw_sql.specs.Words.{kind_spelling, layout_spelling}
-use Rattle.bw_sql.specs.Tree.{ConditionTree, comparison, ItemsTree, all_columns, columns, StatementTree, create_table, insert, select}
+use Rattle.bw_sql.specs.Tree.{ConditionTree, among, between, comparison, each_of, negated, null, some_of, tested, trees_of, ItemsTree, all_columns, columns, StatementTree, create_table, insert, select}
 
 -- one {, one}
 pub data ListOf {A : Type 0} (One : List Terminal → A → List Terminal → Type 0) : List Terminal → List A → List Terminal → Type 0 where
@@ -64,10 +67,77 @@ pub data ItemsPart : List Terminal → ItemsTree → List Terminal → Type 0 wh
   star : {rest : List Terminal} → ItemsPart (t.Symbol s.Star ∷ rest) all_columns rest
   some_columns : {names : List (List ℕ)} {ts rest : List Terminal} → ListOf NamePart ts names rest → ItemsPart ts (columns names) rest
 
--- cond = name compare literal
-pub data ConditionPart : List Terminal → ConditionTree → List Terminal → Type 0 where
-  compare : {word : List ℕ} {op : CompareOp} {z : ℤ} {ts rest : List Terminal} → LiteralPart ts z rest →
-      ConditionPart (t.Name word ∷ t.Symbol (s.Compare op) ∷ ts) (comparison (Column word) op (Constant (Some z))) rest
+-- operand = value | name
+pub data OperandPart : List Terminal → Operand → List Terminal → Type 0 where
+  constant : {v : Option ℤ} {ts rest : List Terminal} → ValuePart ts v rest → OperandPart ts (Constant v) rest
+  column_name : {word : List ℕ} {rest : List Terminal} → OperandPart (t.Name word ∷ rest) (Column word) rest
+
+-- operand AND operand
+pub data BoundsPart : List Terminal → Operand → Operand → List Terminal → Type 0 where
+  bounds : {low high : Operand} {ts mid rest : List Terminal} → OperandPart ts low (t.Keyword k.And ∷ mid) → OperandPart mid high rest → BoundsPart ts low high rest
+
+-- BETWEEN operand AND operand | IN ( value {, value} )
+pub data RangePart : Operand → List Terminal → ConditionTree → List Terminal → Type 0 where
+  between_bounds : {x low high : Operand} {ts rest : List Terminal} → BoundsPart ts low high rest → RangePart x (t.Keyword k.Between ∷ ts) (between x low high) rest
+  in_values : {x : Operand} {values : List (Option ℤ)} {ts rest : List Terminal} → ListOf ValuePart ts values (t.Symbol s.Close ∷ rest) →
+      RangePart x (t.Keyword k.In ∷ t.Symbol s.Open ∷ ts) (among x values) rest
+
+-- what follows the operand of a predicate: compare operand | [NOT] BETWEEN .. | [NOT] IN .. | IS [NOT] NULL
+pub data TailPart : Operand → List Terminal → ConditionTree → List Terminal → Type 0 where
+  compares : {x y : Operand} {op : CompareOp} {ts rest : List Terminal} → OperandPart ts y rest → TailPart x (t.Symbol (s.Compare op) ∷ ts) (comparison x op y) rest
+  in_range : {x : Operand} {c : ConditionTree} {ts rest : List Terminal} → RangePart x ts c rest → TailPart x ts c rest
+  not_in_range : {x : Operand} {c : ConditionTree} {ts rest : List Terminal} → RangePart x ts c rest → TailPart x (t.Keyword k.Not ∷ ts) (negated c) rest
+  is_null : {x : Operand} {rest : List Terminal} → TailPart x (t.Keyword k.Is ∷ t.Keyword k.Null ∷ rest) (null x) rest
+  is_not_null : {x : Operand} {rest : List Terminal} → TailPart x (t.Keyword k.Is ∷ t.Keyword k.Not ∷ t.Keyword k.Null ∷ rest) (negated (null x)) rest
+
+-- TRUE | FALSE | UNKNOWN
+pub data TruthPart : List Terminal → TruthWord → List Terminal → Type 0 where
+  true_word : {rest : List Terminal} → TruthPart (t.Keyword k.True ∷ rest) True rest
+  false_word : {rest : List Terminal} → TruthPart (t.Keyword k.False ∷ rest) False rest
+  unknown_word : {rest : List Terminal} → TruthPart (t.Keyword k.Unknown ∷ rest) Unknown rest
+
+-- one part is itself, two or more are one run of OR
+abbrev pub any_of : List ConditionTree → ConditionTree
+any_of (c ∷ []) = c
+any_of cs = some_of (trees_of cs)
+
+-- one part is itself, two or more are one run of AND
+abbrev pub all_of : List ConditionTree → ConditionTree
+all_of (c ∷ []) = c
+all_of cs = each_of (trees_of cs)
+
+mutual
+  -- cond = term {OR term}
+  pub data ConditionPart : List Terminal → ConditionTree → List Terminal → Type 0 where
+    run_of_or : {cs : List ConditionTree} {ts rest : List Terminal} → TermsPart ts cs rest → ConditionPart ts (any_of cs) rest
+
+  pub data TermsPart : List Terminal → List ConditionTree → List Terminal → Type 0 where
+    last_term : {c : ConditionTree} {ts rest : List Terminal} → TermPart ts c rest → TermsPart ts (c ∷ []) rest
+    or_term : {c : ConditionTree} {cs : List ConditionTree} {ts mid rest : List Terminal} → TermPart ts c (t.Keyword k.Or ∷ mid) → TermsPart mid cs rest → TermsPart ts (c ∷ cs) rest
+
+  -- term = factor {AND factor}
+  pub data TermPart : List Terminal → ConditionTree → List Terminal → Type 0 where
+    run_of_and : {cs : List ConditionTree} {ts rest : List Terminal} → FactorsPart ts cs rest → TermPart ts (all_of cs) rest
+
+  pub data FactorsPart : List Terminal → List ConditionTree → List Terminal → Type 0 where
+    last_factor : {c : ConditionTree} {ts rest : List Terminal} → FactorPart ts c rest → FactorsPart ts (c ∷ []) rest
+    and_factor : {c : ConditionTree} {cs : List ConditionTree} {ts mid rest : List Terminal} → FactorPart ts c (t.Keyword k.And ∷ mid) → FactorsPart mid cs rest → FactorsPart ts (c ∷ cs) rest
+
+  -- factor = [NOT] test
+  pub data FactorPart : List Terminal → ConditionTree → List Terminal → Type 0 where
+    plain : {c : ConditionTree} {ts rest : List Terminal} → TestPart ts c rest → FactorPart ts c rest
+    not : {c : ConditionTree} {ts rest : List Terminal} → TestPart ts c rest → FactorPart (t.Keyword k.Not ∷ ts) (negated c) rest
+
+  -- test = primary [IS [NOT] truth]
+  pub data TestPart : List Terminal → ConditionTree → List Terminal → Type 0 where
+    untested : {c : ConditionTree} {ts rest : List Terminal} → PrimaryPart ts c rest → TestPart ts c rest
+    is_truth : {c : ConditionTree} {word : TruthWord} {ts mid rest : List Terminal} → PrimaryPart ts c (t.Keyword k.Is ∷ mid) → TruthPart mid word rest → TestPart ts (tested c word) rest
+    is_not_truth : {c : ConditionTree} {word : TruthWord} {ts mid rest : List Terminal} → PrimaryPart ts c (t.Keyword k.Is ∷ t.Keyword k.Not ∷ mid) → TruthPart mid word rest → TestPart ts (negated (tested c word)) rest
+
+  -- primary = ( cond ) | predicate
+  pub data PrimaryPart : List Terminal → ConditionTree → List Terminal → Type 0 where
+    in_parentheses : {c : ConditionTree} {ts rest : List Terminal} → ConditionPart ts c (t.Symbol s.Close ∷ rest) → PrimaryPart (t.Symbol s.Open ∷ ts) c rest
+    predicate : {x : Operand} {c : ConditionTree} {ts mid rest : List Terminal} → OperandPart ts x mid → TailPart x mid c rest → PrimaryPart ts c rest
 
 -- statement, and nothing after it
 pub data Spells : List Terminal → StatementTree → Type 0 where

@@ -5,7 +5,6 @@ use Rattle.std.specs.Str.{bytes_eq}
 use Rattle.bw_sql.specs.declared.fault.SqlFault.{SqlFault}
 use Rattle.bw_sql.specs.declared.fault.SqlFault.TheVariants as faults
 use Rattle.bw_sql.specs.declared.keyword.Keyword.TheVariants as k
-use Rattle.bw_sql.specs.declared.token.CompareOp.{CompareOp}
 use Rattle.bw_sql.specs.declared.token.Symbol.TheVariants as s
 use Rattle.bw_sql.specs.declared.terminal.Terminal.{Terminal}
 use Rattle.bw_sql.specs.declared.terminal.Terminal.TheVariants as t
@@ -13,10 +12,14 @@ use Rattle.bw_sql.specs.declared.tree.LayoutWord.{LayoutWord}
 use Rattle.bw_sql.specs.declared.tree.LayoutWord.TheVariants.{P, V, H, S}
 use Rattle.bw_sql.specs.declared.tree.KindWord.{KindWord}
 use Rattle.bw_sql.specs.declared.tree.KindWord.TheVariants.{Offset, Dictionary}
+use Rattle.bw_sql.specs.declared.tree.Operand.{Operand}
 use Rattle.bw_sql.specs.declared.tree.Operand.TheVariants.{Column, Constant}
+use Rattle.bw_sql.specs.declared.tree.TruthWord.{TruthWord}
+use Rattle.bw_sql.specs.declared.tree.TruthWord.TheVariants.{True, False, Unknown}
+use Rattle.bw_sql.specs.Grammar.{all_of, any_of}
 use Rattle.bw_sql.specs.declared.tree.ColumnDefinition.{ColumnDefinition}
 use Rattle.bw_sql.specs.Words.{kind_of, layout_of}
-use Rattle.bw_sql.specs.Tree.{ConditionTree, comparison, ItemsTree, all_columns, columns, StatementTree, create_table, insert, select}
+use Rattle.bw_sql.specs.Tree.{ConditionTree, among, between, comparison, negated, null, tested, ItemsTree, all_columns, columns, StatementTree, create_table, insert, select}
 
 -- what is read, and the terminals after it; none is a syntax error
 abbrev pub Read : Type 0 → Type 0
@@ -81,6 +84,18 @@ after_values _ = None
 abbrev pub after_from : List Terminal → Option (List Terminal)
 after_from (t.Keyword k.From ∷ ts) = Some ts
 after_from _ = None
+
+abbrev pub after_and : List Terminal → Option (List Terminal)
+after_and (t.Keyword k.And ∷ ts) = Some ts
+after_and _ = None
+
+abbrev pub after_or : List Terminal → Option (List Terminal)
+after_or (t.Keyword k.Or ∷ ts) = Some ts
+after_or _ = None
+
+abbrev pub after_null : List Terminal → Option (List Terminal)
+after_null (t.Keyword k.Null ∷ ts) = Some ts
+after_null _ = None
 
 abbrev pub after_type : List Terminal → Option (List Terminal)
 after_type (t.Keyword k.Integer ∷ ts) = Some ts
@@ -205,23 +220,83 @@ unfoldable pub items_at : ℕ → List Terminal → Read ItemsTree
 items_at n (t.Symbol s.Star ∷ ts) = Some (all_columns, ts)
 items_at n ts = map_first columns (names_at n ts)
 
-unfoldable pub compare_at : List Terminal → Read CompareOp
-compare_at (t.Symbol (s.Compare op) ∷ ts) = Some (op, ts)
-compare_at _ = None
+unfoldable pub operand_at : List Terminal → Read Operand
+operand_at (t.Name name ∷ ts) = Some (Column name, ts)
+operand_at ts = map_first Constant (value_at ts)
 
-unfoldable pub condition_at : List Terminal → Read ConditionTree
-condition_at ts =
-    name_at ts >>= λ name. compare_at name.1 >>= λ op. literal_at op.1 >>= λ z.
-    Some (comparison (Column name.0) op.0 (Constant (Some z.0)), z.1)
+unfoldable pub bounds_at : Operand → List Terminal → Read ConditionTree
+bounds_at x ts = operand_at ts >>= λ low. after_and low.1 >>= λ us. map_first (between x low.0) (operand_at us)
 
-unfoldable pub filter_at : List Terminal → Read (Option ConditionTree)
-filter_at (t.Keyword k.Where ∷ ts) = map_first Some (condition_at ts)
-filter_at ts = Some (None, ts)
+unfoldable pub among_at : ℕ → Operand → List Terminal → Read ConditionTree
+among_at n x ts = after_open ts >>= λ us. values_at n us >>= λ values. closed (among x values.0) (after_close values.1)
+
+-- BETWEEN or IN
+unfoldable pub range_at : ℕ → Operand → List Terminal → Read ConditionTree
+range_at n x (t.Keyword k.Between ∷ ts) = bounds_at x ts
+range_at n x (t.Keyword k.In ∷ ts) = among_at n x ts
+range_at n x _ = None
+
+-- what follows IS behind an operand
+unfoldable pub null_at : Operand → List Terminal → Read ConditionTree
+null_at x (t.Keyword k.Null ∷ ts) = Some (null x, ts)
+null_at x (t.Keyword k.Not ∷ ts) = after_null ts >>= λ us. Some (negated (null x), us)
+null_at x _ = None
+
+unfoldable pub tail_at : ℕ → Operand → List Terminal → Read ConditionTree
+tail_at n x (t.Symbol (s.Compare op) ∷ ts) = map_first (comparison x op) (operand_at ts)
+tail_at n x (t.Keyword k.Is ∷ ts) = null_at x ts
+tail_at n x (t.Keyword k.Not ∷ ts) = map_first negated (range_at n x ts)
+tail_at n x ts = range_at n x ts
+
+unfoldable pub predicate_at : ℕ → List Terminal → Read ConditionTree
+predicate_at n ts = operand_at ts >>= λ x. tail_at n x.0 x.1
+
+unfoldable pub truth_at : List Terminal → Read TruthWord
+truth_at (t.Keyword k.True ∷ ts) = Some (True, ts)
+truth_at (t.Keyword k.False ∷ ts) = Some (False, ts)
+truth_at (t.Keyword k.Unknown ∷ ts) = Some (Unknown, ts)
+truth_at _ = None
+
+-- what follows IS behind a condition
+unfoldable pub is_at : ConditionTree → List Terminal → Read ConditionTree
+is_at c (t.Keyword k.Not ∷ ts) = map_first (λ word. negated (tested c word)) (truth_at ts)
+is_at c ts = map_first (tested c) (truth_at ts)
+
+-- the IS test behind a condition, where there is one
+unfoldable pub tested_at : ConditionTree → List Terminal → Read ConditionTree
+tested_at c (t.Keyword k.Is ∷ ts) = is_at c ts
+tested_at c ts = Some (c, ts)
+
+unfoldable pub test_by : (List Terminal → Read ConditionTree) → List Terminal → Read ConditionTree
+test_by primary ts = primary ts >>= λ x. tested_at x.0 x.1
+
+unfoldable pub factor_by : (List Terminal → Read ConditionTree) → List Terminal → Read ConditionTree
+factor_by primary (t.Keyword k.Not ∷ ts) = map_first negated (test_by primary ts)
+factor_by primary ts = test_by primary ts
+
+unfoldable pub term_by : (List Terminal → Read ConditionTree) → ℕ → List Terminal → Read ConditionTree
+term_by primary n ts = map_first all_of (parts_at after_and (factor_by primary) n ts)
+
+unfoldable pub condition_by : (List Terminal → Read ConditionTree) → ℕ → List Terminal → Read ConditionTree
+condition_by primary n ts = map_first any_of (parts_at after_or (term_by primary n) n ts)
+
+-- fuel n is enough for fewer than n terminals
+unfoldable pub primary_at : ℕ → List Terminal → Read ConditionTree
+primary_at zero ts = None
+primary_at (suc n) (t.Symbol s.Open ∷ ts) = condition_by (primary_at n) n ts >>= λ x. closed x.0 (after_close x.1)
+primary_at (suc n) ts = predicate_at (suc n) ts
+
+unfoldable pub condition_at : ℕ → List Terminal → Read ConditionTree
+condition_at n ts = condition_by (primary_at n) n ts
+
+unfoldable pub filter_at : ℕ → List Terminal → Read (Option ConditionTree)
+filter_at n (t.Keyword k.Where ∷ ts) = map_first Some (condition_at n ts)
+filter_at n ts = Some (None, ts)
 
 -- what follows SELECT
 unfoldable pub select_at : ℕ → List Terminal → Read StatementTree
 select_at n ts =
-    items_at n ts >>= λ items. after_from items.1 >>= λ us. name_at us >>= λ table. filter_at table.1 >>= λ filter.
+    items_at n ts >>= λ items. after_from items.1 >>= λ us. name_at us >>= λ table. filter_at n table.1 >>= λ filter.
     Some (select items.0 table.0 filter.0, filter.1)
 
 unfoldable pub statement_at : ℕ → List Terminal → Read StatementTree

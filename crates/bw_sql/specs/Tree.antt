@@ -1,18 +1,37 @@
 -- Statements as the language has them (SQL-92: table definition, insert statement, query specification,
--- comparison predicate), without where they lie in memory. A name is its bytes, a value a number or none.
-use Rattle.std.specs.Prelude.{ℕ, ℤ, List, Option, option_map}
+-- search condition and predicates), without where they lie in memory. A name is its bytes, a value a number or none.
+use Rattle.std.specs.Prelude.{ℕ, ℤ, List, [], ◌∷◌, map, Option, option_map}
+use Rattle.std.specs.Global.{Vec}
 use Rattle.bw_sql.specs.declared.token.CompareOp.{CompareOp}
 use Rattle.bw_sql.specs.declared.tree.Operand.{Operand}
 use Rattle.bw_sql.specs.declared.tree.Condition.{Condition}
-use Rattle.bw_sql.specs.declared.tree.Condition.TheVariants as conditions
+use Rattle.bw_sql.specs.declared.tree.Condition.TheOpen.{Condition-F}
+use Rattle.bw_sql.specs.declared.tree.Condition.TheFolds.{fold-Condition}
+use Rattle.bw_sql.specs.declared.tree.TruthWord.{TruthWord}
 use Rattle.bw_sql.specs.declared.tree.ColumnDefinition.{ColumnDefinition}
 use Rattle.bw_sql.specs.declared.tree.SelectItems.{SelectItems}
 use Rattle.bw_sql.specs.declared.tree.SelectItems.TheVariants as items
 use Rattle.bw_sql.specs.declared.tree.Statement.{Statement}
 use Rattle.bw_sql.specs.declared.tree.Statement.TheVariants as statements
 
-pub data ConditionTree : Type 0 where
-  comparison : Operand → CompareOp → Operand → ConditionTree
+mutual
+  pub data ConditionTree : Type 0 where
+    each_of : ConditionTrees → ConditionTree
+    some_of : ConditionTrees → ConditionTree
+    negated : ConditionTree → ConditionTree
+    tested : ConditionTree → TruthWord → ConditionTree
+    comparison : Operand → CompareOp → Operand → ConditionTree
+    between : Operand → (low : Operand) → (high : Operand) → ConditionTree
+    among : Operand → List (Option ℤ) → ConditionTree
+    null : Operand → ConditionTree
+
+  pub data ConditionTrees : Type 0 where
+    none : ConditionTrees
+    more : ConditionTree → ConditionTrees → ConditionTrees
+
+abbrev pub trees_of : List ConditionTree → ConditionTrees
+trees_of [] = none
+trees_of (c ∷ cs) = more c (trees_of cs)
 
 pub data ItemsTree : Type 0 where
   all_columns : ItemsTree
@@ -23,8 +42,24 @@ pub data StatementTree : Type 0 where
   insert : (table : List ℕ) → (columns : Option (List (List ℕ))) → (rows : List (List (Option ℤ))) → StatementTree
   select : ItemsTree → (table : List ℕ) → Option ConditionTree → StatementTree
 
+-- one level of a Rust condition, with trees in the places of its parts
+abbrev pub condition_step : Condition-F ConditionTree → ConditionTree
+condition_step (Condition-F.And parts) = each_of (trees_of parts.items)
+condition_step (Condition-F.Or parts) = some_of (trees_of parts.items)
+condition_step (Condition-F.Not part) = negated part.value
+condition_step (Condition-F.Is part truth) = tested part.value truth
+condition_step (Condition-F.Compare x op y) = comparison x op y
+condition_step (Condition-F.Between x low high) = between x low high
+condition_step (Condition-F.In x values) = among x values.items
+condition_step (Condition-F.IsNull x) = null x
+
+-- the condition that a Rust value holds
 abbrev pub condition_of : Condition → ConditionTree
-condition_of (conditions.Compare x op y) = comparison x op y
+condition_of = fold-Condition ConditionTree condition_step
+
+-- the conditions in a vector
+abbrev pub conditions_in : Vec Condition → List ConditionTree
+conditions_in parts = map condition_of parts.items
 
 abbrev pub items_of : SelectItems → ItemsTree
 items_of items.All = all_columns

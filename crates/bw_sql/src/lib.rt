@@ -1,6 +1,7 @@
 //! The language: a script's parts, a part's tokens, and the statement that they spell.
 #![tactic(auto)]
 
+mod condition;
 mod fault;
 mod keyword;
 mod lanes;
@@ -28,5 +29,5 @@ pub use statement_text::{LONGEST_STATEMENT, one_statement, statement};
 pub use token::{CompareOp, Span, Symbol, Token, TokenKind};
 pub use tree::{
     ColumnDefinition, Condition, CreateTable, Insert, KindWord, LayoutWord, Operand, Select,
-    SelectItems, Statement, Value,
+    SelectItems, Statement, TruthWord, Value,
 };

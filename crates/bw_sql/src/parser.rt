@@ -14,23 +14,23 @@ use crate::name::Name;
 use crate::name_list::NameList;
 use crate::rows::ValueRows;
 use crate::terminal::Terminal;
-use crate::token::{CompareOp, Symbol};
+use crate::token::Symbol;
 use crate::tree::{
-    ColumnDefinition, Condition, CreateTable, Insert, KindWord, LayoutWord, Operand, Select,
-    SelectItems, Statement, Value,
+    ColumnDefinition, Condition, CreateTable, Insert, KindWord, LayoutWord, Select, SelectItems,
+    Statement, Value,
 };
 use std::alloc::Global;
 
 /// What is left of the terminals.
 #[derive(Drop)]
-struct Parser<'a> {
-    rest: &'a [Terminal<'a>],
-    alloc: Global,
+pub(crate) struct Parser<'a> {
+    pub(crate) rest: &'a [Terminal<'a>],
+    pub(crate) alloc: Global,
 }
 
 impl<'a> Parser<'a> {
     // Takes the next terminal where it is this symbol.
-    fn eat(&mut self, symbol: Symbol) -> bool
+    pub(crate) fn eat(&mut self, symbol: Symbol) -> bool
         ensures { MatchBool result
             (self.old.rest.now ≡ Terminal.Symbol symbol ∷ self.new.rest.now)
             ((self.new.rest.now ≡ self.old.rest.now) × ((ts : List Terminal) → self.old.rest.now ≡ Terminal.Symbol symbol ∷ ts → ⊥)) }
@@ -48,7 +48,7 @@ impl<'a> Parser<'a> {
     }
 
     // Takes the next terminal where it is this reserved word.
-    fn eat_word(&mut self, keyword: Keyword) -> bool
+    pub(crate) fn eat_word(&mut self, keyword: Keyword) -> bool
         ensures { MatchBool result
             (self.old.rest.now ≡ Terminal.Keyword keyword ∷ self.new.rest.now)
             ((self.new.rest.now ≡ self.old.rest.now) × ((ts : List Terminal) → self.old.rest.now ≡ Terminal.Keyword keyword ∷ ts → ⊥)) }
@@ -66,7 +66,7 @@ impl<'a> Parser<'a> {
     }
 
     // Takes this symbol, which has to be next.
-    fn take(&mut self, symbol: Symbol) -> Result<(), SqlFault>
+    pub(crate) fn take(&mut self, symbol: Symbol) -> Result<(), SqlFault>
         ensures { MatchResult result
             (λ _. self.old.rest.now ≡ Terminal.Symbol symbol ∷ self.new.rest.now)
             (λ fault. (fault ≡ SqlFault.Syntax) × ((ts : List Terminal) → self.old.rest.now ≡ Terminal.Symbol symbol ∷ ts → ⊥)) }
@@ -79,7 +79,7 @@ impl<'a> Parser<'a> {
     }
 
     // Takes this reserved word, which has to be next.
-    fn take_word(&mut self, keyword: Keyword) -> Result<(), SqlFault>
+    pub(crate) fn take_word(&mut self, keyword: Keyword) -> Result<(), SqlFault>
         ensures { MatchResult result
             (λ _. self.old.rest.now ≡ Terminal.Keyword keyword ∷ self.new.rest.now)
             (λ fault. (fault ≡ SqlFault.Syntax) × ((ts : List Terminal) → self.old.rest.now ≡ Terminal.Keyword keyword ∷ ts → ⊥)) }
@@ -93,7 +93,7 @@ impl<'a> Parser<'a> {
 
     // name
     #[tactic(auto, unfolding(crate::specs::Reading::name_at))]
-    fn name(&mut self) -> Result<Name, SqlFault>
+    pub(crate) fn name(&mut self) -> Result<Name, SqlFault>
         ensures shorter { OnOk result (length self.new.rest.now < length self.old.rest.now) }
         ensures read { Gives (λ name. name) result self.new.rest.now (reading.name_at self.old.rest.now) }
     {
@@ -162,7 +162,7 @@ impl<'a> Parser<'a> {
 
     // value = literal | NULL. A number without a sign is looked for first, since it is the most common.
     #[tactic(auto, unfolding(crate::specs::Reading::value_at, crate::specs::Reading::literal_at, crate::specs::Reading::number_at))]
-    fn value(&mut self) -> Result<Value, SqlFault>
+    pub(crate) fn value(&mut self) -> Result<Value, SqlFault>
         ensures shorter { OnOk result (length self.new.rest.now < length self.old.rest.now) }
         ensures read { Gives (λ value. value) result self.new.rest.now (reading.value_at self.old.rest.now) }
     {
@@ -195,7 +195,7 @@ impl<'a> Parser<'a> {
     }
 
     // value {, value}, likewise
-    fn values(&mut self, values: &mut Vec<Value>) -> Result<usize, SqlFault>
+    pub(crate) fn values(&mut self, values: &mut Vec<Value>) -> Result<usize, SqlFault>
         ensures shorter { OnOk result (length self.new.rest.now < length self.old.rest.now) }
         ensures read { GivesRow values.old.items values.new.items result reading.values_at self.old.rest.now self.new.rest.now }
     {
@@ -380,45 +380,12 @@ impl<'a> Parser<'a> {
         }
     }
 
-    // compare
-    #[tactic(auto, unfolding(crate::specs::Reading::compare_at))]
-    fn comparison(&mut self) -> Result<CompareOp, SqlFault>
-        ensures shorter { OnOk result (length self.new.rest.now < length self.old.rest.now) }
-        ensures read { Gives (λ op. op) result self.new.rest.now (reading.compare_at self.old.rest.now) }
-    {
-        match self.rest {
-            [first, rest @ ..] => match first {
-                Terminal::Symbol(Symbol::Compare(op)) => {
-                    self.rest = rest;
-                    Ok(*op)
-                }
-                _ => Err(SqlFault::Syntax),
-            },
-            [] => Err(SqlFault::Syntax),
-        }
-    }
-
-    // cond = name compare literal
-    #[tactic(auto, unfolding(crate::specs::Reading::condition_at))]
-    fn condition(&mut self) -> Result<Condition, SqlFault>
-        ensures shorter { OnOk result (length self.new.rest.now < length self.old.rest.now) }
-        ensures read { Gives condition_of result self.new.rest.now (reading.condition_at self.old.rest.now) }
-    {
-        let column = self.name()?;
-        let op = self.comparison()?;
-        let literal = self.literal()?;
-        Ok(Condition::Compare(
-            Operand::Column(column),
-            op,
-            Operand::Constant(Some(literal)),
-        ))
-    }
-
     // [WHERE cond]
-    #[tactic(auto, unfolding(crate::specs::Reading::filter_at))]
+    #[tactic(auto, unfolding(crate::specs::Reading::filter_at, crate::specs::Reading::condition_at))]
     fn filter(&mut self) -> Result<Option<Condition>, SqlFault>
         ensures no_longer { OnOk result (length self.new.rest.now ≤ length self.old.rest.now) }
-        ensures read { Gives (option_map condition_of) result self.new.rest.now (reading.filter_at self.old.rest.now) }
+        ensures read { (n : ℕ) → length self.old.rest.now < n
+            → Gives (option_map condition_of) result self.new.rest.now (reading.filter_at n self.old.rest.now) }
     {
         if self.eat_word(Keyword::Where) {
             Ok(Some(self.condition()?))

@@ -71,13 +71,32 @@ pub enum SelectItems {
     Columns(NameList),
 }
 
-/// A condition on a row.
+/// A condition on a row. A run of AND or of OR is one list.
 #[derive(Debug, Drop)]
 pub enum Condition {
+    And(Vec<Condition>),
+    Or(Vec<Condition>),
+    Not(Box<Condition>),
+    /// `condition IS truth`.
+    Is(Box<Condition>, TruthWord),
     Compare(Operand, CompareOp, Operand),
+    /// `operand BETWEEN low AND high`.
+    Between(Operand, Operand, Operand),
+    /// `operand IN (values)`.
+    In(Operand, Vec<Value>),
+    /// `operand IS NULL`.
+    IsNull(Operand),
 }
 
-/// What a comparison looks at.
+/// A truth value, as it is spelled.
+#[derive(Clone, Copy, Debug, PartialEq, Eq)]
+pub enum TruthWord {
+    True,
+    False,
+    Unknown,
+}
+
+/// What a predicate looks at.
 #[derive(Debug, Drop)]
 pub enum Operand {
     Column(Name),
