@@ -10,14 +10,10 @@ use Rattle.bw_sql.specs.Rows.{joined, rows_of}
 use Rattle.bw_sql.proofs.RowLemmas.{length-rows_of}
 use Rattle.bw_model.specs.Answers.{AreWholeLines, lines_of}
 use Rattle.bw_model.specs.Store.{Header, Table, Value, row_limit}
+use Rattle.bw_model.proofs.Lines.{count-lines_of, count-of, length-joined_map}
 use Rattle.bw_engine.specs.Flat.{AreRows}
 
 module _ {A : Type 0} where
-  pub length-joined : (w : ℕ) (rows : List (List A)) → All (λ row. length row ≡ w) rows → length (joined rows) ≡ length rows * w
-  length-joined w [] all = omega arith
-  length-joined w (row ∷ rows) all =
-      omega (arith, length-append row (joined rows), All-head (λ r. length r ≡ w) row rows all, length-joined w rows (All-tail (λ r. length r ≡ w) row rows all))
-
   pub rows_of-append : (w n m : ℕ) (a b : List A) → length a ≡ n * w → rows_of (replicate (n + m) w) (a ++ b) ≡ rows_of (replicate n w) a ++ rows_of (replicate m w) b
   rows_of-append w zero m [] b e = let none : 0 + m ≡ m = omega arith in ap (λ k. rows_of (replicate k w) b) none
   rows_of-append w zero m (x ∷ a) b e = absurd (omega arith)
@@ -29,15 +25,6 @@ module _ {A : Type 0} where
       ∙ ap (λ row. row ∷ rows_of (replicate (n + m) w) (drop w (a ++ b))) (take-append-le w a b fits)
       ∙ ap (λ l. take w a ∷ rows_of (replicate (n + m) w) l) (drop-append-le w a b fits)
       ∙ ap (λ l. take w a ∷ l) (rows_of-append w n m (drop w a) b rest)
-
-  pub length-lines_of : (w : ℕ) (cells : List A) → length (lines_of w cells) ≡ length cells / w
-  length-lines_of w cells = length-rows_of (replicate (length cells / w) w) cells ∙ length-replicate (length cells / w) w
-
-  pub count-of : (w n : ℕ) (cells : List A) → 0 < w → length cells ≡ n * w → length cells / w ≡ n
-  count-of w n cells some e = ap (λ k. k / w) e ∙ mul-div_cancel n some
-
-  pub count-lines_of : (w n : ℕ) (cells : List A) → 0 < w → length cells ≡ n * w → length (lines_of w cells) ≡ n
-  count-lines_of w n cells some e = length-lines_of w cells ∙ count-of w n cells some e
 
   pub lines_of-append : (w n m : ℕ) (a b : List A) → 0 < w → length a ≡ n * w → length b ≡ m * w → lines_of w (a ++ b) ≡ lines_of w a ++ lines_of w b
   lines_of-append w n m a b some ea eb =
@@ -112,11 +99,6 @@ kept_or_not : {B : Type 0} (b : Bool) (l : List B) (m : List (List B)) (n : List
 kept_or_not true l m n e = ap (λ k. l ++ k) e
 kept_or_not false l m n e = e
 
--- lines of one width each are joined to whole lines
-pub length-joined_map : {A B : Type 0} (f : A → List B) (w : ℕ) (rows : List A) → ((row : A) → length (f row) ≡ w) → length (joined (map f rows)) ≡ length rows * w
-length-joined_map f w [] each = omega arith
-length-joined_map f w (row ∷ rows) each = omega (arith, length-append (f row) (joined (map f rows)), each row, length-joined_map f w rows each)
-
 map-kept : {A B : Type 0} (b : Bool) (f : A → B) (x : A) (xs : List A) → map f (if b then x ∷ xs else xs) ≡ (if b then f x ∷ map f xs else map f xs)
 map-kept true f x xs = refl
 map-kept false f x xs = refl
@@ -159,31 +141,8 @@ pub passed_over : {B : Type 0} (b : Bool) (l : List B) → b ≡ false → (if b
 passed_over true l e = absurd (true≢false e)
 passed_over false l e = refl
 
--- lines that show so many places
-pub shown_lines : {A B P : Type 0} (g : A → P → B) (places : List P) (rows : List A) (cells : List B) (w : ℕ) → 0 < length places → w ≡ length places → cells ≡ joined (map (λ row. map (g row) places) rows) → AreWholeLines w cells
-shown_lines g places rows cells w some same e =
-    record { some = omega arith; count = length rows; whole = ap length e ∙ length-joined_map (λ row. map (g row) places) w rows (λ row. length-map places (g row) ∙ sym same) }
-
 -- rows spread over more places
 pub length-spread : {A B S : Type 0} (g : List A → S → B) (sources : List S) (w n : ℕ) (values : List A) (cells : List B) → 0 < w → length values ≡ n * w → cells ≡ joined (map (λ row. map (g row) sources) (lines_of w values)) → length cells ≡ n * length sources
 length-spread g sources w n values cells some e is =
     ap length is ∙ length-joined_map (λ row. map (g row) sources) (length sources) (lines_of w values) (λ row. length-map sources (g row))
     ∙ ap (λ k. k * length sources) (count-lines_of w n values some e)
-
--- joined lines are lines again
-rows_of-joined : {A : Type 0} (w : ℕ) (rows : List (List A)) → All (λ row. length row ≡ w) rows → rows_of (replicate (length rows) w) (joined rows) ≡ rows
-rows_of-joined w [] all = refl
-rows_of-joined w (row ∷ rows) all =
-    let same : length row ≡ w = All-head (λ r. length r ≡ w) row rows all in
-    let rest = rows_of-joined w rows (All-tail (λ r. length r ≡ w) row rows all) in
-    ap (λ k. take k (row ++ joined rows) ∷ rows_of (replicate (length rows) w) (drop k (row ++ joined rows))) (sym same)
-    ∙ ap (λ l. l ∷ rows_of (replicate (length rows) w) (drop (length row) (row ++ joined rows))) (take-append_seam row (joined rows))
-    ∙ ap (λ l. row ∷ rows_of (replicate (length rows) w) l) (drop-append_seam row (joined rows))
-    ∙ ap (λ l. row ∷ l) rest
-
-pub lines_of-joined : {A : Type 0} (w : ℕ) (rows : List (List A)) → 0 < w → All (λ row. length row ≡ w) rows → lines_of w (joined rows) ≡ rows
-lines_of-joined w rows some all = ap (λ k. rows_of (replicate k w) (joined rows)) (count-of w (length rows) (joined rows) some (length-joined w rows all)) ∙ rows_of-joined w rows all
-
-pub All-map : {A B : Type 0} (f : A → List B) (w : ℕ) (rows : List A) → ((row : A) → length (f row) ≡ w) → All (λ row. length row ≡ w) (map f rows)
-All-map f w [] each = All-nil (λ row. length row ≡ w)
-All-map f w (row ∷ rows) each = All-cons (λ r. length r ≡ w) (f row) (map f rows) (each row) (All-map f w rows each)

@@ -1,2 +1,5 @@
+pub mod Answered
+pub mod Lines
+pub mod Stores
 pub mod Unchanged
 pub mod Values

@@ -9,6 +9,7 @@ mod refusal;
 mod refusals;
 mod reply;
 mod select;
+mod steps;
 mod store;
 mod truth;
 
@@ -17,5 +18,7 @@ pub use condition::{found_rows, truth_at};
 pub use laws::refusals_change_nothing;
 pub use refusal::Refusal;
 pub use reply::Reply;
-pub use store::{Header, Row, Table};
+pub use select::answer_of;
+pub use steps::step;
+pub use store::{Header, Row, Store, Table};
 pub use truth::Truth;
