@@ -10,7 +10,7 @@ use Rattle.bw_sql.specs.Rows.{joined, rows_of}
 use Rattle.bw_sql.proofs.RowLemmas.{length-rows_of}
 use Rattle.bw_model.specs.Answers.{AreWholeLines, lines_of}
 use Rattle.bw_model.specs.Store.{Header, Table, Value, row_limit}
-use Rattle.bw_model.proofs.Lines.{count-lines_of, count-of, length-joined_map}
+use Rattle.bw_model.proofs.Lines.{count-lines_of, count-of, length-joined_map, lines_of-first, lines_of-nil, whole_rest}
 use Rattle.bw_engine.specs.Flat.{AreRows}
 
 module _ {A : Type 0} where
@@ -37,36 +37,6 @@ module _ {A : Type 0} where
   -- whole lines, with one line more
   pub one_line : (w : ℕ) (a b : List A) → AreWholeLines w a → length b ≡ w → AreWholeLines w (a ++ b)
   one_line w a b lines e = record { some = lines.some; count = lines.count + 1; whole = omega (arith, length-append a b, lines.whole) }
-
-  pub lines_of-nil : (w : ℕ) → 0 < w → lines_of {A = A} w [] ≡ []
-  lines_of-nil w some = let none : 0 / w ≡ 0 = count-of w 0 [] some (omega arith) in ap (λ k. rows_of (replicate k w) []) none
-
-  -- so many rows of a width are whole lines
-  pub whole_lines : (w n : ℕ) (cells : List A) → 0 < w → length cells ≡ n * w → AreWholeLines w cells
-  whole_lines w n cells some e = record { some = some; count = n; whole = e }
-
-  rest_by : (w n : ℕ) (cells : List A) → 0 < w → length cells ≡ n * w → 0 < length cells → AreWholeLines w (drop w cells)
-  rest_by w zero cells some e more = absurd (omega arith)
-  rest_by w (suc n) cells some e more = record { some = some; count = n; whole = omega (arith, length-drop w cells) }
-
-  -- what follows the first line
-  pub whole_rest : (w : ℕ) (cells : List A) → AreWholeLines w cells → 0 < length cells → AreWholeLines w (drop w cells)
-  whole_rest w cells lines more = rest_by w lines.count cells lines.some lines.whole more
-
-  fits_by : (w n : ℕ) (cells : List A) → length cells ≡ n * w → 0 < length cells → w ≤ length cells
-  fits_by w zero cells e more = absurd (omega arith)
-  fits_by w (suc n) cells e more = omega arith
-
-  pub line_fits : (w : ℕ) (cells : List A) → AreWholeLines w cells → 0 < length cells → w ≤ length cells
-  line_fits w cells lines more = fits_by w lines.count cells lines.whole more
-
-  pub lines_of-first : (w : ℕ) (cells : List A) → AreWholeLines w cells → 0 < length cells → lines_of w cells ≡ take w cells ∷ lines_of w (drop w cells)
-  lines_of-first w cells lines more =
-      let rest = whole_rest w cells lines more in
-      let fits = line_fits w cells lines more in
-      let whole : length cells ≡ suc rest.count * w = omega (arith, length-drop w cells, rest.whole, fits) in
-      ap (λ k. rows_of (replicate k w) cells) (count-of w (suc rest.count) cells lines.some whole)
-      ∙ ap (λ k. take w cells ∷ rows_of (replicate k w) (drop w cells)) (sym (count-of w rest.count (drop w cells) lines.some rest.whole))
 
 -- What a walk over lines has made of those so far, and what it will make of the rest, is what it makes of all.
 module _ {A B : Type 0} (f : List A → List B) (w : ℕ) (all : List A) where

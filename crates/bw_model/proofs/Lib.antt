@@ -1,4 +1,5 @@
 pub mod Answered
+pub mod Commas
 pub mod Lines
 pub mod Stores
 pub mod Unchanged

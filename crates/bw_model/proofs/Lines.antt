@@ -1,5 +1,5 @@
 -- Lines of one width that lie flat.
-use Rattle.std.proofs.Common.{◌≡◌, ℕ, ◌+◌, ◌*◌, ◌/◌, ◌<◌, List, [], ◌∷◌, ◌++◌, map, length, replicate, take, drop, refl, sym, ap, ◌∙◌, arith, append_assoc, append-nil, get_or, length-append}
+use Rattle.std.proofs.Common.{◌≡◌, ℕ, ◌+◌, ◌*◌, ◌/◌, ◌<◌, ◌≤◌, List, [], ◌∷◌, ◌++◌, map, length, replicate, take, drop, zero, suc, refl, sym, ap, ◌∙◌, arith, append_assoc, append-nil, get_or, length-append, length-drop}
 use Rattle.std.proofs.lemmas.List.{length-map, length-replicate, take_more}
 use Rattle.std.proofs.Math.Nat.{mul-div_cancel}
 use Rattle.std.specs.List.{All}
@@ -23,6 +23,36 @@ module _ {A : Type 0} where
 
   pub count-lines_of : (w n : ℕ) (cells : List A) → 0 < w → length cells ≡ n * w → length (lines_of w cells) ≡ n
   count-lines_of w n cells some e = length-lines_of w cells ∙ count-of w n cells some e
+
+  pub lines_of-nil : (w : ℕ) → 0 < w → lines_of {A = A} w [] ≡ []
+  lines_of-nil w some = let none : 0 / w ≡ 0 = count-of w 0 [] some (omega arith) in ap (λ k. rows_of (replicate k w) []) none
+
+  -- so many rows of a width are whole lines
+  pub whole_lines : (w n : ℕ) (cells : List A) → 0 < w → length cells ≡ n * w → AreWholeLines w cells
+  whole_lines w n cells some e = record { some = some; count = n; whole = e }
+
+  rest_by : (w n : ℕ) (cells : List A) → 0 < w → length cells ≡ n * w → 0 < length cells → AreWholeLines w (drop w cells)
+  rest_by w zero cells some e more = absurd (omega arith)
+  rest_by w (suc n) cells some e more = record { some = some; count = n; whole = omega (arith, length-drop w cells) }
+
+  -- what follows the first line
+  pub whole_rest : (w : ℕ) (cells : List A) → AreWholeLines w cells → 0 < length cells → AreWholeLines w (drop w cells)
+  whole_rest w cells lines more = rest_by w lines.count cells lines.some lines.whole more
+
+  fits_by : (w n : ℕ) (cells : List A) → length cells ≡ n * w → 0 < length cells → w ≤ length cells
+  fits_by w zero cells e more = absurd (omega arith)
+  fits_by w (suc n) cells e more = omega arith
+
+  pub line_fits : (w : ℕ) (cells : List A) → AreWholeLines w cells → 0 < length cells → w ≤ length cells
+  line_fits w cells lines more = fits_by w lines.count cells lines.whole more
+
+  pub lines_of-first : (w : ℕ) (cells : List A) → AreWholeLines w cells → 0 < length cells → lines_of w cells ≡ take w cells ∷ lines_of w (drop w cells)
+  lines_of-first w cells lines more =
+      let rest = whole_rest w cells lines more in
+      let fits = line_fits w cells lines more in
+      let whole : length cells ≡ suc rest.count * w = omega (arith, length-drop w cells, rest.whole, fits) in
+      ap (λ k. rows_of (replicate k w) cells) (count-of w (suc rest.count) cells lines.some whole)
+      ∙ ap (λ k. take w cells ∷ rows_of (replicate k w) (drop w cells)) (sym (count-of w rest.count (drop w cells) lines.some rest.whole))
 
 -- lines of one width each are joined to whole lines
 pub length-joined_map : {A B : Type 0} (f : A → List B) (w : ℕ) (rows : List A) → ((row : A) → length (f row) ≡ w) → length (joined (map f rows)) ≡ length rows * w

@@ -11,6 +11,7 @@ mod reply;
 mod select;
 mod steps;
 mod store;
+mod texts;
 mod truth;
 
 pub use answer::{Answer, Cell, Heading};
@@ -21,4 +22,5 @@ pub use reply::Reply;
 pub use select::answer_of;
 pub use steps::step;
 pub use store::{Header, Row, Store, Table};
+pub use texts::reply_text;
 pub use truth::Truth;
