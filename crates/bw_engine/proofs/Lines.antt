@@ -10,14 +10,10 @@ use Rattle.bw_sql.specs.Rows.{joined, rows_of}
 use Rattle.bw_sql.proofs.RowLemmas.{length-rows_of}
 use Rattle.bw_model.specs.Answers.{AreWholeLines, lines_of}
 use Rattle.bw_model.specs.Store.{Header, Table, Value, row_limit}
+use Rattle.bw_model.proofs.Lines.{count-lines_of, count-of, length-joined_map, lines_of-first, lines_of-nil, whole_rest}
 use Rattle.bw_engine.specs.Flat.{AreRows}
 
 module _ {A : Type 0} where
-  pub length-joined : (w : ℕ) (rows : List (List A)) → All (λ row. length row ≡ w) rows → length (joined rows) ≡ length rows * w
-  length-joined w [] all = omega arith
-  length-joined w (row ∷ rows) all =
-      omega (arith, length-append row (joined rows), All-head (λ r. length r ≡ w) row rows all, length-joined w rows (All-tail (λ r. length r ≡ w) row rows all))
-
   pub rows_of-append : (w n m : ℕ) (a b : List A) → length a ≡ n * w → rows_of (replicate (n + m) w) (a ++ b) ≡ rows_of (replicate n w) a ++ rows_of (replicate m w) b
   rows_of-append w zero m [] b e = let none : 0 + m ≡ m = omega arith in ap (λ k. rows_of (replicate k w) b) none
   rows_of-append w zero m (x ∷ a) b e = absurd (omega arith)
@@ -30,15 +26,6 @@ module _ {A : Type 0} where
       ∙ ap (λ l. take w a ∷ rows_of (replicate (n + m) w) l) (drop-append-le w a b fits)
       ∙ ap (λ l. take w a ∷ l) (rows_of-append w n m (drop w a) b rest)
 
-  pub length-lines_of : (w : ℕ) (cells : List A) → length (lines_of w cells) ≡ length cells / w
-  length-lines_of w cells = length-rows_of (replicate (length cells / w) w) cells ∙ length-replicate (length cells / w) w
-
-  pub count-of : (w n : ℕ) (cells : List A) → 0 < w → length cells ≡ n * w → length cells / w ≡ n
-  count-of w n cells some e = ap (λ k. k / w) e ∙ mul-div_cancel n some
-
-  pub count-lines_of : (w n : ℕ) (cells : List A) → 0 < w → length cells ≡ n * w → length (lines_of w cells) ≡ n
-  count-lines_of w n cells some e = length-lines_of w cells ∙ count-of w n cells some e
-
   pub lines_of-append : (w n m : ℕ) (a b : List A) → 0 < w → length a ≡ n * w → length b ≡ m * w → lines_of w (a ++ b) ≡ lines_of w a ++ lines_of w b
   lines_of-append w n m a b some ea eb =
       let whole : length (a ++ b) ≡ (n + m) * w = omega (arith, length-append a b) in
@@ -50,36 +37,6 @@ module _ {A : Type 0} where
   -- whole lines, with one line more
   pub one_line : (w : ℕ) (a b : List A) → AreWholeLines w a → length b ≡ w → AreWholeLines w (a ++ b)
   one_line w a b lines e = record { some = lines.some; count = lines.count + 1; whole = omega (arith, length-append a b, lines.whole) }
-
-  pub lines_of-nil : (w : ℕ) → 0 < w → lines_of {A = A} w [] ≡ []
-  lines_of-nil w some = let none : 0 / w ≡ 0 = count-of w 0 [] some (omega arith) in ap (λ k. rows_of (replicate k w) []) none
-
-  -- so many rows of a width are whole lines
-  pub whole_lines : (w n : ℕ) (cells : List A) → 0 < w → length cells ≡ n * w → AreWholeLines w cells
-  whole_lines w n cells some e = record { some = some; count = n; whole = e }
-
-  rest_by : (w n : ℕ) (cells : List A) → 0 < w → length cells ≡ n * w → 0 < length cells → AreWholeLines w (drop w cells)
-  rest_by w zero cells some e more = absurd (omega arith)
-  rest_by w (suc n) cells some e more = record { some = some; count = n; whole = omega (arith, length-drop w cells) }
-
-  -- what follows the first line
-  pub whole_rest : (w : ℕ) (cells : List A) → AreWholeLines w cells → 0 < length cells → AreWholeLines w (drop w cells)
-  whole_rest w cells lines more = rest_by w lines.count cells lines.some lines.whole more
-
-  fits_by : (w n : ℕ) (cells : List A) → length cells ≡ n * w → 0 < length cells → w ≤ length cells
-  fits_by w zero cells e more = absurd (omega arith)
-  fits_by w (suc n) cells e more = omega arith
-
-  pub line_fits : (w : ℕ) (cells : List A) → AreWholeLines w cells → 0 < length cells → w ≤ length cells
-  line_fits w cells lines more = fits_by w lines.count cells lines.whole more
-
-  pub lines_of-first : (w : ℕ) (cells : List A) → AreWholeLines w cells → 0 < length cells → lines_of w cells ≡ take w cells ∷ lines_of w (drop w cells)
-  lines_of-first w cells lines more =
-      let rest = whole_rest w cells lines more in
-      let fits = line_fits w cells lines more in
-      let whole : length cells ≡ suc rest.count * w = omega (arith, length-drop w cells, rest.whole, fits) in
-      ap (λ k. rows_of (replicate k w) cells) (count-of w (suc rest.count) cells lines.some whole)
-      ∙ ap (λ k. take w cells ∷ rows_of (replicate k w) (drop w cells)) (sym (count-of w rest.count (drop w cells) lines.some rest.whole))
 
 -- What a walk over lines has made of those so far, and what it will make of the rest, is what it makes of all.
 module _ {A B : Type 0} (f : List A → List B) (w : ℕ) (all : List A) where
@@ -111,11 +68,6 @@ module _ {A B : Type 0} (f : List A → List B) (w : ℕ) (all : List A) where
 kept_or_not : {B : Type 0} (b : Bool) (l : List B) (m : List (List B)) (n : List B) → n ≡ joined m → (if b then l else []) ++ n ≡ joined (if b then l ∷ m else m)
 kept_or_not true l m n e = ap (λ k. l ++ k) e
 kept_or_not false l m n e = e
-
--- lines of one width each are joined to whole lines
-pub length-joined_map : {A B : Type 0} (f : A → List B) (w : ℕ) (rows : List A) → ((row : A) → length (f row) ≡ w) → length (joined (map f rows)) ≡ length rows * w
-length-joined_map f w [] each = omega arith
-length-joined_map f w (row ∷ rows) each = omega (arith, length-append (f row) (joined (map f rows)), each row, length-joined_map f w rows each)
 
 map-kept : {A B : Type 0} (b : Bool) (f : A → B) (x : A) (xs : List A) → map f (if b then x ∷ xs else xs) ≡ (if b then f x ∷ map f xs else map f xs)
 map-kept true f x xs = refl
@@ -159,31 +111,8 @@ pub passed_over : {B : Type 0} (b : Bool) (l : List B) → b ≡ false → (if b
 passed_over true l e = absurd (true≢false e)
 passed_over false l e = refl
 
--- lines that show so many places
-pub shown_lines : {A B P : Type 0} (g : A → P → B) (places : List P) (rows : List A) (cells : List B) (w : ℕ) → 0 < length places → w ≡ length places → cells ≡ joined (map (λ row. map (g row) places) rows) → AreWholeLines w cells
-shown_lines g places rows cells w some same e =
-    record { some = omega arith; count = length rows; whole = ap length e ∙ length-joined_map (λ row. map (g row) places) w rows (λ row. length-map places (g row) ∙ sym same) }
-
 -- rows spread over more places
 pub length-spread : {A B S : Type 0} (g : List A → S → B) (sources : List S) (w n : ℕ) (values : List A) (cells : List B) → 0 < w → length values ≡ n * w → cells ≡ joined (map (λ row. map (g row) sources) (lines_of w values)) → length cells ≡ n * length sources
 length-spread g sources w n values cells some e is =
     ap length is ∙ length-joined_map (λ row. map (g row) sources) (length sources) (lines_of w values) (λ row. length-map sources (g row))
     ∙ ap (λ k. k * length sources) (count-lines_of w n values some e)
-
--- joined lines are lines again
-rows_of-joined : {A : Type 0} (w : ℕ) (rows : List (List A)) → All (λ row. length row ≡ w) rows → rows_of (replicate (length rows) w) (joined rows) ≡ rows
-rows_of-joined w [] all = refl
-rows_of-joined w (row ∷ rows) all =
-    let same : length row ≡ w = All-head (λ r. length r ≡ w) row rows all in
-    let rest = rows_of-joined w rows (All-tail (λ r. length r ≡ w) row rows all) in
-    ap (λ k. take k (row ++ joined rows) ∷ rows_of (replicate (length rows) w) (drop k (row ++ joined rows))) (sym same)
-    ∙ ap (λ l. l ∷ rows_of (replicate (length rows) w) (drop (length row) (row ++ joined rows))) (take-append_seam row (joined rows))
-    ∙ ap (λ l. row ∷ rows_of (replicate (length rows) w) l) (drop-append_seam row (joined rows))
-    ∙ ap (λ l. row ∷ l) rest
-
-pub lines_of-joined : {A : Type 0} (w : ℕ) (rows : List (List A)) → 0 < w → All (λ row. length row ≡ w) rows → lines_of w (joined rows) ≡ rows
-lines_of-joined w rows some all = ap (λ k. rows_of (replicate k w) (joined rows)) (count-of w (length rows) (joined rows) some (length-joined w rows all)) ∙ rows_of-joined w rows all
-
-pub All-map : {A B : Type 0} (f : A → List B) (w : ℕ) (rows : List A) → ((row : A) → length (f row) ≡ w) → All (λ row. length row ≡ w) (map f rows)
-All-map f w [] each = All-nil (λ row. length row ≡ w)
-All-map f w (row ∷ rows) each = All-cons (λ r. length r ≡ w) (f row) (map f rows) (each row) (All-map f w rows each)

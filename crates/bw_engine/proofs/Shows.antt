@@ -12,7 +12,7 @@ use Rattle.bw_model.specs.declared.answer.Heading.{Heading}
 use Rattle.bw_model.specs.declared.answer.Heading.TheVariants.{Column}
 use Rattle.bw_engine.specs.Searches.{IsSearch, finds_or_all}
 use Rattle.bw_engine.specs.declared.search.Search.{Search}
-use Rattle.bw_engine.proofs.Lines.{All-map, lines_of-joined, shown_lines}
+use Rattle.bw_model.proofs.Lines.{All-map, lines_of-joined, shown_lines}
 use Rattle.bw_engine.proofs.Places.{line_by_places}
 
 module _ (headers : List Header) (list : List (List ℕ)) (places : List ℕ) (headings : List Heading) (cells : List Cell) (rows : List Row)

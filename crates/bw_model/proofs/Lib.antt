@@ -1,2 +1,6 @@
+pub mod Answered
+pub mod Commas
+pub mod Lines
+pub mod Stores
 pub mod Unchanged
 pub mod Values

@@ -49,7 +49,11 @@ pub fn truth_at(headers: &[Header], row: &Row, condition: &Condition) -> Truth
     ensures { result ≡ truth_at headers.now row.now (condition_of condition.now) }
 {
     let Condition::Compare(left, op, right) = condition;
-    compared(*op, value_of(headers, row, left), value_of(headers, row, right))
+    compared(
+        *op,
+        value_of(headers, row, left),
+        value_of(headers, row, right),
+    )
 }
 
 /// Every row is found where there is no condition.

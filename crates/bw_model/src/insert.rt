@@ -1,24 +1,24 @@
 //! The rows that an INSERT adds.
 
-ghost use Rattle.std.specs.Prelude.{◌≡◌, IfOk, map, option_map, position};
+ghost use Rattle.std.specs.Prelude.{◌≡◌, IfOk, map, position};
 ghost use Rattle.std.specs.Str.{bytes_eq};
 ghost use Rattle.bw_model.specs.Insert.{row_for, target_columns};
 
 use crate::store::{Header, Row, names, value_from};
-use bw_sql::{Name, Value, ValueRows};
+use bw_sql::{Name, NameList, Value, ValueRows};
 use std::alloc::{AllocError, Global};
 
 /// The columns that the values are for: where none is listed, all of them in order.
 pub fn target_columns(
     alloc: Global,
     headers: &[Header],
-    listed: &Option<Vec<Name>>,
+    listed: &Option<NameList>,
 ) -> Result<Vec<Name>, AllocError>
-    ensures { IfOk result (λ columns. columns.items ≡ target_columns headers.now (option_map (λ list. list.items) listed.now)) }
+    ensures { IfOk result (λ columns. columns.items ≡ target_columns headers.now listed.now) }
 {
     match listed {
         None => names(alloc, headers),
-        Some(list) => copied(alloc, list),
+        Some(list) => copied(alloc, list.as_slice()),
     }
 }
 

@@ -1,12 +1,23 @@
 //! Why a statement is refused.
 
-ghost use Rattle.std.specs.Prelude.{◌≡◌, length, map, option_map};
+ghost use Rattle.std.specs.Prelude.{◌≡◌, ◌==◌, ◌||◌, length, nat_le, nat_lt, option_map};
+ghost use Rattle.std.specs.List.{list_all, list_any};
 ghost use Rattle.bw_model.specs.Refusals.{condition_misses, create_tests, first_that_holds, insert_tests, is_in_range, is_missing, operand_is_missing, select_tests};
+ghost use Rattle.bw_model.specs.Store.{column_limit, table_limit};
 ghost use Rattle.bw_sql.specs.Tree.{condition_of};
 
 use crate::refusal::Refusal;
-use crate::store::{Header, Row, Table, are_distinct, place_of};
-use bw_sql::{ColumnDefinition, Condition, Name, Operand, Value};
+use crate::store::{Header, Row, Table, are_distinct, place_of, table_of};
+use bw_sql::{Condition, Name, Operand, Value};
+
+/// The most columns that a table has.
+const COLUMN_LIMIT: usize = 64;
+
+/// The most tables that a store holds.
+const TABLE_LIMIT: usize = 64;
+
+/// The most rows that a table holds.
+const ROW_LIMIT: usize = 16_777_216;
 
 /// A refusal, and whether it holds.
 type Test = (Refusal, bool);
@@ -56,4 +67,81 @@ fn is_in_range(value: &Value) -> bool
         None => true,
         Some(number) => *number >= -2_147_483_648 && *number <= 2_147_483_647,
     }
+}
+
+/// The tests of CREATE TABLE.
+pub fn create_tests(columns: &[Name], name: &Name, tables: &[(Name, Table)]) -> [Test; 3]
+    ensures { result ≡ create_tests columns.now name.now tables.now }
+{
+    [
+        (Refusal::TableExists, table_of(tables, name).is_some()),
+        (Refusal::ColumnNamedTwice, !are_distinct(columns)),
+        (
+            Refusal::OverLimit,
+            is_over_limit(columns.len(), tables.len()),
+        ),
+    ]
+}
+
+/// Whether so many columns are none or too many, or another table is one too many.
+fn is_over_limit(columns: usize, tables: usize) -> bool
+    ensures { result ≡ (columns == 0 || nat_lt column_limit columns || nat_le table_limit tables) }
+{
+    columns == 0 || columns > COLUMN_LIMIT || tables >= TABLE_LIMIT
+}
+
+/// The tests of INSERT over a table.
+pub fn insert_tests(columns: &[Name], rows: &[Row], table: &Table) -> [Test; 5]
+    ensures { result ≡ insert_tests columns.now rows.now table.now }
+{
+    [
+        (Refusal::NoSuchColumn, misses_any(table.headers(), columns)),
+        (Refusal::ColumnNamedTwice, !are_distinct(columns)),
+        (
+            Refusal::WrongNumberOfValues,
+            !are_of_width(rows, columns.len()),
+        ),
+        (Refusal::OutOfRange, !are_in_range(rows)),
+        (
+            Refusal::TableFull,
+            table.rows().len() + rows.len() > ROW_LIMIT,
+        ),
+    ]
+}
+
+/// The tests of SELECT over a table.
+pub fn select_tests(columns: &[Name], condition: &Option<Condition>, table: &Table) -> [Test; 2]
+    ensures { result ≡ select_tests columns.now (option_map condition_of condition.now) table.now }
+{
+    [
+        (Refusal::NoSuchColumn, misses_any(table.headers(), columns)),
+        (
+            Refusal::NoSuchColumn,
+            condition_misses(table.headers(), condition),
+        ),
+    ]
+}
+
+fn misses_any(headers: &[Header], columns: &[Name]) -> bool
+    ensures { result ≡ list_any (is_missing headers.now) columns.now }
+{
+    columns.iter().any(|name| is_missing(headers, name))
+}
+
+fn are_of_width(rows: &[Row], width: usize) -> bool
+    ensures { result ≡ list_all (λ row. length row == width) rows.now }
+{
+    rows.iter().all(|row| row.values().len() == width)
+}
+
+fn are_in_range(rows: &[Row]) -> bool
+    ensures { result ≡ list_all (list_all is_in_range) rows.now }
+{
+    rows.iter().all(is_row_in_range)
+}
+
+fn is_row_in_range(row: &Row) -> bool
+    ensures { result ≡ list_all is_in_range row.now }
+{
+    row.values().iter().all(is_in_range)
 }

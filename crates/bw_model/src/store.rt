@@ -1,9 +1,10 @@
 //! What a store holds, as lists: tables in the order in which they were made, each with its rows.
 
-ghost use Rattle.std.specs.Prelude.{◌≡◌, [], ◌++◌, IfOk, OnOk, OnErr, length, map};
+ghost use Rattle.std.specs.Prelude.{◌≡◌, ◌<◌, [], ◌++◌, IfOk, OnOk, OnErr, length, position};
 ghost use Rattle.std.specs.List.{list_any};
+ghost use Rattle.std.specs.Option.{option_copied};
 ghost use Rattle.std.specs.Str.{bytes_eq};
-ghost use Rattle.bw_model.specs.Store.{are_distinct, header_of, names, place_of, value_at, value_from};
+ghost use Rattle.bw_model.specs.Store.{are_distinct, header_of, names, place_of, table_of, value_at, value_from};
 
 use bw_sql::{ColumnDefinition, KindWord, LayoutWord, Name, Value};
 use std::alloc::{AllocError, Global};
@@ -75,7 +76,7 @@ impl Header {
     }
 }
 
-/// Columns and rows. A contract sees the lists of them.
+/// Columns, one at least, and rows. A contract sees the lists of them.
 #[derive(Debug, Drop)]
 pub struct Table {
     headers: Vec<Header>,
@@ -83,24 +84,32 @@ pub struct Table {
 }
 
 impl Model for Table {
+    ghost use Rattle.std.specs.Prelude.{◌<◌, length};
     ghost use Rattle.bw_model.specs.Store.{Table};
 
     ghost Value = { Table };
 
     ghost view = { λ t. record { headers = t.headers.items; rows = t.rows.items } };
+
+    ghost invariant = { λ t. 0 < length t.headers.items };
 }
 
 impl Table {
-    /// The table of these columns and rows.
-    pub fn new(headers: Vec<Header>, rows: Vec<Row>) -> Table
-        ensures { result ≡ record { headers = headers.items; rows = rows.items } }
+    /// The table of these columns without rows.
+    pub fn new(alloc: Global, headers: Vec<Header>) -> Table
+        requires { 0 < length headers.items }
+        ensures { result ≡ record { headers = headers.items; rows = [] } }
     {
-        Table { headers, rows }
+        Table {
+            headers,
+            rows: Vec::new(alloc),
+        }
     }
 
     /// The columns, in order.
     pub fn headers(&self) -> &[Header]
-        ensures { result.now ≡ self.now.headers }
+        ensures value { result.now ≡ self.now.headers }
+        ensures some { 0 < length self.now.headers }
     {
         self.headers.as_slice()
     }
@@ -118,6 +127,31 @@ impl Table {
         ensures err { OnErr result (self.new ≡ self.old) }
     {
         self.rows.append(&mut rows)
+    }
+}
+
+/// Tables with their names, in the order in which they were made. A contract sees the list of them.
+#[derive(Drop)]
+pub struct Store {
+    pub(crate) tables: Vec<(Name, Table)>,
+}
+
+impl Model for Store {
+    ghost use Rattle.bw_model.specs.Store.{Store};
+
+    ghost Value = { Store };
+
+    ghost view = { λ store. store.tables.items };
+}
+
+impl Store {
+    /// A store without tables.
+    pub fn new(alloc: Global) -> Store
+        ensures { result ≡ [] }
+    {
+        Store {
+            tables: Vec::new(alloc),
+        }
     }
 }
 
@@ -147,6 +181,25 @@ pub fn are_distinct(names: &[Name]) -> bool
         [] => true,
         [name, rest @ ..] => !is_among(name, rest) && are_distinct(rest),
     }
+}
+
+/// The table of this name.
+pub fn table_of<'a>(tables: &'a [(Name, Table)], name: &Name) -> Option<&'a Table>
+    ensures { option_copied result ≡ table_of tables.now name.now }
+{
+    for (other, table) in tables {
+        if name == other {
+            return Some(table);
+        }
+    }
+    None
+}
+
+/// The place of the table of this name.
+pub fn place_of_table(tables: &[(Name, Table)], name: &Name) -> Option<usize>
+    ensures { result ≡ position (λ entry. bytes_eq name.now entry.0) tables.now }
+{
+    tables.iter().position(|(other, _)| name == other)
 }
 
 /// The place of the column of this name.

@@ -3,7 +3,7 @@ use Rattle.bw_sql.specs.Rows.{joined}
 use Rattle.bw_model.specs.Answers.{lines_of}
 use Rattle.bw_model.specs.Store.{value_from}
 use Rattle.bw_engine.specs.Outcomes.{listed_tests, value_tests}
-use Rattle.bw_engine.proofs.Lines.{length-joined, lines_of-joined, whole_lines}
+use Rattle.bw_model.proofs.Lines.{length-joined, lines_of-joined, whole_lines}
 use Rattle.bw_engine.proofs.Places.{row_by_sources}
 use Rattle.bw_engine.proofs.Tests.{all_of_width, first-append_none}
 use Rattle.bw_engine.proofs.insert.listed_cells.Goals as goal

@@ -1,5 +1,5 @@
 use Rattle.std.proofs.Common.{◌∙◌, sym, ap, length}
-use Rattle.bw_engine.proofs.Lines.{length-lines_of}
+use Rattle.bw_model.proofs.Lines.{length-lines_of}
 use Rattle.bw_engine.proofs.table.Table.row_count.Goals as goal
 
 pub returns-clause-value : goal.returns-clause-value

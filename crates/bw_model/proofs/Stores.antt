@@ -1,0 +1,107 @@
+-- A store's tables by their names and places, and what a statement leaves.
+use Rattle.std.proofs.Common.{◌≡◌, ℕ, ◌+◌, ◌<◌, ◌≤◌, Bool, true, false, not, ltb, List, [], ◌∷◌, ◌++◌, get_or, length, map, position, set, Option, None, Some, Result, Ok, Err, IfOk, MatchOption, if◌then◌else◌, zero, suc, refl, sym, ap, ◌∙◌, arith}
+use Rattle.std.specs.List.{position_or_len}
+use Rattle.std.specs.Str.{bytes_eq}
+use Rattle.std.proofs.lemmas.Bool.{ltb-false, true≢false}
+use Rattle.std.proofs.lemmas.List.{set-get_or}
+use Rattle.std.proofs.lemmas.List.Quantifiers.{position-Some}
+use Rattle.bw_sql.specs.Tree.{StatementTree, create_table, insert}
+use Rattle.bw_sql.specs.declared.tree.ColumnDefinition.{ColumnDefinition}
+use Rattle.bw_model.specs.Insert.{target_columns, with_rows}
+use Rattle.bw_model.specs.Refusals.{Tests, create_tests, first_that_holds, insert_tests, over, tests_of}
+use Rattle.bw_model.specs.Step.{carried_out, outcome_of, refused_or, with_table}
+use Rattle.bw_model.specs.Store.{Header, Row, Store, Table, header_of, names, table_of}
+use Rattle.bw_model.specs.declared.refusal.Refusal.{Refusal}
+use Rattle.bw_model.specs.declared.refusal.Refusal.TheVariants.{NoSuchTable}
+use Rattle.bw_model.specs.declared.reply.Reply.{Reply}
+use Rattle.bw_model.specs.declared.reply.Reply.TheVariants.{Count, Done, Refused}
+
+pub names_of_definitions : (columns : List ColumnDefinition) → names (map header_of columns) ≡ map (λ c. c.name) columns
+names_of_definitions [] = refl
+names_of_definitions (column ∷ columns) = ap (λ l. column.name ∷ l) (names_of_definitions columns)
+
+-- the tests of CREATE, from the names of the columns that it makes
+pub create_first : (store : Store) (name : List ℕ) (columns : List ColumnDefinition) (headers : List Header) (list : List (List ℕ)) (tests : Tests) (first : Option Refusal)
+    → headers ≡ map header_of columns → list ≡ names headers → tests ≡ create_tests list name store → first ≡ first_that_holds tests → first_that_holds (tests_of store (create_table name columns)) ≡ first
+create_first store name columns headers list tests first made named tested is =
+    sym (is ∙ ap first_that_holds (tested ∙ ap (λ l. create_tests l name store) (named ∙ ap names made ∙ names_of_definitions columns)))
+
+-- where the first test that holds is this one, or none does
+pub outcome_is : (store : Store) (statement : StatementTree) (first : Option Refusal) → first_that_holds (tests_of store statement) ≡ first → outcome_of store statement ≡ refused_or first store (carried_out store statement)
+outcome_is store statement first e = ap (λ o. refused_or o store (carried_out store statement)) e
+
+-- a table put last
+pub created : (store after : Store) (name given : List ℕ) (columns : List ColumnDefinition) (headers : List Header) (table : Table)
+    → first_that_holds (tests_of store (create_table name columns)) ≡ None → given ≡ name → headers ≡ map header_of columns → table ≡ record { headers = headers; rows = [] } → after ≡ store ++ (given, table) ∷ []
+    → ◌≡◌ {A = Reply × Store} (Done, after) (outcome_of store (create_table name columns))
+created store after name given columns headers table none named made is put =
+    ap (λ s. (Done, s)) (put ∙ ap (λ n. store ++ (n, table) ∷ []) named ∙ ap (λ t. store ++ (name, t) ∷ []) (is ∙ ap (λ h. record { headers = h; rows = [] }) made))
+    ∙ sym (outcome_is store (create_table name columns) None none)
+
+module _ (name : List ℕ) (change : Table → Table) where
+  -- a table at the first place of its name is the one of this name
+  pub record Found (store : Store) (i : ℕ) (entry : List ℕ × Table) : Type 0 where
+    pub there : table_of store name ≡ Some entry.1
+    pub changed : set store i (entry.0, change entry.1) ≡ with_table store name change
+
+  here : (b : Bool) (first entry : List ℕ × Table) (store : Store) → b ≡ true → entry ≡ first
+      → ((if b then Some first.1 else table_of store name) ≡ Some entry.1) × ((entry.0, change entry.1) ∷ store ≡ (if b then (first.0, change first.1) ∷ store else first ∷ with_table store name change))
+  here true first entry store b e = (ap (λ x. Some x.1) (sym e), ap (λ x. (x.0, change x.1) ∷ store) e)
+  here false first entry store b e = absurd (true≢false (sym b))
+
+  deeper : (b : Bool) (first entry : List ℕ × Table) (store : Store) (i : ℕ) → b ≡ false → Found store i entry
+      → ((if b then Some first.1 else table_of store name) ≡ Some entry.1) × (first ∷ set store i (entry.0, change entry.1) ≡ (if b then (first.0, change first.1) ∷ store else first ∷ with_table store name change))
+  deeper true first entry store i b found = absurd (true≢false b)
+  deeper false first entry store i b found = (found.there, ap (λ l. first ∷ l) found.changed)
+
+  found_at : (store : Store) (i : ℕ) (entry : List ℕ × Table) → i < length store → entry ≡ get_or store i entry → bytes_eq name (get_or store i entry).0 ≡ true → ((k : ℕ) → k < i → bytes_eq name (get_or store k entry).0 ≡ false) → Found store i entry
+  found_at [] i entry within at is others = absurd (omega arith)
+  found_at (first ∷ store) zero entry within at is others =
+      let p = here (bytes_eq name first.0) first entry store is at in record { there = p.0; changed = p.1 }
+  found_at (first ∷ store) (suc i) entry within at is others =
+      let p = deeper (bytes_eq name first.0) first entry store i (others 0 (omega arith)) (found_at store i entry (omega arith) at is (λ k below. others (suc k) (omega arith))) in
+      record { there = p.0; changed = p.1 }
+
+  pub found : (store : Store) (i : ℕ) (entry : List ℕ × Table) → position (λ e. bytes_eq name e.0) store ≡ Some i → entry ≡ get_or store i entry → Found store i entry
+  found store i entry e at = let p = position-Some (λ x. bytes_eq name x.0) store i entry e in found_at store i entry p.0 at p.1 p.2
+
+none_if : (b : Bool) (n : ℕ) → (if b then Some n else None) ≡ None → b ≡ false
+none_if true n e = cc
+none_if false n e = refl
+
+module _ (name : List ℕ) where
+  past : (b : Bool) (n m : ℕ) (o : Option Table) (t : Table) → suc m ≤ (if not b then 1 + n else 0) → (m ≤ n → o ≡ None) → (if b then Some t else o) ≡ None
+  past true n m o t all rest = absurd (omega arith)
+  past false n m o t all rest = rest (omega arith)
+
+  absent_past : (store : Store) → length store ≤ position_or_len (λ e. bytes_eq name e.0) store → table_of store name ≡ None
+  absent_past [] all = refl
+  absent_past (entry ∷ store) all = past (bytes_eq name entry.0) (position_or_len (λ e. bytes_eq name e.0) store) (length store) (table_of store name) entry.1 all (absent_past store)
+
+  pub absent : (store : Store) → position (λ e. bytes_eq name e.0) store ≡ None → table_of store name ≡ None
+  absent store e =
+      let n = position_or_len (λ x. bytes_eq name x.0) store in
+      absent_past store (ltb-false n (length store) (none_if (ltb n (length store)) n e))
+
+-- rows put into the table at its place
+module _ (store : Store) (name : List ℕ) (listed : Option (List (List ℕ))) (rows : List Row) where
+  by_first : (first : Option Refusal) (i : ℕ) (entry : List ℕ × Table) (new : Table) (reply : Reply) → first_that_holds (tests_of store (insert name listed rows)) ≡ first → Found name (with_rows listed rows) store i entry → set store i entry ≡ store
+      → MatchOption first ((reply ≡ Count (length rows)) × (new ≡ with_rows listed rows entry.1)) (λ refusal. (reply ≡ Refused refusal) × (new ≡ entry.1))
+      → ◌≡◌ {A = Reply × Store} (reply, set store i (entry.0, new)) (outcome_of store (insert name listed rows))
+  by_first None i entry new reply is at same h =
+      (λ j. (h.0 j, set store i (entry.0, h.1 j))) ∙ ap (λ s. (Count (length rows), s)) at.changed ∙ sym (outcome_is store (insert name listed rows) None is)
+  by_first (Some refusal) i entry new reply is at same h =
+      (λ j. (h.0 j, set store i (entry.0, h.1 j))) ∙ ap (λ s. (Refused refusal, s)) same ∙ sym (outcome_is store (insert name listed rows) (Some refusal) is)
+
+  pub inserted : {E : Type 0} (i : ℕ) (d : List ℕ × Table) (new : Table) (r : Result Reply E) → position (λ e. bytes_eq name e.0) store ≡ Some i → d ≡ get_or store i d
+      → IfOk r (λ reply. MatchOption (first_that_holds (insert_tests (target_columns (get_or store i d).1.headers listed) rows (get_or store i d).1)) ((reply ≡ Count (length rows)) × (new ≡ with_rows listed rows (get_or store i d).1)) (λ refusal. (reply ≡ Refused refusal) × (new ≡ (get_or store i d).1)))
+      → IfOk r (λ reply. ◌≡◌ {A = Reply × Store} (reply, set store i ((get_or store i d).0, new)) (outcome_of store (insert name listed rows)))
+  inserted i d new (Err e) place at h = tt
+  inserted i d new (Ok reply) place at h =
+      let entry = get_or store i d in
+      let there = found name (with_rows listed rows) store i entry place (ap (get_or store i) at) in
+      by_first (first_that_holds (insert_tests (target_columns entry.1.headers listed) rows entry.1)) i entry new reply
+      (ap (λ o. first_that_holds (over o (λ table. insert_tests (target_columns table.headers listed) rows table))) there.there) there (set-get_or store i d) h
+
+  pub no_table : table_of store name ≡ None → ◌≡◌ {A = Reply × Store} (Refused NoSuchTable, store) (outcome_of store (insert name listed rows))
+  no_table none = sym (outcome_is store (insert name listed rows) (Some NoSuchTable) (ap (λ o. first_that_holds (over o (λ table. insert_tests (target_columns table.headers listed) rows table))) none))
