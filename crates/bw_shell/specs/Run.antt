@@ -56,7 +56,7 @@ Either true a b = a
 Either false a b = b
 
 -- Over this store, a run over the parts may end so and write these bytes. Each reply is written whole, or a front of
--- it where the writer fails, and nothing comes after that.
+-- it where the writer fails (all of it, where only the flush behind it fails), and nothing comes after that.
 abbrev pub Session : OnError → ScriptEnd → List ℕ → Store → List Part → RunEnd → List ℕ → Type 0
 Session on_error read script store [] end bytes = IsOver (last_end read) end bytes
 Session on_error read script store (part ∷ parts) end bytes =
