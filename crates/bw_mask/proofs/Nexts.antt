@@ -7,7 +7,7 @@ use Rattle.std.specs.Prelude.{is_some}
 use Rattle.std.specs.List.{list_any}
 use Rattle.std.proofs.lemmas.List.Folds.{list_any_at, list_any_none}
 use Rattle.bw_mask.specs.Masks.{IsNext, bit_of, row_in, rows_of}
-use Rattle.bw_mask.proofs.Views.{rows_at, rows_clean, rows_len}
+use Rattle.bw_mask.proofs.Views.{rows_clean, rows_len}
 use Rattle.bw_mask.proofs.Bits.{high, bit_of_high, bit_below_high}
 
 pub next_same : (f g : ℕ → Bool) → ((j : ℕ) → f j ≡ g j) → (i : ℕ) (o : Option ℕ) → IsNext g i o → IsNext f i o

@@ -1,7 +1,6 @@
-use Rattle.std.proofs.Common.{ap, count_by, subst, sum_by, sym, ◌≡◌, ◌≤◌, ◌∙◌}
+use Rattle.std.proofs.Common.{ap, count_by, sum_by, ◌≡◌, ◌∙◌}
 use Rattle.std.proofs.lemmas.List.Sums.{count_by-le-length}
 use Rattle.std.specs.Int.RustNames.{count_ones}
-use Rattle.bw_mask.specs.Masks.{len}
 use Rattle.bw_mask.proofs.Counts.{many_is}
 use Rattle.bw_mask.proofs.mask.Mask.count.Goals as goal
 
