@@ -1,5 +1,5 @@
 -- The first row from a place on.
-use Rattle.std.proofs.Common.{◌≡◌, ℕ, ◌≤◌, ◌<◌, ◌+◌, ◌*◌, ◌/◌, ◌%◌, ◌==◌, Bool, true, false, List, get_or, length, Option, None, Some, inl, inr, ap, sym, ◌∙◌, arith}
+use Rattle.std.proofs.Common.{◌≡◌, ℕ, ◌≤◌, ◌<◌, ◌+◌, ◌*◌, ◌/◌, ◌%◌, ◌==◌, Bool, true, false, List, get_or, length, Option, None, Some, inl, inr, ap, refl, sym, ◌∙◌, arith}
 use Rattle.std.proofs.lemmas.List.{get_or_default}
 use Rattle.std.proofs.lemmas.Bool.{cases_lt, both_ways}
 use Rattle.std.proofs.lemmas.Nat.Bits.{bit_at-zero}
@@ -7,7 +7,7 @@ use Rattle.std.specs.Prelude.{is_some}
 use Rattle.std.specs.List.{list_any}
 use Rattle.std.proofs.lemmas.List.Folds.{list_any_at, list_any_none}
 use Rattle.bw_mask.specs.Masks.{IsNext, bit_of, row_in, rows_of}
-use Rattle.bw_mask.proofs.Views.{rows_at, rows_clean, rows_len}
+use Rattle.bw_mask.proofs.Views.{rows_clean, rows_len}
 use Rattle.bw_mask.proofs.Bits.{high, bit_of_high, bit_below_high}
 
 pub next_same : (f g : ℕ → Bool) → ((j : ℕ) → f j ≡ g j) → (i : ℕ) (o : Option ℕ) → IsNext g i o → IsNext f i o
@@ -51,3 +51,7 @@ any_is n f clean (Some r) found = sym (list_any_at (λ b. b) (rows_of n f) r fal
           | inl h ↦ omega (arith, rows_len n f)
           | inr h ↦ absurd (both_ways (f r) (clean r h) found.1)
         ]
+
+pub none_from : (f : ℕ → Bool) (o : Option ℕ) → IsNext f 0 o → is_some o ≡ false → (j : ℕ) → f j ≡ false
+none_from f None none e j = none j (omega arith)
+none_from f (Some r) found e j = absurd (both_ways true e refl)

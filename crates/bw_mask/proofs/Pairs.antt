@@ -6,7 +6,7 @@ use Rattle.std.proofs.lemmas.List.{get_or-replicate, get_or_default, get_or_past
 use Rattle.std.proofs.lemmas.List.FromFn.{get_or-map-range_with_len, length-map-range_with_len}
 use Rattle.bw_mask.specs.Masks.{MaskRows, len, row_at}
 use Rattle.bw_mask.specs.Truth.{and_of, is_of, is_value, not_of, or_of, truth_of_bool}
-use Rattle.bw_mask.specs.Truths.{AreDisjoint, AreTruths, truth_at, truth_from, truths_of}
+use Rattle.bw_mask.specs.Truths.{AreTruths, truth_at, truth_from, truths_of}
 use Rattle.bw_mask.specs.declared.truth_value.TruthValue.{TruthValue}
 use Rattle.bw_mask.specs.declared.truth_value.TruthValue.TheVariants.{False, True, Unknown}
 
@@ -114,47 +114,47 @@ module _ (n : ℕ) (value : TruthValue) (trues falses : MaskRows) (trues_are : t
 
 -- the needed rows that have a value, and the needed rows that have another one
 module _
-  (t f kept need hit rest : MaskRows) (value : TruthValue)
-  (are : AreTruths t f) (need_len : len need ≡ len t) (hit_len : len hit ≡ len t) (rest_len : len rest ≡ len t)
-  (kept_rows : (i : ℕ) → i < len t → row_at kept i ≡ is_value (truth_from (row_at t i) (row_at f i)) value)
-  (hit_rows : (i : ℕ) → row_at hit i ≡ (row_at kept i && row_at need i))
-  (rest_rows : (i : ℕ) → row_at rest i ≡ (row_at need i && not (row_at hit i)))
+    (t f kept need hit rest : MaskRows) (value : TruthValue)
+    (are : AreTruths t f) (need_len : len need ≡ len t) (hit_len : len hit ≡ len t) (rest_len : len rest ≡ len t)
+    (kept_rows : (i : ℕ) → i < len t → row_at kept i ≡ is_value (truth_from (row_at t i) (row_at f i)) value)
+    (hit_rows : (i : ℕ) → row_at hit i ≡ (row_at kept i && row_at need i))
+    (rest_rows : (i : ℕ) → row_at rest i ≡ (row_at need i && not (row_at hit i)))
   where
-  and_not_true : (a b : Bool) → b ≡ true → (a && not b) ≡ false
-  and_not_true true b e = rw e refl
-  and_not_true false b e = refl
+    and_not_true : (a b : Bool) → b ≡ true → (a && not b) ≡ false
+    and_not_true true b e = rw e refl
+    and_not_true false b e = refl
 
-  hit_rest : AreTruths hit rest
-  hit_rest = record {
-    lengths = hit_len ∙ sym rest_len;
-    disjoint = λ i e. rest_rows i ∙ and_not_true (row_at need i) (row_at hit i) e;
-  }
+    hit_rest : AreTruths hit rest
+    hit_rest = record {
+      lengths = hit_len ∙ sym rest_len;
+      disjoint = λ i e. rest_rows i ∙ and_not_true (row_at need i) (row_at hit i) e;
+    }
 
-  meets : (i : ℕ) → (if row_at need i then truth_of_bool (row_at kept i) else Unknown) ≡ (if row_at need i then is_of (truth_at (truths_of t f) i) value else Unknown)
-  meets i =
-      elim (cases_lt i (len t)) [
-        | inl h ↦ rw (kept_rows i h, truths_at t f are i) refl
-        | inr h ↦ rw (row_past need i (omega (arith, need_len))) refl
-      ]
+    meets : (i : ℕ) → (if row_at need i then truth_of_bool (row_at kept i) else Unknown) ≡ (if row_at need i then is_of (truth_at (truths_of t f) i) value else Unknown)
+    meets i =
+        elim (cases_lt i (len t)) [
+          | inl h ↦ rw (kept_rows i h, truths_at t f are i) refl
+          | inr h ↦ rw (row_past need i (omega (arith, need_len))) refl
+        ]
 
-  pub tested : (i : ℕ) → truth_at (truths_of hit rest) i ≡ (if row_at need i then is_of (truth_at (truths_of t f) i) value else Unknown)
-  tested i = truths_at hit rest hit_rest i ∙ rw (rest_rows i, hit_rows i) (from_test (row_at kept i) (row_at need i)) ∙ meets i
+    pub tested : (i : ℕ) → truth_at (truths_of hit rest) i ≡ (if row_at need i then is_of (truth_at (truths_of t f) i) value else Unknown)
+    tested i = truths_at hit rest hit_rest i ∙ rw (rest_rows i, hit_rows i) (from_test (row_at kept i) (row_at need i)) ∙ meets i
 
-  not_needed : (need : Bool) (truth : TruthValue) → not_of (if need then truth else Unknown) ≡ (if need then not_of truth else Unknown)
-  not_needed true truth = refl
-  not_needed false truth = refl
+    not_needed : (need : Bool) (truth : TruthValue) → not_of (if need then truth else Unknown) ≡ (if need then not_of truth else Unknown)
+    not_needed true truth = refl
+    not_needed false truth = refl
 
-  pub tested_not : (i : ℕ) → truth_at (truths_of rest hit) i ≡ (if row_at need i then not_of (is_of (truth_at (truths_of t f) i) value) else Unknown)
-  tested_not i =
-      truths_at rest hit rest_hit i ∙ from_not (row_at hit i) (row_at rest i) (hit_rest.disjoint i) ∙ ap not_of (sym (truths_at hit rest hit_rest i)) ∙ ap not_of (tested i)
-      ∙ not_needed (row_at need i) (is_of (truth_at (truths_of t f) i) value)
-    where
-      other_way : (a b : Bool) → (a ≡ true → b ≡ false) → b ≡ true → a ≡ false
-      other_way true b apart e = absurd (both_ways b (apart refl) e)
-      other_way false b apart e = refl
+    pub tested_not : (i : ℕ) → truth_at (truths_of rest hit) i ≡ (if row_at need i then not_of (is_of (truth_at (truths_of t f) i) value) else Unknown)
+    tested_not i =
+        truths_at rest hit rest_hit i ∙ from_not (row_at hit i) (row_at rest i) (hit_rest.disjoint i) ∙ ap not_of (sym (truths_at hit rest hit_rest i)) ∙ ap not_of (tested i)
+        ∙ not_needed (row_at need i) (is_of (truth_at (truths_of t f) i) value)
+      where
+        other_way : (a b : Bool) → (a ≡ true → b ≡ false) → b ≡ true → a ≡ false
+        other_way true b apart e = absurd (both_ways b (apart refl) e)
+        other_way false b apart e = refl
 
-      rest_hit : AreTruths rest hit
-      rest_hit = record {
-        lengths = rest_len ∙ sym hit_len;
-        disjoint = λ j. other_way (row_at hit j) (row_at rest j) (hit_rest.disjoint j);
-      }
+        rest_hit : AreTruths rest hit
+        rest_hit = record {
+          lengths = rest_len ∙ sym hit_len;
+          disjoint = λ j. other_way (row_at hit j) (row_at rest j) (hit_rest.disjoint j);
+        }

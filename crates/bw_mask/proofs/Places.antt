@@ -1,5 +1,5 @@
 -- Bits at a place that may straddle two words.
-use Rattle.std.proofs.Common.{Bool, List, ap, arith, bit_and, bit_or, false, get_or, inl, inr, length, ltb, not, refl, set, sym, true, ℕ, ◌%◌, ◌&&◌, ◌+◌, ◌-◌, ◌/◌, ◌<◌, ◌^◌, ◌||◌, ◌≡◌, ◌≤◌, ◌∙◌}
+use Rattle.std.proofs.Common.{Bool, List, ap, arith, bit_and, bit_or, false, get_or, inl, inr, length, ltb, refl, set, sym, true, ℕ, ◌%◌, ◌&&◌, ◌+◌, ◌-◌, ◌/◌, ◌<◌, ◌^◌, ◌||◌, ◌≡◌, ◌≤◌, ◌∙◌}
 use Rattle.std.proofs.lemmas.Bool.{and_right, cases_eq, cases_lt, le-ltb, lt-ltb}
 use Rattle.std.proofs.lemmas.List.{get_or-set_other, get_or-set_same}
 use Rattle.bw_mask.specs.Masks.{bit_of, row_in}

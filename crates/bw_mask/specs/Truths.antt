@@ -1,5 +1,5 @@
 -- The truth of each row, kept as the rows that are true and the rows that are false; a row in neither is unknown.
-use Rattle.std.specs.Prelude.{Bool, List, false, length, map, slice_index_or, true, ℕ, ◌≡◌}
+use Rattle.std.specs.Prelude.{Bool, List, false, map, slice_index_or, true, ℕ, ◌≡◌}
 use Rattle.std.specs.List.{range_with_len}
 use Rattle.bw_mask.specs.Masks.{MaskRows, len, row_at}
 use Rattle.bw_mask.specs.declared.truth_value.TruthValue.{TruthValue}

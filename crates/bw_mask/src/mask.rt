@@ -1,6 +1,6 @@
 //! A mask of rows: for each row whether it is in.
 
-ghost use Rattle.std.specs.Prelude.{◌≡◌, ℕ, ◌+◌, ◌*◌, ◌/◌, ◌<◌, ◌≤◌, ◌^◌, [], ◌∷◌, ◌++◌, ◌&&◌, ◌||◌, not, count_by, nat_lt, replicate, slice_set, IfOk, OnOk, length};
+ghost use Rattle.std.specs.Prelude.{◌≡◌, ℕ, ◌+◌, ◌*◌, ◌/◌, ◌<◌, ◌≤◌, ◌^◌, [], ◌∷◌, ◌++◌, ◌&&◌, ◌||◌, not, count_by, false, nat_lt, replicate, slice_set, IfOk, OnOk, length};
 ghost use Rattle.std.specs.List.{list_any};
 ghost use Rattle.bw_mask.specs.Masks.{bit_of, len, row_at, row_in, IsNext, SameShape};
 
@@ -156,14 +156,16 @@ impl Mask {
 
     /// How many rows are in.
     pub fn count(&self) -> usize
-        ensures { result ≡ count_by (λ row. row) self.now.rows }
+        ensures rows { result ≡ count_by (λ row. row) self.now.rows }
+        ensures few { result ≤ len self.now }
     {
         words::count_words(&self.words) as usize
     }
 
     /// Whether a row is in.
     pub fn any(&self) -> bool
-        ensures { result ≡ list_any (λ row. row) self.now.rows }
+        ensures rows { result ≡ list_any (λ row. row) self.now.rows }
+        ensures none { result ≡ false → (i : ℕ) → row_at self.now i ≡ false }
     {
         words::next_row(&self.words, 0).is_some()
     }
@@ -194,14 +196,15 @@ impl Mask {
         ensures inside { (i : ℕ) → i < n → at + i < len self.old → row_at self.new (at + i) ≡ bit_of word i }
         ensures outside { (j : ℕ) → (at ≤ j → at + n ≤ j) → row_at self.new j ≡ row_at self.old j }
     {
-        words::put_bits(&mut self.words, at, n, word);
-        words::cut(&mut self.words, self.len);
+        let rows = n.min(self.len.saturating_sub(at));
+        words::put_bits(&mut self.words, at, rows, word);
     }
 
     /// The words: row i is bit i % 64 of word i / 64, and bits past the end are 0.
     #[tactic(auto, using(crate::proofs::Views::rows_len, crate::proofs::Views::rows_clean))]
     pub fn words(&self) -> &[u64]
         ensures count { length result.now ≡ (len self.now + 63) / 64 }
+        ensures few { len self.now ≤ 2 ^ 32 }
         ensures rows { (i : ℕ) → row_in result.now i ≡ row_at self.now i }
     {
         &self.words

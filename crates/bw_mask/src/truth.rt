@@ -131,7 +131,8 @@ impl Truth {
         ensures len { len result ≡ length self }
         ensures rows { (i : ℕ) → row_at result i ≡ is_value (truth_at self i) True }
     {
-        self.t
+        let Truth { t: trues, f: _ } = self;
+        trues
     }
 
     /// NOT at each row.
@@ -176,7 +177,7 @@ impl Truth {
         self.t.and_in(need);
         self.f.become_difference(need, &self.t);
         if negated {
-            swap(&mut self.t, &mut self.f);
+            swap(&mut self.f, &mut self.t);
         }
     }
 }

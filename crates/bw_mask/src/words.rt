@@ -93,7 +93,7 @@ fn replace(words: &mut Vec<u64>, k: usize, chosen: u64, word: u64)
         → row_in words.new.items i ≡ bit_of word (i % 64) }
     ensures other { (i : ℕ) → (i / 64 ≡ k → bit_of chosen (i % 64) ≡ false) → row_in words.new.items i ≡ row_in words.old.items i }
 {
-    if k < words.len() {
+    if chosen != 0 && k < words.len() {
         words[k] = words[k] & !chosen | word & chosen;
     }
 }

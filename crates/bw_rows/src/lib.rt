@@ -9,6 +9,8 @@ mod harness;
 #[cfg(test)]
 mod limits;
 #[cfg(test)]
+mod masks;
+#[cfg(test)]
 mod refusals;
 #[cfg(test)]
 mod selects;

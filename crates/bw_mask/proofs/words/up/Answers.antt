@@ -1,5 +1,5 @@
 use Rattle.std.proofs.Common.{arith}
-use Rattle.bw_mask.proofs.Bits.{bit_below_shl, bit_moved_up, bit_of_zero}
+use Rattle.bw_mask.proofs.Bits.{bit_below_shl, bit_moved_up}
 use Rattle.bw_mask.proofs.words.up.Goals as goal
 
 pub returns-then-places-lt64-clause-moved : goal.returns-then-places-lt64-clause-moved
