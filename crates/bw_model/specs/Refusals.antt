@@ -2,7 +2,7 @@
 -- of table definition, insert statement and query specification, and limits of this product's own).
 use Rattle.std.specs.Prelude.{ℕ, ◌+◌, ◌==◌, Bool, true, false, ◌||◌, ◌&&◌, not, nat_le, nat_lt, int_le, pos, negsuc, List, [], ◌∷◌, Option, Some, None, is_some, length, map, if◌then◌else◌}
 use Rattle.std.specs.List.{list_all, list_any}
-use Rattle.bw_sql.specs.Tree.{ConditionTree, StatementTree, comparison, create_table, insert, select}
+use Rattle.bw_sql.specs.Tree.{ConditionTree, ConditionTrees, StatementTree, among, between, comparison, create_table, each_of, insert, more, negated, none, null, select, some_of, tested}
 use Rattle.bw_sql.specs.declared.fault.SqlFault.{SqlFault}
 use Rattle.bw_sql.specs.declared.fault.SqlFault.TheVariants as fault
 use Rattle.bw_sql.specs.declared.tree.Operand.{Operand}
@@ -41,9 +41,48 @@ abbrev pub operand_is_missing : List Header → Operand → Bool
 operand_is_missing headers (Column name) = is_missing headers name
 operand_is_missing headers (Constant value) = false
 
+-- whether the condition names a column that isn't there
+abbrev mutual
+  pub names_missing : List Header → ConditionTree → Bool
+  names_missing headers (each_of parts) = some_names_missing headers parts
+  names_missing headers (some_of parts) = some_names_missing headers parts
+  names_missing headers (negated part) = names_missing headers part
+  names_missing headers (tested part truth) = names_missing headers part
+  names_missing headers (comparison x op y) = operand_is_missing headers x || operand_is_missing headers y
+  names_missing headers (between x low high) = operand_is_missing headers x || operand_is_missing headers low || operand_is_missing headers high
+  names_missing headers (among x entries) = operand_is_missing headers x
+  names_missing headers (null x) = operand_is_missing headers x
+
+  pub some_names_missing : List Header → ConditionTrees → Bool
+  some_names_missing headers none = false
+  some_names_missing headers (more part parts) = names_missing headers part || some_names_missing headers parts
+
+-- the most entries of an IN list
+abbrev pub entry_limit : ℕ
+entry_limit = 1000
+
+-- whether an IN list of the condition is too long
+abbrev mutual
+  pub has_long_list : ConditionTree → Bool
+  has_long_list (each_of parts) = some_has_long_list parts
+  has_long_list (some_of parts) = some_has_long_list parts
+  has_long_list (negated part) = has_long_list part
+  has_long_list (tested part truth) = has_long_list part
+  has_long_list (among x entries) = nat_lt entry_limit (length entries)
+  has_long_list _ = false
+
+  pub some_has_long_list : ConditionTrees → Bool
+  some_has_long_list none = false
+  some_has_long_list (more part parts) = has_long_list part || some_has_long_list parts
+
+-- no condition names no column and has no list
 abbrev pub condition_misses : List Header → Option ConditionTree → Bool
 condition_misses headers None = false
-condition_misses headers (Some (comparison left op right)) = operand_is_missing headers left || operand_is_missing headers right
+condition_misses headers (Some condition) = names_missing headers condition
+
+abbrev pub lists_too_long : Option ConditionTree → Bool
+lists_too_long None = false
+lists_too_long (Some condition) = has_long_list condition
 
 -- whether a value is an INTEGER
 abbrev pub is_in_range : Value → Bool
@@ -70,6 +109,7 @@ abbrev pub select_tests : List (List ℕ) → Option ConditionTree → Table →
 select_tests columns condition table =
     (refusal.NoSuchColumn, list_any (is_missing table.headers) columns)
     ∷ (refusal.NoSuchColumn, condition_misses table.headers condition)
+    ∷ (refusal.OverLimit, lists_too_long condition)
     ∷ []
 
 -- a statement's tests

@@ -1,12 +1,12 @@
 //! What a condition says of a row.
 
 ghost use Rattle.std.specs.Prelude.{◌≡◌, IfOk, map, option_map};
-ghost use Rattle.bw_model.specs.Condition.{compared, found_rows, is_found, order_meets, truth_at, value_of};
+ghost use Rattle.bw_model.specs.Condition.{compared, found_rows, is_found, is_one_of, lies_between, order_meets, truth_at, truth_of_word, value_of};
 ghost use Rattle.bw_sql.specs.Tree.{condition_of};
 
 use crate::store::{Header, Row, Table, place_of, value_from};
-use crate::truth::Truth;
-use bw_sql::{CompareOp, Condition, Operand, Value};
+use bw_mask::TruthValue;
+use bw_sql::{CompareOp, Condition, Operand, TruthWord, Value};
 use std::alloc::{AllocError, Global};
 use std::cmp::Ordering;
 
@@ -25,13 +25,13 @@ fn order_meets(op: CompareOp, order: Ordering) -> bool
 }
 
 /// A comparison with NULL on a side is unknown.
-fn compared(op: CompareOp, left: Value, right: Value) -> Truth
+fn compared(op: CompareOp, left: Value, right: Value) -> TruthValue
     ensures { result ≡ compared op left right }
 {
     match (left, right) {
-        (Some(left), Some(right)) if order_meets(op, left.cmp(&right)) => Truth::True,
-        (Some(_), Some(_)) => Truth::False,
-        _ => Truth::Unknown,
+        (Some(left), Some(right)) if order_meets(op, left.cmp(&right)) => TruthValue::True,
+        (Some(_), Some(_)) => TruthValue::False,
+        _ => TruthValue::Unknown,
     }
 }
 
@@ -44,16 +44,72 @@ fn value_of(headers: &[Header], row: &Row, operand: &Operand) -> Value
     }
 }
 
+fn truth_of_word(word: TruthWord) -> TruthValue
+    ensures { result ≡ truth_of_word word }
+{
+    match word {
+        TruthWord::True => TruthValue::True,
+        TruthWord::False => TruthValue::False,
+        TruthWord::Unknown => TruthValue::Unknown,
+    }
+}
+
+/// `x BETWEEN low AND high` is `x >= low AND x <= high`.
+fn lies_between(value: Value, low: Value, high: Value) -> TruthValue
+    ensures { result ≡ lies_between value low high }
+{
+    compared(CompareOp::Ge, value, low).and(compared(CompareOp::Le, value, high))
+}
+
+/// `x IN (a, b)` is `x = a OR x = b`.
+#[tactic(auto, using(crate::proofs::Tables::or_of_assoc, crate::proofs::Tables::or_of_false))]
+fn is_one_of(value: Value, entries: &[Value]) -> TruthValue
+    ensures { result ≡ is_one_of value entries.now }
+{
+    let mut found = TruthValue::False;
+    for entry in entries {
+        found = found.or(compared(CompareOp::Eq, value, *entry));
+    }
+    found
+}
+
 /// What a condition says of a row of these columns.
-pub fn truth_at(headers: &[Header], row: &Row, condition: &Condition) -> Truth
+#[tactic(auto, using(crate::proofs::Tables::and_of_assoc, crate::proofs::Tables::or_of_assoc, crate::proofs::Tables::and_of_true, crate::proofs::Tables::or_of_false))]
+pub fn truth_at(headers: &[Header], row: &Row, condition: &Condition) -> TruthValue
     ensures { result ≡ truth_at headers.now row.now (condition_of condition.now) }
 {
-    let Condition::Compare(left, op, right) = condition;
-    compared(
-        *op,
-        value_of(headers, row, left),
-        value_of(headers, row, right),
-    )
+    match condition {
+        Condition::And(parts) => {
+            let mut all = TruthValue::True;
+            for part in parts {
+                all = all.and(truth_at(headers, row, part));
+            }
+            all
+        }
+        Condition::Or(parts) => {
+            let mut some = TruthValue::False;
+            for part in parts {
+                some = some.or(truth_at(headers, row, part));
+            }
+            some
+        }
+        Condition::Not(part) => truth_at(headers, row, part).not(),
+        Condition::Is(part, word) => {
+            TruthValue::of(truth_at(headers, row, part).is(truth_of_word(*word)))
+        }
+        Condition::Compare(left, op, right) => compared(
+            *op,
+            value_of(headers, row, left),
+            value_of(headers, row, right),
+        ),
+        Condition::Between(operand, low, high) => lies_between(
+            value_of(headers, row, operand),
+            value_of(headers, row, low),
+            value_of(headers, row, high),
+        ),
+        Condition::In(operand, entries) => is_one_of(value_of(headers, row, operand), entries),
+        Condition::IsNull(operand) => TruthValue::of(value_of(headers, row, operand).is_none()),
+    }
 }
 
 /// Every row is found where there is no condition.
@@ -62,7 +118,7 @@ fn is_found(headers: &[Header], condition: &Option<Condition>, row: &Row) -> boo
 {
     match condition {
         None => true,
-        Some(condition) => truth_at(headers, row, condition) == Truth::True,
+        Some(condition) => truth_at(headers, row, condition) == TruthValue::True,
     }
 }
 

@@ -12,7 +12,6 @@ mod select;
 mod steps;
 mod store;
 mod texts;
-mod truth;
 
 pub use answer::{Answer, Cell, Heading};
 pub use condition::{found_rows, truth_at};
@@ -23,4 +22,3 @@ pub use select::answer_of;
 pub use steps::step;
 pub use store::{Header, Row, Store, Table};
 pub use texts::reply_text;
-pub use truth::Truth;

@@ -2,7 +2,7 @@
 
 ghost use Rattle.std.specs.Prelude.{◌≡◌, ◌==◌, ◌||◌, length, nat_le, nat_lt, option_map};
 ghost use Rattle.std.specs.List.{list_all, list_any};
-ghost use Rattle.bw_model.specs.Refusals.{condition_misses, create_tests, first_that_holds, insert_tests, is_in_range, is_missing, operand_is_missing, select_tests};
+ghost use Rattle.bw_model.specs.Refusals.{condition_misses, create_tests, first_that_holds, has_long_list, insert_tests, is_in_range, is_missing, lists_too_long, names_missing, operand_is_missing, select_tests};
 ghost use Rattle.bw_model.specs.Store.{column_limit, table_limit};
 ghost use Rattle.bw_sql.specs.Tree.{condition_of};
 
@@ -18,6 +18,9 @@ const TABLE_LIMIT: usize = 64;
 
 /// The most rows that a table holds.
 const ROW_LIMIT: usize = 16_777_216;
+
+/// The most entries of an IN list.
+const ENTRY_LIMIT: usize = 1_000;
 
 /// A refusal, and whether it holds.
 type Test = (Refusal, bool);
@@ -48,14 +51,68 @@ fn operand_is_missing(headers: &[Header], operand: &Operand) -> bool
     }
 }
 
+/// Whether the condition names a column that isn't there.
+fn names_missing(headers: &[Header], condition: &Condition) -> bool
+    ensures { result ≡ names_missing headers.now (condition_of condition.now) }
+{
+    match condition {
+        Condition::And(parts) | Condition::Or(parts) => {
+            for part in parts {
+                if names_missing(headers, part) {
+                    return true;
+                }
+            }
+            false
+        }
+        Condition::Not(part) | Condition::Is(part, _) => names_missing(headers, part),
+        Condition::Compare(left, _, right) => {
+            operand_is_missing(headers, left) || operand_is_missing(headers, right)
+        }
+        Condition::Between(operand, low, high) => {
+            operand_is_missing(headers, operand)
+                || operand_is_missing(headers, low)
+                || operand_is_missing(headers, high)
+        }
+        Condition::In(operand, _) | Condition::IsNull(operand) => {
+            operand_is_missing(headers, operand)
+        }
+    }
+}
+
+/// Whether an IN list of the condition is too long.
+fn has_long_list(condition: &Condition) -> bool
+    ensures { result ≡ has_long_list (condition_of condition.now) }
+{
+    match condition {
+        Condition::And(parts) | Condition::Or(parts) => {
+            for part in parts {
+                if has_long_list(part) {
+                    return true;
+                }
+            }
+            false
+        }
+        Condition::Not(part) | Condition::Is(part, _) => has_long_list(part),
+        Condition::In(_, entries) => entries.len() > ENTRY_LIMIT,
+        Condition::Compare(_, _, _) | Condition::Between(_, _, _) | Condition::IsNull(_) => false,
+    }
+}
+
 fn condition_misses(headers: &[Header], condition: &Option<Condition>) -> bool
     ensures { result ≡ condition_misses headers.now (option_map condition_of condition.now) }
 {
     match condition {
         None => false,
-        Some(Condition::Compare(left, _, right)) => {
-            operand_is_missing(headers, left) || operand_is_missing(headers, right)
-        }
+        Some(condition) => names_missing(headers, condition),
+    }
+}
+
+fn lists_too_long(condition: &Option<Condition>) -> bool
+    ensures { result ≡ lists_too_long (option_map condition_of condition.now) }
+{
+    match condition {
+        None => false,
+        Some(condition) => has_long_list(condition),
     }
 }
 
@@ -110,7 +167,7 @@ pub fn insert_tests(columns: &[Name], rows: &[Row], table: &Table) -> [Test; 5]
 }
 
 /// The tests of SELECT over a table.
-pub fn select_tests(columns: &[Name], condition: &Option<Condition>, table: &Table) -> [Test; 2]
+pub fn select_tests(columns: &[Name], condition: &Option<Condition>, table: &Table) -> [Test; 3]
     ensures { result ≡ select_tests columns.now (option_map condition_of condition.now) table.now }
 {
     [
@@ -119,6 +176,7 @@ pub fn select_tests(columns: &[Name], condition: &Option<Condition>, table: &Tab
             Refusal::NoSuchColumn,
             condition_misses(table.headers(), condition),
         ),
+        (Refusal::OverLimit, lists_too_long(condition)),
     ]
 }
 
