@@ -1,0 +1,4 @@
+pub mod Evaluation
+pub mod PlanLaws
+pub mod RowLemmas
+pub mod Tables

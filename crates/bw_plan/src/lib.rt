@@ -1,0 +1,14 @@
+//! Conditions over the rows of a table: columns' names become places, and a condition the truth of each row.
+#![tactic(auto)]
+
+mod evaluate;
+mod headers;
+mod plan;
+mod resolution;
+mod rows;
+
+pub use evaluate::evaluate_rows;
+pub use headers::{Header, Headers, Kind, Layout, place_in};
+pub use plan::{Predicate, RowCondition, Source};
+pub use resolution::{plans_keep_truth, resolve};
+pub use rows::{Rows, value_at};

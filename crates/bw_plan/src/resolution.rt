@@ -1,0 +1,168 @@
+//! A condition's names become places in a row.
+
+ghost use Rattle.std.specs.Prelude.{◌≡◌, false, IfOk, List, MatchResult};
+ghost use Rattle.bw_model.specs.Condition.{truth_at, truth_of_word};
+ghost use Rattle.bw_model.specs.Refusals.{has_long_list, names_missing, operand_is_missing};
+ghost use Rattle.bw_model.specs.Store.{Header as AnyHeader, Row};
+ghost use Rattle.bw_plan.specs.Plans.{IsPlanFault, plan_of, planned, source_of, truth_by};
+ghost use Rattle.bw_sql.specs.Tree.{ConditionTree, condition_of};
+
+use crate::headers::{Header, place_in};
+use crate::plan::{Predicate, RowCondition, Source};
+use bw_mask::TruthValue;
+use bw_model::Refusal;
+use bw_sql::{Condition, Operand, TruthWord};
+use std::alloc::{AllocError, Global};
+
+/// The most entries of an IN list.
+const ENTRY_LIMIT: usize = 1_000;
+
+/// The condition with each column's name as its place among the columns. It is refused where a
+/// column isn't there, and else where an IN list has more than 1,000 entries.
+pub fn resolve(
+    alloc: Global,
+    headers: &[Header],
+    condition: &Condition,
+) -> Result<RowCondition, Refusal>
+    ensures { MatchResult result
+        (λ plan. (names_missing headers.now (condition_of condition.now) ≡ false) × (has_long_list (condition_of condition.now) ≡ false) × (plan_of plan ≡ planned headers.now (condition_of condition.now)))
+        (λ refusal. IsPlanFault headers.now (condition_of condition.now) refusal) }
+{
+    if names_missing(headers, condition) {
+        return Err(Refusal::NoSuchColumn);
+    }
+    if has_long_list(condition) {
+        return Err(Refusal::OverLimit);
+    }
+    Ok(placed(alloc, headers, condition)?)
+}
+
+/// Whether the condition names a column that isn't there.
+fn names_missing(headers: &[Header], condition: &Condition) -> bool
+    ensures { result ≡ names_missing headers.now (condition_of condition.now) }
+{
+    match condition {
+        Condition::And(parts) | Condition::Or(parts) => {
+            for part in parts {
+                if names_missing(headers, part) {
+                    return true;
+                }
+            }
+            false
+        }
+        Condition::Not(part) | Condition::Is(part, _) => names_missing(headers, part),
+        Condition::Compare(left, _, right) => is_missing(headers, left)
+            || is_missing(headers, right),
+        Condition::Between(value, low, high) => {
+            is_missing(headers, value) || is_missing(headers, low) || is_missing(headers, high)
+        }
+        Condition::In(value, _) | Condition::IsNull(value) => is_missing(headers, value),
+    }
+}
+
+fn is_missing(headers: &[Header], operand: &Operand) -> bool
+    ensures { result ≡ operand_is_missing headers.now operand.now }
+{
+    match operand {
+        Operand::Column(name) => place_in(headers, name).is_none(),
+        Operand::Constant(_) => false,
+    }
+}
+
+/// Whether an IN list of the condition is too long.
+fn has_long_list(condition: &Condition) -> bool
+    ensures { result ≡ has_long_list (condition_of condition.now) }
+{
+    match condition {
+        Condition::And(parts) | Condition::Or(parts) => {
+            for part in parts {
+                if has_long_list(part) {
+                    return true;
+                }
+            }
+            false
+        }
+        Condition::Not(part) | Condition::Is(part, _) => has_long_list(part),
+        Condition::In(_, entries) => entries.len() > ENTRY_LIMIT,
+        Condition::Compare(_, _, _) | Condition::Between(_, _, _) | Condition::IsNull(_) => false,
+    }
+}
+
+/// The condition with places for names.
+fn placed(
+    alloc: Global,
+    headers: &[Header],
+    condition: &Condition,
+) -> Result<RowCondition, AllocError>
+    ensures { IfOk result (λ plan. plan_of plan ≡ planned headers.now (condition_of condition.now)) }
+{
+    match condition {
+        Condition::And(parts) => {
+            let mut plans = Vec::with_capacity(alloc, parts.len())?;
+            for part in parts {
+                plans.push(placed(alloc, headers, part)?)?;
+            }
+            Ok(RowCondition::And(plans))
+        }
+        Condition::Or(parts) => {
+            let mut plans = Vec::with_capacity(alloc, parts.len())?;
+            for part in parts {
+                plans.push(placed(alloc, headers, part)?)?;
+            }
+            Ok(RowCondition::Or(plans))
+        }
+        Condition::Not(part) => {
+            let plan = placed(alloc, headers, part)?;
+            Ok(RowCondition::Not(Box::new(alloc, plan)?))
+        }
+        Condition::Is(part, word) => {
+            let plan = placed(alloc, headers, part)?;
+            Ok(RowCondition::Is(Box::new(alloc, plan)?, truth_of_word(*word)))
+        }
+        Condition::Compare(left, op, right) => Ok(RowCondition::Test(Predicate::Compare(
+            source(headers, left),
+            *op,
+            source(headers, right),
+        ))),
+        Condition::Between(value, low, high) => Ok(RowCondition::Test(Predicate::Between(
+            source(headers, value),
+            source(headers, low),
+            source(headers, high),
+        ))),
+        Condition::In(value, entries) => Ok(RowCondition::Test(Predicate::In(
+            source(headers, value),
+            Vec::from_slice(alloc, entries)?,
+        ))),
+        Condition::IsNull(value) => Ok(RowCondition::Test(Predicate::IsNull(source(
+            headers, value,
+        )))),
+    }
+}
+
+/// Where an operand's values come from. A column that isn't there is always NULL.
+fn source(headers: &[Header], operand: &Operand) -> Source
+    ensures { result ≡ source_of headers.now operand.now }
+{
+    match operand {
+        Operand::Column(name) => match place_in(headers, name) {
+            Some(place) => Source::Place(place),
+            None => Source::Constant(None),
+        },
+        Operand::Constant(value) => Source::Constant(*value),
+    }
+}
+
+fn truth_of_word(word: TruthWord) -> TruthValue
+    ensures { result ≡ truth_of_word word }
+{
+    match word {
+        TruthWord::True => TruthValue::True,
+        TruthWord::False => TruthValue::False,
+        TruthWord::Unknown => TruthValue::Unknown,
+    }
+}
+
+/// A condition with places for names says of each row what the condition says.
+pub fn plans_keep_truth()
+    ensures { (headers : List AnyHeader) (row : Row) (condition : ConditionTree) → truth_by (planned headers condition) row ≡ truth_at headers row condition }
+{}
