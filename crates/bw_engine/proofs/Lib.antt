@@ -1,3 +1,4 @@
+pub mod Founds
 pub mod Lines
 pub mod Names
 pub mod Places

@@ -11,7 +11,7 @@ use Rattle.bw_sql.proofs.RowLemmas.{length-rows_of}
 use Rattle.bw_model.specs.Answers.{AreWholeLines, lines_of}
 use Rattle.bw_model.specs.Store.{Header, Table, Value, row_limit}
 use Rattle.bw_model.proofs.Lines.{count-lines_of, count-of, length-joined_map, lines_of-first, lines_of-nil, whole_rest}
-use Rattle.bw_engine.specs.Flat.{AreRows}
+use Rattle.bw_plan.specs.Flat.{AreRows}
 
 module _ {A : Type 0} where
   pub rows_of-append : (w n m : ℕ) (a b : List A) → length a ≡ n * w → rows_of (replicate (n + m) w) (a ++ b) ≡ rows_of (replicate n w) a ++ rows_of (replicate m w) b
@@ -84,8 +84,8 @@ pub grown : {A : Type 0} (w : ℕ) (old cells new : List A) (b : Bool) → AreRo
 grown w old cells new true rows lines room e =
     let first = count-lines_of w rows.count old rows.some rows.whole in
     let second = count-lines_of w lines.count cells rows.some lines.whole in
-    record { some = rows.some; count = rows.count + lines.count; whole = omega (arith, ap length e, length-append old cells, rows.whole, lines.whole); few = omega (arith, first, second) }
-grown w old cells new false rows lines room e = record { some = rows.some; count = rows.count; whole = ap length e ∙ rows.whole; few = rows.few }
+    record { some = rows.some; narrow = rows.narrow; count = rows.count + lines.count; whole = omega (arith, ap length e, length-append old cells, rows.whole, lines.whole); few = omega (arith, first, second) }
+grown w old cells new false rows lines room e = record { some = rows.some; narrow = rows.narrow; count = rows.count; whole = ap length e ∙ rows.whole; few = rows.few }
 
 pub grown_lines : {T E : Type 0} (r : Result T E) (headers : List Header) (old cells new : List Value) → AreRows (length headers) old → AreWholeLines (length headers) cells → new ≡ (if is_ok r then old ++ cells else old)
     → OnOk r (◌≡◌ {A = Table} (record { headers = headers; rows = lines_of (length headers) new }) (record { headers = headers; rows = lines_of (length headers) old ++ lines_of (length headers) cells }))

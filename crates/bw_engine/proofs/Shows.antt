@@ -10,8 +10,6 @@ use Rattle.bw_model.specs.Store.{Header, Row, Table, place_of, value_at}
 use Rattle.bw_model.specs.declared.answer.Cell.{Cell}
 use Rattle.bw_model.specs.declared.answer.Heading.{Heading}
 use Rattle.bw_model.specs.declared.answer.Heading.TheVariants.{Column}
-use Rattle.bw_engine.specs.Searches.{IsSearch, finds_or_all}
-use Rattle.bw_engine.specs.declared.search.Search.{Search}
 use Rattle.bw_model.proofs.Lines.{All-map, lines_of-joined, shown_lines}
 use Rattle.bw_engine.proofs.Places.{line_by_places}
 
@@ -38,10 +36,6 @@ module _ (headers : List Header) (list : List (List ℕ)) (places : List ℕ) (h
       ∙ ap (lines_of (length places)) shows
       ∙ lines_of-joined (length places) (map (λ row. map (λ place. shown (value_at row place)) places) rows) some_places (All-map (λ row. map (λ place. shown (value_at row place)) places) (length places) rows (λ row. length-map places (λ place. shown (value_at row place))))
       ∙ (λ j. map (λ row. line_by_places headers list places row placed j) rows)
-
--- the rows that a search finds are those that the condition finds
-pub rows_found : (table : Table) (condition : Option ConditionTree) (search : Option Search) → IsSearch table.headers condition search → filter (finds_or_all search) table.rows ≡ found_rows table condition
-rows_found table condition search same = λ j. filter (λ row. same row j) table.rows
 
 pub answer_is : (table : Table) (items : ItemsTree) (condition : Option ConditionTree) (shows : Shown)
     → shows.headings ≡ map (λ name. Column name) (shown_columns table.headers items) → shows.lines ≡ map (line_of table.headers (shown_columns table.headers items)) (found_rows table condition) → shows ≡ answer table items condition

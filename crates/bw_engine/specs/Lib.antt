@@ -1,4 +1,2 @@
-pub mod Flat
+pub mod Found
 pub mod Outcomes
-pub mod Searches
-pub mod Words

@@ -2,7 +2,7 @@
 use Rattle.std.specs.Prelude.{◌≡◌, ◌⊎◌, ◌==◌, ℕ, List, [], ◌∷◌, Option, Some, None, Result, Ok, Err, MatchResult, length, not}
 use Rattle.std.specs.List.{list_all, list_any}
 use Rattle.bw_sql.specs.Tree.{ConditionTree, StatementTree}
-use Rattle.bw_model.specs.Refusals.{Tests, condition_misses, first_that_holds, is_in_range, is_missing, tests_of}
+use Rattle.bw_model.specs.Refusals.{Tests, condition_misses, first_that_holds, is_in_range, is_missing, lists_too_long, tests_of}
 use Rattle.bw_model.specs.Step.{carried_out}
 use Rattle.bw_model.specs.Store.{Header, Row, Store, are_distinct}
 use Rattle.bw_model.specs.declared.refusal.Refusal.{Refusal}
@@ -22,7 +22,7 @@ abbrev pub shown_tests : List Header → List (List ℕ) → Tests
 shown_tests headers columns = (refusal.NoSuchColumn, list_any (is_missing headers) columns) ∷ []
 
 abbrev pub condition_tests : List Header → Option ConditionTree → Tests
-condition_tests headers condition = (refusal.NoSuchColumn, condition_misses headers condition) ∷ []
+condition_tests headers condition = (refusal.NoSuchColumn, condition_misses headers condition) ∷ (refusal.OverLimit, lists_too_long condition) ∷ []
 
 abbrev pub listed_tests : List Header → List (List ℕ) → Tests
 listed_tests headers columns =

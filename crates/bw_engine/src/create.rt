@@ -7,9 +7,9 @@ ghost use Rattle.bw_sql.specs.Tree.{statement_of};
 ghost use Rattle.bw_sql.specs.declared.tree.Statement.TheVariants as statements;
 ghost use Rattle.bw_engine.specs.Outcomes.{Answers, CarriesOut};
 
-use crate::headers::{Header, Headers};
 use crate::table::Table;
 use bw_model::{Refusal, Reply};
+use bw_plan::{Header, Headers};
 use bw_sql::{ColumnDefinition, CreateTable, Name};
 use indexmap::{IndexMap, IndexSet};
 use std::alloc::{AllocError, Global};

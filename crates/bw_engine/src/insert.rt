@@ -15,9 +15,9 @@ ghost use Rattle.bw_sql.specs.Tree.{statement_of};
 ghost use Rattle.bw_sql.specs.declared.tree.Statement.TheVariants as statements;
 ghost use Rattle.bw_engine.specs.Outcomes.{Answers, CarriesOut, listed_tests, range_tests, value_tests};
 
-use crate::headers::{Header, place_in};
-use crate::table::{ROW_LIMIT, Table, value_at};
+use crate::table::{ROW_LIMIT, Table};
 use bw_model::{Refusal, Reply};
+use bw_plan::{Header, place_in, value_at};
 use bw_sql::{Insert, Name, NameList, Value, ValueRows};
 use indexmap::IndexMap;
 use std::alloc::{AllocError, Global};

@@ -4,9 +4,7 @@
 mod create;
 mod engine;
 mod file_answer;
-mod headers;
 mod insert;
-mod search;
 mod select;
 mod table;
 

@@ -1,22 +1,25 @@
 //! SELECT.
 
-ghost use Rattle.std.specs.Prelude.{◌≡◌, ◌≤◌, ◌<◌, ◌++◌, Some, length, map, filter, option_map, IfOk, OnOk};
+ghost use Rattle.std.specs.Prelude.{◌≡◌, ◌≤◌, ◌<◌, ◌++◌, ℕ, [], Some, get_or, length, map, option_map, IfOk, IfSome, OnOk};
 ghost use Rattle.bw_model.specs.Refusals.{over, select_tests};
 ghost use Rattle.bw_model.specs.Select.{answer, shown, shown_columns};
 ghost use Rattle.bw_model.specs.Step.{table_or_none};
 ghost use Rattle.bw_model.specs.Store.{AreHeaders, names, place_of, table_of, value_at};
 ghost use Rattle.bw_model.specs.declared.answer.Heading.TheVariants.{Column};
-ghost use Rattle.bw_model.specs.declared.reply.Reply.TheVariants.{Rows};
 ghost use Rattle.bw_sql.specs.Rows.{joined};
 ghost use Rattle.bw_sql.specs.Tree.{condition_of, items_of, statement_of};
 ghost use Rattle.bw_sql.specs.declared.tree.Statement.TheVariants as statements;
 ghost use Rattle.bw_engine.specs.Outcomes.{Answers, CarriesOut, condition_tests, shown_tests};
-ghost use Rattle.bw_engine.specs.Searches.{IsSearch, finds_or_all};
+ghost use Rattle.bw_engine.specs.Found.{AreFound, HasRows, is_in, rows_where};
+ghost use Rattle.bw_mask.specs.Masks.{len, row_at};
+ghost use Rattle.bw_mask.specs.Truth.{is_value};
+ghost use Rattle.bw_mask.specs.declared.truth_value.TruthValue.TheVariants.{True};
+ghost use Rattle.bw_plan.specs.Plans.{plan_of, truth_by};
 
-use crate::headers::{Header, place_in};
-use crate::search::Search;
-use crate::table::{Table, value_at};
+use crate::table::Table;
+use bw_mask::Mask;
 use bw_model::{Answer, Cell, Heading, Refusal, Reply};
+use bw_plan::{Header, RowCondition, Rows, evaluate_rows, place_in, resolve, value_at};
 use bw_sql::{Condition, Name, Select, SelectItems};
 use indexmap::IndexMap;
 use std::alloc::{AllocError, Global};
@@ -50,20 +53,35 @@ fn answer_of(
     ensures { Answers (select_tests (shown_columns table.now.headers (items_of items)) (option_map condition_of condition.now) table.now) result (λ shows. shows ≡ answer table.now (items_of items) (option_map condition_of condition.now)) }
 {
     let places = places_of(alloc, table.headers(), &items)?;
-    let search = search_of(table.headers(), condition)?;
+    let found = found_rows(alloc, table, condition)?;
     let headings = headings_of(alloc, table.headers(), items)?;
-    let cells = found_cells(alloc, table, places.as_slice(), search)?;
+    let cells = found_cells(alloc, table, places.as_slice(), &found)?;
     Ok(Answer::new(headings, cells))
 }
 
-/// The condition over the rows of these columns.
-fn search_of(headers: &[Header], condition: &Option<Condition>) -> Result<Option<Search>, Refusal>
-    ensures { Answers (condition_tests headers.now (option_map condition_of condition.now)) result (IsSearch headers.now (option_map condition_of condition.now)) }
+/// The rows at which the condition is true. Without a condition there is no mask, and every row is found.
+fn found_rows(
+    alloc: Global,
+    table: &Table,
+    condition: &Option<Condition>,
+) -> Result<Option<Mask>, Refusal>
+    ensures { Answers (condition_tests table.now.headers (option_map condition_of condition.now)) result (AreFound table.now (option_map condition_of condition.now)) }
 {
     match condition {
-        Some(condition) => Ok(Some(Search::new(headers, condition)?)),
+        Some(condition) => {
+            let plan = resolve(alloc, table.headers(), condition)?;
+            Ok(Some(true_rows(alloc, &plan, &table.rows())?))
+        }
         None => Ok(None),
     }
+}
+
+/// The rows at which a condition is true.
+fn true_rows(alloc: Global, condition: &RowCondition, rows: &Rows<'_>) -> Result<Mask, AllocError>
+    ensures { IfOk result (λ mask. (len mask ≡ length rows.now) × ((i : ℕ) → i < length rows.now → row_at mask i ≡ is_value (truth_by (plan_of condition.now) (get_or rows.now i [])) True)) }
+{
+    let all = Mask::filled(alloc, rows.len(), true)?;
+    Ok(evaluate_rows(alloc, condition, rows, &all)?.into_trues())
 }
 
 /// The places of the columns that are shown.
@@ -143,30 +161,28 @@ fn found_cells(
     alloc: Global,
     table: &Table,
     places: &[usize],
-    search: Option<Search>,
+    found: &Option<Mask>,
 ) -> Result<Vec<Cell>, AllocError>
-    requires { 0 < length places.now }
-    ensures { IfOk result (λ cells. cells.items ≡ joined (map (λ row. map (λ place. shown (value_at row place)) places.now) (filter (finds_or_all search) table.now.rows))) }
+    requires { HasRows (length table.now.rows) found.now }
+    ensures { IfOk result (λ cells. cells.items ≡ joined (map (λ row. map (λ place. shown (value_at row place)) places.now) (rows_where (is_in found.now) table.now.rows))) }
 {
     let mut cells = Vec::new(alloc);
-    let width = table.headers().len();
-    let mut rest = table.cells();
-    while !rest.is_empty() {
-        let (row, after) = rest.split_at(width);
-        if is_found(&search, row) {
-            show(&mut cells, row, places)?;
+    let rows = table.rows();
+    for i in 0..rows.len() {
+        if is_found(found, i) {
+            show(&mut cells, rows.row(i), places)?;
         }
-        rest = after;
     }
     Ok(cells)
 }
 
-/// Whether a row is found. Without a condition every row is.
-fn is_found(search: &Option<Search>, row: &[Option<i32>]) -> bool
-    ensures { result ≡ finds_or_all search.now row.now }
+/// Whether row i is found.
+fn is_found(found: &Option<Mask>, i: usize) -> bool
+    requires { IfSome found.now (λ mask. i < len mask) }
+    ensures { result ≡ is_in found.now i }
 {
-    match search {
-        Some(search) => search.finds(row),
+    match found {
+        Some(mask) => mask.get(i),
         None => true,
     }
 }

@@ -2,9 +2,9 @@
 
 ghost use Rattle.std.specs.Prelude.{◌≡◌, ◌+◌, ◌*◌, ◌/◌, ◌≤◌, ◌++◌, [], length, OnOk, OnErr};
 ghost use Rattle.bw_model.specs.Answers.{AreWholeLines, lines_of};
-ghost use Rattle.bw_model.specs.Store.{AreHeaders, row_limit, value_at};
+ghost use Rattle.bw_model.specs.Store.{AreHeaders, row_limit};
 
-use crate::headers::{Header, Headers};
+use bw_plan::{Header, Headers, Rows};
 use std::alloc::{AllocError, Global};
 use std::marker::Model;
 
@@ -26,7 +26,7 @@ impl Model for Table {
 
     ghost Value = { Table };
 
-    ghost use Rattle.bw_engine.specs.Flat.{AreRows};
+    ghost use Rattle.bw_plan.specs.Flat.{AreRows};
 
     ghost view = { λ t. record { headers = t.headers; rows = lines_of (length t.headers) t.cells.items } };
 
@@ -60,12 +60,12 @@ impl Table {
         self.cells.as_slice().len() / self.headers.as_slice().len()
     }
 
-    /// The cells of all rows, row after row.
-    pub fn cells(&self) -> &[Option<i32>]
-        ensures whole { AreWholeLines (length self.now.headers) result.now }
-        ensures rows { lines_of (length self.now.headers) result.now ≡ self.now.rows }
+    /// The rows, in order.
+    pub fn rows(&self) -> Rows<'_>
+        ensures value { result ≡ self.now.rows }
+        ensures few { length self.now.rows ≤ row_limit }
     {
-        self.cells.as_slice()
+        Rows::new(self.headers.as_slice().len(), self.cells.as_slice())
     }
 
     /// Puts the rows of these cells last.
@@ -76,15 +76,5 @@ impl Table {
         ensures err { OnErr result (self.new ≡ self.old) }
     {
         self.cells.extend_from_slice(cells)
-    }
-}
-
-/// The value at this place of a row, or NULL past its end.
-pub fn value_at(row: &[Option<i32>], place: usize) -> Option<i32>
-    ensures { result ≡ value_at row.now place }
-{
-    match row.get(place) {
-        Some(value) => *value,
-        None => None,
     }
 }

@@ -1,30 +1,23 @@
-use Rattle.std.proofs.Common.{◌∙◌, ap, sym, length, map, filter}
+use Rattle.std.proofs.Common.{◌≡◌, ◌<◌, ◌++◌, ◌∙◌, [], ap, arith, length, map, take, sym}
+use Rattle.std.proofs.lemmas.List.{take_all}
 use Rattle.bw_sql.specs.Rows.{joined}
-use Rattle.bw_model.specs.Answers.{lines_of}
 use Rattle.bw_model.specs.Select.{shown}
-use Rattle.bw_model.specs.Store.{value_at}
-use Rattle.bw_engine.specs.Searches.{finds_or_all}
-use Rattle.bw_engine.proofs.Lines.{empty, joined-filter, nonempty, passed_over, picked, walk_ends, walk_goes_on, walk_skips}
+use Rattle.bw_model.specs.Store.{Row, value_at}
+use Rattle.bw_engine.specs.Found.{is_in, rows_where}
+use Rattle.bw_engine.proofs.Founds.{passed_next, taken_next}
 use Rattle.bw_engine.proofs.select.found_cells.Goals as goal
+use Rattle.bw_engine.proofs.select.found_cells.Goals.{then-is_found+in_ok-show, else-is_found}
 
-pub loop-rest-preserved-in_ok-show : goal.loop-rest-preserved-in_ok-show
-loop-rest-preserved-in_ok-show c =
-    rw (c.split_at.ensures.back, c.in_ok-show.ensures)
-    (walk_goes_on _ _ _ c.loop-rest.rest.now c.loop-rest.cells.items _ c.loop-rest.invariant
-    (nonempty (length c.loop-rest.rest.now) c.is_empty.result c.is_empty.ensures c.loop-rest-test.true)
-    (ap (λ row. map (λ place. shown (value_at row place)) c.args.places.now) c.split_at.ensures.front
-    ∙ picked _ _ (ap (finds_or_all c.args.search) (sym c.split_at.ensures.front) ∙ sym c.is_found.ensures ∙ c.if-is_found.true)))
-
-pub loop-rest-preserved : goal.loop-rest-preserved
-loop-rest-preserved c =
-    rw c.split_at.ensures.back
-    (walk_skips _ _ _ c.loop-rest.rest.now c.loop-rest.cells.items c.loop-rest.invariant
-    (nonempty (length c.loop-rest.rest.now) c.is_empty.result c.is_empty.ensures c.loop-rest-test.true)
-    (passed_over _ _ (ap (finds_or_all c.args.search) (sym c.split_at.ensures.front) ∙ sym c.is_found.ensures ∙ c.if-is_found.false)))
+pub loop-i-preserved : goal.loop-i-preserved
+loop-i-preserved c =
+    let within : c.loop-i.i < length c.rows-rows.result = omega (arith, c.loop-i-test.true, c.len-i-end.ensures.value) in
+    let show = λ (row : Row). map (λ place. shown (value_at row place)) c.args.places.now in
+    elim c.if-is_found.branch [
+      | then-is_found+in_ok-show w ↦ ap (λ v. v.items) w.cells-is ∙ taken_next show (is_in c.args.found.now) c.rows-rows.result c.loop-i.i [] c.loop-i.cells.items _ c.loop-i.invariant within (sym c.is_found.ensures ∙ w.if-is_found.true) (w.in_ok-show.ensures ∙ ap (λ row. c.loop-i.cells.items ++ show row) w.row.ensures)
+      | else-is_found w ↦ ap (λ v. v.items) w.cells-is ∙ passed_next show (is_in c.args.found.now) c.rows-rows.result c.loop-i.i [] c.loop-i.cells.items c.loop-i.invariant within (sym c.is_found.ensures ∙ w.if-is_found.false)
+    ]
 
 pub returns : goal.returns
 returns c =
-    walk_ends _ _ _ c.loop-rest.rest.now c.loop-rest.cells.items c.loop-rest.invariant (empty (length c.loop-rest.rest.now) c.is_empty.result c.is_empty.ensures c.loop-rest-test.false)
-    ∙ joined-filter (finds_or_all c.args.search) (λ row. map (λ place. shown (value_at row place)) c.args.places.now) _
-    ∙ ap (λ rows. joined (map (λ row. map (λ place. shown (value_at row place)) c.args.places.now) (filter (finds_or_all c.args.search) rows)))
-    (ap (λ headers. lines_of (length headers) c.cells-rest.result.now) c.headers-width.ensures.value ∙ c.cells-rest.ensures.rows)
+    c.loop-i.invariant
+    ∙ ap (λ rows. joined (map (λ row. map (λ place. shown (value_at row place)) c.args.places.now) (rows_where (is_in c.args.found.now) rows))) (take_all c.loop-i.i c.rows-rows.result (omega (arith, c.loop-i-test.false, c.len-i-end.ensures.value)) ∙ c.rows-rows.ensures.value)

@@ -1,12 +1,10 @@
-use Rattle.std.proofs.Common.{length, map, [], if◌then◌else◌}
+use Rattle.std.proofs.Common.{◌≡◌, map, take}
+use Rattle.bw_sql.specs.Rows.{joined}
 use Rattle.bw_model.specs.Select.{shown}
 use Rattle.bw_model.specs.Store.{value_at}
-use Rattle.bw_engine.specs.Searches.{finds_or_all}
-use Rattle.bw_engine.proofs.Lines.{Walks}
+use Rattle.bw_engine.specs.Found.{is_in, rows_where}
 use Rattle.bw_engine.proofs.select.found_cells.Given as goal
 
-abbrev pub invariant-loop-rest : goal.invariant-loop-rest
-invariant-loop-rest l = Walks (λ row. if finds_or_all l.search row then map (λ place. shown (value_at row place)) l.places else []) l.width l.initial.rest l.rest l.cells.items
-
-abbrev pub decreases-loop-rest : goal.decreases-loop-rest
-decreases-loop-rest l = length l.rest
+-- the cells of the found rows before this one
+abbrev pub invariant-loop-i : goal.invariant-loop-i
+invariant-loop-i l = l.cells.items ≡ joined (map (λ row. map (λ place. shown (value_at row place)) l.places) (rows_where (is_in l.found) (take l.i l.rows)))

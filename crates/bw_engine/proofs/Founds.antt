@@ -1,0 +1,98 @@
+-- Found rows, by their places and by the condition.
+use Rattle.std.proofs.Common.{◌≡◌, ◌∙◌, ℕ, ◌+◌, ◌<◌, Bool, true, false, if◌then◌else◌, List, [], ◌∷◌, ◌++◌, append-nil, append_assoc, filter, get_or, length, map, replicate, take, zero, suc, refl, sym, ap, arith, inl, inr, Option, Some, None, IfOk, Result, Ok, Err}
+use Rattle.std.proofs.lemmas.List.{get_or-replicate, length-replicate}
+use Rattle.bw_mask.specs.Masks.{MaskRows, len, row_at}
+use Rattle.bw_mask.specs.Truth.{is_value}
+use Rattle.bw_mask.specs.Truths.{truth_at}
+use Rattle.bw_mask.specs.declared.truth_value.TruthValue.{TruthValue}
+use Rattle.bw_mask.specs.declared.truth_value.TruthValue.TheVariants.{True, Unknown}
+use Rattle.bw_sql.specs.Rows.{joined}
+use Rattle.bw_sql.specs.Tree.{ConditionTree}
+use Rattle.bw_model.specs.Condition.{found_rows, is_found}
+use Rattle.bw_model.specs.Refusals.{has_long_list, names_missing, first_that_holds}
+use Rattle.bw_model.specs.Store.{Header, Row, Table}
+use Rattle.bw_model.specs.declared.refusal.Refusal.{Refusal}
+use Rattle.bw_model.specs.declared.refusal.Refusal.TheVariants as refusal
+use Rattle.bw_plan.specs.Plans.{AreTruthsBy, IsPlanFault, Plan, planned, truth_by}
+use Rattle.bw_plan.proofs.PlanLaws.{keeps_truth}
+use Rattle.bw_engine.specs.Found.{AreFound, is_in, rows_where}
+use Rattle.bw_engine.specs.Outcomes.{MayRefuse, condition_tests}
+use Rattle.bw_engine.proofs.Tests.{no_test, this_test}
+
+with_front : {A : Type 0} (b : Bool) (x : A) (l m : List A) → (if b then x ∷ (l ++ m) else l ++ m) ≡ (if b then x ∷ l else l) ++ m
+with_front true x l m = refl
+with_front false x l m = refl
+
+take_none : {A : Type 0} (xs : List A) → take 0 xs ≡ []
+take_none [] = refl
+take_none (x ∷ xs) = refl
+
+-- the rows up to a place, and the next
+pub where-more : {A : Type 0} (test : ℕ → Bool) (rows : List A) (n : ℕ) (d : A) → n < length rows → rows_where test (take (suc n) rows) ≡ rows_where test (take n rows) ++ (if test n then get_or rows n d ∷ [] else [])
+where-more test [] n d within = absurd (omega arith)
+where-more test (x ∷ xs) zero d within = ap (λ l. rows_where test (x ∷ l)) (take_none xs)
+where-more test (x ∷ xs) (suc n) d within =
+    ap (λ l. if test 0 then x ∷ l else l) (where-more (λ i. test (suc i)) xs n d (omega (arith, within)))
+    ∙ with_front (test 0) x (rows_where (λ i. test (suc i)) (take n xs)) (if test (suc n) then get_or xs n d ∷ [] else [])
+
+-- the rows at places that pass are those that pass
+pub where-filter : {A : Type 0} (test : ℕ → Bool) (p : A → Bool) (rows : List A) (d : A) → ((i : ℕ) → i < length rows → test i ≡ p (get_or rows i d)) → rows_where test rows ≡ filter p rows
+where-filter test p [] d same = refl
+where-filter test p (x ∷ xs) d same =
+    ap (λ b. if b then x ∷ rows_where (λ i. test (suc i)) xs else rows_where (λ i. test (suc i)) xs) (same 0 (omega arith))
+    ∙ ap (λ l. if p x then x ∷ l else l) (where-filter (λ i. test (suc i)) p xs d (λ i h. same (suc i) (omega (arith, h))))
+
+pub rows_found : (table : Table) (condition : Option ConditionTree) (found : Option MaskRows) → AreFound table condition found → rows_where (is_in found) table.rows ≡ found_rows table condition
+rows_found table condition found are = where-filter (is_in found) (is_found table.headers condition) table.rows [] are.1
+
+joined-push : {A B : Type 0} (f : A → List B) (xs : List A) (x : A) → joined (map f (xs ++ x ∷ [])) ≡ joined (map f xs) ++ f x
+joined-push f [] x = append-nil (f x)
+joined-push f (y ∷ xs) x = ap (λ l. f y ++ l) (joined-push f xs x) ∙ sym (append_assoc (f y) (joined (map f xs)) (f x))
+
+pub taken_next : {A B : Type 0} (f : A → List B) (test : ℕ → Bool) (rows : List A) (n : ℕ) (d : A) (cells new : List B) → cells ≡ joined (map f (rows_where test (take n rows))) → n < length rows → test n ≡ true → new ≡ cells ++ f (get_or rows n d) → new ≡ joined (map f (rows_where test (take (n + 1) rows)))
+taken_next f test rows n d cells new so_far within passes e =
+    let more : rows_where test (take (n + 1) rows) ≡ rows_where test (take n rows) ++ get_or rows n d ∷ [] =
+    ap (λ m. rows_where test (take m rows)) (next n) ∙ where-more test rows n d within ∙ ap (λ b. rows_where test (take n rows) ++ (if b then get_or rows n d ∷ [] else [])) passes in
+    e ∙ ap (λ l. l ++ f (get_or rows n d)) so_far ∙ sym (joined-push f (rows_where test (take n rows)) (get_or rows n d)) ∙ ap (λ l. joined (map f l)) (sym more)
+  where
+    next : (n : ℕ) → n + 1 ≡ suc n
+    next n = omega arith
+
+pub passed_next : {A B : Type 0} (f : A → List B) (test : ℕ → Bool) (rows : List A) (n : ℕ) (d : A) (cells : List B) → cells ≡ joined (map f (rows_where test (take n rows))) → n < length rows → test n ≡ false → cells ≡ joined (map f (rows_where test (take (n + 1) rows)))
+passed_next f test rows n d cells so_far within fails =
+    let more : rows_where test (take (n + 1) rows) ≡ rows_where test (take n rows) =
+    ap (λ m. rows_where test (take m rows)) (next n) ∙ where-more test rows n d within ∙ ap (λ b. rows_where test (take n rows) ++ (if b then get_or rows n d ∷ [] else [])) fails ∙ append-nil (rows_where test (take n rows)) in
+    so_far ∙ ap (λ l. joined (map f l)) (sym more)
+  where
+    next : (n : ℕ) → n + 1 ≡ suc n
+    next n = omega arith
+
+there : (b : Bool) (t u : TruthValue) → b ≡ true → (if b then t else u) ≡ t
+there true t u e = refl
+there false t u e = cc
+
+-- the mask of the rows at which a condition is true
+pub true_mask : (plan : Plan) (rows : List Row) (all mask : MaskRows) (truths : List TruthValue) → all.rows ≡ replicate (length rows) true → AreTruthsBy plan rows all truths → len mask ≡ length truths → ((i : ℕ) → row_at mask i ≡ is_value (truth_at truths i) True)
+    → (len mask ≡ length rows) × ((i : ℕ) → i < length rows → row_at mask i ≡ is_value (truth_by plan (get_or rows i [])) True)
+true_mask plan rows all mask truths whole are lens each = (
+  lens ∙ are.0 ∙ ap length whole ∙ length-replicate (length rows) true,
+  λ i within. each i ∙ ap (λ t. is_value t True) (are.1 i ∙ there (row_at all i) _ Unknown (ap (λ l. get_or l i false) whole ∙ get_or-replicate (length rows) i true false within)),
+)
+
+-- a plan's true rows are the found ones
+pub found_by_plan : (table : Table) (condition : ConditionTree) (plan : Plan) (mask : MaskRows) → plan ≡ planned table.headers condition
+    → (len mask ≡ length table.rows) × ((i : ℕ) → i < length table.rows → row_at mask i ≡ is_value (truth_by plan (get_or table.rows i [])) True) → AreFound table (Some condition) (Some mask)
+found_by_plan table condition plan mask is found = (
+  found.0,
+  λ i within.
+      found.1 i within ∙ ap (λ p. is_value (truth_by p (get_or table.rows i [])) True) is ∙ ap (λ t. is_value t True) (keeps_truth table.headers (get_or table.rows i []) condition),
+)
+
+pub plan_passes : (headers : List Header) (condition : ConditionTree) → names_missing headers condition ≡ false → has_long_list condition ≡ false → first_that_holds (condition_tests headers (Some condition)) ≡ None
+plan_passes headers condition e f = no_test _ _ _ e ∙ no_test _ _ _ f
+
+pub plan_refused : (headers : List Header) (condition : ConditionTree) (why : Refusal) → IsPlanFault headers condition why → MayRefuse (condition_tests headers (Some condition)) why
+plan_refused headers condition refusal.NoSuchColumn h = inr (this_test _ _ _ h)
+plan_refused headers condition refusal.OverLimit h = inr (no_test _ _ _ h.0 ∙ this_test _ _ _ h.1)
+plan_refused headers condition refusal.OutOfMemory h = inl refl
+plan_refused headers condition _ h = absurd h

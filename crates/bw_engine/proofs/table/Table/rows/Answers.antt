@@ -1,0 +1,15 @@
+use Rattle.std.proofs.Common.{◌∙◌, ap, arith, length, sym}
+use Rattle.bw_model.specs.Answers.{lines_of}
+use Rattle.bw_model.specs.Store.{row_limit}
+use Rattle.bw_model.proofs.Lines.{count-lines_of}
+use Rattle.bw_engine.proofs.table.Table.rows.Goals as goal
+
+pub new-requires-clause-few : goal.new-requires-clause-few
+new-requires-clause-few c =
+    let count = count-lines_of (length c.self.inside.headers) c.self.invariant.count c.self.inside.cells.items c.self.invariant.some c.self.invariant.whole in
+    rw (c.as_slice.ensures.value, c.as_slice-2.ensures.value) (omega (arith, count, c.self.invariant.few))
+
+pub returns-clause-few : goal.returns-clause-few
+returns-clause-few c =
+    let count = count-lines_of (length c.self.inside.headers) c.self.invariant.count c.self.inside.cells.items c.self.invariant.some c.self.invariant.whole in
+    omega (arith, count, c.self.invariant.few, ap (λ t. length t.rows) c.self.view_is)
