@@ -71,7 +71,7 @@ fn or_of_rows(
     Ok(at_row(&truths, 69))
 }
 
-/// IS FALSE, or where negated IS NOT FALSE, at a row of 70, of which row 0 alone is needed.
+/// IS FALSE, or where negated IS NOT FALSE, at a row of 70, where the first alone is needed.
 fn is_false_of_rows(
     alloc: Global,
     truth: TruthValue,
