@@ -84,9 +84,6 @@ pub bit_above : (w i : ℕ) → w < 2 ^ 64 → 64 ≤ i → bit_of w i ≡ false
 bit_above w i h l = ap (λ x. x == 1) (bit_at_above w 64 i h l)
 
 -- a word with one bit set
-pub one_same : (s : ℕ) → s < 64 → bit_of (1 * 2 ^ s % 2 ^ 64) s ≡ true
-one_same s h = ap (bit_of (1 * 2 ^ s % 2 ^ 64)) (omega arith) ∙ bit_moved_up 1 s 0 (omega arith)
-
 pub one_other : (s i : ℕ) → i < 64 → i ≢ s → bit_of (1 * 2 ^ s % 2 ^ 64) i ≡ false
 one_other s i h d =
     elim (cases_lt i s) [

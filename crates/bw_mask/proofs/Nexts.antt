@@ -10,10 +10,6 @@ use Rattle.bw_mask.specs.Masks.{IsNext, bit_of, row_in, rows_of}
 use Rattle.bw_mask.proofs.Views.{rows_clean, rows_len}
 use Rattle.bw_mask.proofs.Bits.{high, bit_of_high, bit_below_high}
 
-pub next_same : (f g : ℕ → Bool) → ((j : ℕ) → f j ≡ g j) → (i : ℕ) (o : Option ℕ) → IsNext g i o → IsNext f i o
-next_same f g same i None none = λ j h. same j ∙ none j h
-next_same f g same i (Some r) found = (found.0, same r ∙ found.1, λ j h l. same j ∙ found.2 j h l)
-
 module _ (words : List ℕ) (i : ℕ) where
   abbrev first : ℕ
   first = get_or words (i / 64) 0

@@ -36,11 +36,6 @@ from_False true b apart = apart refl
 from_False false true apart = refl
 from_False false false apart = refl
 
-pub from_Unknown : (a b : Bool) → not (a || b) ≡ is_value (truth_from a b) Unknown
-from_Unknown true b = refl
-from_Unknown false true = refl
-from_Unknown false false = refl
-
 pub from_not : (a b : Bool) → (a ≡ true → b ≡ false) → truth_from b a ≡ not_of (truth_from a b)
 from_not true b apart = rw (apart refl) refl
 from_not false true apart = refl

@@ -1,5 +1,5 @@
 -- A list made from a function of the row, and what a changed word changes.
-use Rattle.std.proofs.Common.{◌≡◌, ℕ, ◌+◌, ◌*◌, ◌/◌, ◌%◌, ◌^◌, ◌<◌, ◌≤◌, Bool, true, false, ◌&&◌, ◌==◌, ltb, List, [], ◌∷◌, ◌++◌, length, get_or, set, replicate, inl, inr, refl, sym, ap, ◌∙◌, arith, length-set}
+use Rattle.std.proofs.Common.{◌≡◌, ℕ, ◌+◌, ◌*◌, ◌/◌, ◌%◌, ◌<◌, ◌≤◌, Bool, true, false, ◌&&◌, ◌==◌, ltb, List, [], ◌∷◌, ◌++◌, length, get_or, set, replicate, inl, inr, refl, sym, ap, ◌∙◌, arith, length-set}
 use mathlib.Core.Logic.{◌≢◌}
 use Rattle.std.proofs.lemmas.Bool.{cases_lt, cases_eq, lt-ltb, le-ltb, and_right}
 use Rattle.std.proofs.lemmas.List.{get_or_past, same_lists, get_or-set_same, get_or-set_other, get_or_default, get_or_push, get_or_append_left, get_or-replicate, length-replicate, length_push}
@@ -57,36 +57,6 @@ rows_push n f g b same other =
 pub rows_replicate : (n : ℕ) (f : ℕ → Bool) (b : Bool) → ((j : ℕ) → j < n → f j ≡ b) → rows_of n f ≡ replicate n b
 rows_replicate n f b each = rows_are n f (replicate n b) (length-replicate n b) (λ j l. get_or-replicate n j b false l ∙ sym (each j l))
 
--- word i / 64 becomes w, which has b at row i and differs nowhere else
-module _ (words : List ℕ) (i w : ℕ) (b : Bool) (within : i / 64 < length words) (same : bit_of w (i % 64) ≡ b) (other : (k : ℕ) → k < 64 → k ≢ i % 64 → bit_of w k ≡ bit_of (get_or words (i / 64) 0) k) where
-  abbrev now : List ℕ
-  now = set words (i / 64) w
-
-  pub put_same : row_in now i ≡ b
-  put_same = ap (λ x. bit_of x (i % 64)) (get_or-set_same words (i / 64) w 0 within) ∙ same
-
-  pub put_other : (j : ℕ) → j ≢ i → row_in now j ≡ row_in words j
-  put_other j d =
-      elim (cases_eq (j / 64) (i / 64)) [
-        | inl e ↦
-            let away : j % 64 ≢ i % 64 = λ f. d (omega arith) in
-            ap (λ q. bit_of (get_or now q 0) (j % 64)) e
-            ∙ ap (λ x. bit_of x (j % 64)) (get_or-set_same words (i / 64) w 0 within)
-            ∙ other (j % 64) (omega arith) away
-            ∙ ap (λ q. bit_of (get_or words q 0) (j % 64)) (sym e)
-        | inr f ↦ ap (λ x. bit_of x (j % 64)) (get_or-set_other words (i / 64) (j / 64) w 0 f)
-      ]
-
-  pub put_rows : (n : ℕ) → i < n → rows_of n (row_in now) ≡ set (rows_of n (row_in words)) i b
-  put_rows n h = rows_set n (row_in words) (row_in now) i b h put_same put_other
-
-  pub put_words : (n : ℕ) → i < n → AreWords words n → AreWords now n
-  put_words n h old = record {
-    count = length-set words (i / 64) w ∙ old.count;
-    clean = λ j l. put_other j (omega arith) ∙ old.clean j l;
-    small = old.small;
-  }
-
 -- the rows below n stay, and those from n on go: word n / 64 keeps its bits below n % 64
 module _ (words : List ℕ) (n w : ℕ) (count : length words ≡ (n + 63) / 64) (part : 0 < n % 64) (each : (k : ℕ) → bit_of w k ≡ (bit_of (get_or words (n / 64) 0) k && ltb k (n % 64))) where
   abbrev cut : List ℕ
@@ -136,22 +106,6 @@ rows_zip f none n xs ys zs x y len each i =
       | inl h ↦ each i (omega (arith, x.count))
       | inr h ↦ rw (x.clean i h, y.clean i h, z.clean i h, none)
     ])
-
--- only row i changes
-pub kept_words : (xs ys : List ℕ) (n i : ℕ) → i < n → length ys ≡ length xs → ((j : ℕ) → j ≢ i → row_in ys j ≡ row_in xs j) → AreWords xs n → AreWords ys n
-kept_words xs ys n i h len other old = record {
-  count = len ∙ old.count;
-  clean = λ j l. other j (omega arith) ∙ old.clean j l;
-  small = old.small;
-}
-
--- one row more
-pub more_words : (xs ys : List ℕ) (n : ℕ) → n < 2 ^ 32 → length ys ≡ n / 64 + 1 → ((j : ℕ) → j ≢ n → row_in ys j ≡ row_in xs j) → AreWords xs n → AreWords ys (n + 1)
-more_words xs ys n few len other old = record {
-  count = omega (arith, len);
-  clean = λ j l. other j (omega arith) ∙ old.clean j (omega arith);
-  small = omega arith;
-}
 
 -- words that are all the same
 pub same_words : (k w : ℕ) (b : Bool) → ((i : ℕ) → i < 64 → bit_of w i ≡ b) → (j : ℕ) → j / 64 < k → row_in (replicate k w) j ≡ b
