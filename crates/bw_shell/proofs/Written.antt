@@ -28,13 +28,13 @@ no_front false c e f = f
 module _ (on_error : OnError) (script : List ℕ) where
   -- no part is left
   at_end : (read : ScriptEnd) (store : Store) → WroteReplies on_error read script store [] (last_end read) []
-  at_end Reached store = record { answered = []; left = []; split = refl; kept = refl; replies = []; after = store; are_answered = none_left; begun = []; written = refl; leaves_off = (refl, refl, refl) }
-  at_end Fault store = record { answered = []; left = []; split = refl; kept = refl; replies = []; after = store; are_answered = none_left; begun = []; written = refl; leaves_off = (tt, refl, refl) }
+  at_end Reached store = record { answered = []; left = []; split = refl; kept = refl; replies = []; after = store; are_answered = none_left; begun = []; written = refl; leaves_off = (refl, refl, refl, refl) }
+  at_end Fault store = record { answered = []; left = []; split = refl; kept = refl; replies = []; after = store; are_answered = none_left; begun = []; written = refl; leaves_off = (refl, tt, refl, refl) }
 
   -- the rest is dropped
   at_dropped : (read : ScriptEnd) (store : Store) (part : Part) (parts : List Part) → is_dropped read part ≡ true → WroteReplies on_error read script store (part ∷ parts) (last_end read) []
   at_dropped Reached store part parts dropped = absurd (true≢false (sym dropped))
-  at_dropped Fault store part parts dropped = record { answered = []; left = part ∷ parts; split = refl; kept = refl; replies = []; after = store; are_answered = none_left; begun = []; written = refl; leaves_off = (dropped, refl, refl) }
+  at_dropped Fault store part parts dropped = record { answered = []; left = part ∷ parts; split = refl; kept = refl; replies = []; after = store; are_answered = none_left; begun = []; written = refl; leaves_off = (refl, dropped, refl, refl) }
 
   over : (read : ScriptEnd) (store : Store) (parts : List Part) (end : RunEnd) (bytes : List ℕ) → WroteReplies on_error read script store parts (last_end read) [] → IsOver (last_end read) end bytes → WroteReplies on_error read script store parts end bytes
   over read store parts end bytes wrote is =
@@ -73,8 +73,8 @@ at_stop Stop read script store part parts (Refused refusal) after kept answers s
 -- one reply more in front, behind which the run goes on
 leaves_off_more : (on_error : OnError) (read : ScriptEnd) (script : List ℕ) (store : Store) (left : List Part) (reply : Reply) (replies : List Reply) (begun : List ℕ) (end : RunEnd) → stops on_error reply ≡ false
     → LeavesOff on_error read script store left replies begun end → LeavesOff on_error read script store left (reply ∷ replies) begun end
-leaves_off_more on_error read script store left reply replies begun ends.Done going so = (so.0, so.1, no_front (stops on_error reply) _ going so.2)
-leaves_off_more on_error read script store left reply replies begun ends.ReadFault going so = (so.0, so.1, no_front (stops on_error reply) _ going so.2)
+leaves_off_more on_error read script store left reply replies begun ends.Done going so = (so.0, so.1, so.2, no_front (stops on_error reply) _ going so.3)
+leaves_off_more on_error read script store left reply replies begun ends.ReadFault going so = (so.0, so.1, so.2, no_front (stops on_error reply) _ going so.3)
 leaves_off_more on_error read script store left reply replies begun ends.Stopped going so =
     let last = so.2 in
     (so.0, so.1, (reply ∷ last.0, last.1, ap (λ l. reply ∷ l) last.2, no_front (stops Stop reply) _ (subst (λ o. stops o reply ≡ false) so.0 going) last.3))

@@ -10,6 +10,7 @@ use Rattle.bw_model.specs.declared.reply.Reply.TheVariants.{Refused}
 use Rattle.bw_shell.specs.Run.{MayAnswer, is_dropped, stops, text_of}
 use Rattle.bw_shell.specs.Script.{IsFrontOf}
 use Rattle.bw_shell.specs.declared.reading.ScriptEnd.{ScriptEnd}
+use Rattle.bw_shell.specs.declared.reading.ScriptEnd.TheVariants.{Reached, Fault}
 use Rattle.bw_shell.specs.declared.session.OnError.{OnError}
 use Rattle.bw_shell.specs.declared.session.OnError.TheVariants.{Stop}
 use Rattle.bw_shell.specs.declared.session.RunEnd.{RunEnd}
@@ -37,8 +38,8 @@ BeginsNext script store (part ∷ parts) begun = (reply : Reply) × (after : Sto
 
 -- where a run ends so: which parts it left, and what it wrote behind the replies
 abbrev pub LeavesOff : OnError → ScriptEnd → List ℕ → Store → List Part → List Reply → List ℕ → RunEnd → Type 0
-LeavesOff on_error read script store left replies begun ends.Done = (left ≡ []) × (begun ≡ []) × (list_any (stops on_error) replies ≡ false)
-LeavesOff on_error read script store left replies begun ends.ReadFault = IsDroppedRest read left × (begun ≡ []) × (list_any (stops on_error) replies ≡ false)
+LeavesOff on_error read script store left replies begun ends.Done = (read ≡ Reached) × (left ≡ []) × (begun ≡ []) × (list_any (stops on_error) replies ≡ false)
+LeavesOff on_error read script store left replies begun ends.ReadFault = (read ≡ Fault) × IsDroppedRest read left × (begun ≡ []) × (list_any (stops on_error) replies ≡ false)
 LeavesOff on_error read script store left replies begun ends.Stopped = (on_error ≡ Stop) × (begun ≡ []) × IsLastAnError replies
 LeavesOff on_error read script store left replies begun ends.WriteFault = BeginsNext script store left begun × (list_any (stops on_error) replies ≡ false)
 LeavesOff on_error read script store left replies begun ends.Memory = ⊥

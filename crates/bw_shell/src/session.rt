@@ -48,7 +48,7 @@ pub fn run<R: Read, W: Write, F: Folder>(
     _folder: &mut F,
     on_error: OnError,
 ) -> RunEnd
-    ensures run { RunsTo on_error (R.remaining reader.old) (W.contents writer.old) (W.contents writer.new) result }
+    ensures run { RunsTo on_error (R.remaining reader.old) (R.remaining reader.new) (W.contents writer.old) (W.contents writer.new) result }
     ensures folder { _folder.new ≡ _folder.old }
 {
     let Ok(script) = read_script(alloc, reader) else {
