@@ -1,5 +1,6 @@
 pub mod Answered
 pub mod Commas
+pub mod Kept
 pub mod Lines
 pub mod Names
 pub mod Passing

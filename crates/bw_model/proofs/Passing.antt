@@ -3,7 +3,7 @@ use Rattle.std.proofs.Common.{◌≡◌, ℕ, ◌<◌, ◌≤◌, ◌==◌, Bool
 use Rattle.std.specs.List.{All, list_all}
 use Rattle.std.proofs.lemmas.Bool.{eqb-true, leb-false, ltb-false, not-false, true≢false}
 use Rattle.std.proofs.lemmas.List.Elements.{All-cons, All-nil}
-use Rattle.bw_model.specs.Refusals.{create_tests, first_that_holds}
+use Rattle.bw_model.specs.Refusals.{Tests, create_tests, first_that_holds}
 use Rattle.bw_model.specs.Store.{Store, are_distinct, column_limit, table_limit, table_of}
 use Rattle.bw_model.specs.declared.refusal.Refusal.{Refusal}
 
@@ -18,6 +18,15 @@ more (suc n) e = omega arith
 pub if_none : (b : Bool) (x : Refusal) (r : Option Refusal) → (if b then Some x else r) ≡ None → (b ≡ false) × (r ≡ None)
 if_none true x r e = cc
 if_none false x r e = (refl, e)
+
+-- no test holds
+abbrev pub NoneHolds : Tests → Type 0
+NoneHolds [] = Unit {0}
+NoneHolds (test ∷ tests) = (test.1 ≡ false) × NoneHolds tests
+
+pub none_holds : (tests : Tests) → first_that_holds tests ≡ None → NoneHolds tests
+none_holds [] e = tt
+none_holds (test ∷ tests) e = let p = if_none test.1 test.0 (first_that_holds tests) e in (p.0, none_holds tests p.1)
 
 pub widths : {A : Type 0} (w : ℕ) (rows : List (List A)) → list_all (λ row. length row == w) rows ≡ true → All (λ row. length row ≡ w) rows
 widths w [] all = All-nil (λ r. length r ≡ w)
@@ -39,15 +48,13 @@ neither false c e = (refl, e)
 
 pub passes : (columns : List (List ℕ)) (name : List ℕ) (store : Store) → first_that_holds (create_tests columns name store) ≡ None → Passes columns name store
 passes columns name store none =
-    let b = if_none _ _ _ none in
-    let d = if_none _ _ _ b.1 in
-    let e = if_none _ _ _ d.1 in
-    let within = neither (length columns == 0 || nat_lt column_limit (length columns)) (nat_le table_limit (length store)) e.0 in
+    let p = none_holds (create_tests columns name store) none in
+    let within = neither (length columns == 0 || nat_lt column_limit (length columns)) (nat_le table_limit (length store)) p.1.1.0 in
     let fits = neither (length columns == 0) (nat_lt column_limit (length columns)) within.0 in
     record {
       some = more (length columns) fits.0;
-      absent = b.0;
-      distinct = not-false (are_distinct columns) d.0;
+      absent = p.0;
+      distinct = not-false (are_distinct columns) p.1.0;
       few = ltb-false column_limit (length columns) fits.1;
       room = leb-false table_limit (length store) within.1;
     }

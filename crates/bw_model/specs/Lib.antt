@@ -6,3 +6,4 @@ pub mod ReplyText
 pub mod Select
 pub mod Step
 pub mod Store
+pub mod WellFormed
