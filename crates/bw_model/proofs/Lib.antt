@@ -8,6 +8,8 @@ pub mod Lines
 pub mod NameTexts
 pub mod Names
 pub mod Passing
+pub mod RefusalTexts
+pub mod ReplyTexts
 pub mod Stores
 pub mod Unchanged
 pub mod Values
