@@ -72,6 +72,18 @@ fn statements_of_texts(rt: HostRuntime) -> Result<(), Fail> {
 }
 
 #[test]
+fn a_name_is_copied(rt: HostRuntime) -> Result<(), Fail> {
+    let Statement::CreateTable(create) = statement(rt.alloc(), b"create table Visits (day int)")?
+    else {
+        return Err(Fail::from("no CREATE TABLE"));
+    };
+    let copy = create.table.try_clone(rt.alloc())?;
+    assert_eq!(rt; copy.as_bytes(), b"VISITS".as_slice());
+    assert_eq!(rt; copy, create.table);
+    Ok(())
+}
+
+#[test]
 fn an_engine_executes(rt: HostRuntime) -> Result<(), Fail> {
     let mut engine = Engine::new(rt.alloc())?;
     let create = statement(rt.alloc(), b"CREATE TABLE t (a INT)")?;

@@ -133,3 +133,50 @@ fn a_stop_at_the_first_error(rt: HostRuntime) {
     assert_eq!(rt; end, RunEnd::Stopped);
     assert_eq!(rt; output.as_slice(), b"error 20: no such table\n".as_slice());
 }
+
+// Takes everything, and fails at a later flush.
+#[derive(Drop)]
+struct UnflushedWriter {
+    taken: Vec<u8>,
+    flushes_left: u32,
+}
+
+impl Write for UnflushedWriter {
+    fn write(&mut self, buf: &[u8]) -> io::Result<usize> {
+        self.taken.extend_from_slice(buf)?;
+        Ok(buf.len())
+    }
+
+    fn flush(&mut self) -> io::Result<()> {
+        if self.flushes_left == 0 {
+            return Err(io::Error::from(ErrorKind::Other));
+        }
+        self.flushes_left -= 1;
+        Ok(())
+    }
+}
+
+#[test]
+fn a_flush_that_fails_behind_a_reply(rt: HostRuntime) {
+    for (flushes_left, taken, end) in [
+        (0, b"ok\n".as_slice(), RunEnd::WriteFault),
+        (1, b"ok\nok 3\n".as_slice(), RunEnd::WriteFault),
+        (3, b"ok\nok 3\nA\n-1\nrows 1\n".as_slice(), RunEnd::Done),
+    ] {
+        let mut reader = SCRIPT;
+        let mut writer = UnflushedWriter {
+            taken: Vec::new(rt.alloc()),
+            flushes_left,
+        };
+        let mut folder = MemoryFolder::new(rt.alloc());
+        let found = run(
+            rt.alloc(),
+            &mut reader,
+            &mut writer,
+            &mut folder,
+            OnError::Continue,
+        );
+        assert_eq!(rt; found, end);
+        assert_eq!(rt; writer.taken.as_slice(), taken);
+    }
+}

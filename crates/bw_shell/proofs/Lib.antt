@@ -1,4 +1,6 @@
+pub mod FileMaps
 pub mod Items
 pub mod Lines
 pub mod Sessions
 pub mod Texts
+pub mod Written

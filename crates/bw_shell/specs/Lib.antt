@@ -1,4 +1,5 @@
 pub mod Folders
+pub mod Replies
 pub mod Run
 pub mod Script
 pub mod Writing

@@ -13,7 +13,7 @@ use Rattle.bw_model.specs.Store.{Store}
 use Rattle.bw_model.specs.declared.refusal.Refusal.TheVariants.{StatementTooLong, Syntax}
 use Rattle.bw_model.specs.declared.reply.Reply.{Reply}
 use Rattle.bw_model.specs.declared.reply.Reply.TheVariants.{Refused}
-use Rattle.bw_shell.specs.Script.{IsFrontOf, IsRead}
+use Rattle.bw_shell.specs.Script.{IsFrontOf, IsRead, longest_script}
 use Rattle.bw_shell.specs.declared.reading.ScriptEnd.{ScriptEnd}
 use Rattle.bw_shell.specs.declared.reading.ScriptEnd.TheVariants.{Reached, Fault}
 use Rattle.bw_shell.specs.declared.session.OnError.{OnError}
@@ -56,7 +56,7 @@ Either true a b = a
 Either false a b = b
 
 -- Over this store, a run over the parts may end so and write these bytes. Each reply is written whole, or a front of
--- it where the writer fails, and nothing comes after that.
+-- it where the writer fails (all of it, where only the flush behind it fails), and nothing comes after that.
 abbrev pub Session : OnError → ScriptEnd → List ℕ → Store → List Part → RunEnd → List ℕ → Type 0
 Session on_error read script store [] end bytes = IsOver (last_end read) end bytes
 Session on_error read script store (part ∷ parts) end bytes =
@@ -72,14 +72,15 @@ HasRun on_error read script parts store old new end =
     (bytes : List ℕ) × Session on_error read script store parts end bytes × Appends old new bytes
 
 -- A run from no table: what the reader gave was read, its parts are a session, and its bytes were written.
-pub record IsRun (on_error : OnError) (given old new : Option (List ℕ)) (end : RunEnd) : Type 0 where
+pub record IsRun (on_error : OnError) (given left old new : Option (List ℕ)) (end : RunEnd) : Type 0 where
   pub script : List ℕ
   pub read : ScriptEnd
-  pub is_read : IsRead given script read
+  pub is_read : IsRead given left script read
+  pub fits : length script ≤ longest_script
   pub parts : List Part
   pub are_parts : AreParts script parts
   pub has_run : HasRun on_error read script parts [] old new end
 
 -- where there is no memory to begin with, nothing is written
-abbrev pub RunsTo : OnError → Option (List ℕ) → Option (List ℕ) → Option (List ℕ) → RunEnd → Type 0
-RunsTo on_error given old new end = ((end ≡ ends.Memory) × Keeps old new) ⊎ IsRun on_error given old new end
+abbrev pub RunsTo : OnError → Option (List ℕ) → Option (List ℕ) → Option (List ℕ) → Option (List ℕ) → RunEnd → Type 0
+RunsTo on_error given left old new end = ((end ≡ ends.Memory) × Keeps old new) ⊎ IsRun on_error given left old new end

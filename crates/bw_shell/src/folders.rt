@@ -1,7 +1,7 @@
 //! Folders, where a statement's files lie.
 
-ghost use Rattle.std.specs.Prelude.{◌≡◌, ℕ, ◌+◌, ◌<◌, ◌^◌, [], Result, IfErr};
-ghost use Rattle.bw_shell.specs.Folders.{failures_after};
+ghost use Rattle.std.specs.Prelude.{◌≡◌, ℕ, ◌<◌, ◌^◌, [], None, Option, Some, IfErr};
+ghost use Rattle.bw_shell.specs.Folders.{Files, IsWriteFault, Reads, Writes, failures_after};
 ghost use Rattle.bw_shell.specs.declared.folders.FolderFault.TheVariants.{Memory};
 
 use std::alloc::{AllocError, AllocFailed, Global};
@@ -37,20 +37,27 @@ impl<T: Drop> From<AllocFailed<T>> for FolderFault {
     }
 }
 
-/// Where a statement's files lie. It counts how often it failed.
+/// Where a statement's files lie. It counts how often it failed, and may tell its files.
 pub trait Folder {
     /// How often it failed so far.
     ghost failure_count: { Self → ℕ };
 
-    /// The bytes of a file of at most `limit` bytes.
+    /// Its files, where they are known.
+    ghost files: { Self → Option Files } = { λ _. None };
+
+    /// The bytes of a file of at most `limit` bytes. No file changes.
     fn read(&mut self, name: &str, limit: usize) -> Result<Vec<u8>, FolderFault>
         requires { failure_count self.old < 2 ^ 63 }
-        ensures { failure_count self.new ≡ failures_after result (failure_count self.old) };
+        ensures failures { failure_count self.new ≡ failures_after result (failure_count self.old) }
+        ensures files { Reads limit name.now (files self.old) (files self.new) result };
 
-    /// Makes the file anew with these bytes.
+    /// Makes the file anew with these bytes. The answer is never `Missing` or `TooLarge`. After
+    /// `Failed` the file holds anything or is gone; no other file changes.
     fn write(&mut self, name: &str, bytes: &[u8]) -> Result<(), FolderFault>
         requires { failure_count self.old < 2 ^ 63 }
-        ensures { failure_count self.new ≡ failures_after result (failure_count self.old) };
+        ensures failures { failure_count self.new ≡ failures_after result (failure_count self.old) }
+        ensures files { Writes name.now bytes.now (files self.old) (files self.new) result }
+        ensures fault { IfErr result IsWriteFault };
 
     /// How many calls answered `Failed`.
     fn failures(&self) -> u64
@@ -65,9 +72,10 @@ pub struct MemoryFolder {
 }
 
 impl Model for MemoryFolder {
-    ghost use Rattle.std.specs.Prelude.{ℕ, List, map, string_bytes};
+    ghost use Rattle.std.specs.Prelude.{map, string_bytes};
+    ghost use Rattle.bw_shell.specs.Folders.{Files};
 
-    ghost Value = { List (List ℕ × List ℕ) };
+    ghost Value = { Files };
 
     ghost view = { λ folder. map (λ file. (string_bytes file.0, file.1.items)) folder.files.entries };
 }
@@ -86,6 +94,8 @@ impl MemoryFolder {
 
 impl Folder for MemoryFolder {
     ghost failure_count = { λ _. 0 };
+
+    ghost files = { λ folder. Some folder };
 
     fn read(&mut self, name: &str, limit: usize) -> Result<Vec<u8>, FolderFault> {
         let Some(bytes) = self.files.get(name) else {

@@ -2,12 +2,14 @@
 #![tactic(auto)]
 
 mod folders;
+mod laws;
 mod reading;
 mod session;
 mod text;
 mod writing;
 
 pub use folders::{Folder, FolderFault, MemoryFolder};
+pub use laws::replies_are_written;
 pub use reading::ScriptEnd;
 pub use session::{OnError, RunEnd, run};
 pub use text::write_reply;

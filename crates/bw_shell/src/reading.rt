@@ -1,7 +1,7 @@
 //! A script read whole from a reader.
 
-ghost use Rattle.std.specs.Prelude.{◌≡◌, ◌<◌, ◌≤◌, ◌^◌, [], length, IfOk, OnOk};
-ghost use Rattle.bw_shell.specs.Script.{IsEndOf, IsRead, TakesPiece};
+ghost use Rattle.std.specs.Prelude.{◌≡◌, ◌<◌, ◌≤◌, [], length, IfOk, OnOk};
+ghost use Rattle.bw_shell.specs.Script.{IsAtLimit, IsRead, TakesPiece, longest_script};
 
 use std::alloc::{AllocError, Global};
 use std::io::Read;
@@ -30,8 +30,8 @@ pub(crate) struct Script {
 
 /// Reads until the end, an error or the limit.
 pub(crate) fn read_script<R: Read>(alloc: Global, reader: &mut R) -> Result<Script, AllocError>
-    ensures read { IfOk result (λ script. IsRead (R.remaining reader.old) script.bytes.items script.end) }
-    ensures short { IfOk result (λ script. length script.bytes.items ≤ 2 ^ 30) }
+    ensures read { IfOk result (λ script. IsRead (R.remaining reader.old) (R.remaining reader.new) script.bytes.items script.end) }
+    ensures fits { IfOk result (λ script. length script.bytes.items ≤ longest_script) }
 {
     let mut piece = new_piece(alloc)?;
     let mut bytes = Vec::new(alloc);
@@ -52,8 +52,8 @@ fn read_pieces<R: Read>(
 ) -> Result<ScriptEnd, AllocError>
     requires room { 0 < length piece.old }
     requires fresh { bytes.old.items ≡ [] }
-    ensures read { IfOk result (IsRead (R.remaining reader.old) bytes.new.items) }
-    ensures short { OnOk result (length bytes.new.items ≤ 2 ^ 30) }
+    ensures read { IfOk result (IsRead (R.remaining reader.old) (R.remaining reader.new) bytes.new.items) }
+    ensures short { OnOk result (length bytes.new.items ≤ longest_script) }
 {
     while bytes.len() < LONGEST_SCRIPT {
         if let Some(end) = read_piece(reader, piece, bytes)? {
@@ -70,7 +70,7 @@ fn read_piece<R: Read>(
     bytes: &mut Vec<u8>,
 ) -> Result<Option<ScriptEnd>, AllocError>
     requires room { 0 < length piece.old }
-    requires short { length bytes.old.items < 2 ^ 30 }
+    requires short { length bytes.old.items < longest_script }
     ensures { IfOk result (TakesPiece (R.remaining reader.old) (R.remaining reader.new) bytes.old.items bytes.new.items) }
 {
     let room = piece.len().min(LONGEST_SCRIPT - bytes.len());
@@ -86,7 +86,7 @@ fn read_piece<R: Read>(
 
 // Whether the script ends where the limit is.
 fn end_at_limit<R: Read>(reader: &mut R) -> ScriptEnd
-    ensures { IsEndOf (R.remaining reader.old) result }
+    ensures { IsAtLimit (R.remaining reader.old) (R.remaining reader.new) result }
 {
     let mut next = [0u8; 1];
     match reader.read(&mut next) {

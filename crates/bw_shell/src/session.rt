@@ -32,7 +32,8 @@ pub enum RunEnd {
     /// The reader failed, or the script is longer than 2^30 bytes. The parts before that which a `;`
     /// closes were answered.
     ReadFault,
-    /// The writer failed or took no byte.
+    /// A write failed or took no byte, or a flush failed. What was written is whole replies and a front of
+    /// the next.
     WriteFault,
     /// There is no memory for the script, its parts or the engine. Nothing was executed or written.
     Memory,
@@ -47,7 +48,8 @@ pub fn run<R: Read, W: Write, F: Folder>(
     _folder: &mut F,
     on_error: OnError,
 ) -> RunEnd
-    ensures { RunsTo on_error (R.remaining reader.old) (W.contents writer.old) (W.contents writer.new) result }
+    ensures run { RunsTo on_error (R.remaining reader.old) (R.remaining reader.new) (W.contents writer.old) (W.contents writer.new) result }
+    ensures folder { _folder.new ≡ _folder.old }
 {
     let Ok(script) = read_script(alloc, reader) else {
         return RunEnd::Memory;
@@ -147,7 +149,8 @@ fn reply_to(alloc: Global, engine: &mut Engine, text: &[u8], is_closed: bool) ->
     }
 }
 
-// Writes a reply and flushes the writer.
+// Writes a reply and flushes the writer. No clause can name a flush, since the trait says of one only
+// that the bytes stay.
 fn hand_over<W: Write>(writer: &mut W, reply: &Reply) -> Result<(), WriteFault>
     ensures { Wrote (W.contents writer.old) (W.contents writer.new) (reply_text reply.now) result }
 {

@@ -1,0 +1,117 @@
+-- A session's bytes are the texts of replies.
+use Rattle.std.proofs.Common.{◌≡◌, ◌⊎◌, ℕ, inl, inr, Bool, true, false, ◌||◌, List, [], ◌∷◌, ◌++◌, refl, sym, ap, ◌∙◌, subst, append_assoc}
+use Rattle.std.specs.List.{flat_map, list_any}
+use Rattle.std.proofs.lemmas.Bool.{true≢false}
+use Rattle.bw_sql.specs.declared.script.Part.{Part}
+use Rattle.bw_model.specs.ReplyText.{reply_text}
+use Rattle.bw_model.specs.Store.{Store}
+use Rattle.bw_model.specs.declared.reply.Reply.{Reply}
+use Rattle.bw_model.specs.declared.reply.Reply.TheVariants.{Done, Count, Rows, Refused}
+use Rattle.bw_shell.specs.Replies.{LeavesOff, WroteReplies, and_then, none_left}
+use Rattle.bw_shell.specs.Run.{Either, IsOver, MayAnswer, Session, is_dropped, last_end, stops, text_of}
+use Rattle.bw_shell.specs.Script.{IsFrontOf}
+use Rattle.bw_shell.specs.declared.reading.ScriptEnd.{ScriptEnd}
+use Rattle.bw_shell.specs.declared.reading.ScriptEnd.TheVariants.{Reached, Fault}
+use Rattle.bw_shell.specs.declared.session.OnError.{OnError}
+use Rattle.bw_shell.specs.declared.session.OnError.TheVariants.{Continue, Stop}
+use Rattle.bw_shell.specs.declared.session.RunEnd.{RunEnd}
+use Rattle.bw_shell.specs.declared.session.RunEnd.TheVariants as ends
+
+either : (b : Bool) (A B C : Type 0) → (b ≡ true → A → C) → (b ≡ false → B → C) → Either b A B → C
+either true A B C f g e = f refl e
+either false A B C f g e = g refl e
+
+no_front : (b c : Bool) → b ≡ false → c ≡ false → (b || c) ≡ false
+no_front true c e f = e
+no_front false c e f = f
+
+module _ (on_error : OnError) (script : List ℕ) where
+  -- no part is left
+  at_end : (read : ScriptEnd) (store : Store) → WroteReplies on_error read script store [] (last_end read) []
+  at_end Reached store = record { answered = []; left = []; split = refl; kept = refl; replies = []; after = store; are_answered = none_left; begun = []; written = refl; leaves_off = (refl, refl, refl) }
+  at_end Fault store = record { answered = []; left = []; split = refl; kept = refl; replies = []; after = store; are_answered = none_left; begun = []; written = refl; leaves_off = (tt, refl, refl) }
+
+  -- the rest is dropped
+  at_dropped : (read : ScriptEnd) (store : Store) (part : Part) (parts : List Part) → is_dropped read part ≡ true → WroteReplies on_error read script store (part ∷ parts) (last_end read) []
+  at_dropped Reached store part parts dropped = absurd (true≢false (sym dropped))
+  at_dropped Fault store part parts dropped = record { answered = []; left = part ∷ parts; split = refl; kept = refl; replies = []; after = store; are_answered = none_left; begun = []; written = refl; leaves_off = (dropped, refl, refl) }
+
+  over : (read : ScriptEnd) (store : Store) (parts : List Part) (end : RunEnd) (bytes : List ℕ) → WroteReplies on_error read script store parts (last_end read) [] → IsOver (last_end read) end bytes → WroteReplies on_error read script store parts end bytes
+  over read store parts end bytes wrote is =
+      subst (λ e. WroteReplies on_error read script store parts e bytes) (sym is.0) (subst (WroteReplies on_error read script store parts (last_end read)) (sym is.1) wrote)
+
+module _ (read : ScriptEnd) (script : List ℕ) (store : Store) (part : Part) (parts : List Part) (reply : Reply) (after : Store) (kept : is_dropped read part ≡ false) (answers : MayAnswer store part.is_closed (text_of script part) reply after) where
+  -- the writer failed in the reply
+  at_failure : (on_error : OnError) (end : RunEnd) (bytes : List ℕ) → end ≡ ends.WriteFault → IsFrontOf bytes (reply_text reply) → WroteReplies on_error read script store (part ∷ parts) end bytes
+  at_failure on_error end bytes is front =
+      subst (λ e. WroteReplies on_error read script store (part ∷ parts) e bytes) (sym is)
+      (record { answered = []; left = part ∷ parts; split = refl; kept = refl; replies = []; after = store; are_answered = none_left; begun = bytes; written = refl; leaves_off = ((reply, after, answers, front), refl) })
+
+one_kept : (read : ScriptEnd) (part : Part) → is_dropped read part ≡ false → list_any (is_dropped read) (part ∷ []) ≡ false
+one_kept read part kept = no_front (is_dropped read part) false kept refl
+
+-- the reply is an error, and the run stops there
+at_stop : (on_error : OnError) (read : ScriptEnd) (script : List ℕ) (store : Store) (part : Part) (parts : List Part) (reply : Reply) (after : Store) → is_dropped read part ≡ false → MayAnswer store part.is_closed (text_of script part) reply after → stops on_error reply ≡ true
+    → WroteReplies on_error read script store (part ∷ parts) ends.Stopped (reply_text reply ++ [])
+at_stop Continue read script store part parts reply after kept answers stop = absurd (true≢false (sym stop))
+at_stop Stop read script store part parts Done after kept answers stop = absurd (true≢false (sym stop))
+at_stop Stop read script store part parts (Count n) after kept answers stop = absurd (true≢false (sym stop))
+at_stop Stop read script store part parts (Rows answer) after kept answers stop = absurd (true≢false (sym stop))
+at_stop Stop read script store part parts (Refused refusal) after kept answers stop = record {
+  answered = part ∷ [];
+  left = parts;
+  split = refl;
+  kept = one_kept read part kept;
+  replies = Refused refusal ∷ [];
+  after = after;
+  are_answered = and_then answers none_left;
+  begun = [];
+  written = sym (append_assoc (reply_text (Refused refusal)) [] []);
+  leaves_off = (refl, refl, ([], refusal, refl, refl));
+}
+
+-- one reply more in front, behind which the run goes on
+leaves_off_more : (on_error : OnError) (read : ScriptEnd) (script : List ℕ) (store : Store) (left : List Part) (reply : Reply) (replies : List Reply) (begun : List ℕ) (end : RunEnd) → stops on_error reply ≡ false
+    → LeavesOff on_error read script store left replies begun end → LeavesOff on_error read script store left (reply ∷ replies) begun end
+leaves_off_more on_error read script store left reply replies begun ends.Done going so = (so.0, so.1, no_front (stops on_error reply) _ going so.2)
+leaves_off_more on_error read script store left reply replies begun ends.ReadFault going so = (so.0, so.1, no_front (stops on_error reply) _ going so.2)
+leaves_off_more on_error read script store left reply replies begun ends.Stopped going so =
+    let last = so.2 in
+    (so.0, so.1, (reply ∷ last.0, last.1, ap (λ l. reply ∷ l) last.2, no_front (stops Stop reply) _ (subst (λ o. stops o reply ≡ false) so.0 going) last.3))
+leaves_off_more on_error read script store left reply replies begun ends.WriteFault going so = (so.0, no_front (stops on_error reply) _ going so.1)
+leaves_off_more on_error read script store left reply replies begun ends.Memory going so = so
+
+more : (on_error : OnError) (read : ScriptEnd) (script : List ℕ) (store : Store) (part : Part) (parts : List Part) (reply : Reply) (after : Store) (end : RunEnd) (rest : List ℕ) → is_dropped read part ≡ false → MayAnswer store part.is_closed (text_of script part) reply after → stops on_error reply ≡ false
+    → WroteReplies on_error read script after parts end rest → WroteReplies on_error read script store (part ∷ parts) end (reply_text reply ++ rest)
+more on_error read script store part parts reply after end rest kept answers going wrote = record {
+  answered = part ∷ wrote.answered;
+  left = wrote.left;
+  split = ap (λ l. part ∷ l) wrote.split;
+  kept = no_front (is_dropped read part) _ kept wrote.kept;
+  replies = reply ∷ wrote.replies;
+  after = wrote.after;
+  are_answered = and_then answers wrote.are_answered;
+  begun = wrote.begun;
+  written = ap (λ l. reply_text reply ++ l) wrote.written ∙ sym (append_assoc (reply_text reply) (flat_map reply_text wrote.replies) wrote.begun);
+  leaves_off = leaves_off_more on_error read script wrote.after wrote.left reply wrote.replies wrote.begun end going wrote.leaves_off;
+}
+
+pub wrote_replies : (on_error : OnError) (read : ScriptEnd) (script : List ℕ) (store : Store) (parts : List Part) (end : RunEnd) (bytes : List ℕ) → Session on_error read script store parts end bytes → WroteReplies on_error read script store parts end bytes
+wrote_replies on_error read script store [] end bytes session = over on_error script read store [] end bytes (at_end on_error script read store) session
+wrote_replies on_error read script store (part ∷ parts) end bytes session =
+    either (is_dropped read part) _ _ _
+    (λ dropped is. over on_error script read store (part ∷ parts) end bytes (at_dropped on_error script read store part parts dropped) is)
+    (λ kept answer. by_reply kept answer.0 answer.1 answer.2 (wrote_replies on_error read script answer.1 parts end) answer.3)
+    session
+  where
+    by_reply : is_dropped read part ≡ false → (reply : Reply) (after : Store) → MayAnswer store part.is_closed (text_of script part) reply after → ((rest : List ℕ) → Session on_error read script after parts end rest → WroteReplies on_error read script after parts end rest)
+        → ((end ≡ ends.WriteFault) × IsFrontOf bytes (reply_text reply)) ⊎ ((rest : List ℕ) × (bytes ≡ reply_text reply ++ rest) × Either (stops on_error reply) (IsOver ends.Stopped end rest) (Session on_error read script after parts end rest))
+        → WroteReplies on_error read script store (part ∷ parts) end bytes
+    by_reply kept reply after answers deeper so =
+        elim so [
+          | inl failed ↦ at_failure read script store part parts reply after kept answers on_error end bytes failed.0 failed.1
+          | inr on ↦ subst (WroteReplies on_error read script store (part ∷ parts) end) (sym on.1) (either (stops on_error reply) _ _ _
+              (λ stop is. subst (λ e. WroteReplies on_error read script store (part ∷ parts) e (reply_text reply ++ on.0)) (sym is.0) (subst (λ l. WroteReplies on_error read script store (part ∷ parts) ends.Stopped (reply_text reply ++ l)) (sym is.1) (at_stop on_error read script store part parts reply after kept answers stop)))
+              (λ going session. more on_error read script store part parts reply after end on.0 kept answers going (deeper on.0 session))
+              on.2)
+        ]
