@@ -5,6 +5,8 @@ use Rattle.std.proofs.Math.Nat.{add-sub_cancel_left}
 use Rattle.std.proofs.Math.Seq.{drop-append_seam}
 use Rattle.std.proofs.lemmas.List.{drop_all, take-append-drop, take_all}
 use Rattle.std.proofs.lemmas.List.Elements.{All-nil, All-push}
+use Rattle.bw_sql.specs.declared.lexer.TextEnd.{TextEnd}
+use Rattle.bw_sql.specs.declared.lexer.TextEnd.TheVariants as ends
 use Rattle.bw_sql.specs.declared.token.Token.{Token}
 use Rattle.bw_sql.specs.declared.token.TokenKind.{TokenKind}
 use Rattle.bw_sql.specs.declared.token.TokenKind.TheVariants as k
@@ -12,7 +14,7 @@ use Rattle.bw_sql.specs.declared.piece.Piece.{Piece}
 use Rattle.bw_sql.specs.declared.piece.Piece.TheVariants as p
 use Rattle.bw_sql.specs.Pieces.{first_piece}
 use Rattle.bw_sql.specs.Spellings.{IsSpelled, IsTokenOf}
-use Rattle.bw_sql.specs.Tokens.{AreTokens, AreTokensFrom, AreTokensToBad, HasBadToken, IsBad, IsNext, Shape, done, past_separator, past_token, separator, token}
+use Rattle.bw_sql.specs.Tokens.{AreTokens, AreTokensFrom, AreTokensToBad, AreTokensUpTo, HasBadToken, IsBad, IsNext, Shape, done, past_separator, past_token, separator, token}
 use Rattle.bw_sql.proofs.Longest.{next_piece, piece_next, piece_of}
 
 pub drop_none : (text : List ℕ) → drop 0 text ≡ text
@@ -155,40 +157,60 @@ moved : (at m n : ℕ) (x y rest : List ℕ) (tokens : List Token) → m ≡ n �
 moved at m n x y rest tokens e f d =
     subst (λ l. AreTokensFrom (at + m) l rest tokens) (sym f) (subst (λ u. AreTokensFrom (at + u) y rest tokens) (sym e) d)
 
-same_from : (at : ℕ) (text : List ℕ) (a b : List Token) → AreTokensFrom at text [] a → AreTokensFrom at text [] b → a ≡ b
-same_from at text a b (done e) (done f) = refl
-same_from at text a b (done e) (past_separator q y g h c) = absurd (nothing_next separator q y (sym e ∙ g) h)
-same_from at text a b (done e) (past_token other q y g h c) = absurd (nothing_next (token other) q y (sym e ∙ g) h)
-same_from at text a b (past_separator p x e f d) (done g) = absurd (nothing_next separator p x (sym g ∙ e) f)
-same_from at text a b (past_token kind p x e f d) (done g) = absurd (nothing_next (token kind) p x (sym g ∙ e) f)
-same_from at text a b (past_separator p x e f d) (past_token other q y g h c) = absurd (no_token other (same_next text separator p x (token other) q y e f g h).shapes)
-same_from at text a b (past_token kind p x e f d) (past_separator q y g h c) = absurd (no_token kind (same_next text separator q y (token kind) p x g h e f).shapes)
-same_from at text a b (past_separator p x e f d) (past_separator q y g h c) =
+-- nothing that is left may go on
+abbrev pub Stops : List ℕ → Type 0
+Stops rest = (shape : Shape) (bytes left : List ℕ) → rest ≡ bytes ++ left → IsNext shape bytes left → ⊥
+
+pub record SameUpTo (a b : List Token) (rest other : List ℕ) : Type 0 where
+  pub tokens : a ≡ b
+  pub rests : rest ≡ other
+
+same_from : (at : ℕ) (text rest other : List ℕ) (a b : List Token) → Stops rest → Stops other → AreTokensFrom at text rest a → AreTokensFrom at text other b → SameUpTo a b rest other
+same_from at text rest other a b stop end (done e) (done f) = record { tokens = refl; rests = sym e ∙ f }
+same_from at text rest other a b stop end (done e) (past_separator q y g h c) = absurd (stop separator q y (sym e ∙ g) h)
+same_from at text rest other a b stop end (done e) (past_token kind q y g h c) = absurd (stop (token kind) q y (sym e ∙ g) h)
+same_from at text rest other a b stop end (past_separator p x e f d) (done g) = absurd (end separator p x (sym g ∙ e) f)
+same_from at text rest other a b stop end (past_token kind p x e f d) (done g) = absurd (end (token kind) p x (sym g ∙ e) f)
+same_from at text rest other a b stop end (past_separator p x e f d) (past_token kind q y g h c) = absurd (no_token kind (same_next text separator p x (token kind) q y e f g h).shapes)
+same_from at text rest other a b stop end (past_token kind p x e f d) (past_separator q y g h c) = absurd (no_token kind (same_next text separator q y (token kind) p x g h e f).shapes)
+same_from at text rest other a b stop end (past_separator p x e f d) (past_separator q y g h c) =
     let same = same_next text separator p x separator q y e f g h in
-    same_from (at + length p) x a b d (moved at (length p) (length q) x y [] b same.sizes same.lefts c)
-same_from at text a b (past_token {tokens = us} kind p x e f d) (past_token {tokens = vs} other q y g h c) =
-    let same = same_next text (token kind) p x (token other) q y e f g h in
-    let kinds = same_kind kind other same.shapes in
-    let rest = same_from (at + length p) x us vs d (moved at (length p) (length q) x y [] vs same.sizes same.lefts c) in
-    (λ i. token_at (kinds i) at (same.sizes i) ∷ rest i)
+    same_from (at + length p) x rest other a b stop end d (moved at (length p) (length q) x y other b same.sizes same.lefts c)
+same_from at text rest other a b stop end (past_token {tokens = us} kind p x e f d) (past_token {tokens = vs} second q y g h c) =
+    let same = same_next text (token kind) p x (token second) q y e f g h in
+    let kinds = same_kind kind second same.shapes in
+    let deeper = same_from (at + length p) x rest other us vs stop end d (moved at (length p) (length q) x y other vs same.sizes same.lefts c) in
+    record { tokens = λ i. token_at (kinds i) at (same.sizes i) ∷ deeper.tokens i; rests = deeper.rests }
+
+-- where a reading stops, and at which end
+abbrev stop_at : (end : TextEnd) (text : List ℕ) (tokens : List Token) → AreTokensUpTo end text tokens → List ℕ
+stop_at ends.BadToken text tokens are = are.rest
+stop_at ends.Reached text tokens are = []
+
+reading : (end : TextEnd) (text : List ℕ) (tokens : List Token) (are : AreTokensUpTo end text tokens) → AreTokensFrom 0 text (stop_at end text tokens are) tokens × Stops (stop_at end text tokens are)
+reading ends.BadToken text tokens are = (are.tokens_are, are.is_bad.none)
+reading ends.Reached text tokens are = (are, nothing_next)
+
+-- A text is read up to one end, in one way.
+pub record SameReading (end other : TextEnd) (a b : List Token) : Type 0 where
+  pub ends_so : end ≡ other
+  pub tokens : a ≡ b
+
+same_end : (end other : TextEnd) (text : List ℕ) (a b : List Token) (x : AreTokensUpTo end text a) (y : AreTokensUpTo other text b) → stop_at end text a x ≡ stop_at other text b y → end ≡ other
+same_end ends.BadToken ends.BadToken text a b x y same = refl
+same_end ends.Reached ends.Reached text a b x y same = refl
+same_end ends.BadToken ends.Reached text a b x y same = absurd (x.is_bad.some same)
+same_end ends.Reached ends.BadToken text a b x y same = absurd (y.is_bad.some (sym same))
+
+pub same_reading : (end other : TextEnd) (text : List ℕ) (a b : List Token) → AreTokensUpTo end text a → AreTokensUpTo other text b → SameReading end other a b
+same_reading end other text a b x y =
+    let p = reading end text a x in
+    let q = reading other text b y in
+    let same = same_from 0 text (stop_at end text a x) (stop_at other text b y) a b p.1 q.1 p.0 q.0 in
+    record { ends_so = same_end end other text a b x y same.rests; tokens = same.tokens }
 
 pub same_tokens : (text : List ℕ) (a b : List Token) → AreTokens text a → AreTokens text b → a ≡ b
-same_tokens text a b x y = same_from 0 text a b x y
-
-no_bad : (at : ℕ) (text rest : List ℕ) (a b : List Token) → IsBad rest → AreTokensFrom at text [] a → AreTokensFrom at text rest b → ⊥
-no_bad at text rest a b bad (done e) (done f) = bad.some (sym f ∙ e)
-no_bad at text rest a b bad (done e) (past_separator q y g h c) = nothing_next separator q y (sym e ∙ g) h
-no_bad at text rest a b bad (done e) (past_token other q y g h c) = nothing_next (token other) q y (sym e ∙ g) h
-no_bad at text rest a b bad (past_separator p x e f d) (done g) = bad.none separator p x (sym g ∙ e) f
-no_bad at text rest a b bad (past_token kind p x e f d) (done g) = bad.none (token kind) p x (sym g ∙ e) f
-no_bad at text rest a b bad (past_separator p x e f d) (past_token other q y g h c) = no_token other (same_next text separator p x (token other) q y e f g h).shapes
-no_bad at text rest a b bad (past_token kind p x e f d) (past_separator q y g h c) = no_token kind (same_next text separator q y (token kind) p x g h e f).shapes
-no_bad at text rest a b bad (past_separator p x e f d) (past_separator q y g h c) =
-    let same = same_next text separator p x separator q y e f g h in
-    no_bad (at + length p) x rest a b bad d (moved at (length p) (length q) x y rest b same.sizes same.lefts c)
-no_bad at text rest a b bad (past_token {tokens = us} kind p x e f d) (past_token {tokens = vs} other q y g h c) =
-    let same = same_next text (token kind) p x (token other) q y e f g h in
-    no_bad (at + length p) x rest us vs bad d (moved at (length p) (length q) x y rest vs same.sizes same.lefts c)
+same_tokens text a b x y = (same_reading ends.Reached ends.Reached text a b x y).tokens
 
 pub not_both : (text : List ℕ) (a : List Token) → AreTokens text a → HasBadToken text → ⊥
-not_both text a x y = no_bad 0 text y.1.rest a y.0 y.1.is_bad x y.1.tokens_are
+not_both text a x y = let no_way = (same_reading ends.Reached ends.BadToken text a y.0 x y.1).ends_so in cc

@@ -1,5 +1,5 @@
 -- The statement that terminals spell, by reading them.
-use Rattle.std.proofs.Common.{◌≡◌, ◌∙◌, ℕ, ◌<◌, suc, List, [], length, Option, Some, None, Result, Ok, Err, IfErr, IfOk, sym, subst, refl, ◌≤◌, arith}
+use Rattle.std.proofs.Common.{◌≡◌, ◌≢◌, ◌∙◌, ap, ℕ, ◌<◌, suc, List, [], length, Option, Some, None, Result, Ok, Err, IfErr, IfOk, sym, subst, refl, ◌≤◌, arith}
 use Rattle.bw_sql.specs.declared.fault.SqlFault.{SqlFault}
 use Rattle.bw_sql.specs.declared.fault.SqlFault.TheVariants as faults
 use Rattle.bw_sql.specs.declared.terminal.Terminal.{Terminal}
@@ -14,7 +14,7 @@ use Rattle.bw_sql.specs.Tokens.{AreTokens, AreTokensToBad, AreTokensUpTo}
 use Rattle.bw_sql.specs.Statements.{IsMalformed, IsParseFault, IsStatementFault, Says, bad_token, longest_statement, no_statement}
 use Rattle.bw_sql.specs.Tree.{StatementTree, statement_of}
 use Rattle.bw_sql.proofs.Complete.{whole_reads}
-use Rattle.bw_sql.proofs.Lexing.{same_tokens}
+use Rattle.bw_sql.proofs.Lexing.{same_reading, same_tokens}
 use Rattle.bw_sql.proofs.Sound.{whole_sound}
 
 -- terminals spell one statement at most
@@ -73,3 +73,81 @@ module _ (text : List ℕ) (end : TextEnd) (tokens : List Token) (short : length
 pub says_once : (text : List ℕ) (a b : StatementTree) → Says text a → Says text b → a ≡ b
 says_once text a b x y =
     spells_once (terminals_of text x.tokens) a b x.spelled (subst (λ tokens. Spells (terminals_of text tokens) b) (same_tokens text y.tokens x.tokens y.are_tokens x.are_tokens) y.spelled)
+
+-- What a fault of a short text that isn't want of memory says of its tokens.
+
+abbrev limit_of : SqlFault → Option SqlFault
+limit_of faults.TooDeep = Some faults.TooDeep
+limit_of faults.BigNumber = Some faults.BigNumber
+limit_of _ = None
+
+record Found (fault : SqlFault) (text : List ℕ) : Type 0 where
+  pub end : TextEnd
+  pub tokens : List Token
+  pub are : AreTokensUpTo end text tokens
+  pub limit : first_limit_fault [] (terminals_of text tokens) ≡ limit_of fault
+
+malformed : (text : List ℕ) → IsMalformed text → Found faults.Syntax text
+malformed text (bad_token tokens are within) = record { end = ends.BadToken; tokens = tokens; are = are; limit = within }
+malformed text (no_statement tokens are within nothing) = record { end = ends.Reached; tokens = tokens; are = are; limit = within }
+
+same_limit : (f g : SqlFault) (text : List ℕ) → Found f text → Found g text → limit_of f ≡ limit_of g
+same_limit f g text a b =
+    let same = same_reading a.end b.end text a.tokens b.tokens a.are b.are in
+    sym a.limit ∙ ap (λ tokens. first_limit_fault [] (terminals_of text tokens)) same.tokens ∙ b.limit
+
+-- a text that says a statement has no fault
+no_malformed : (text : List ℕ) (a : StatementTree) → Says text a → IsMalformed text → ⊥
+no_malformed text a says (bad_token tokens are within) = let no_way = (same_reading ends.Reached ends.BadToken text says.tokens tokens says.are_tokens are).ends_so in cc
+no_malformed text a says (no_statement tokens are within nothing) =
+    nothing a (subst (λ l. Spells (terminals_of text l) a) (same_tokens text says.tokens tokens says.are_tokens are) says.spelled)
+
+pub no_fault : (text : List ℕ) (a : StatementTree) (fault : SqlFault) → Says text a → IsStatementFault fault text → fault ≡ faults.Memory
+no_fault text a faults.TooLong says long = let short = says.short in absurd (omega arith)
+no_fault text a faults.Syntax says h = absurd (no_malformed text a says h.1)
+no_fault text a faults.Memory says h = refl
+no_fault text a faults.TooDeep says h =
+    let found : Found faults.TooDeep text = record { end = h.1.0; tokens = h.1.1; are = h.1.2; limit = h.1.3 } in
+    let none : Found faults.Syntax text = record { end = ends.Reached; tokens = says.tokens; are = says.are_tokens; limit = says.within_limits } in
+    let no_way = same_limit faults.TooDeep faults.Syntax text found none in cc
+no_fault text a faults.BigNumber says h =
+    let found : Found faults.BigNumber text = record { end = h.1.0; tokens = h.1.1; are = h.1.2; limit = h.1.3 } in
+    let none : Found faults.Syntax text = record { end = ends.Reached; tokens = says.tokens; are = says.are_tokens; limit = says.within_limits } in
+    let no_way = same_limit faults.BigNumber faults.Syntax text found none in cc
+
+-- a text has one fault
+
+data Kind (fault : SqlFault) (text : List ℕ) : Type 0 where
+  long : fault ≡ faults.TooLong → longest_statement < length text → Kind fault text
+  short : length text ≤ longest_statement → Found fault text → fault ≢ faults.TooLong → Kind fault text
+
+kind : (fault : SqlFault) (text : List ℕ) → fault ≢ faults.Memory → IsStatementFault fault text → Kind fault text
+kind faults.TooLong text other h = long refl h
+kind faults.Syntax text other h = short h.0 (malformed text h.1) (λ e. cc)
+kind faults.TooDeep text other h = short h.0 (record { end = h.1.0; tokens = h.1.1; are = h.1.2; limit = h.1.3 }) (λ e. cc)
+kind faults.BigNumber text other h = short h.0 (record { end = h.1.0; tokens = h.1.1; are = h.1.2; limit = h.1.3 }) (λ e. cc)
+kind faults.Memory text other h = absurd (other refl)
+
+same_by_limit : (f g : SqlFault) → f ≢ faults.Memory → g ≢ faults.Memory → f ≢ faults.TooLong → g ≢ faults.TooLong → limit_of f ≡ limit_of g → f ≡ g
+same_by_limit faults.Syntax faults.Syntax a b c d e = refl
+same_by_limit faults.TooDeep faults.TooDeep a b c d e = refl
+same_by_limit faults.BigNumber faults.BigNumber a b c d e = refl
+same_by_limit faults.Syntax faults.TooDeep a b c d e = cc
+same_by_limit faults.Syntax faults.BigNumber a b c d e = cc
+same_by_limit faults.TooDeep faults.Syntax a b c d e = cc
+same_by_limit faults.TooDeep faults.BigNumber a b c d e = cc
+same_by_limit faults.BigNumber faults.Syntax a b c d e = cc
+same_by_limit faults.BigNumber faults.TooDeep a b c d e = cc
+same_by_limit faults.Memory g a b c d e = absurd (a refl)
+same_by_limit faults.TooLong g a b c d e = absurd (c refl)
+same_by_limit f faults.Memory a b c d e = absurd (b refl)
+same_by_limit f faults.TooLong a b c d e = absurd (d refl)
+
+pub one_fault : (text : List ℕ) (a b : SqlFault) → IsStatementFault a text → IsStatementFault b text → a ≢ faults.Memory → b ≢ faults.Memory → a ≡ b
+one_fault text a b x y p q = by_kind (kind a text p x) (kind b text q y)
+  where
+    by_kind : Kind a text → Kind b text → a ≡ b
+    by_kind (long e h) (long f k) = e ∙ sym f
+    by_kind (long e h) (short k found other) = absurd (omega arith)
+    by_kind (short h found other) (long f k) = absurd (omega arith)
+    by_kind (short h found other) (short k also neither) = same_by_limit a b p q other neither (same_limit a b text found also)
