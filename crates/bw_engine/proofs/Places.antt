@@ -12,8 +12,10 @@ use Rattle.bw_model.specs.Refusals.{first_that_holds, is_missing}
 use Rattle.bw_model.specs.Select.{line_of, shown}
 use Rattle.bw_model.specs.Store.{AreHeaders, Header, Row, Value, are_distinct, names, place_of, value_at, value_from}
 use Rattle.bw_engine.specs.Outcomes.{listed_tests, shown_tests}
-use Rattle.bw_engine.proofs.Names.{are_distinct-push, are_distinct_front, bytes_eq-comm, map-push}
-use Rattle.bw_engine.proofs.Tests.{neither, no_test}
+use Rattle.bw_model.proofs.Names.{are_distinct-push, bytes_eq-comm, map-push}
+use Rattle.bw_engine.proofs.Names.{are_distinct_front}
+use Rattle.bw_model.proofs.Passing.{neither}
+use Rattle.bw_engine.proofs.Tests.{no_test}
 
 isnt : (b c : Bool) → (b && not c) ≡ true → c ≡ false
 isnt true true e = sym e

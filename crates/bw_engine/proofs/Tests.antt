@@ -1,7 +1,7 @@
 -- Tests in their order, and what a part of a statement answers by them.
 use Rattle.std.proofs.Common.{◌≡◌, inl, inr, ℕ, ◌<◌, ◌≤◌, ◌==◌, Bool, true, false, ◌&&◌, ◌||◌, not, is_some, List, [], ◌∷◌, ◌++◌, length, get_or, nat_le, nat_lt, Option, None, Some, Result, Ok, Err, IsErrAnd, if◌then◌else◌, zero, suc, refl, sym, ap, subst, ◌∙◌, arith}
 use Rattle.std.specs.List.{All, list_all}
-use Rattle.std.proofs.lemmas.Bool.{eq-eqb, eqb-true, ltb-false, true≢false}
+use Rattle.std.proofs.lemmas.Bool.{eq-eqb, not-false, true≢false}
 use Rattle.std.proofs.lemmas.List.Elements.{All-cons, All-head, All-nil, All-tail}
 use Rattle.std.proofs.lemmas.List.Folds.{list_all-append}
 use Rattle.bw_sql.specs.Rows.{joined}
@@ -9,23 +9,8 @@ use Rattle.bw_model.specs.Refusals.{Tests, create_tests, first_that_holds, is_in
 use Rattle.bw_model.specs.Store.{Row, Store, Value, are_distinct, column_limit, table_limit, table_of}
 use Rattle.bw_model.specs.declared.refusal.Refusal.{Refusal}
 use Rattle.bw_model.specs.declared.refusal.Refusal.TheVariants.{OutOfRange, WrongNumberOfValues}
+use Rattle.bw_model.proofs.Passing.{if_none, widths}
 use Rattle.bw_engine.specs.Outcomes.{Answers, MayRefuse, range_tests, value_tests}
-
-two : (b c : Bool) → (b && c) ≡ true → (b ≡ true) × (c ≡ true)
-two true c e = (refl, e)
-two false c e = absurd (true≢false (sym e))
-
-not-false : (b : Bool) → not b ≡ false → b ≡ true
-not-false true e = refl
-not-false false e = absurd (true≢false e)
-
-more : (n : ℕ) → (n == 0) ≡ false → 0 < n
-more zero e = absurd (true≢false e)
-more (suc n) e = omega arith
-
-if_none : (b : Bool) (x : Refusal) (r : Option Refusal) → (if b then Some x else r) ≡ None → (b ≡ false) × (r ≡ None)
-if_none true x r e = cc
-if_none false x r e = (refl, e)
 
 if_some : (b : Bool) (x y : Refusal) (r s : Option Refusal) → (r ≡ Some y → s ≡ Some y) → (if b then Some x else r) ≡ Some y → (if b then Some x else s) ≡ Some y
 if_some true x y r s h e = e
@@ -90,12 +75,6 @@ of_width w (row ∷ rows) all =
     ap (λ b. b && list_all (λ r. length r == w) rows) (eq-eqb (length row) w (All-head (λ r. length r ≡ w) row rows all))
     ∙ of_width w rows (All-tail (λ r. length r ≡ w) row rows all)
 
-pub widths : {A : Type 0} (w : ℕ) (rows : List (List A)) → list_all (λ row. length row == w) rows ≡ true → All (λ row. length row ≡ w) rows
-widths w [] all = All-nil (λ r. length r ≡ w)
-widths w (row ∷ rows) all =
-    let p = two (length row == w) (list_all (λ r. length r == w) rows) all in
-    All-cons (λ r. length r ≡ w) row rows (eqb-true (length row) w p.0) (widths w rows p.1)
-
 -- rows of one width whose values are looked at together
 pub first-value_tests : (w : ℕ) (rows : List Row) (values : Row) → All (λ row. length row ≡ w) rows → values ≡ joined rows → first_that_holds (range_tests values) ≡ first_that_holds (value_tests w rows)
 first-value_tests w rows values all e =
@@ -114,28 +93,3 @@ no_test false x r e = refl
 pub this_test : (b : Bool) (x : Refusal) (r : Option Refusal) → b ≡ true → (if b then Some x else r) ≡ Some x
 this_test true x r e = refl
 this_test false x r e = absurd (true≢false (sym e))
-
--- what the tests of CREATE let pass
-pub record Passes (columns : List (List ℕ)) (name : List ℕ) (store : Store) : Type 0 where
-  pub some : 0 < length columns
-  pub absent : is_some (table_of store name) ≡ false
-  pub distinct : are_distinct columns ≡ true
-  pub few : length columns ≤ 64
-
-pub neither : (b c : Bool) → (b || c) ≡ false → (b ≡ false) × (c ≡ false)
-neither true c e = absurd (true≢false e)
-neither false c e = (refl, e)
-
-pub passes : (columns : List (List ℕ)) (name : List ℕ) (store : Store) → first_that_holds (create_tests columns name store) ≡ None → Passes columns name store
-passes columns name store none =
-    let b = if_none _ _ _ none in
-    let d = if_none _ _ _ b.1 in
-    let e = if_none _ _ _ d.1 in
-    let wide = (neither (length columns == 0 || nat_lt column_limit (length columns)) (nat_le table_limit (length store)) e.0).0 in
-    let fits = neither (length columns == 0) (nat_lt column_limit (length columns)) wide in
-    record {
-      some = more (length columns) fits.0;
-      absent = b.0;
-      distinct = not-false (are_distinct columns) d.0;
-      few = ltb-false 64 (length columns) fits.1;
-    }

@@ -1,6 +1,15 @@
 pub mod Answered
+pub mod CellTexts
 pub mod Commas
+pub mod Cuts
+pub mod HeadingTexts
+pub mod Kept
 pub mod Lines
+pub mod NameTexts
+pub mod Names
+pub mod Passing
+pub mod RefusalTexts
+pub mod ReplyTexts
 pub mod Stores
 pub mod Tables
 pub mod Unchanged

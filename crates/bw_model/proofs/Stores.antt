@@ -15,10 +15,7 @@ use Rattle.bw_model.specs.declared.refusal.Refusal.{Refusal}
 use Rattle.bw_model.specs.declared.refusal.Refusal.TheVariants.{NoSuchTable}
 use Rattle.bw_model.specs.declared.reply.Reply.{Reply}
 use Rattle.bw_model.specs.declared.reply.Reply.TheVariants.{Count, Done, Refused}
-
-pub names_of_definitions : (columns : List ColumnDefinition) → names (map header_of columns) ≡ map (λ c. c.name) columns
-names_of_definitions [] = refl
-names_of_definitions (column ∷ columns) = ap (λ l. column.name ∷ l) (names_of_definitions columns)
+use Rattle.bw_model.proofs.Names.{names_of_definitions}
 
 -- the tests of CREATE, from the names of the columns that it makes
 pub create_first : (store : Store) (name : List ℕ) (columns : List ColumnDefinition) (headers : List Header) (list : List (List ℕ)) (tests : Tests) (first : Option Refusal)

@@ -6,3 +6,5 @@ pub mod ReplyText
 pub mod Select
 pub mod Step
 pub mod Store
+pub mod Told
+pub mod WellFormed

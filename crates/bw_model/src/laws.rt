@@ -1,13 +1,30 @@
 //! Laws of the definitions.
 
-ghost use Rattle.std.specs.Prelude.{◌≡◌};
+ghost use Rattle.std.specs.Prelude.{◌≡◌, [], All, List, map};
+ghost use Rattle.std.specs.List.{flat_map};
+ghost use Rattle.bw_model.specs.ReplyText.{reply_text};
 ghost use Rattle.bw_model.specs.Step.{Step};
 ghost use Rattle.bw_model.specs.Store.{Store};
+ghost use Rattle.bw_model.specs.Told.{IsReply, as_read};
+ghost use Rattle.bw_model.specs.WellFormed.{IsStore};
 ghost use Rattle.bw_model.specs.declared.refusal.Refusal.{Refusal as AnyRefusal};
+ghost use Rattle.bw_model.specs.declared.reply.Reply.{Reply as AnyReply};
 ghost use Rattle.bw_model.specs.declared.reply.Reply.TheVariants.{Refused};
 ghost use Rattle.bw_sql.specs.Tree.{StatementTree};
 
 /// A statement that is refused changes nothing.
 pub fn refusals_change_nothing()
     ensures { (store after : Store) (statement : StatementTree) (refusal : AnyRefusal) → Step store statement (Refused refusal) after → after ≡ store }
+{}
+
+/// A store without tables is well formed, and every statement leaves a well-formed store so.
+pub fn stores_stay_well_formed()
+    ensures empty { IsStore [] }
+    ensures kept { (store after : Store) (statement : StatementTree) (reply : AnyReply) → IsStore store → Step store statement reply after → IsStore after }
+{}
+
+/// The bytes of replies, one after the other, tell where each ends and which it is, but that the
+/// headings `COLUMNS` and `ROWS` of a list of tables read like columns of these names.
+pub fn texts_tell_replies()
+    ensures { (a b : List AnyReply) → All IsReply a → All IsReply b → flat_map reply_text a ≡ flat_map reply_text b → map as_read a ≡ map as_read b }
 {}

@@ -16,11 +16,11 @@ pub fn reply_text(alloc: Global, reply: &Reply) -> Result<Vec<u8>, AllocError>
 {
     match reply {
         Reply::Done => Vec::from_slice(alloc, b"ok\n"),
-        Reply::Count(n) => Vec::from_slice(alloc, format!(in alloc; "ok {n}\n")?.as_bytes()),
+        Reply::Count(n) => Ok(format!(in alloc; "ok {n}\n")?.into_bytes()),
         Reply::Rows(answer) => answer_text(alloc, answer),
         Reply::Refused(refusal) => {
             let text = refusal_text(alloc, *refusal)?;
-            Vec::from_slice(alloc, format!(in alloc; "{text}\n")?.as_bytes())
+            Ok(format!(in alloc; "{text}\n")?.into_bytes())
         }
     }
 }
@@ -58,7 +58,7 @@ fn cell_text(alloc: Global, cell: &Cell) -> Result<Vec<u8>, AllocError>
 {
     match cell {
         Cell::Null => Vec::from_slice(alloc, b"NULL"),
-        Cell::Number(n) => Vec::from_slice(alloc, format!(in alloc; "{n}")?.as_bytes()),
+        Cell::Number(n) => Ok(format!(in alloc; "{n}")?.into_bytes()),
         Cell::Name(name) => Vec::from_slice(alloc, name.as_bytes()),
     }
 }

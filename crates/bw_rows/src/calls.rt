@@ -1,7 +1,7 @@
 //! Each call that may want memory, seen answering.
 
 use bw_engine::{Engine, FileAnswer};
-use bw_model::Reply;
+use bw_model::{Header, Reply, Row, Table, Truth, answer_of, found_rows, truth_at};
 use bw_shell::{Folder, FolderFault, MemoryFolder};
 use bw_sql::{
     CompareOp, Part, Span, SqlFault, Statement, Symbol, Token, TokenKind, parts, statement, tokens,
@@ -80,6 +80,41 @@ fn a_name_is_copied(rt: HostRuntime) -> Result<(), Fail> {
     let copy = create.table.try_clone(rt.alloc())?;
     assert_eq!(rt; copy.as_bytes(), b"VISITS".as_slice());
     assert_eq!(rt; copy, create.table);
+    Ok(())
+}
+
+#[test]
+fn the_plain_program_answers(rt: HostRuntime) -> Result<(), Fail> {
+    let alloc = rt.alloc();
+    let Statement::CreateTable(create) = statement(alloc, b"CREATE TABLE t (a INT)")? else {
+        return Err(Fail::from("no CREATE TABLE"));
+    };
+    let mut headers = Vec::new(alloc);
+    for column in &create.columns {
+        headers.push(Header::new(alloc, column)?)?;
+    }
+    assert_eq!(rt; headers.len(), 1);
+    let mut table = Table::new(alloc, headers);
+    let mut rows = Vec::new(alloc);
+    for value in [Some(3), None, Some(-1)] {
+        rows.push(Row::new(vec![in alloc; value]?))?;
+    }
+    table.append(rows)?;
+    let Statement::Select(select) = statement(alloc, b"SELECT a FROM t WHERE a < 3")? else {
+        return Err(Fail::from("no SELECT"));
+    };
+    let found = found_rows(alloc, &table, &select.condition)?;
+    assert_eq!(rt; found.len(), 1);
+    let answer = answer_of(alloc, &table, &select.items, &select.condition)?;
+    assert_eq!(rt; answer.line_count(), 1);
+    let condition = select.condition.as_ref().ok_or("no condition")?;
+    for (row, truth) in table
+        .rows()
+        .iter()
+        .zip([Truth::False, Truth::Unknown, Truth::True])
+    {
+        assert_eq!(rt; truth_at(table.headers(), row, condition), truth);
+    }
     Ok(())
 }
 

@@ -1,16 +1,8 @@
 //! Limits of the language, each with what lies on both of its sides.
 
-use crate::harness::{repeated, run_script};
-use bw_shell::{OnError, RunEnd};
+use crate::harness::{check_script, repeated};
 use std::alloc::{AllocError, Global};
-use std::process::Abort;
 use std::test::Fail;
-
-fn check<R: Abort + AllocGlobal>(rt: &R, script: &str, replies: &str) {
-    let written = run_script(rt.alloc(), script.as_bytes(), OnError::Continue);
-    assert_eq!(rt; written.end, RunEnd::Done);
-    assert_eq!(rt; written.output.as_slice(), replies.as_bytes());
-}
 
 // A statement of so many bytes, and one after it.
 fn padded(alloc: Global, length: usize) -> Result<String, AllocError> {
@@ -22,12 +14,12 @@ fn padded(alloc: Global, length: usize) -> Result<String, AllocError> {
 
 #[test]
 fn bytes_of_a_statement(rt: HostRuntime) -> Result<(), Fail> {
-    check(
+    check_script(
         &rt,
         padded(rt.alloc(), 65_536)?.as_str(),
         "ok\nA\nrows 0\nA\nrows 0\n",
     );
-    check(
+    check_script(
         &rt,
         padded(rt.alloc(), 65_537)?.as_str(),
         "ok\nerror 11: statement too long\nA\nrows 0\n",
@@ -38,10 +30,10 @@ fn bytes_of_a_statement(rt: HostRuntime) -> Result<(), Fail> {
 #[test]
 fn bytes_of_a_rest(rt: HostRuntime) -> Result<(), Fail> {
     let mut rest = repeated(rt.alloc(), "x", 65_536)?;
-    check(&rt, rest.as_str(), "error 10: syntax error\n");
+    check_script(&rt, rest.as_str(), "error 10: syntax error\n");
     rest.push_str(" ")?;
-    check(&rt, rest.as_str(), "error 11: statement too long\n");
-    check(&rt, repeated(rt.alloc(), "\n", 70_000)?.as_str(), "");
+    check_script(&rt, rest.as_str(), "error 11: statement too long\n");
+    check_script(&rt, repeated(rt.alloc(), "\n", 70_000)?.as_str(), "");
     Ok(())
 }
 
@@ -53,7 +45,7 @@ fn depth_of_parentheses(rt: HostRuntime) -> Result<(), Fail> {
     ] {
         let opened = repeated(rt.alloc(), "(", depth)?;
         let closed = repeated(rt.alloc(), ")", depth)?;
-        check(
+        check_script(
             &rt,
             format!(in rt.alloc(); "SELECT a FROM t WHERE {opened}a = 1{closed};")?.as_str(),
             reply,
@@ -65,22 +57,22 @@ fn depth_of_parentheses(rt: HostRuntime) -> Result<(), Fail> {
 #[test]
 fn the_first_fault_counts(rt: HostRuntime) -> Result<(), Fail> {
     let opened = repeated(rt.alloc(), "(", 65)?;
-    check(
+    check_script(
         &rt,
         format!(in rt.alloc(); "{opened} 9223372036854775808 #;")?.as_str(),
         "error 12: nested too deeply\n",
     );
-    check(
+    check_script(
         &rt,
         format!(in rt.alloc(); "9223372036854775808 {opened} #;")?.as_str(),
         "error 13: number too large\n",
     );
-    check(
+    check_script(
         &rt,
         format!(in rt.alloc(); "# {opened} 9223372036854775808;")?.as_str(),
         "error 10: syntax error\n",
     );
-    check(&rt, "1a 9223372036854775808;", "error 10: syntax error\n");
+    check_script(&rt, "1a 9223372036854775808;", "error 10: syntax error\n");
     Ok(())
 }
 
@@ -88,7 +80,7 @@ fn the_first_fault_counts(rt: HostRuntime) -> Result<(), Fail> {
 fn bytes_of_a_name(rt: HostRuntime) -> Result<(), Fail> {
     let name = repeated(rt.alloc(), "n", 128)?;
     let upper = repeated(rt.alloc(), "N", 128)?;
-    check(
+    check_script(
         &rt,
         format!(in rt.alloc();
             "CREATE TABLE t ({name} INT); SELECT * FROM t; CREATE TABLE u ({name}n INT);"
@@ -104,17 +96,17 @@ fn columns_of_a_table(rt: HostRuntime) -> Result<(), Fail> {
     for i in 1..64u32 {
         columns.push_str(format!(in rt.alloc(); ", c{i} INT")?.as_str())?;
     }
-    check(
+    check_script(
         &rt,
         format!(in rt.alloc(); "CREATE TABLE t ({columns});")?.as_str(),
         "ok\n",
     );
-    check(
+    check_script(
         &rt,
         format!(in rt.alloc(); "CREATE TABLE t ({columns}, c64 INT);")?.as_str(),
         "error 24: over a limit\n",
     );
-    check(
+    check_script(
         &rt,
         format!(in rt.alloc(); "CREATE TABLE t ({columns}, c0 INT);")?.as_str(),
         "error 23: column named twice\n",
@@ -132,6 +124,6 @@ fn tables_of_a_store(rt: HostRuntime) -> Result<(), Fail> {
     }
     script.push_str("CREATE TABLE t64 (a INT); CREATE TABLE t63 (a INT); SELECT a FROM t63;")?;
     replies.push_str("error 24: over a limit\nerror 21: table exists\nA\nrows 0\n")?;
-    check(&rt, script.as_str(), replies.as_str());
+    check_script(&rt, script.as_str(), replies.as_str());
     Ok(())
 }

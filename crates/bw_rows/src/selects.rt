@@ -1,7 +1,6 @@
 //! Tables made, filled and read.
 
-use crate::harness::{check_examples, run_script};
-use bw_shell::{OnError, RunEnd};
+use crate::harness::{check_examples, check_script};
 use std::test::Fail;
 
 #[test]
@@ -73,11 +72,6 @@ fn two_hundred_and_fifty_seven_rows(rt: HostRuntime) -> Result<(), Fail> {
         script.push_str(format!(in rt.alloc(); ",({i})")?.as_str())?;
     }
     script.push_str("; SELECT a FROM t WHERE a >= 255;")?;
-    let written = run_script(rt.alloc(), script.as_bytes(), OnError::Continue);
-    assert_eq!(rt; written.end, RunEnd::Done);
-    assert_eq!(rt;
-        written.output.as_slice(),
-        b"ok\nok 257\nA\n255\n256\nrows 2\n".as_slice()
-    );
+    check_script(&rt, script.as_str(), "ok\nok 257\nA\n255\n256\nrows 2\n");
     Ok(())
 }

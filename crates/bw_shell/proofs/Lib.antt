@@ -1,6 +1,7 @@
 pub mod FileMaps
 pub mod Items
 pub mod Lines
+pub mod Outputs
 pub mod Sessions
 pub mod Texts
 pub mod Written

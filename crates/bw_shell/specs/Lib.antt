@@ -1,4 +1,5 @@
 pub mod Folders
+pub mod Output
 pub mod Replies
 pub mod Run
 pub mod Script

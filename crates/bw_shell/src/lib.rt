@@ -9,7 +9,7 @@ mod text;
 mod writing;
 
 pub use folders::{Folder, FolderFault, MemoryFolder};
-pub use laws::replies_are_written;
+pub use laws::{one_output, replies_are_written};
 pub use reading::ScriptEnd;
 pub use session::{OnError, RunEnd, run};
 pub use text::write_reply;

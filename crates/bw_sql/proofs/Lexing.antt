@@ -1,5 +1,5 @@
 -- The tokens of a text up to a place, and that they are the only ones.
-use Rattle.std.proofs.Common.{◌≡◌, ◌≢◌, ℕ, ◌+◌, ◌-◌, ◌<◌, ◌≤◌, List, [], ◌∷◌, ◌++◌, length, take, drop, refl, sym, ap, ◌∙◌, subst, arith, append_assoc, append-nil, length-drop, length-take, drop-drop}
+use Rattle.std.proofs.Common.{◌≡◌, ◌≢◌, ℕ, ◌+◌, ◌-◌, ◌<◌, ◌≤◌, List, [], ◌∷◌, ◌++◌, length, take, drop, refl, sym, ap, inl, inr, ◌⊎◌, ◌∙◌, subst, arith, append_assoc, append-nil, length-drop, length-take, drop-drop}
 use Rattle.std.specs.List.{All}
 use Rattle.std.proofs.Math.Nat.{add-sub_cancel_left}
 use Rattle.std.proofs.Math.Seq.{drop-append_seam}
@@ -142,7 +142,7 @@ same_next text s a x t b y e f g h =
       lefts = sym (drop-append_seam a x) ∙ (λ i. drop (same.sizes i) ((sym e ∙ g) i)) ∙ drop-append_seam b y;
     }
 
-nothing_next : (shape : Shape) (bytes left : List ℕ) → [] ≡ bytes ++ left → IsNext shape bytes left → ⊥
+pub nothing_next : (shape : Shape) (bytes left : List ℕ) → [] ≡ bytes ++ left → IsNext shape bytes left → ⊥
 nothing_next shape bytes left is next = not_bad shape (length bytes) (sym (piece_next shape bytes left next) ∙ ap first_piece (sym is))
 
 no_token : (kind : TokenKind) → separator ≡ token kind → ⊥
@@ -155,40 +155,69 @@ moved : (at m n : ℕ) (x y rest : List ℕ) (tokens : List Token) → m ≡ n �
 moved at m n x y rest tokens e f d =
     subst (λ l. AreTokensFrom (at + m) l rest tokens) (sym f) (subst (λ u. AreTokensFrom (at + u) y rest tokens) (sym e) d)
 
-same_from : (at : ℕ) (text : List ℕ) (a b : List Token) → AreTokensFrom at text [] a → AreTokensFrom at text [] b → a ≡ b
-same_from at text a b (done e) (done f) = refl
-same_from at text a b (done e) (past_separator q y g h c) = absurd (nothing_next separator q y (sym e ∙ g) h)
-same_from at text a b (done e) (past_token other q y g h c) = absurd (nothing_next (token other) q y (sym e ∙ g) h)
-same_from at text a b (past_separator p x e f d) (done g) = absurd (nothing_next separator p x (sym g ∙ e) f)
-same_from at text a b (past_token kind p x e f d) (done g) = absurd (nothing_next (token kind) p x (sym g ∙ e) f)
-same_from at text a b (past_separator p x e f d) (past_token other q y g h c) = absurd (no_token other (same_next text separator p x (token other) q y e f g h).shapes)
-same_from at text a b (past_token kind p x e f d) (past_separator q y g h c) = absurd (no_token kind (same_next text separator q y (token kind) p x g h e f).shapes)
-same_from at text a b (past_separator p x e f d) (past_separator q y g h c) =
+-- nothing that is left may go on
+abbrev pub Stops : List ℕ → Type 0
+Stops rest = (shape : Shape) (bytes left : List ℕ) → rest ≡ bytes ++ left → IsNext shape bytes left → ⊥
+
+pub record SameUpTo (a b : List Token) (rest other : List ℕ) : Type 0 where
+  pub tokens : a ≡ b
+  pub rests : rest ≡ other
+
+same_from : (at : ℕ) (text rest other : List ℕ) (a b : List Token) → Stops rest → Stops other → AreTokensFrom at text rest a → AreTokensFrom at text other b → SameUpTo a b rest other
+same_from at text rest other a b stop end (done e) (done f) = record { tokens = refl; rests = sym e ∙ f }
+same_from at text rest other a b stop end (done e) (past_separator q y g h c) = absurd (stop separator q y (sym e ∙ g) h)
+same_from at text rest other a b stop end (done e) (past_token kind q y g h c) = absurd (stop (token kind) q y (sym e ∙ g) h)
+same_from at text rest other a b stop end (past_separator p x e f d) (done g) = absurd (end separator p x (sym g ∙ e) f)
+same_from at text rest other a b stop end (past_token kind p x e f d) (done g) = absurd (end (token kind) p x (sym g ∙ e) f)
+same_from at text rest other a b stop end (past_separator p x e f d) (past_token kind q y g h c) = absurd (no_token kind (same_next text separator p x (token kind) q y e f g h).shapes)
+same_from at text rest other a b stop end (past_token kind p x e f d) (past_separator q y g h c) = absurd (no_token kind (same_next text separator q y (token kind) p x g h e f).shapes)
+same_from at text rest other a b stop end (past_separator p x e f d) (past_separator q y g h c) =
     let same = same_next text separator p x separator q y e f g h in
-    same_from (at + length p) x a b d (moved at (length p) (length q) x y [] b same.sizes same.lefts c)
-same_from at text a b (past_token {tokens = us} kind p x e f d) (past_token {tokens = vs} other q y g h c) =
-    let same = same_next text (token kind) p x (token other) q y e f g h in
-    let kinds = same_kind kind other same.shapes in
-    let rest = same_from (at + length p) x us vs d (moved at (length p) (length q) x y [] vs same.sizes same.lefts c) in
-    (λ i. token_at (kinds i) at (same.sizes i) ∷ rest i)
+    same_from (at + length p) x rest other a b stop end d (moved at (length p) (length q) x y other b same.sizes same.lefts c)
+same_from at text rest other a b stop end (past_token {tokens = us} kind p x e f d) (past_token {tokens = vs} second q y g h c) =
+    let same = same_next text (token kind) p x (token second) q y e f g h in
+    let kinds = same_kind kind second same.shapes in
+    let deeper = same_from (at + length p) x rest other us vs stop end d (moved at (length p) (length q) x y other vs same.sizes same.lefts c) in
+    record { tokens = λ i. token_at (kinds i) at (same.sizes i) ∷ deeper.tokens i; rests = deeper.rests }
 
 pub same_tokens : (text : List ℕ) (a b : List Token) → AreTokens text a → AreTokens text b → a ≡ b
-same_tokens text a b x y = same_from 0 text a b x y
-
-no_bad : (at : ℕ) (text rest : List ℕ) (a b : List Token) → IsBad rest → AreTokensFrom at text [] a → AreTokensFrom at text rest b → ⊥
-no_bad at text rest a b bad (done e) (done f) = bad.some (sym f ∙ e)
-no_bad at text rest a b bad (done e) (past_separator q y g h c) = nothing_next separator q y (sym e ∙ g) h
-no_bad at text rest a b bad (done e) (past_token other q y g h c) = nothing_next (token other) q y (sym e ∙ g) h
-no_bad at text rest a b bad (past_separator p x e f d) (done g) = bad.none separator p x (sym g ∙ e) f
-no_bad at text rest a b bad (past_token kind p x e f d) (done g) = bad.none (token kind) p x (sym g ∙ e) f
-no_bad at text rest a b bad (past_separator p x e f d) (past_token other q y g h c) = no_token other (same_next text separator p x (token other) q y e f g h).shapes
-no_bad at text rest a b bad (past_token kind p x e f d) (past_separator q y g h c) = no_token kind (same_next text separator q y (token kind) p x g h e f).shapes
-no_bad at text rest a b bad (past_separator p x e f d) (past_separator q y g h c) =
-    let same = same_next text separator p x separator q y e f g h in
-    no_bad (at + length p) x rest a b bad d (moved at (length p) (length q) x y rest b same.sizes same.lefts c)
-no_bad at text rest a b bad (past_token {tokens = us} kind p x e f d) (past_token {tokens = vs} other q y g h c) =
-    let same = same_next text (token kind) p x (token other) q y e f g h in
-    no_bad (at + length p) x rest us vs bad d (moved at (length p) (length q) x y rest vs same.sizes same.lefts c)
+same_tokens text a b x y = (same_from 0 text [] [] a b nothing_next nothing_next x y).tokens
 
 pub not_both : (text : List ℕ) (a : List Token) → AreTokens text a → HasBadToken text → ⊥
-not_both text a x y = no_bad 0 text y.1.rest a y.0 y.1.is_bad x y.1.tokens_are
+not_both text a x y = y.1.is_bad.some (sym (same_from 0 text [] y.1.rest a y.0 nothing_next y.1.is_bad.none x y.1.tokens_are).rests)
+
+-- Tokens at the front of a text are the first of all tokens up to where nothing may go on.
+pub front_of : (at : ℕ) (text rest other : List ℕ) (a b : List Token) → Stops other → AreTokensFrom at text rest a → AreTokensFrom at text other b → (c : List Token) × (b ≡ a ++ c)
+front_of at text rest other a b end (done e) d = (b, refl)
+front_of at text rest other a b end (past_separator p x e f d) (done g) = absurd (end separator p x (sym g ∙ e) f)
+front_of at text rest other a b end (past_token kind p x e f d) (done g) = absurd (end (token kind) p x (sym g ∙ e) f)
+front_of at text rest other a b end (past_separator p x e f d) (past_token kind q y g h c) = absurd (no_token kind (same_next text separator p x (token kind) q y e f g h).shapes)
+front_of at text rest other a b end (past_token kind p x e f d) (past_separator q y g h c) = absurd (no_token kind (same_next text separator q y (token kind) p x g h e f).shapes)
+front_of at text rest other a b end (past_separator p x e f d) (past_separator q y g h c) =
+    let same = same_next text separator p x separator q y e f g h in
+    front_of (at + length p) x rest other a b end d (moved at (length p) (length q) x y other b same.sizes same.lefts c)
+front_of at text rest other a b end (past_token {tokens = us} kind p x e f d) (past_token {tokens = vs} second q y g h c) =
+    let same = same_next text (token kind) p x (token second) q y e f g h in
+    let kinds = same_kind kind second same.shapes in
+    let deeper = front_of (at + length p) x rest other us vs end d (moved at (length p) (length q) x y other vs same.sizes same.lefts c) in
+    let first : token_at kind at (length p) ≡ token_at second at (length q) = (λ i. token_at (kinds i) at (same.sizes i)) in
+    (deeper.0, ap (λ l. token_at second at (length q) ∷ l) deeper.1 ∙ ap (λ t. t ∷ (us ++ deeper.0)) (sym first))
+
+-- Of two fronts of a text one has the tokens of the other first.
+pub fronts : (at : ℕ) (text rest other : List ℕ) (a b : List Token) → AreTokensFrom at text rest a → AreTokensFrom at text other b → ((c : List Token) × (b ≡ a ++ c)) ⊎ ((c : List Token) × (a ≡ b ++ c))
+fronts at text rest other a b (done e) d = inl (b, refl)
+fronts at text rest other a b (past_separator p x e f d) (done g) = inr (a, refl)
+fronts at text rest other a b (past_token kind p x e f d) (done g) = inr (a, refl)
+fronts at text rest other a b (past_separator p x e f d) (past_token kind q y g h c) = absurd (no_token kind (same_next text separator p x (token kind) q y e f g h).shapes)
+fronts at text rest other a b (past_token kind p x e f d) (past_separator q y g h c) = absurd (no_token kind (same_next text separator q y (token kind) p x g h e f).shapes)
+fronts at text rest other a b (past_separator p x e f d) (past_separator q y g h c) =
+    let same = same_next text separator p x separator q y e f g h in
+    fronts (at + length p) x rest other a b d (moved at (length p) (length q) x y other b same.sizes same.lefts c)
+fronts at text rest other a b (past_token {tokens = us} kind p x e f d) (past_token {tokens = vs} second q y g h c) =
+    let same = same_next text (token kind) p x (token second) q y e f g h in
+    let kinds = same_kind kind second same.shapes in
+    let first : token_at kind at (length p) ≡ token_at second at (length q) = (λ i. token_at (kinds i) at (same.sizes i)) in
+    elim (fronts (at + length p) x rest other us vs d (moved at (length p) (length q) x y other vs same.sizes same.lefts c)) [
+      | inl m ↦ inl (m.0, ap (λ l. token_at second at (length q) ∷ l) m.1 ∙ ap (λ t. t ∷ (us ++ m.0)) (sym first))
+      | inr m ↦ inr (m.0, ap (λ l. token_at kind at (length p) ∷ l) m.1 ∙ ap (λ t. t ∷ (vs ++ m.0)) first)
+    ]

@@ -1,16 +1,21 @@
 -- The statement that terminals spell, by reading them.
-use Rattle.std.proofs.Common.{◌≡◌, ◌∙◌, ap, ℕ, ◌<◌, ◌≤◌, suc, List, [], length, Option, Some, None, Result, Ok, Err, IfErr, IfOk, sym, subst, refl, arith, inl, inr}
+use Rattle.std.proofs.Common.{◌≡◌, ◌≢◌, ◌∙◌, ◌++◌, ap, ℕ, ◌<◌, ◌≤◌, suc, List, [], length, map, Option, Some, None, Result, Ok, Err, IfErr, IfOk, sym, subst, refl, arith, inl, inr}
 use Rattle.bw_sql.specs.declared.fault.SqlFault.{SqlFault}
 use Rattle.bw_sql.specs.declared.fault.SqlFault.TheVariants as faults
 use Rattle.bw_sql.specs.declared.terminal.Terminal.{Terminal}
 use Rattle.bw_sql.specs.declared.tree.Statement.{Statement}
 use Rattle.bw_sql.specs.Grammar.{Spells}
 use Rattle.bw_sql.specs.Reading.{GivesAll, whole_at}
-use Rattle.bw_sql.specs.Terminals.{terminals_of}
-use Rattle.bw_sql.specs.Statements.{AreTerminals, IsParseFault, IsStatementFault, IsTerminalsFault, Says, longest_statement}
+use Rattle.bw_sql.specs.Terminals.{first_limit_fault, or_else, terminals_of, token_terminal}
+use Rattle.bw_sql.specs.Tokens.{AreTokensFrom}
+use Rattle.bw_sql.specs.declared.token.Token.{Token}
+use Rattle.std.proofs.lemmas.List.{map-append}
+use Rattle.std.proofs.Common.{◌⊎◌}
+use Rattle.bw_sql.specs.Statements.{AreTerminals, HasBadFirst, IsOverLimit, IsParseFault, IsStatementFault, IsTerminalsFault, Says, SaysNothing, longest_statement}
 use Rattle.bw_sql.specs.Tree.{StatementTree, statement_of}
 use Rattle.bw_sql.proofs.Complete.{whole_reads}
-use Rattle.bw_sql.proofs.Lexing.{same_tokens}
+use Rattle.bw_sql.proofs.Lexing.{Stops, front_of, fronts, not_both, nothing_next, same_tokens}
+use Rattle.bw_sql.proofs.LimitLemmas.{first_limit_fault-append}
 use Rattle.bw_sql.proofs.Sound.{whole_sound}
 
 -- terminals spell one statement at most
@@ -50,3 +55,73 @@ same_terminals text a b x y = x.seen ∙ ap (terminals_of text) (same_tokens tex
 pub says_once : (text : List ℕ) (a b : StatementTree) → Says text a → Says text b → a ≡ b
 says_once text a b x y =
     spells_once x.terminals a b x.spelled (subst (λ ts. Spells ts b) (same_terminals text y.terminals x.terminals y.are_terminals x.are_terminals) y.spelled)
+
+-- A text has one fault other than want of memory, and none where it says a statement.
+
+-- the first fault of tokens is that of more tokens behind them
+more_tokens : (text : List ℕ) (a b c : List Token) (fault : SqlFault) → b ≡ a ++ c → first_limit_fault [] (terminals_of text a) ≡ Some fault → first_limit_fault [] (terminals_of text b) ≡ Some fault
+more_tokens text a b c fault is e =
+    ap (λ l. first_limit_fault [] (terminals_of text l)) is
+    ∙ ap (first_limit_fault []) (map-append (token_terminal text) a c)
+    ∙ first_limit_fault-append [] (terminals_of text a) (terminals_of text c)
+    ∙ ap (λ o. or_else o (first_limit_fault (terminals_of text a) (terminals_of text c))) e
+
+-- all tokens up to where nothing may go on, within the limits
+record Within (text : List ℕ) : Type 0 where
+  tokens : List Token
+  rest : List ℕ
+  stops : Stops rest
+  are : AreTokensFrom 0 text rest tokens
+  within : first_limit_fault [] (terminals_of text tokens) ≡ None
+
+never_over : (text : List ℕ) (fault : SqlFault) → Within text → IsOverLimit fault text → ⊥
+never_over text fault all over =
+    let front = front_of 0 text over.1 all.rest over.0 all.tokens all.stops over.2 all.are in
+    let no_way = sym all.within ∙ more_tokens text over.0 all.tokens front.0 fault front.1 over.3 in
+    cc
+
+one_limit : (text : List ℕ) (f g : SqlFault) → IsOverLimit f text → IsOverLimit g text → f ≡ g
+one_limit text f g a b = elim (fronts 0 text a.1 b.1 a.0 b.0 a.2 b.2) [
+  | inl m ↦ same (sym (more_tokens text a.0 b.0 m.0 f m.1 a.3) ∙ b.3)
+  | inr m ↦ same (sym a.3 ∙ more_tokens text b.0 a.0 m.0 g m.1 b.3)
+]
+  where
+    same : ◌≡◌ {A = Option SqlFault} (Some f) (Some g) → f ≡ g
+    same e = cc
+
+by_terminals : (text : List ℕ) (terminals : List Terminal) → AreTerminals text terminals → Within text
+by_terminals text terminals are = record { tokens = are.tokens; rest = []; stops = nothing_next; are = are.are_tokens; within = ap (first_limit_fault []) (sym are.seen) ∙ are.within_limits }
+
+syntax_within : (text : List ℕ) → HasBadFirst text ⊎ SaysNothing text → Within text
+syntax_within text (inl bad) = record { tokens = bad.0; rest = bad.1.rest; stops = bad.1.is_bad.none; are = bad.1.tokens_are; within = bad.2 }
+syntax_within text (inr nothing) = by_terminals text nothing.0 nothing.1
+
+pub no_fault : (text : List ℕ) (a : StatementTree) (fault : SqlFault) → Says text a → IsStatementFault fault text → fault ≡ faults.Memory
+no_fault text a faults.TooLong says long = let short = says.short in absurd (omega (arith, short, long))
+no_fault text a faults.Syntax says h = elim h.1 [
+  | inl bad ↦ absurd (not_both text says.are_terminals.tokens says.are_terminals.are_tokens (bad.0, bad.1))
+  | inr nothing ↦ absurd (nothing.2 a (subst (λ ts. Spells ts a) (same_terminals text says.terminals nothing.0 says.are_terminals nothing.1) says.spelled))
+]
+no_fault text a faults.Memory says h = refl
+no_fault text a faults.TooDeep says h = absurd (never_over text faults.TooDeep (by_terminals text says.terminals says.are_terminals) h.1)
+no_fault text a faults.BigNumber says h = absurd (never_over text faults.BigNumber (by_terminals text says.terminals says.are_terminals) h.1)
+
+pub one_fault : (text : List ℕ) (a b : SqlFault) → IsStatementFault a text → IsStatementFault b text → a ≢ faults.Memory → b ≢ faults.Memory → a ≡ b
+one_fault text faults.Memory b x y p q = absurd (p refl)
+one_fault text a faults.Memory x y p q = absurd (q refl)
+one_fault text faults.TooLong faults.TooLong x y p q = refl
+one_fault text faults.TooLong faults.Syntax x y p q = absurd (omega (arith, x, y.0))
+one_fault text faults.TooLong faults.TooDeep x y p q = absurd (omega (arith, x, y.0))
+one_fault text faults.TooLong faults.BigNumber x y p q = absurd (omega (arith, x, y.0))
+one_fault text faults.Syntax faults.TooLong x y p q = absurd (omega (arith, x.0, y))
+one_fault text faults.TooDeep faults.TooLong x y p q = absurd (omega (arith, x.0, y))
+one_fault text faults.BigNumber faults.TooLong x y p q = absurd (omega (arith, x.0, y))
+one_fault text faults.Syntax faults.Syntax x y p q = refl
+one_fault text faults.Syntax faults.TooDeep x y p q = absurd (never_over text faults.TooDeep (syntax_within text x.1) y.1)
+one_fault text faults.Syntax faults.BigNumber x y p q = absurd (never_over text faults.BigNumber (syntax_within text x.1) y.1)
+one_fault text faults.TooDeep faults.Syntax x y p q = absurd (never_over text faults.TooDeep (syntax_within text y.1) x.1)
+one_fault text faults.BigNumber faults.Syntax x y p q = absurd (never_over text faults.BigNumber (syntax_within text y.1) x.1)
+one_fault text faults.TooDeep faults.TooDeep x y p q = refl
+one_fault text faults.BigNumber faults.BigNumber x y p q = refl
+one_fault text faults.TooDeep faults.BigNumber x y p q = one_limit text faults.TooDeep faults.BigNumber x.1 y.1
+one_fault text faults.BigNumber faults.TooDeep x y p q = one_limit text faults.BigNumber faults.TooDeep x.1 y.1

@@ -1,8 +1,9 @@
 //! The statement that a text says.
 
-ghost use Rattle.std.specs.Prelude.{◌≡◌, ◌<◌, ◌≤◌, ℕ, IfErr, IfOk, List, length};
+ghost use Rattle.std.specs.Prelude.{◌≡◌, ◌≢◌, ◌<◌, ◌≤◌, ℕ, IfErr, IfOk, List, length};
 ghost use Rattle.bw_sql.specs.Statements.{IsStatementFault, Says, longest_statement};
 ghost use Rattle.bw_sql.specs.Tree.{StatementTree, statement_of};
+ghost use Rattle.bw_sql.specs.declared.fault.SqlFault.{SqlFault as AnyFault};
 
 use crate::fault::SqlFault;
 use crate::limits::terminals;
@@ -37,7 +38,10 @@ fn short_statement(alloc: Global, text: &[u8]) -> Result<Statement, SqlFault>
     parse(alloc, &terminals)
 }
 
-/// A text says one statement at most, and none where it has a fault other than want of memory.
+/// A text says one statement at most, and none where it has a fault other than want of memory. It
+/// has one such fault at most.
 pub fn one_statement()
     ensures same { (text : List ℕ) (a b : StatementTree) → Says text a → Says text b → a ≡ b }
+    ensures no_fault { (text : List ℕ) (a : StatementTree) (fault : AnyFault) → Says text a → IsStatementFault fault text → fault ≡ SqlFault.Memory }
+    ensures one_fault { (text : List ℕ) (a b : AnyFault) → IsStatementFault a text → IsStatementFault b text → a ≢ SqlFault.Memory → b ≢ SqlFault.Memory → a ≡ b }
 {}

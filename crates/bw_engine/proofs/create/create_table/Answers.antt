@@ -3,8 +3,8 @@ use Rattle.indexmap.proofs.CallerLemmas.{insert_entry-new}
 use Rattle.std.specs.Str.{bytes_eq}
 use Rattle.bw_model.specs.Store.{table_of}
 use Rattle.bw_model.specs.declared.reply.Reply.TheVariants.{Done}
+use Rattle.bw_model.proofs.Passing.{passes}
 use Rattle.bw_engine.proofs.Steps.{absent-none, table_of-lookup}
-use Rattle.bw_engine.proofs.Tests.{passes}
 use Rattle.bw_engine.proofs.create.create_table.Goals as goal
 
 pub returns-clause-reply : goal.returns-clause-reply

@@ -1,4 +1,4 @@
-use Rattle.bw_engine.proofs.Names.{headers_from}
+use Rattle.bw_model.proofs.Names.{headers_from}
 use Rattle.bw_engine.proofs.create.headers_of.Goals as goal
 
 pub new-requires : goal.new-requires

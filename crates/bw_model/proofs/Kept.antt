@@ -1,0 +1,168 @@
+-- A step keeps a store well formed.
+use Rattle.std.proofs.Common.{◌≡◌, inl, inr, ℕ, ◌+◌, ◌<◌, ◌≤◌, Bool, true, false, ◌&&◌, ◌||◌, not, is_some, IsTrue, List, [], ◌∷◌, ◌++◌, length, map, nat_lt, position, slice_get, Option, None, Some, if◌then◌else◌, zero, suc, refl, sym, ap, subst, ◌∙◌, arith, length-append}
+use Rattle.std.specs.List.{All, list_all, list_any}
+use Rattle.std.specs.Str.{bytes_eq}
+use Rattle.std.proofs.lemmas.Bool.{ltb-false, not-false, true≢false}
+use Rattle.std.proofs.lemmas.List.{length-map}
+use Rattle.std.proofs.lemmas.List.Elements.{All-append, All-cons, All-head, All-map, All-nil, All-push, All-tail}
+use Rattle.bw_sql.specs.Tree.{ConditionTree, ItemsTree, StatementTree, create_table, insert, select}
+use Rattle.bw_sql.specs.declared.tree.ColumnDefinition.{ColumnDefinition}
+use Rattle.bw_model.specs.Insert.{row_for, target_columns, with_rows}
+use Rattle.bw_model.specs.Refusals.{first_that_holds, insert_tests, is_in_range, over, tests_of}
+use Rattle.bw_model.specs.Step.{Step, carried_out, refused_or, with_table}
+use Rattle.bw_model.specs.Store.{Header, Row, Store, Table, Value, are_distinct, header_of, row_limit, table_of, value_at, value_from}
+use Rattle.bw_model.specs.WellFormed.{IsRow, IsStore, IsTable}
+use Rattle.bw_model.specs.declared.refusal.Refusal.{Refusal}
+use Rattle.bw_model.specs.declared.reply.Reply.{Reply}
+use Rattle.bw_model.proofs.Names.{are_distinct-push, bytes_eq-comm, headers_from, map-push}
+use Rattle.bw_model.proofs.Passing.{Passes, none_holds, passes, two}
+
+everywhere : {A : Type 0} (P : A → Type 0) (xs : List A) → ((x : A) → P x) → All P xs
+everywhere P [] each = All-nil P
+everywhere P (x ∷ xs) each = All-cons P x xs (each x) (everywhere P xs each)
+
+-- the values of a row that is in range
+
+at_place : (values : Row) (place : ℕ) → list_all is_in_range values ≡ true → is_in_range (value_at values place) ≡ true
+at_place [] place all = refl
+at_place (v ∷ values) zero all = (two (is_in_range v) (list_all is_in_range values) all).0
+at_place (v ∷ values) (suc place) all = at_place values place (two (is_in_range v) (list_all is_in_range values) all).1
+
+from_place : (values : Row) (place : Option ℕ) → list_all is_in_range values ≡ true → is_in_range (value_from values place) ≡ true
+from_place values None all = refl
+from_place values (Some place) all = at_place values place all
+
+-- rows that are put into a table
+
+new_row : (headers : List Header) (list : List (List ℕ)) (values : Row) → list_all is_in_range values ≡ true → IsRow headers (row_for headers list values)
+new_row headers list values all = record {
+  full = length-map headers (λ header. value_from values (position (bytes_eq header.name) list));
+  integers =
+      All-map (λ value. IsTrue (is_in_range value)) (λ header. value_from values (position (bytes_eq header.name) list)) headers
+      (everywhere (λ header. IsTrue (is_in_range (value_from values (position (bytes_eq header.name) list)))) headers (λ header. from_place values (position (bytes_eq header.name) list) all));
+}
+
+new_rows : (headers : List Header) (list : List (List ℕ)) (rows : List Row) → list_all (list_all is_in_range) rows ≡ true → All (IsRow headers) (map (row_for headers list) rows)
+new_rows headers list [] all = All-nil (IsRow headers)
+new_rows headers list (row ∷ rows) all =
+    let p = two (list_all is_in_range row) (list_all (list_all is_in_range) rows) all in
+    All-cons (IsRow headers) (row_for headers list row) (map (row_for headers list) rows) (new_row headers list row p.0) (new_rows headers list rows p.1)
+
+grown : (table : Table) (listed : Option (List (List ℕ))) (rows : List Row) → IsTable table → first_that_holds (insert_tests (target_columns table.headers listed) rows table) ≡ None → IsTable (with_rows listed rows table)
+grown table listed rows is none =
+    let list = target_columns table.headers listed in
+    let p = (none_holds (insert_tests list rows table) none).1.1.1 in
+    record {
+      headers = is.headers;
+      rows = All-append (IsRow table.headers) table.rows (map (row_for table.headers list) rows) is.rows (new_rows table.headers list rows (not-false (list_all (list_all is_in_range) rows) p.0));
+      few = omega (arith, length-append table.rows (map (row_for table.headers list) rows), length-map rows (row_for table.headers list), ltb-false row_limit (length table.rows + length rows) p.1.0);
+    }
+
+-- the store with a table changed
+
+abbrev table_names : Store → List (List ℕ)
+table_names store = map (λ entry. entry.0) store
+
+named_so : (b : Bool) (entry : List ℕ × Table) (store changed : Store) (table : Table) → table_names changed ≡ table_names store → table_names (if b then (entry.0, table) ∷ store else entry ∷ changed) ≡ entry.0 ∷ table_names store
+named_so true entry store changed table same = refl
+named_so false entry store changed table same = ap (λ l. entry.0 ∷ l) same
+
+same_names : (store : Store) (name : List ℕ) (change : Table → Table) → table_names (with_table store name change) ≡ table_names store
+same_names [] name change = refl
+same_names (entry ∷ store) name change = named_so (bytes_eq name entry.0) entry store (with_table store name change) (change entry.1) (same_names store name change)
+
+-- each table is one
+abbrev AreTables : Store → Type 0
+AreTables store = All (λ entry. IsTable entry.1) store
+
+put_in : (b : Bool) (entry : List ℕ × Table) (store changed : Store) (name : List ℕ) (change : Table → Table) (table : Table)
+    → (if b then Some entry.1 else table_of store name) ≡ Some table → IsTable (change table) → IsTable entry.1 → AreTables store → (table_of store name ≡ Some table → AreTables changed)
+    → AreTables (if b then (entry.0, change entry.1) ∷ store else entry ∷ changed)
+put_in true entry store changed name change table there is this others deeper =
+    let same : table ≡ entry.1 = cc in
+    All-cons (λ e. IsTable e.1) (entry.0, change entry.1) store (subst (λ t. IsTable (change t)) same is) others
+put_in false entry store changed name change table there is this others deeper = All-cons (λ e. IsTable e.1) entry changed this (deeper there)
+
+tables_with : (store : Store) (name : List ℕ) (change : Table → Table) (table : Table) → table_of store name ≡ Some table → IsTable (change table) → AreTables store → AreTables (with_table store name change)
+tables_with [] name change table there is are = are
+tables_with (entry ∷ store) name change table there is are =
+    let others = All-tail (λ e. IsTable e.1) entry store are in
+    put_in (bytes_eq name entry.0) entry store (with_table store name change) name change table there is (All-head (λ e. IsTable e.1) entry store are) others
+    (λ deeper. tables_with store name change table deeper is others)
+
+table_in : (store : Store) (name : List ℕ) (table : Table) → table_of store name ≡ Some table → AreTables store → IsTable table
+table_in [] name table there are = cc
+table_in (entry ∷ store) name table there are = by (bytes_eq name entry.0) there (λ deeper. table_in store name table deeper (All-tail (λ e. IsTable e.1) entry store are))
+  where
+    by : (b : Bool) → (if b then Some entry.1 else table_of store name) ≡ Some table → (table_of store name ≡ Some table → IsTable table) → IsTable table
+    by true here deeper = let same : entry.1 ≡ table = cc in subst IsTable same (All-head (λ e. IsTable e.1) entry store are)
+    by false here deeper = deeper here
+
+changed : (store : Store) (name : List ℕ) (change : Table → Table) (table : Table) → table_of store name ≡ Some table → IsTable (change table) → IsStore store → IsStore (with_table store name change)
+changed store name change table there is are = record {
+  distinct = subst (λ l. are_distinct l ≡ true) (sym (same_names store name change)) are.distinct;
+  few = omega (arith, are.few, ap length (same_names store name change), length-map (with_table store name change) (λ entry. entry.0), length-map store (λ entry. entry.0));
+  tables = tables_with store name change table there is are.tables;
+}
+
+-- a table put last
+
+not_here : (b c : Bool) (o : Option Table) (table : Table) → c ≡ b → is_some (if b then Some table else o) ≡ false → (c ≡ false) × (is_some o ≡ false)
+not_here true c o table same e = absurd (true≢false e)
+not_here false c o table same e = (same, e)
+
+neither_of : (c d : Bool) → c ≡ false → d ≡ false → (c || d) ≡ false
+neither_of true d e f = absurd (true≢false e)
+neither_of false d e f = f
+
+unseen : (store : Store) (name : List ℕ) → is_some (table_of store name) ≡ false → list_any (λ other. bytes_eq other name) (table_names store) ≡ false
+unseen [] name e = refl
+unseen (entry ∷ store) name e =
+    let p = not_here (bytes_eq name entry.0) (bytes_eq entry.0 name) (table_of store name) entry.1 (bytes_eq-comm entry.0 name) e in
+    neither_of (bytes_eq entry.0 name) (list_any (λ other. bytes_eq other name) (table_names store)) p.0 (unseen store name p.1)
+
+both_so : (b c : Bool) → b ≡ true → c ≡ false → (b && not c) ≡ true
+both_so true true e f = absurd (true≢false f)
+both_so true false e f = refl
+both_so false c e f = e
+
+made : (columns : List ColumnDefinition) (name : List ℕ) (store : Store) → IsStore store → Passes (map (λ c. c.name) columns) name store → IsStore (store ++ (name, record { headers = map header_of columns; rows = [] }) ∷ [])
+made columns name store are pass =
+    let table : Table = record { headers = map header_of columns; rows = [] } in
+    record {
+      distinct =
+          subst (λ l. are_distinct l ≡ true) (sym (map-push (λ entry. entry.0) store (name, table)))
+          (are_distinct-push (table_names store) name ∙ both_so (are_distinct (table_names store)) (list_any (λ other. bytes_eq other name) (table_names store)) are.distinct (unseen store name pass.absent));
+      few = omega (arith, length-append store ((name, table) ∷ []), pass.room);
+      tables = All-push (λ entry. IsTable entry.1) store (name, table) are.tables (record {
+        headers = headers_from columns (omega (arith, pass.some, length-map columns (λ c. c.name))) (omega (arith, pass.few, length-map columns (λ c. c.name))) pass.distinct;
+        rows = All-nil (IsRow (map header_of columns));
+        few = omega arith;
+      });
+    }
+
+-- each statement
+
+inserts : (o : Option Table) (store : Store) (name : List ℕ) (listed : Option (List (List ℕ))) (rows : List Row) → IsStore store → table_of store name ≡ o → first_that_holds (over o (λ table. insert_tests (target_columns table.headers listed) rows table)) ≡ None → IsStore (with_table store name (with_rows listed rows))
+inserts None store name listed rows are there none = cc
+inserts (Some table) store name listed rows are there none =
+    changed store name (with_rows listed rows) table there (grown table listed rows (table_in store name table there are.tables) none) are
+
+carried : (store : Store) (statement : StatementTree) → IsStore store → first_that_holds (tests_of store statement) ≡ None → IsStore (carried_out store statement).1
+carried store (create_table name columns) are none = made columns name store are (passes (map (λ c. c.name) columns) name store none)
+carried store (insert name listed rows) are none = inserts (table_of store name) store name listed rows are refl none
+carried store (select items name condition) are none = are
+
+after_first : (first : Option Refusal) (store : Store) (statement : StatementTree) → IsStore store → first_that_holds (tests_of store statement) ≡ first → IsStore (refused_or first store (carried_out store statement)).1
+after_first None store statement are none = carried store statement are none
+after_first (Some refusal) store statement are some = are
+
+pub kept : (store after : Store) (statement : StatementTree) (reply : Reply) → IsStore store → Step store statement reply after → IsStore after
+kept store after statement reply are step =
+    elim step [
+      | inl free ↦ subst IsStore (sym free.1) are
+      | inr e ↦ subst IsStore (sym (ap (λ p. p.1) e)) (after_first (first_that_holds (tests_of store statement)) store statement are refl)
+    ]
+
+pub empty : IsStore []
+empty = record { distinct = refl; few = omega arith; tables = All-nil (λ entry. IsTable entry.1) }

@@ -1,0 +1,19 @@
+-- What every store is that statements lead to: names are distinct, rows fit their columns, and nothing is above a limit (SQL-92, tables and columns; limits of this product's own).
+use Rattle.std.specs.Prelude.{◌≡◌, ◌≤◌, ℕ, List, All, IsTrue, length, map}
+use Rattle.bw_model.specs.Refusals.{is_in_range}
+use Rattle.bw_model.specs.Store.{AreHeaders, Header, Row, Store, Table, are_distinct, row_limit, table_limit}
+
+-- an INTEGER or null for each column
+pub record IsRow (headers : List Header) (row : Row) : Type 0 where
+  pub full : length row ≡ length headers
+  pub integers : All (λ value. IsTrue (is_in_range value)) row
+
+pub record IsTable (table : Table) : Type 0 where
+  pub headers : AreHeaders table.headers
+  pub rows : All (IsRow table.headers) table.rows
+  pub few : length table.rows ≤ row_limit
+
+pub record IsStore (store : Store) : Type 0 where
+  pub distinct : IsTrue (are_distinct (map (λ entry. entry.0) store))
+  pub few : length store ≤ table_limit
+  pub tables : All (λ entry. IsTable entry.1) store
