@@ -5,6 +5,8 @@
 #[cfg(test)]
 mod calls;
 #[cfg(test)]
+mod conditions;
+#[cfg(test)]
 mod harness;
 #[cfg(test)]
 mod limits;

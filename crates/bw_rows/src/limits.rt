@@ -40,14 +40,17 @@ fn bytes_of_a_rest(rt: HostRuntime) -> Result<(), Fail> {
 #[test]
 fn depth_of_parentheses(rt: HostRuntime) -> Result<(), Fail> {
     for (depth, reply) in [
-        (64, "error 10: syntax error\n"),
-        (65, "error 12: nested too deeply\n"),
+        (64, "ok\nok 1\nA\n1\nrows 1\n"),
+        (65, "ok\nok 1\nerror 12: nested too deeply\n"),
     ] {
         let opened = repeated(rt.alloc(), "(", depth)?;
         let closed = repeated(rt.alloc(), ")", depth)?;
         check_script(
             &rt,
-            format!(in rt.alloc(); "SELECT a FROM t WHERE {opened}a = 1{closed};")?.as_str(),
+            format!(in rt.alloc();
+                "CREATE TABLE t (a INT); INSERT INTO t VALUES (1); SELECT a FROM t WHERE {opened}a = 1{closed};"
+            )?
+            .as_str(),
             reply,
         );
     }
