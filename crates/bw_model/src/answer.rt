@@ -83,6 +83,6 @@ impl Answer {
         ensures whole { AreWholeLines (length self.now.headings) result.now }
         ensures lines { lines_of (length self.now.headings) result.now ≡ self.now.lines }
     {
-        self.cells.as_slice()
+        &self.cells
     }
 }

@@ -151,18 +151,14 @@ fn is_over_limit(columns: usize, tables: usize) -> bool
 pub fn insert_tests(columns: &[Name], rows: &[Row], table: &Table) -> [Test; 5]
     ensures { result ≡ insert_tests columns.now rows.now table.now }
 {
+    let width = columns.len();
+    let count = table.rows().len() + rows.len();
     [
         (Refusal::NoSuchColumn, misses_any(table.headers(), columns)),
         (Refusal::ColumnNamedTwice, !are_distinct(columns)),
-        (
-            Refusal::WrongNumberOfValues,
-            !are_of_width(rows, columns.len()),
-        ),
+        (Refusal::WrongNumberOfValues, !are_of_width(rows, width)),
         (Refusal::OutOfRange, !are_in_range(rows)),
-        (
-            Refusal::TableFull,
-            table.rows().len() + rows.len() > ROW_LIMIT,
-        ),
+        (Refusal::TableFull, count > ROW_LIMIT),
     ]
 }
 
