@@ -1,7 +1,8 @@
 //! Each call that may want memory, seen answering.
 
 use bw_engine::{Engine, FileAnswer};
-use bw_model::{Header, Reply, Row, Table, Truth, answer_of, found_rows, truth_at};
+use bw_mask::TruthValue;
+use bw_model::{Header, Reply, Row, Table, answer_of, found_rows, truth_at};
 use bw_shell::{Folder, FolderFault, MemoryFolder};
 use bw_sql::{
     CompareOp, Part, Span, SqlFault, Statement, Symbol, Token, TokenKind, parts, statement, tokens,
@@ -111,7 +112,7 @@ fn the_plain_program_answers(rt: HostRuntime) -> Result<(), Fail> {
     for (row, truth) in table
         .rows()
         .iter()
-        .zip([Truth::False, Truth::Unknown, Truth::True])
+        .zip([TruthValue::False, TruthValue::Unknown, TruthValue::True])
     {
         assert_eq!(rt; truth_at(table.headers(), row, condition), truth);
     }
