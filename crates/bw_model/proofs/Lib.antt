@@ -1,1 +1,2 @@
 pub mod Unchanged
+pub mod Values

@@ -9,11 +9,8 @@ use Rattle.bw_sql.specs.declared.token.CompareOp.TheVariants.{Eq, Ne, Lt, Le, Gt
 use Rattle.bw_sql.specs.declared.tree.Operand.{Operand}
 use Rattle.bw_sql.specs.declared.tree.Operand.TheVariants.{Column, Constant}
 use Rattle.bw_model.specs.Store.{Header, Row, Table, Value, place_of, value_from}
-
-pub data Truth : Type 0 where
-  True : Truth
-  False : Truth
-  Unknown : Truth
+use Rattle.bw_model.specs.declared.truth.Truth.{Truth}
+use Rattle.bw_model.specs.declared.truth.Truth.TheVariants.{True, False, Unknown}
 
 abbrev pub truth_of_bool : Bool → Truth
 truth_of_bool true = True

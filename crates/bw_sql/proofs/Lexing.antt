@@ -42,7 +42,7 @@ pub record NextAt (text : List ℕ) (shape : Shape) (n : ℕ) : Type 0 where
   pub next : IsNext shape (take n text) (drop n text)
   pub size : length (take n text) ≡ n
 
-next_at : (text : List ℕ) (shape : Shape) (n : ℕ) → first_piece text ≡ piece_of shape n → NextAt text shape n
+pub next_at : (text : List ℕ) (shape : Shape) (n : ℕ) → first_piece text ≡ piece_of shape n → NextAt text shape n
 next_at text shape n first =
     let found = next_piece text (piece_of shape n) (sym first) (not_bad shape n) in
     let same = same_piece shape found.shape n found.len found.piece_is in
@@ -65,7 +65,7 @@ start text = record { within = omega arith; goes_on = λ rest more d. subst (λ 
 pub rest_is : (at : ℕ) (text : List ℕ) (piece : Piece) → piece ≡ first_piece (take (length text - at) (drop at text)) → first_piece (drop at text) ≡ piece
 rest_is at text piece is = sym (is ∙ ap first_piece (take_all (length text - at) (drop at text) (omega (arith, length-drop at text))))
 
-spelled_next : (kind : TokenKind) (bytes left : List ℕ) → IsNext (token kind) bytes left → IsSpelled kind bytes
+pub spelled_next : (kind : TokenKind) (bytes left : List ℕ) → IsNext (token kind) bytes left → IsSpelled kind bytes
 spelled_next k.Word bytes left next = (next.0.fits, next.1)
 spelled_next k.Number bytes left next = next.0.fits.0
 spelled_next k.Text bytes left next = next.1

@@ -1,12 +1,12 @@
 -- The first piece of a text is the longest that fits, within its limits.
-use Rattle.std.proofs.Common.{◌≡◌, ◌≢◌, ℕ, ◌<◌, ◌≤◌, Bool, true, false, ◌==◌, not, cond, List, [], ◌∷◌, ◌++◌, length, take, drop, Option, Some, None, refl, sym, ap, ◌∙◌, subst, arith, inl, inr, nat_le, Result, append_assoc, eqb-true, length-append, length-take}
+use Rattle.std.proofs.Common.{◌≡◌, ◌≢◌, ◌⊎◌, ℕ, ◌<◌, ◌≤◌, Bool, true, false, ◌==◌, ◌||◌, not, cond, List, [], ◌∷◌, ◌++◌, length, take, drop, Option, Some, None, refl, sym, ap, ◌∙◌, subst, arith, inl, inr, nat_le, Result, append_assoc, eqb-true, length-append, length-take}
 use Rattle.std.specs.List.{list_all, prefix_len}
 use Rattle.std.specs.Char.{is_ascii_alphabetic, is_ascii_digit}
 use Rattle.std.specs.Bool.{IsTrue, IsFalse}
 use Rattle.std.specs.Int.{is_in_range}
 use Rattle.std.specs.Result.{IfOk}
 use Rattle.std.proofs.Math.Seq.{drop-append_seam}
-use Rattle.std.proofs.lemmas.Bool.{and_from, and_left, and_parts, cond_both, le-leb, leb-true, lt-leb, ne_eqb, or_cases}
+use Rattle.std.proofs.lemmas.Bool.{and_from, and_left, and_parts, and_right, cond_both, le-leb, leb-true, lt-leb, ne_eqb, or_cases}
 use Rattle.std.proofs.lemmas.List.{take-append-drop}
 use Rattle.std.proofs.lemmas.Result.{IfOk-weaker}
 use Rattle.bw_sql.specs.declared.token.TokenKind.TheVariants as k
@@ -43,20 +43,13 @@ not_blank b h =
 not_in_range : (low high b : ℕ) → b < low → is_in_range low high b ≡ false
 not_in_range low high b h = and_left _ _ (lt-leb low b h)
 
-in_range : (low high b : ℕ) → is_in_range low high b ≡ true → (low ≤ b) × (b ≤ high)
+pub in_range : (low high b : ℕ) → is_in_range low high b ≡ true → (low ≤ b) × (b ≤ high)
 in_range low high b h =
     let both = and_parts _ _ h in
     (leb-true low b both.0, leb-true b high both.1)
 
-from_letter : (b : ℕ) → is_ascii_alphabetic b ≡ true → 48 ≤ b
-from_letter b h =
-    elim (or_cases (is_in_range 65 90 b) (is_in_range 97 122 b) h) [
-      | inl e ↦ let r = in_range 65 90 b e in omega (arith, r.0)
-      | inr e ↦ let r = in_range 97 122 b e in omega (arith, r.0)
-    ]
-
-no_letter : (b : ℕ) → b < 65 → is_ascii_alphabetic b ≡ false
-no_letter b h = rw (not_in_range 65 90 b h, not_in_range 97 122 b (omega arith)) refl
+above_range : (low high b : ℕ) → high < b → is_in_range low high b ≡ false
+above_range low high b h = and_right _ _ (lt-leb b high h)
 
 -- one test fails, or holds
 skip : (P : Option Sized → Type 0) (t : Bool) (x y : Option Sized) → t ≡ false → P y → P (cond t x y)
@@ -67,18 +60,54 @@ here : (P : Option Sized → Type 0) (t : Bool) (x y : Option Sized) → t ≡ t
 here P true x y e h = h
 here P false x y e h = cc
 
+-- a byte below or above these is none of the lone symbols
+not_alone : (b : ℕ) → (b < 40) ⊎ (44 < b) → is_alone b ≡ false
+not_alone b h =
+    let open' : (b == 40) ≡ false = ne_eqb b 40 (λ e. elim h [ inl x ↦ omega arith | inr x ↦ omega arith ]) in
+    let close : (b == 41) ≡ false = ne_eqb b 41 (λ e. elim h [ inl x ↦ omega arith | inr x ↦ omega arith ]) in
+    let comma : (b == 44) ≡ false = ne_eqb b 44 (λ e. elim h [ inl x ↦ omega arith | inr x ↦ omega arith ]) in
+    let star : (b == 42) ≡ false = ne_eqb b 42 (λ e. elim h [ inl x ↦ omega arith | inr x ↦ omega arith ]) in
+    let plus : (b == 43) ≡ false = ne_eqb b 43 (λ e. elim h [ inl x ↦ omega arith | inr x ↦ omega arith ]) in
+    rw (open', close, comma, star, plus) refl
+
+blank_below : (b : ℕ) → is_blank b ≡ true → b < 40
+blank_below b h =
+    elim (or_cases ((b == 9 || b == 10) || b == 13) (b == 32) h) [
+      | inl f ↦ elim (or_cases (b == 9 || b == 10) (b == 13) f) [
+        | inl g ↦ elim (or_cases (b == 9) (b == 10) g) [
+          | inl e ↦ omega (arith, eqb-true b 9 e)
+          | inr e ↦ omega (arith, eqb-true b 10 e)
+        ]
+        | inr e ↦ omega (arith, eqb-true b 13 e)
+      ]
+      | inr e ↦ omega (arith, eqb-true b 32 e)
+    ]
+
 blank_reaches : (b : ℕ) (rest : List ℕ) → is_blank b ≡ true → Reaches separator 1 (first_shape (b ∷ rest))
-blank_reaches b rest e = here (Reaches separator 1) (is_blank b) _ _ e (omega arith, λ _. refl)
+blank_reaches b rest e =
+    let R = Reaches separator 1 in
+    let below = blank_below b e in
+    skip R (is_alone b) _ _ (not_alone b (inl below)) (skip R (is_ascii_digit b) _ _ (not_in_range 48 57 b (omega (arith, below)))
+    (here R (is_blank b) _ _ e (omega arith, λ _. refl)))
 
 comment_reaches : (says rest : List ℕ) → IsTrue (list_all (λ b. not (b == 10)) says) → Reaches separator (length (45 ∷ 45 ∷ says)) (first_shape (45 ∷ 45 ∷ says ++ rest))
 comment_reaches says rest h = (omega (arith, prefix_over (λ b. not (b == 10)) says rest h), λ _. refl)
+
+from_letter : (b : ℕ) → is_ascii_alphabetic b ≡ true → 65 ≤ b
+from_letter b h =
+    elim (or_cases (is_in_range 65 90 b) (is_in_range 97 122 b) h) [
+      | inl e ↦ let r = in_range 65 90 b e in omega (arith, r.0)
+      | inr e ↦ let r = in_range 97 122 b e in omega (arith, r.0)
+    ]
 
 word_reaches : (b : ℕ) (bytes rest : List ℕ) → is_ascii_alphabetic b ≡ true → IsTrue (list_all is_word_byte bytes) → Reaches (token k.Word) (length (b ∷ bytes)) (first_shape (b ∷ bytes ++ rest))
 word_reaches b bytes rest is all =
     let R = Reaches (token k.Word) (length (b ∷ bytes)) in
     let first : is_word_byte b ≡ true = letter (is_in_range 48 57 b) (is_in_range 65 90 b) (is_in_range 97 122 b) (b == 95) is in
-    skip R (is_blank b) _ _ (not_blank b (from_letter b is)) (here R (is_ascii_alphabetic b) _ _ is
-    (prefix_over is_word_byte (b ∷ bytes) rest (and_from _ _ first all), λ _. refl))
+    let from = from_letter b is in
+    skip R (is_alone b) _ _ (not_alone b (inr (omega (arith, from)))) (skip R (is_ascii_digit b) _ _ (above_range 48 57 b (omega (arith, from)))
+    (skip R (is_blank b) _ _ (not_blank b (omega (arith, from))) (here R (is_ascii_alphabetic b) _ _ is
+    (prefix_over is_word_byte (b ∷ bytes) rest (and_from _ _ first all), λ _. refl))))
 
 ends_number : (rest : List ℕ) → word_goes_on rest ≡ false → prefix_len is_ascii_digit rest ≡ 0
 ends_number [] h = refl
@@ -94,8 +123,8 @@ number_reaches b bytes rest all ends =
     let R = Reaches (token k.Number) (length (b ∷ bytes)) in
     let digit : is_ascii_digit b ≡ true = (and_parts (is_ascii_digit b) (list_all is_ascii_digit bytes) all).0 in
     let range = in_range 48 57 b digit in
-    skip R (is_blank b) _ _ (not_blank b range.0) (skip R (is_ascii_alphabetic b) _ _ (no_letter b (omega (arith, range.1))) (here R (is_ascii_digit b) _ _ digit
-    (number_step (b ∷ bytes ++ rest) _ (length (b ∷ bytes)) (prefix_exact is_ascii_digit (b ∷ bytes) rest all (ends_number rest ends)) (ap word_goes_on (drop-append_seam (b ∷ bytes) rest) ∙ ends))))
+    skip R (is_alone b) _ _ (not_alone b (inr (omega (arith, range.0)))) (here R (is_ascii_digit b) _ _ digit
+    (number_step (b ∷ bytes ++ rest) _ (length (b ∷ bytes)) (prefix_exact is_ascii_digit (b ∷ bytes) rest all (ends_number rest ends)) (ap word_goes_on (drop-append_seam (b ∷ bytes) rest) ∙ ends)))
 
 text_reaches : (says rest : List ℕ) → IsFalse (begins_with 39 rest) → Reaches (token k.Text) (length (quoted says)) (first_shape (quoted says ++ rest))
 text_reaches says rest after =
@@ -106,19 +135,17 @@ pair_reaches a symbol None e = rw e (omega arith, λ _. refl)
 pair_reaches a symbol (Some other) e = (omega arith, λ h. absurd (omega arith))
 
 -- a symbol that begins nothing longer
-alone : (a : ℕ) (symbol : Symbol) (rest : List ℕ) → is_blank a ≡ false → is_ascii_alphabetic a ≡ false → is_ascii_digit a ≡ false → is_alone a ≡ true → single_of a ≡ Some symbol → Reaches (token (k.Symbol symbol)) 1 (first_shape (a ∷ rest))
-alone a symbol rest blank letter digit is e =
-    let R = Reaches (token (k.Symbol symbol)) 1 in
-    skip R _ _ _ blank (skip R _ _ _ letter (skip R _ _ _ digit (here R _ _ _ is (pair_reaches a symbol None e))))
+alone : (a : ℕ) (symbol : Symbol) (rest : List ℕ) → is_alone a ≡ true → single_of a ≡ Some symbol → Reaches (token (k.Symbol symbol)) 1 (first_shape (a ∷ rest))
+alone a symbol rest is e = here (Reaches (token (k.Symbol symbol)) 1) (is_alone a) _ _ is (pair_reaches a symbol None e)
 
 -- one that may begin a longer symbol
-less : (a : ℕ) (symbol : Symbol) (rest : List ℕ) → is_blank a ≡ false → is_ascii_alphabetic a ≡ false → is_ascii_digit a ≡ false → is_alone a ≡ false → (a == 39) ≡ false → (a == 45) ≡ false → single_of a ≡ Some symbol → Reaches (token (k.Symbol symbol)) 1 (first_shape (a ∷ rest))
-less a symbol [] blank letter digit other quote dash e =
+less : (a : ℕ) (symbol : Symbol) (rest : List ℕ) → is_alone a ≡ false → is_ascii_digit a ≡ false → is_blank a ≡ false → is_ascii_alphabetic a ≡ false → (a == 39) ≡ false → (a == 45) ≡ false → single_of a ≡ Some symbol → Reaches (token (k.Symbol symbol)) 1 (first_shape (a ∷ rest))
+less a symbol [] other digit blank letter quote dash e =
     let R = Reaches (token (k.Symbol symbol)) 1 in
-    skip R _ _ _ blank (skip R _ _ _ letter (skip R _ _ _ digit (skip R _ _ _ other (skip R _ _ _ quote (pair_reaches a symbol None e)))))
-less a symbol (c ∷ rest) blank letter digit other quote dash e =
+    skip R _ _ _ other (skip R _ _ _ digit (skip R _ _ _ blank (skip R _ _ _ letter (skip R _ _ _ quote (pair_reaches a symbol None e)))))
+less a symbol (c ∷ rest) other digit blank letter quote dash e =
     let R = Reaches (token (k.Symbol symbol)) 1 in
-    skip R _ _ _ blank (skip R _ _ _ letter (skip R _ _ _ digit (skip R _ _ _ other (skip R _ _ _ quote (skip R _ _ _ (and_left (a == 45) (c == 45) dash) (pair_reaches a symbol (pair_of a c) e))))))
+    skip R _ _ _ other (skip R _ _ _ digit (skip R _ _ _ blank (skip R _ _ _ letter (skip R _ _ _ quote (skip R _ _ _ (and_left (a == 45) (c == 45) dash) (pair_reaches a symbol (pair_of a c) e))))))
 
 comment_more : (c : ℕ) (rest : List ℕ) → (c == 45) ≡ true → Reaches (token (k.Symbol Minus)) 1 (sized separator (comment_len (45 ∷ c ∷ rest)))
 comment_more c rest e =
@@ -131,11 +158,11 @@ minus_reaches (c ∷ rest) =
     cond_both (c == 45) _ _ (Reaches (token (k.Symbol Minus)) 1) (comment_more c rest) (λ _. (omega arith, λ _. refl))
 
 symbol_reaches : (symbol : Symbol) (bytes rest : List ℕ) → IsSymbol symbol bytes → Reaches (token (k.Symbol symbol)) (length bytes) (first_shape (bytes ++ rest))
-symbol_reaches Open bytes rest is = rw is (alone 40 Open rest refl refl refl refl refl)
-symbol_reaches Close bytes rest is = rw is (alone 41 Close rest refl refl refl refl refl)
-symbol_reaches Comma bytes rest is = rw is (alone 44 Comma rest refl refl refl refl refl)
-symbol_reaches Star bytes rest is = rw is (alone 42 Star rest refl refl refl refl refl)
-symbol_reaches Plus bytes rest is = rw is (alone 43 Plus rest refl refl refl refl refl)
+symbol_reaches Open bytes rest is = rw is (alone 40 Open rest refl refl)
+symbol_reaches Close bytes rest is = rw is (alone 41 Close rest refl refl)
+symbol_reaches Comma bytes rest is = rw is (alone 44 Comma rest refl refl)
+symbol_reaches Star bytes rest is = rw is (alone 42 Star rest refl refl)
+symbol_reaches Plus bytes rest is = rw is (alone 43 Plus rest refl refl)
 symbol_reaches Minus bytes rest is = rw is (minus_reaches rest)
 symbol_reaches (Compare Eq) bytes rest is = rw is (less 61 (Compare Eq) rest refl refl refl refl refl refl refl)
 symbol_reaches (Compare Ne) bytes rest (inl is) = rw is (omega arith, λ _. refl)

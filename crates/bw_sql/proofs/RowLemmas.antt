@@ -1,5 +1,5 @@
 -- Rows that lie flat.
-use Rattle.std.proofs.Common.{◌≡◌, ℕ, ◌+◌, ◌-◌, ◌≤◌, List, [], ◌∷◌, ◌++◌, length, sum, take, drop, suc, refl, sym, ap, ◌∙◌, arith, append-nil, length-append, length-drop, length-take, take-append-drop, append_assoc, add-zero}
+use Rattle.std.proofs.Common.{◌≡◌, ℕ, ◌+◌, ◌-◌, ◌≤◌, List, [], ◌∷◌, ◌++◌, length, map, sum, take, drop, suc, refl, sym, ap, ◌∙◌, arith, append-nil, length-append, length-drop, length-take, take-append-drop, append_assoc, add-zero}
 use Rattle.std.proofs.lemmas.List.{drop-append-le, take_all, take-append-le}
 use Rattle.std.proofs.lemmas.List.Sums.{sum_by-append, sum_by-cons}
 use Rattle.std.specs.List.{All}
@@ -26,6 +26,12 @@ module _ {A : Type 0} where
   joined-rows_of [] (v ∷ values) e = absurd (omega arith)
   joined-rows_of (w ∷ widths) values e =
       ap (λ l. take w values ++ l) (joined-rows_of widths (drop w values) (rest_fits w widths values e)) ∙ take-append-drop w values
+
+  -- the rows have these widths
+  pub widths-rows_of : (widths : List ℕ) (values : List A) → sum widths ≡ length values → map length (rows_of widths values) ≡ widths
+  widths-rows_of [] values e = refl
+  widths-rows_of (w ∷ widths) values e =
+      ap (λ n. n ∷ map length (rows_of widths (drop w values))) (first_fits w widths values e) ∙ ap (λ l. w ∷ l) (widths-rows_of widths (drop w values) (rest_fits w widths values e))
 
   -- each row is as long as its width
   pub rows_as_wide : (n : ℕ) (widths : List ℕ) (values : List A) → sum widths ≡ length values → All (λ w. w ≡ n) widths → All (λ row. length row ≡ n) (rows_of widths values)

@@ -46,10 +46,10 @@ symbol_shape (a ∷ b ∷ bytes) = pair_shape (pair_of a b) a
 
 abbrev pub shape_from : ℕ → List ℕ → Option Sized
 shape_from b bytes =
-    if is_blank b then sized separator 1
-    else (if is_ascii_alphabetic b then sized (token k.Word) (prefix_len is_word_byte (b ∷ bytes))
+    if is_alone b then single_shape (single_of b)
     else (if is_ascii_digit b then number_shape (b ∷ bytes)
-    else (if is_alone b then single_shape (single_of b)
+    else (if is_blank b then sized separator 1
+    else (if is_ascii_alphabetic b then sized (token k.Word) (prefix_len is_word_byte (b ∷ bytes))
     else (if b == 39 then text_shape (quoted_end 1 bytes)
     else (if is_comment (b ∷ bytes) then sized separator (comment_len (b ∷ bytes))
     else symbol_shape (b ∷ bytes))))))
@@ -97,9 +97,9 @@ pub judged : (text : List ℕ) → first_piece text ≡ judge text (first_shape 
 judged [] = refl
 judged (b ∷ bytes) =
     let t = b ∷ bytes in
-    same_choice t (is_blank b) _ _ _ _ refl (same_choice t (is_ascii_alphabetic b) _ _ _ _ refl
+    same_choice t (is_alone b) _ _ _ _ (judged_single t (single_of b))
     (same_choice t (is_ascii_digit b) _ _ _ _ (same_choice t (word_goes_on (drop (prefix_len is_ascii_digit t) t)) _ _ _ _ refl refl)
-    (same_choice t (is_alone b) _ _ _ _ (judged_single t (single_of b))
+    (same_choice t (is_blank b) _ _ _ _ refl (same_choice t (is_ascii_alphabetic b) _ _ _ _ refl
     (same_choice t (b == 39) _ _ _ _ (judged_text b bytes (quoted_end 1 bytes))
     (same_choice t (is_comment t) _ _ _ _ refl (judged_symbol t t))))))
 
@@ -192,10 +192,10 @@ pub holds : (text : List ℕ) → Holds text (first_shape text)
 holds [] = tt
 holds (b ∷ bytes) =
     let H = Holds (b ∷ bytes) in
+    cond_both (is_alone b) _ _ H (λ _. single_holds b bytes) (λ _.
+    cond_both (is_ascii_digit b) _ _ H (number_holds b bytes) (λ _.
     cond_both (is_blank b) _ _ H (blank_holds b bytes) (λ _.
     cond_both (is_ascii_alphabetic b) _ _ H (word_holds b bytes) (λ _.
-    cond_both (is_ascii_digit b) _ _ H (number_holds b bytes) (λ _.
-    cond_both (is_alone b) _ _ H (λ _. single_holds b bytes) (λ _.
     cond_both (b == 39) _ _ H (λ e. text_holds b bytes _ e refl) (λ _.
     cond_both (is_comment (b ∷ bytes)) _ _ H (comment_holds b bytes) (λ _. symbol_holds b bytes))))))
 

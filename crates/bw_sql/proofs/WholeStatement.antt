@@ -1,17 +1,13 @@
 -- The statement that terminals spell, by reading them.
-use Rattle.std.proofs.Common.{◌≡◌, ◌∙◌, ℕ, ◌<◌, suc, List, [], length, Option, Some, None, Result, Ok, Err, IfErr, IfOk, sym, subst, refl, ◌≤◌, arith}
+use Rattle.std.proofs.Common.{◌≡◌, ◌∙◌, ap, ℕ, ◌<◌, ◌≤◌, suc, List, [], length, Option, Some, None, Result, Ok, Err, IfErr, IfOk, sym, subst, refl, arith, inl, inr}
 use Rattle.bw_sql.specs.declared.fault.SqlFault.{SqlFault}
 use Rattle.bw_sql.specs.declared.fault.SqlFault.TheVariants as faults
 use Rattle.bw_sql.specs.declared.terminal.Terminal.{Terminal}
 use Rattle.bw_sql.specs.declared.tree.Statement.{Statement}
 use Rattle.bw_sql.specs.Grammar.{Spells}
 use Rattle.bw_sql.specs.Reading.{GivesAll, whole_at}
-use Rattle.bw_sql.specs.declared.lexer.TextEnd.{TextEnd}
-use Rattle.bw_sql.specs.declared.lexer.TextEnd.TheVariants as ends
-use Rattle.bw_sql.specs.declared.token.Token.{Token}
-use Rattle.bw_sql.specs.Terminals.{IsLimitFault, first_limit_fault, terminals_of}
-use Rattle.bw_sql.specs.Tokens.{AreTokens, AreTokensToBad, AreTokensUpTo}
-use Rattle.bw_sql.specs.Statements.{IsMalformed, IsParseFault, IsStatementFault, Says, bad_token, longest_statement, no_statement}
+use Rattle.bw_sql.specs.Terminals.{terminals_of}
+use Rattle.bw_sql.specs.Statements.{AreTerminals, IsParseFault, IsStatementFault, IsTerminalsFault, Says, longest_statement}
 use Rattle.bw_sql.specs.Tree.{StatementTree, statement_of}
 use Rattle.bw_sql.proofs.Complete.{whole_reads}
 use Rattle.bw_sql.proofs.Lexing.{same_tokens}
@@ -47,29 +43,10 @@ pub only : (ts : List Terminal) (r : Result Statement SqlFault) → AlwaysGives 
 only ts (Ok s) gives = tt
 only ts (Err e) gives = fault_is ts e gives
 
--- The faults of a text that is short enough.
-module _ (text : List ℕ) (end : TextEnd) (tokens : List Token) (short : length text ≤ longest_statement) (are : AreTokensUpTo end text tokens) where
-  pub over_limit : (e : SqlFault) → IsLimitFault e (terminals_of text tokens) → IsStatementFault e text
-  over_limit faults.TooDeep h = (short, (end, tokens, are, h))
-  over_limit faults.BigNumber h = (short, (end, tokens, are, h))
-  over_limit faults.Memory h = short
-  over_limit faults.Syntax h = absurd h
-  over_limit faults.TooLong h = absurd h
-
-  pub bad : end ≡ ends.BadToken → first_limit_fault [] (terminals_of text tokens) ≡ None → IsStatementFault faults.Syntax text
-  bad is within = (short, bad_token tokens (subst (λ x. AreTokensUpTo x text tokens) is are) within)
-
-  no_parse : (e : SqlFault) → end ≡ ends.Reached → first_limit_fault [] (terminals_of text tokens) ≡ None → IsParseFault e (terminals_of text tokens) → IsStatementFault e text
-  no_parse faults.Syntax is within h = (short, no_statement tokens (subst (λ x. AreTokensUpTo x text tokens) is are) within h)
-  no_parse faults.Memory is within h = short
-  no_parse faults.TooDeep is within h = absurd h
-  no_parse faults.BigNumber is within h = absurd h
-  no_parse faults.TooLong is within h = absurd h
-
-  pub parse_fault : (r : Result Statement SqlFault) → end ≡ ends.Reached → first_limit_fault [] (terminals_of text tokens) ≡ None → IfErr r (λ e. IsParseFault e (terminals_of text tokens)) → IfErr r (λ e. IsStatementFault e text)
-  parse_fault (Ok s) is within h = tt
-  parse_fault (Err e) is within h = no_parse e is within h
+-- the grammar sees one list of terminals in a text
+same_terminals : (text : List ℕ) (a b : List Terminal) → AreTerminals text a → AreTerminals text b → a ≡ b
+same_terminals text a b x y = x.seen ∙ ap (terminals_of text) (same_tokens text x.tokens y.tokens x.are_tokens y.are_tokens) ∙ sym y.seen
 
 pub says_once : (text : List ℕ) (a b : StatementTree) → Says text a → Says text b → a ≡ b
 says_once text a b x y =
-    spells_once (terminals_of text x.tokens) a b x.spelled (subst (λ tokens. Spells (terminals_of text tokens) b) (same_tokens text y.tokens x.tokens y.are_tokens x.are_tokens) y.spelled)
+    spells_once x.terminals a b x.spelled (subst (λ ts. Spells ts b) (same_terminals text y.terminals x.terminals y.are_terminals x.are_terminals) y.spelled)

@@ -97,10 +97,10 @@ comment_len bytes = prefix_len (λ b. not (b == 10)) bytes
 -- The first piece. Nothing is left to begin one where there are no bytes.
 abbrev pub piece_from : ℕ → List ℕ → Piece
 piece_from b bytes =
-    if is_blank b then Separator 1
-    else (if is_ascii_alphabetic b then word_piece (b ∷ bytes)
+    if is_alone b then single_piece (single_of b)
     else (if is_ascii_digit b then number_piece (b ∷ bytes)
-    else (if is_alone b then single_piece (single_of b)
+    else (if is_blank b then Separator 1
+    else (if is_ascii_alphabetic b then word_piece (b ∷ bytes)
     else (if b == 39 then text_piece bytes
     else (if is_comment (b ∷ bytes) then Separator (comment_len (b ∷ bytes))
     else symbol_piece (b ∷ bytes))))))

@@ -1,11 +1,10 @@
 -- Which statement a text says, and which fault a text has that says none (SQL-92: direct SQL statement).
-use Rattle.std.specs.Prelude.{◌≡◌, ℕ, ◌<◌, ◌≤◌, List, [], length, Some, None}
+use Rattle.std.specs.Prelude.{◌≡◌, ◌⊎◌, ℕ, ◌<◌, ◌≤◌, List, [], length, Some, None}
 use Rattle.bw_sql.specs.declared.fault.SqlFault.{SqlFault}
 use Rattle.bw_sql.specs.declared.fault.SqlFault.TheVariants as faults
-use Rattle.bw_sql.specs.declared.lexer.TextEnd.{TextEnd}
 use Rattle.bw_sql.specs.declared.terminal.Terminal.{Terminal}
 use Rattle.bw_sql.specs.declared.token.Token.{Token}
-use Rattle.bw_sql.specs.Tokens.{AreTokens, AreTokensToBad, AreTokensUpTo}
+use Rattle.bw_sql.specs.Tokens.{AreTokens, AreTokensFrom, AreTokensToBad}
 use Rattle.bw_sql.specs.Terminals.{first_limit_fault, terminals_of}
 use Rattle.bw_sql.specs.Tree.{StatementTree}
 use Rattle.bw_sql.specs.Grammar.{Spells}
@@ -14,31 +13,48 @@ use Rattle.bw_sql.specs.Grammar.{Spells}
 abbrev pub longest_statement : ℕ
 longest_statement = 65536
 
--- the text is no longer than a statement may be, no token is bad or over a limit, and they spell the statement
-pub record Says (text : List ℕ) (statement : StatementTree) : Type 0 where
-  pub short : length text ≤ longest_statement
+-- what the grammar sees of a text in which no token is bad or over a limit
+pub record AreTerminals (text : List ℕ) (terminals : List Terminal) : Type 0 where
   pub tokens : List Token
   pub are_tokens : AreTokens text tokens
-  pub within_limits : first_limit_fault [] (terminals_of text tokens) ≡ None
-  pub spelled : Spells (terminals_of text tokens) statement
+  pub seen : terminals ≡ terminals_of text tokens
+  pub within_limits : first_limit_fault [] terminals ≡ None
+
+-- the text is no longer than a statement may be, and what the grammar sees of it spells the statement
+pub record Says (text : List ℕ) (statement : StatementTree) : Type 0 where
+  pub short : length text ≤ longest_statement
+  pub terminals : List Terminal
+  pub are_terminals : AreTerminals text terminals
+  pub spelled : Spells terminals statement
+
+-- the first token that is bad or over a limit is bad
+abbrev pub HasBadFirst : List ℕ → Type 0
+HasBadFirst text = (tokens : List Token) × AreTokensToBad text tokens × (first_limit_fault [] (terminals_of text tokens) ≡ None)
+
+-- the first token that is bad or over a limit is over this one: it is the first fault of tokens at the front of the text
+abbrev pub IsOverLimit : SqlFault → List ℕ → Type 0
+IsOverLimit fault text = (tokens : List Token) × (rest : List ℕ) × AreTokensFrom 0 text rest tokens × (first_limit_fault [] (terminals_of text tokens) ≡ Some fault)
+
+-- why the grammar can't look at a text; want of memory may stand in place of any
+abbrev pub IsTerminalsFault : SqlFault → List ℕ → Type 0
+IsTerminalsFault faults.Syntax text = HasBadFirst text
+IsTerminalsFault faults.TooDeep text = IsOverLimit faults.TooDeep text
+IsTerminalsFault faults.BigNumber text = IsOverLimit faults.BigNumber text
+IsTerminalsFault faults.Memory text = Unit {0}
+IsTerminalsFault faults.TooLong text = ⊥
 
 -- no statement is spelled so
 abbrev pub SpellsNothing : List Terminal → Type 0
 SpellsNothing terminals = (statement : StatementTree) → Spells terminals statement → ⊥
 
--- No token is over a limit before the first bad one, or there is no bad one, and no statement is spelled.
-pub data IsMalformed (text : List ℕ) : Type 0 where
-  bad_token : (tokens : List Token) → AreTokensToBad text tokens → first_limit_fault [] (terminals_of text tokens) ≡ None → IsMalformed text
-  no_statement : (tokens : List Token) → AreTokens text tokens → first_limit_fault [] (terminals_of text tokens) ≡ None → SpellsNothing (terminals_of text tokens) → IsMalformed text
-
--- the first token that is bad or over a limit is over this one
-abbrev pub IsOverLimit : SqlFault → List ℕ → Type 0
-IsOverLimit fault text = (end : TextEnd) × (tokens : List Token) × AreTokensUpTo end text tokens × (first_limit_fault [] (terminals_of text tokens) ≡ Some fault)
+-- no token is bad or over a limit, and they spell no statement
+abbrev pub SaysNothing : List ℕ → Type 0
+SaysNothing text = (terminals : List Terminal) × AreTerminals text terminals × SpellsNothing terminals
 
 -- why a text has no statement; want of memory may stand in place of any but its length
 abbrev pub IsStatementFault : SqlFault → List ℕ → Type 0
 IsStatementFault faults.TooLong text = longest_statement < length text
-IsStatementFault faults.Syntax text = (length text ≤ longest_statement) × IsMalformed text
+IsStatementFault faults.Syntax text = (length text ≤ longest_statement) × (HasBadFirst text ⊎ SaysNothing text)
 IsStatementFault faults.TooDeep text = (length text ≤ longest_statement) × IsOverLimit faults.TooDeep text
 IsStatementFault faults.BigNumber text = (length text ≤ longest_statement) × IsOverLimit faults.BigNumber text
 IsStatementFault faults.Memory text = length text ≤ longest_statement

@@ -85,11 +85,3 @@ limit_fault before x = or_else (number_fault (largest_behind before) x) (depth_f
 abbrev pub first_limit_fault : List Terminal → List Terminal → Option SqlFault
 first_limit_fault before [] = None
 first_limit_fault before (x ∷ xs) = or_else (limit_fault before x) (first_limit_fault (before ++ x ∷ []) xs)
-
--- the fault of the first that is over a limit, or want of memory
-abbrev pub IsLimitFault : SqlFault → List Terminal → Type 0
-IsLimitFault faults.TooDeep xs = first_limit_fault [] xs ≡ Some faults.TooDeep
-IsLimitFault faults.BigNumber xs = first_limit_fault [] xs ≡ Some faults.BigNumber
-IsLimitFault faults.Memory xs = Unit {0}
-IsLimitFault faults.Syntax xs = ⊥
-IsLimitFault faults.TooLong xs = ⊥

@@ -2,8 +2,6 @@
 use Rattle.std.specs.Prelude.{◌≡◌, ◌≢◌, ℕ, ◌+◌, ◌≤◌, List, [], ◌∷◌, ◌++◌, length, IsTrue, IsFalse, ◌⊎◌}
 use Rattle.bw_sql.specs.declared.fault.SqlFault.{SqlFault}
 use Rattle.bw_sql.specs.declared.fault.SqlFault.TheVariants as f
-use Rattle.bw_sql.specs.declared.lexer.TextEnd.{TextEnd}
-use Rattle.bw_sql.specs.declared.lexer.TextEnd.TheVariants as e
 use Rattle.bw_sql.specs.declared.token.Token.{Token}
 use Rattle.bw_sql.specs.declared.token.TokenKind.{TokenKind}
 use Rattle.bw_sql.specs.declared.token.TokenKind.TheVariants as k
@@ -60,11 +58,6 @@ pub record AreTokensToBad (text : List ℕ) (tokens : List Token) : Type 0 where
 -- a token of the text is bad
 abbrev pub HasBadToken : List ℕ → Type 0
 HasBadToken text = (tokens : List Token) × AreTokensToBad text tokens
-
--- the tokens up to the end, or up to a bad one
-abbrev pub AreTokensUpTo : TextEnd → List ℕ → List Token → Type 0
-AreTokensUpTo e.BadToken text tokens = AreTokensToBad text tokens
-AreTokensUpTo e.Reached text tokens = AreTokens text tokens
 
 -- a fault that the tokens alone have: a bad one, or want of memory
 abbrev pub IsTokensFault : SqlFault → List ℕ → Type 0

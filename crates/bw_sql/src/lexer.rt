@@ -3,34 +3,20 @@
 ghost use Rattle.std.specs.Prelude.{◌≡◌, ◌^◌, ◌<◌, ◌≢◌, ℕ, All, IfErr, IfOk, List, length};
 ghost use Rattle.bw_sql.specs.declared.token.Token.{Token};
 ghost use Rattle.bw_sql.specs.Spellings.{IsTokenOf};
-ghost use Rattle.bw_sql.specs.Tokens.{AreTokens, AreTokensUpTo, HasBadToken, IsTokensFault};
+ghost use Rattle.bw_sql.specs.Tokens.{AreTokens, HasBadToken, IsTokensFault};
 
 use crate::fault::SqlFault;
 use crate::piece::{Piece, first_piece};
 use crate::token::{Span, Token};
-use std::alloc::{AllocError, Global};
+use std::alloc::Global;
 
-/// Where the tokens of a text end.
-#[derive(Clone, Copy)]
-pub(crate) enum TextEnd {
-    /// At the end of the text.
-    Reached,
-    /// At a bad token.
-    BadToken,
-}
-
-/// The tokens up to the end of a text, or up to the first bad one.
-#[derive(Drop)]
-pub(crate) struct Lexed {
-    pub(crate) tokens: Vec<Token>,
-    pub(crate) end: TextEnd,
-}
-
-/// The tokens of a text up to its end, or up to the first bad one.
-pub(crate) fn lex(alloc: Global, text: &[u8]) -> Result<Lexed, AllocError>
+/// The tokens of a text, in order. The only faults are `Syntax`, where there is a bad token, and
+/// `Memory`.
+pub fn tokens(alloc: Global, text: &[u8]) -> Result<Vec<Token>, SqlFault>
     requires { length text.now < 2 ^ 63 }
-    ensures tokens { IfOk result (λ lexed. AreTokensUpTo lexed.end text.now lexed.tokens.items) }
-    ensures each { IfOk result (λ lexed. All (IsTokenOf text.now) lexed.tokens.items) }
+    ensures found { IfOk result (λ tokens. AreTokens text.now tokens.items) }
+    ensures each { IfOk result (λ tokens. All (IsTokenOf text.now) tokens.items) }
+    ensures fault { IfErr result (λ fault. IsTokensFault fault text.now) }
 {
     let mut tokens = Vec::new(alloc);
     let mut at = 0;
@@ -45,31 +31,10 @@ pub(crate) fn lex(alloc: Global, text: &[u8]) -> Result<Lexed, AllocError>
                 tokens.push(Token { kind, span })?;
                 at += n;
             }
-            Piece::Bad => return Ok(Lexed {
-                tokens,
-                end: TextEnd::BadToken,
-            }),
+            Piece::Bad => return Err(SqlFault::Syntax),
         }
     }
-    Ok(Lexed {
-        tokens,
-        end: TextEnd::Reached,
-    })
-}
-
-/// The tokens of a text, in order. The only faults are `Syntax`, where there is a bad token, and
-/// `Memory`.
-pub fn tokens(alloc: Global, text: &[u8]) -> Result<Vec<Token>, SqlFault>
-    requires { length text.now < 2 ^ 63 }
-    ensures found { IfOk result (λ tokens. AreTokens text.now tokens.items) }
-    ensures each { IfOk result (λ tokens. All (IsTokenOf text.now) tokens.items) }
-    ensures fault { IfErr result (λ fault. IsTokensFault fault text.now) }
-{
-    let lexed = lex(alloc, text)?;
-    match lexed.end {
-        TextEnd::Reached => Ok(lexed.tokens),
-        TextEnd::BadToken => Err(SqlFault::Syntax),
-    }
+    Ok(tokens)
 }
 
 /// A text has its tokens in one way only, and none where a token is bad.

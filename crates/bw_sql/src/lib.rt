@@ -3,6 +3,7 @@
 
 mod fault;
 mod keyword;
+mod lanes;
 mod lexer;
 mod limits;
 mod name;

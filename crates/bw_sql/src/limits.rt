@@ -1,16 +1,18 @@
-//! What the grammar sees of each token, and the two limits on tokens.
+//! What the grammar sees of a text, and the two limits on tokens.
 
 ghost use Rattle.std.specs.Prelude.{◌≡◌, ◌+◌, ◌-◌, ◌*◌, ◌^◌, ◌<◌, ◌≤◌, [], All, IfErr, IfOk, IsTrue, MatchResult, None, OnOk, Some, SomeIff, if◌then◌else◌, length, map};
 ghost use Rattle.std.specs.Char.{is_ascii_digit, to_ascii_uppercase};
 ghost use Rattle.std.specs.List.{list_all};
 ghost use Rattle.bw_sql.specs.Names.{keyword_of};
-ghost use Rattle.bw_sql.specs.Spellings.{IsSpelled, IsTokenOf, IsWord};
-ghost use Rattle.bw_sql.specs.Terminals.{IsLimitFault, depth_fault, first_limit_fault, is_close, is_minus, is_open, number_fault, number_value, terminal_of, terminals_of, word_or_name};
+ghost use Rattle.bw_sql.specs.Spellings.{IsSpelled, IsWord};
+ghost use Rattle.bw_sql.specs.Statements.{AreTerminals, IsTerminalsFault};
+ghost use Rattle.bw_sql.specs.Terminals.{depth_fault, is_close, is_minus, is_open, number_fault, number_value, terminal_of, word_or_name};
 
 use crate::fault::SqlFault;
 use crate::keyword::reserved_word;
+use crate::piece::{Piece, first_piece};
 use crate::terminal::{NameWord, Terminal};
-use crate::token::{Symbol, Token, TokenKind};
+use crate::token::{Symbol, TokenKind};
 use std::alloc::Global;
 
 // How many `(` and `)` stood before, and whether a `-` came last.
@@ -59,6 +61,22 @@ impl Limits {
     }
 }
 
+// The most digits that a number may have without being too large for 64 bits.
+const FEW_DIGITS: usize = 19;
+
+// The number that a few digits spell.
+fn short_number(digits: &[u8]) -> u64
+    requires digits { IsTrue (list_all is_ascii_digit digits.now) }
+    requires few { length digits.now ≤ 19 }
+    ensures { result ≡ number_value digits.now }
+{
+    let mut n: u64 = 0;
+    for digit in digits {
+        n = n * 10 + u64::from(*digit - b'0');
+    }
+    n
+}
+
 // The number with one more digit behind it, where 64 bits hold it.
 fn with_digit(n: u64, digit: u8) -> Option<u64>
     requires { IsTrue (is_ascii_digit digit) }
@@ -70,10 +88,10 @@ fn with_digit(n: u64, digit: u8) -> Option<u64>
     }
 }
 
-// The number that the digits spell, unless it is above the largest.
-fn number(digits: &[u8], largest: u64) -> Option<u64>
+// The number that many digits spell, where 64 bits hold it. The first ones may all be zeros.
+fn long_number(digits: &[u8]) -> Option<u64>
     requires { IsTrue (list_all is_ascii_digit digits.now) }
-    ensures { SomeIff result (number_value digits.now ≤ largest) (number_value digits.now) }
+    ensures { SomeIff result (number_value digits.now < 2 ^ 64) (number_value digits.now) }
 {
     let mut rest = digits;
     let mut n: u64 = 0;
@@ -84,7 +102,19 @@ fn number(digits: &[u8], largest: u64) -> Option<u64>
         }
         rest = after;
     }
-    if n <= largest { Some(n) } else { None }
+    Some(n)
+}
+
+// The number that digits spell, where 64 bits hold it.
+fn number(digits: &[u8]) -> Option<u64>
+    requires { IsTrue (list_all is_ascii_digit digits.now) }
+    ensures { SomeIff result (number_value digits.now < 2 ^ 64) (number_value digits.now) }
+{
+    if digits.len() <= FEW_DIGITS {
+        Some(short_number(digits))
+    } else {
+        long_number(digits)
+    }
 }
 
 fn word<'a>(bytes: &'a [u8]) -> Terminal<'a>
@@ -100,44 +130,47 @@ fn word<'a>(bytes: &'a [u8]) -> Terminal<'a>
 
 // What the grammar sees of the bytes of a token, unless they are a number above the largest.
 fn terminal<'a>(kind: TokenKind, bytes: &'a [u8], largest: u64) -> Result<Terminal<'a>, SqlFault>
-    requires { IsSpelled kind bytes.now }
+    requires spelled { IsSpelled kind bytes.now }
+    requires bound { largest < 2 ^ 64 }
     ensures { MatchResult result
         (λ terminal. (terminal ≡ terminal_of kind bytes.entry.now) × (number_fault largest terminal ≡ None))
         (λ fault. (fault ≡ SqlFault.BigNumber) × (number_fault largest (terminal_of kind bytes.entry.now) ≡ Some SqlFault.BigNumber)) }
 {
     match kind {
         TokenKind::Word => Ok(word(bytes)),
-        TokenKind::Number => match number(bytes, largest) {
-            Some(n) => Ok(Terminal::Number(n)),
-            None => Err(SqlFault::BigNumber),
+        TokenKind::Number => match number(bytes) {
+            Some(n) if n <= largest => Ok(Terminal::Number(n)),
+            _ => Err(SqlFault::BigNumber),
         },
         TokenKind::Text => Ok(Terminal::Text),
         TokenKind::Symbol(symbol) => Ok(Terminal::Symbol(symbol)),
     }
 }
 
-/// What the grammar sees of the tokens of a text, or the fault of the first that is over a limit.
-pub(crate) fn terminals<'a>(
-    alloc: Global,
-    text: &'a [u8],
-    tokens: &[Token],
-) -> Result<Vec<Terminal<'a>>, SqlFault>
-    requires { All (IsTokenOf text.now) tokens.now }
-    ensures terminals { IfOk result (λ terminals. terminals.items ≡ terminals_of text.entry.now tokens.now) }
-    ensures within { IfOk result (λ terminals. first_limit_fault [] terminals.items ≡ None) }
-    ensures fault { IfErr result (λ fault. IsLimitFault fault (terminals_of text.entry.now tokens.now)) }
+/// What the grammar sees of a text, or the fault of its first token that is bad or over a limit.
+pub(crate) fn terminals<'a>(alloc: Global, text: &'a [u8]) -> Result<Vec<Terminal<'a>>, SqlFault>
+    requires { length text.now < 2 ^ 63 }
+    ensures found { IfOk result (λ terminals. AreTerminals text.entry.now terminals.items) }
+    ensures fault { IfErr result (λ fault. IsTerminalsFault fault text.entry.now) }
 {
-    let mut terminals = Vec::with_capacity(alloc, tokens.len())?;
+    let mut terminals = Vec::with_capacity(alloc, text.len() / 2)?;
     let mut limits = Limits {
         opened: 0,
         closed: 0,
         after_minus: false,
     };
-    for token in tokens {
-        let bytes = &text[token.span.start..token.span.end];
-        let next = terminal(token.kind, bytes, limits.largest_number())?;
-        limits.admit(&next)?;
-        terminals.push(next)?;
+    let mut at = 0;
+    while at < text.len() {
+        match first_piece(alloc, &text[at..])? {
+            Piece::Separator(n) => at += n,
+            Piece::Token(kind, n) => {
+                let next = terminal(kind, &text[at..at + n], limits.largest_number())?;
+                limits.admit(&next)?;
+                terminals.push(next)?;
+                at += n;
+            }
+            Piece::Bad => return Err(SqlFault::Syntax),
+        }
     }
     Ok(terminals)
 }

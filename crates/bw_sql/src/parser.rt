@@ -160,16 +160,25 @@ impl<'a> Parser<'a> {
         }
     }
 
-    // value = literal | NULL
-    #[tactic(auto, unfolding(crate::specs::Reading::value_at))]
+    // value = literal | NULL. A number without a sign is looked for first, since it is the most common.
+    #[tactic(auto, unfolding(crate::specs::Reading::value_at, crate::specs::Reading::literal_at, crate::specs::Reading::number_at))]
     fn value(&mut self) -> Result<Value, SqlFault>
         ensures shorter { OnOk result (length self.new.rest.now < length self.old.rest.now) }
         ensures read { Gives (λ value. value) result self.new.rest.now (reading.value_at self.old.rest.now) }
     {
-        if self.eat_word(Keyword::Null) {
-            Ok(None)
-        } else {
-            Ok(Some(self.literal()?))
+        match self.rest {
+            [first, rest @ ..] => match first {
+                Terminal::Number(n) => {
+                    self.rest = rest;
+                    Ok(Some(positive(*n).ok_or(SqlFault::Syntax)?))
+                }
+                Terminal::Keyword(Keyword::Null) => {
+                    self.rest = rest;
+                    Ok(None)
+                }
+                _ => Ok(Some(self.literal()?)),
+            },
+            [] => Err(SqlFault::Syntax),
         }
     }
 

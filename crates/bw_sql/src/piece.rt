@@ -7,6 +7,7 @@ ghost use Rattle.std.specs.Str.{is_utf8};
 ghost use Rattle.bw_sql.specs.Pieces.{FitsIn, comment_len, contents, first_piece, is_alone, is_comment, number_piece, pair_of, quoted_end, single_of, single_piece, symbol_piece, text_piece, word_piece};
 ghost use Rattle.bw_sql.specs.Spellings.{is_blank, is_good_text, is_word_byte, word_goes_on};
 
+use crate::lanes::digits_len;
 use crate::token::{CompareOp, Symbol, TokenKind};
 use std::alloc::{AllocError, Global};
 
@@ -28,12 +29,6 @@ fn word_len(bytes: &[u8]) -> usize
     ensures { result ≡ prefix_len is_word_byte bytes.now }
 {
     bytes.iter().take_while(|b| is_word_byte(**b)).count()
-}
-
-fn digits_len(bytes: &[u8]) -> usize
-    ensures { result ≡ prefix_len is_ascii_digit bytes.now }
-{
-    bytes.iter().take_while(|b| b.is_ascii_digit()).count()
 }
 
 fn word(bytes: &[u8]) -> Piece
@@ -89,7 +84,7 @@ fn single_piece(b: u8) -> Piece
     }
 }
 
-// The most common symbols come first, and without a look at the next byte.
+// A symbol that needs no look at the next byte.
 fn is_alone(b: u8) -> bool
     ensures { result ≡ is_alone b }
 {
@@ -236,17 +231,18 @@ fn piece_of(alloc: Global, bytes: &[u8]) -> Result<Piece, AllocError>
     requires { length bytes.now < 2 ^ 63 }
     ensures { IfOk result (λ piece. piece ≡ first_piece bytes.now) }
 {
+    // The most common bytes come first.
     let [b, after @ ..] = bytes else {
         return Ok(Piece::Bad);
     };
-    if is_blank(*b) {
+    if is_alone(*b) {
+        Ok(single_piece(*b))
+    } else if b.is_ascii_digit() {
+        Ok(number(bytes))
+    } else if is_blank(*b) {
         Ok(Piece::Separator(1))
     } else if b.is_ascii_alphabetic() {
         Ok(word(bytes))
-    } else if b.is_ascii_digit() {
-        Ok(number(bytes))
-    } else if is_alone(*b) {
-        Ok(single_piece(*b))
     } else if *b == b'\'' {
         text(alloc, after)
     } else if is_comment(bytes) {

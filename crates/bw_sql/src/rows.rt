@@ -1,6 +1,6 @@
 //! The rows of a VALUES list.
 
-ghost use Rattle.std.specs.Prelude.{◌≡◌, ◌+◌, ◌++◌, ◌∷◌, [], length, sum, IsTrue, ◌↔◌, All};
+ghost use Rattle.std.specs.Prelude.{◌≡◌, ◌+◌, ◌++◌, ◌∷◌, [], length, map, sum, IsTrue, ◌↔◌, All};
 ghost use Rattle.bw_sql.specs.Rows.{joined, rows_of};
 
 use crate::tree::Value;
@@ -39,6 +39,13 @@ impl ValueRows {
         ensures { result ≡ length self.now }
     {
         self.widths.as_slice().len()
+    }
+
+    /// How many values each row has, in order.
+    pub fn widths(&self) -> &[usize]
+        ensures { result.now ≡ map length self.now }
+    {
+        &self.widths
     }
 
     /// Whether every row has this many values.

@@ -7,6 +7,7 @@ ghost use Rattle.bw_sql.specs.Parts.{AreParts, IsJoined, IsPartOf};
 ghost use Rattle.bw_sql.specs.Spellings.{begins_with, is_blank};
 ghost use Rattle.bw_sql.specs.declared.script.Part.{Part};
 
+use crate::lanes::plain_len;
 use crate::piece::{comment_len, is_blank};
 use crate::token::Span;
 use std::alloc::{AllocError, Global};
@@ -44,18 +45,6 @@ fn text_len(after: &[u8]) -> usize
     } else {
         says + 1
     }
-}
-
-fn is_plain(b: u8) -> bool
-    ensures { result ≡ is_plain b }
-{
-    b != b'\'' && b != b';' && b != b'-'
-}
-
-fn plain_len(bytes: &[u8]) -> usize
-    ensures { result ≡ plain_len bytes.now }
-{
-    bytes.iter().take_while(|b| is_plain(**b)).count()
 }
 
 fn are_blank(bytes: &[u8]) -> bool

@@ -5,7 +5,6 @@ ghost use Rattle.bw_sql.specs.Statements.{IsStatementFault, Says, longest_statem
 ghost use Rattle.bw_sql.specs.Tree.{StatementTree, statement_of};
 
 use crate::fault::SqlFault;
-use crate::lexer::{TextEnd, lex};
 use crate::limits::terminals;
 use crate::parser::parse;
 use crate::tree::Statement;
@@ -34,12 +33,8 @@ fn short_statement(alloc: Global, text: &[u8]) -> Result<Statement, SqlFault>
     ensures found { IfOk result (λ statement. Says text.now (statement_of statement)) }
     ensures fault { IfErr result (λ fault. IsStatementFault fault text.now) }
 {
-    let lexed = lex(alloc, text)?;
-    let terminals = terminals(alloc, text, &lexed.tokens)?;
-    match lexed.end {
-        TextEnd::Reached => parse(alloc, &terminals),
-        TextEnd::BadToken => Err(SqlFault::Syntax),
-    }
+    let terminals = terminals(alloc, text)?;
+    parse(alloc, &terminals)
 }
 
 /// A text says one statement at most, and none where it has a fault other than want of memory.

@@ -1,0 +1,118 @@
+//! `bw_bench [ROUNDS]` reads a script from standard input and times how fast its parts are found, and their tokens and
+//! statements are read, beside a plain pass over the same bytes. The figures go to standard error; standard output has
+//! what was read. `bench/parsing.py` runs it.
+#![tactic(auto)]
+
+use bw_sql::{Part, parts, statement, tokens};
+use std::alloc::Global;
+use std::io::Read;
+use std::time::{Duration, Instant};
+use std::{env, io};
+
+// What is timed, each over the parts of the script.
+#[derive(Clone, Copy)]
+enum Work {
+    // Looks at each byte, one after the other.
+    PlainPass,
+    Tokens,
+    Statements,
+}
+
+fn main(rt: HostRuntime) -> io::Result<()> {
+    let alloc = rt.alloc();
+    let mut script = Vec::new(alloc);
+    rt.reader().read_to_end(&mut script)?;
+    let Ok(parts) = parts(alloc, &script) else {
+        return Ok(());
+    };
+    let rounds = rounds(&rt)?;
+    let plain = timed(&rt, Work::PlainPass, &script, &parts, rounds)?;
+    let lexed = timed(&rt, Work::Tokens, &script, &parts, rounds)?;
+    let parsed = timed(&rt, Work::Statements, &script, &parts, rounds)?;
+    report(&rt, "plain", plain)?;
+    report(&rt, "tokens", lexed)?;
+    report(&rt, "statement", parsed)?;
+    println!(rt; "bytes {}, parts {}", script.len(), parts.len())?;
+    println!(rt; "tokens {}, statements {}", lexed.found, parsed.found)
+}
+
+// How long all rounds took together, and what one round found.
+#[derive(Clone, Copy)]
+struct Figure {
+    time: Duration,
+    found: u64,
+}
+
+// The word that says how many rounds there are to be; 1 where there is none.
+fn rounds(rt: &HostRuntime) -> io::Result<u32> {
+    let word = env::args(rt)?.nth(1);
+    Ok(match word {
+        Some(word) => word.parse().unwrap_or(1),
+        None => 1,
+    })
+}
+
+fn timed(
+    rt: &HostRuntime,
+    work: Work,
+    script: &[u8],
+    parts: &[Part],
+    rounds: u32,
+) -> io::Result<Figure> {
+    let start = Instant::now(rt)?;
+    let mut found = 0;
+    for _ in 0..rounds {
+        found = one_round(rt.alloc(), work, script, parts);
+    }
+    Ok(Figure {
+        time: start.elapsed(rt)?,
+        found,
+    })
+}
+
+fn one_round(alloc: Global, work: Work, script: &[u8], parts: &[Part]) -> u64 {
+    let mut found: u64 = 0;
+    for part in parts {
+        let text = text_of(script, part);
+        found = found.wrapping_add(match work {
+            Work::PlainPass => plain_pass(text),
+            Work::Tokens => count_tokens(alloc, text),
+            Work::Statements => count_statements(alloc, text),
+        });
+    }
+    found
+}
+
+fn text_of<'s>(script: &'s [u8], part: &Part) -> &'s [u8] {
+    script.get(part.span.start..part.span.end).unwrap_or(&[])
+}
+
+fn plain_pass(text: &[u8]) -> u64 {
+    let mut sum: u64 = 0;
+    for byte in text {
+        sum = sum.rotate_left(1) ^ u64::from(*byte);
+    }
+    sum
+}
+
+fn count_tokens(alloc: Global, text: &[u8]) -> u64 {
+    match tokens(alloc, text) {
+        Ok(tokens) => tokens.len() as u64,
+        Err(_) => 0,
+    }
+}
+
+fn count_statements(alloc: Global, text: &[u8]) -> u64 {
+    match statement(alloc, text) {
+        Ok(_) => 1,
+        Err(_) => 0,
+    }
+}
+
+fn report(rt: &HostRuntime, what: &str, figure: Figure) -> io::Result<()> {
+    eprintln!(rt;
+        "{what} {} ns, found {}",
+        figure.time.as_nanos(),
+        figure.found
+    )
+}

@@ -1,0 +1,5 @@
+use Rattle.std.proofs.Common.{◌-◌, ◌^◌, slice_index, ℕ, ◌<◌, ◌≡◌, ◌≤◌}
+use Rattle.bw_mask.proofs.words.not_words.Given as goal
+
+abbrev pub invariant-loop-k : goal.invariant-loop-k
+invariant-loop-k l = ((j : ℕ) → j < l.k → slice_index l.a j ≡ 2 ^ 64 - 1 - slice_index l.fn.a j) × ((j : ℕ) → l.k ≤ j → slice_index l.a j ≡ slice_index l.fn.a j)

@@ -1,0 +1,43 @@
+-- A mask says of each row whether it is in; row i is bit i % 64 of word i / 64, and bits past the end are 0.
+use Rattle.std.specs.Prelude.{Bool, List, None, Option, Some, false, length, map, slice_index, slice_index_or, true, ℕ, ◌%◌, ◌+◌, ◌/◌, ◌<◌, ◌==◌, ◌^◌, ◌≡◌, ◌≤◌}
+use Rattle.std.specs.List.{range_with_len}
+use Rattle.std.specs.Int.{bit_at}
+
+-- the rows, and for how many there is room
+pub record MaskRows : Type 0 where
+  pub rows : List Bool
+  pub room : ℕ
+
+abbrev pub len : MaskRows → ℕ
+len mask = length mask.rows
+
+-- whether a row is in; no row past the end is
+abbrev pub row_at : MaskRows → ℕ → Bool
+row_at mask i = slice_index_or mask.rows i false
+
+-- the same length and the same room
+abbrev pub SameShape : MaskRows → MaskRows → Type 0
+SameShape a b = (len a ≡ len b) × (a.room ≡ b.room)
+
+-- the least place from i on where a test holds, if there is one
+abbrev pub IsNext : (ℕ → Bool) → ℕ → Option ℕ → Type 0
+IsNext test i None = (j : ℕ) → i ≤ j → test j ≡ false
+IsNext test i (Some next) = (i ≤ next) × (test next ≡ true) × ((j : ℕ) → i ≤ j → j < next → test j ≡ false)
+
+-- whether a bit of a word is set
+abbrev pub bit_of : ℕ → ℕ → Bool
+bit_of word i = bit_at word i == 1
+
+-- whether a row is in by the words; no row past the last word is
+abbrev pub row_in : List ℕ → ℕ → Bool
+row_in words i = bit_of (slice_index words (i / 64)) (i % 64)
+
+-- the first n places, each with what a test says of it
+abbrev pub rows_of : ℕ → (ℕ → Bool) → List Bool
+rows_of n test = map test (range_with_len 0 n)
+
+-- the words of a mask of n rows
+pub record AreWords (words : List ℕ) (n : ℕ) : Type 0 where
+  pub count : length words ≡ (n + 63) / 64
+  pub clean : (i : ℕ) → n ≤ i → row_in words i ≡ false
+  pub small : n ≤ 2 ^ 32

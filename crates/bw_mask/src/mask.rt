@@ -1,0 +1,209 @@
+//! A mask of rows: for each row whether it is in.
+
+ghost use Rattle.std.specs.Prelude.{◌≡◌, ℕ, ◌+◌, ◌*◌, ◌/◌, ◌<◌, ◌≤◌, ◌^◌, [], ◌∷◌, ◌++◌, ◌&&◌, ◌||◌, not, count_by, nat_lt, replicate, slice_set, IfOk, OnOk, length};
+ghost use Rattle.std.specs.List.{list_any};
+ghost use Rattle.bw_mask.specs.Masks.{bit_of, len, row_at, row_in, IsNext, SameShape};
+
+use crate::words;
+use std::alloc::{AllocError, Global};
+use std::marker::Model;
+
+/// A mask of rows: for each row whether it is in. Row i is bit i % 64 of word i / 64, and bits past
+/// the end are 0. There are at most 2^32 rows.
+#[derive(Drop)]
+pub struct Mask {
+    words: Vec<u64>,
+    len: usize,
+}
+
+impl Model for Mask {
+    ghost use Rattle.bw_mask.specs.Masks.{MaskRows, rows_of, row_in, AreWords};
+    ghost use Rattle.std.specs.Prelude.{◌*◌, vec_capacity};
+
+    ghost Value = { MaskRows };
+
+    ghost view = { λ m. record { rows = rows_of m.len (row_in m.words.items); room = 64 * vec_capacity m.words } };
+
+    ghost invariant = { λ m. AreWords m.words.items m.len };
+}
+
+impl Mask {
+    /// A mask of n rows that are all in or all out.
+    pub fn filled(alloc: Global, n: usize, bit: bool) -> Result<Mask, AllocError>
+        requires { n ≤ 2 ^ 32 }
+        ensures { IfOk result (λ mask. mask.rows ≡ replicate n bit) }
+    {
+        let words = words::equal_words(alloc, words::word_of(bit), n.div_ceil(64))?;
+        Ok(Mask {
+            words: words::without_rest(words, n),
+            len: n,
+        })
+    }
+
+    /// A mask of the same rows.
+    pub fn try_clone(&self) -> Result<Mask, AllocError>
+        ensures { IfOk result (λ mask. mask.rows ≡ self.now.rows) }
+    {
+        Ok(Mask {
+            words: self.words.clone()?,
+            len: self.len,
+        })
+    }
+
+    /// Makes room for so many rows more. The rows stay as they are, also where memory is wanting.
+    #[tactic(auto, using(crate::proofs::Views::rows_len))]
+    pub fn reserve(&mut self, more: usize) -> Result<(), AllocError>
+        requires { len self.old + more ≤ 2 ^ 32 }
+        ensures room { OnOk result (len self.old + more ≤ self.new.room) }
+        ensures kept { self.old.room ≤ self.new.room }
+        ensures rows { self.new.rows ≡ self.old.rows }
+    {
+        let more_words = (self.len + more).div_ceil(64) - self.words.len();
+        self.words.reserve(more_words)
+    }
+
+    /// Adds a row at the end, within the room.
+    #[tactic(auto, using(crate::proofs::Views::rows_len))]
+    pub fn push(&mut self, bit: bool)
+        requires room { len self.old < self.old.room }
+        requires few { len self.old < 2 ^ 32 }
+        ensures room { self.old.room ≤ self.new.room }
+        ensures rows { self.new.rows ≡ self.old.rows ++ bit ∷ [] }
+    {
+        words::begin_word(&mut self.words, self.len);
+        words::put_bit(&mut self.words, self.len, bit);
+        self.len += 1;
+    }
+
+    /// How many rows there are.
+    #[tactic(auto, using(crate::proofs::Views::rows_len))]
+    pub fn len(&self) -> usize
+        ensures rows { result ≡ len self.now }
+        ensures few { result ≤ 2 ^ 32 }
+    {
+        self.len
+    }
+
+    /// Whether row i is in.
+    #[tactic(auto, using(crate::proofs::Views::rows_len, crate::proofs::Views::rows_clean, crate::proofs::Bits::bit_test))]
+    pub fn get(&self, i: usize) -> bool
+        requires { i < len self.now }
+        ensures { result ≡ row_at self.now i }
+    {
+        self.words[i / 64] >> (i % 64) & 1 == 1
+    }
+
+    /// Puts row i in or out.
+    #[tactic(auto, using(crate::proofs::Views::rows_len))]
+    pub fn set(&mut self, i: usize, bit: bool)
+        requires { i < len self.old }
+        ensures shape { SameShape self.new self.old }
+        ensures rows { self.new.rows ≡ slice_set self.old.rows i bit }
+    {
+        words::put_bit(&mut self.words, i, bit);
+    }
+
+    /// Keeps the rows that are in both.
+    #[tactic(auto, using(crate::proofs::Views::rows_len))]
+    pub fn and_in(&mut self, other: &Mask)
+        requires { len self.old ≡ len other.now }
+        ensures shape { SameShape self.new self.old }
+        ensures rows { (i : ℕ) → row_at self.new i ≡ (row_at self.old i && row_at other.now i) }
+    {
+        words::and_words(&mut self.words, &other.words);
+    }
+
+    /// Adds the rows of the other.
+    #[tactic(auto, using(crate::proofs::Views::rows_len))]
+    pub fn or_in(&mut self, other: &Mask)
+        requires { len self.old ≡ len other.now }
+        ensures shape { SameShape self.new self.old }
+        ensures rows { (i : ℕ) → row_at self.new i ≡ (row_at self.old i || row_at other.now i) }
+    {
+        words::or_words(&mut self.words, &other.words);
+    }
+
+    /// Takes out the rows of the other.
+    #[tactic(auto, using(crate::proofs::Views::rows_len))]
+    pub fn andnot_in(&mut self, other: &Mask)
+        requires { len self.old ≡ len other.now }
+        ensures shape { SameShape self.new self.old }
+        ensures rows { (i : ℕ) → row_at self.new i ≡ (row_at self.old i && not (row_at other.now i)) }
+    {
+        words::andnot_words(&mut self.words, &other.words);
+    }
+
+    /// Becomes the rows of `all` that are not in `some`.
+    #[tactic(auto, using(crate::proofs::Views::rows_len))]
+    pub(crate) fn become_difference(&mut self, all: &Mask, some: &Mask)
+        requires all { len self.old ≡ len all.now }
+        requires some { len self.old ≡ len some.now }
+        ensures shape { SameShape self.new self.old }
+        ensures rows { (i : ℕ) → row_at self.new i ≡ (row_at all.now i && not (row_at some.now i)) }
+    {
+        words::difference_words(&mut self.words, &all.words, &some.words);
+    }
+
+    /// Puts in the rows that are out, and out those that are in.
+    #[tactic(auto, using(crate::proofs::Views::rows_len))]
+    pub fn complement_in(&mut self)
+        ensures shape { SameShape self.new self.old }
+        ensures rows { (i : ℕ) → i < len self.old → row_at self.new i ≡ not (row_at self.old i) }
+    {
+        words::not_words(&mut self.words);
+        words::cut(&mut self.words, self.len);
+    }
+
+    /// How many rows are in.
+    pub fn count(&self) -> usize
+        ensures { result ≡ count_by (λ row. row) self.now.rows }
+    {
+        words::count_words(&self.words) as usize
+    }
+
+    /// Whether a row is in.
+    pub fn any(&self) -> bool
+        ensures { result ≡ list_any (λ row. row) self.now.rows }
+    {
+        words::next_row(&self.words, 0).is_some()
+    }
+
+    /// The least row from row i on that is in.
+    #[tactic(auto, using(crate::proofs::Views::rows_clean))]
+    pub fn next_from(&self, i: usize) -> Option<usize>
+        ensures { IsNext (row_at self.now) i result }
+    {
+        words::next_row(&self.words, i)
+    }
+
+    /// Rows at, at + 1, .. at + n - 1 as the n lowest bits of a word. Rows past the end read 0.
+    #[tactic(auto, using(crate::proofs::Views::rows_clean))]
+    pub fn bits(&self, at: usize, n: usize) -> u64
+        requires { n ≤ 64 }
+        ensures { (i : ℕ) → bit_of result i ≡ (nat_lt i n && row_at self.now (at + i)) }
+    {
+        words::bits(&self.words, at, n)
+    }
+
+    /// Rows at, at + 1, .. at + n - 1, as far as there are such rows, become the n lowest bits of
+    /// the word. No other row changes.
+    #[tactic(auto, using(crate::proofs::Views::rows_len))]
+    pub fn put_bits(&mut self, at: usize, n: usize, word: u64)
+        requires { n ≤ 64 }
+        ensures shape { SameShape self.new self.old }
+        ensures inside { (i : ℕ) → i < n → at + i < len self.old → row_at self.new (at + i) ≡ bit_of word i }
+        ensures outside { (j : ℕ) → (at ≤ j → at + n ≤ j) → row_at self.new j ≡ row_at self.old j }
+    {
+        words::put_bits(&mut self.words, at, n, word);
+        words::cut(&mut self.words, self.len);
+    }
+
+    /// The words: row i is bit i % 64 of word i / 64, and bits past the end are 0.
+    #[tactic(auto, using(crate::proofs::Views::rows_len, crate::proofs::Views::rows_clean))]
+    pub fn words(&self) -> &[u64]
+        ensures count { length result.now ≡ (len self.now + 63) / 64 }
+        ensures rows { (i : ℕ) → row_in result.now i ≡ row_at self.now i }
+    {
+        &self.words
+    }
+}

@@ -1,0 +1,248 @@
+//! Words of bits: row i is bit i % 64 of word i / 64. Lengths are the caller's affair.
+
+ghost use Rattle.std.specs.Prelude.{◌≡◌, ◌≢◌, false, true, ℕ, ◌+◌, ◌*◌, ◌/◌, ◌%◌, ◌<◌, ◌≤◌, ◌^◌, ◌&&◌, ◌||◌, not, IfOk, length, nat_lt, replicate, slice_index, vec_len, vec_capacity};
+ghost use Rattle.std.specs.List.{sum_by};
+ghost use Rattle.std.specs.Int.RustNames.{count_ones};
+ghost use Rattle.bw_mask.specs.Masks.{bit_of, row_in, IsNext};
+
+use std::alloc::{AllocError, Global};
+
+#[tactic(auto, using(crate::proofs::Bits::bit_of_and))]
+pub(crate) fn and_words(a: &mut [u64], b: &[u64])
+    requires { length a.old ≡ length b.now }
+    ensures len { length a.new ≡ length a.old }
+    ensures rows { (i : ℕ) → i < 64 * length a.old → row_in a.new i ≡ (row_in a.old i && row_in b.now i) }
+{
+    for k in 0..a.len() {
+        a[k] &= b[k];
+    }
+}
+
+#[tactic(auto, using(crate::proofs::Bits::bit_of_or))]
+pub(crate) fn or_words(a: &mut [u64], b: &[u64])
+    requires { length a.old ≡ length b.now }
+    ensures len { length a.new ≡ length a.old }
+    ensures rows { (i : ℕ) → i < 64 * length a.old → row_in a.new i ≡ (row_in a.old i || row_in b.now i) }
+{
+    for k in 0..a.len() {
+        a[k] |= b[k];
+    }
+}
+
+#[tactic(auto, using(crate::proofs::Bits::bit_of_andnot))]
+pub(crate) fn andnot_words(a: &mut [u64], b: &[u64])
+    requires { length a.old ≡ length b.now }
+    ensures len { length a.new ≡ length a.old }
+    ensures rows { (i : ℕ) → i < 64 * length a.old → row_in a.new i ≡ (row_in a.old i && not (row_in b.now i)) }
+{
+    for k in 0..a.len() {
+        a[k] &= !b[k];
+    }
+}
+
+#[tactic(auto, using(crate::proofs::Bits::bit_of_not))]
+pub(crate) fn not_words(a: &mut [u64])
+    ensures len { length a.new ≡ length a.old }
+    ensures rows { (i : ℕ) → i < 64 * length a.old → row_in a.new i ≡ not (row_in a.old i) }
+{
+    for k in 0..a.len() {
+        a[k] = !a[k];
+    }
+}
+
+/// Into `out` come the rows of a that are not in b.
+#[tactic(auto, using(crate::proofs::Bits::bit_of_andnot))]
+pub(crate) fn difference_words(out: &mut [u64], a: &[u64], b: &[u64])
+    requires a { length out.old ≡ length a.now }
+    requires b { length out.old ≡ length b.now }
+    ensures len { length out.new ≡ length out.old }
+    ensures rows { (i : ℕ) → i < 64 * length out.old → row_in out.new i ≡ (row_in a.now i && not (row_in b.now i)) }
+{
+    for k in 0..out.len() {
+        out[k] = a[k] & !b[k];
+    }
+}
+
+/// The n lowest bits.
+fn low_bits(n: usize) -> u64
+    requires { n ≤ 64 }
+    ensures { (i : ℕ) → bit_of result i ≡ nat_lt i n }
+{
+    if n == 0 { 0 } else { u64::MAX >> (64 - n) }
+}
+
+/// A word whose bits are all the same.
+pub(crate) fn word_of(bit: bool) -> u64
+    ensures { (i : ℕ) → i < 64 → bit_of result i ≡ bit }
+{
+    if bit { u64::MAX } else { 0 }
+}
+
+/// So many words that are all the same.
+pub(crate) fn equal_words(alloc: Global, word: u64, count: usize) -> Result<Vec<u64>, AllocError>
+    ensures { IfOk result (λ words. words.items ≡ replicate count word) }
+{
+    Vec::from_elem(alloc, word, count)
+}
+
+/// The chosen bits of word k, where there is such a word, become those of `word`.
+fn replace(words: &mut Vec<u64>, k: usize, chosen: u64, word: u64)
+    ensures room { vec_capacity words.new ≡ vec_capacity words.old }
+    ensures len { vec_len words.new ≡ vec_len words.old }
+    ensures chosen { (i : ℕ) → i / 64 ≡ k → k < vec_len words.old → bit_of chosen (i % 64) ≡ true
+        → row_in words.new.items i ≡ bit_of word (i % 64) }
+    ensures other { (i : ℕ) → (i / 64 ≡ k → bit_of chosen (i % 64) ≡ false) → row_in words.new.items i ≡ row_in words.old.items i }
+{
+    if k < words.len() {
+        words[k] = words[k] & !chosen | word & chosen;
+    }
+}
+
+/// Row i becomes bit.
+pub(crate) fn put_bit(words: &mut Vec<u64>, i: usize, bit: bool)
+    requires { i / 64 < vec_len words.old }
+    ensures room { vec_capacity words.new ≡ vec_capacity words.old }
+    ensures len { vec_len words.new ≡ vec_len words.old }
+    ensures same { row_in words.new.items i ≡ bit }
+    ensures other { (j : ℕ) → j ≢ i → row_in words.new.items j ≡ row_in words.old.items j }
+{
+    replace(words, i / 64, 1 << (i % 64), u64::from(bit) << (i % 64));
+}
+
+/// The bits moved up by so many places; what is moved past the end is lost.
+fn up(word: u64, places: usize) -> u64
+    requires { places ≤ 64 }
+    ensures moved { (i : ℕ) → places + i < 64 → bit_of result (places + i) ≡ bit_of word i }
+    ensures none { (i : ℕ) → i < places → bit_of result i ≡ false }
+{
+    if places < 64 { word << places } else { 0 }
+}
+
+/// The bits moved down by so many places.
+fn down(word: u64, places: usize) -> u64
+    requires { places ≤ 64 }
+    ensures moved { (i : ℕ) → bit_of result i ≡ bit_of word (places + i) }
+    ensures none { (i : ℕ) → 64 ≤ places + i → bit_of result i ≡ false }
+{
+    if places < 64 { word >> places } else { 0 }
+}
+
+/// Rows at, at + 1, .. at + n - 1 become the n lowest bits of the word, as far as there are words.
+pub(crate) fn put_bits(words: &mut Vec<u64>, at: usize, n: usize, word: u64)
+    requires { n ≤ 64 }
+    ensures room { vec_capacity words.new ≡ vec_capacity words.old }
+    ensures len { vec_len words.new ≡ vec_len words.old }
+    ensures inside { (i : ℕ) → i < n → (at + i) / 64 < vec_len words.old → row_in words.new.items (at + i) ≡ bit_of word i }
+    ensures outside { (j : ℕ) → (at ≤ j → at + n ≤ j) → row_in words.new.items j ≡ row_in words.old.items j }
+{
+    let (first, shift) = (at / 64, at % 64);
+    let chosen = low_bits(n);
+    replace(words, first, up(chosen, shift), up(word, shift));
+    replace(
+        words,
+        first + 1,
+        down(chosen, 64 - shift),
+        down(word, 64 - shift),
+    );
+}
+
+/// Word k; past the last word 0.
+fn word_at(words: &[u64], k: usize) -> u64
+    ensures { result ≡ slice_index words.now k }
+{
+    match words.get(k) {
+        Some(word) => *word,
+        None => 0,
+    }
+}
+
+/// Rows at, at + 1, .. at + n - 1 as the n lowest bits of a word.
+pub(crate) fn bits(words: &[u64], at: usize, n: usize) -> u64
+    requires { n ≤ 64 }
+    ensures { (i : ℕ) → bit_of result i ≡ (nat_lt i n && row_in words.now (at + i)) }
+{
+    let (first, shift) = (at / 64, at % 64);
+    let low = down(word_at(words, first), shift);
+    let high = up(word_at(words, first + 1), 64 - shift);
+    (low | high) & low_bits(n)
+}
+
+/// No row from n on stays.
+pub(crate) fn cut(words: &mut Vec<u64>, n: usize)
+    requires { vec_len words.old ≡ (n + 63) / 64 }
+    ensures room { vec_capacity words.new ≡ vec_capacity words.old }
+    ensures len { vec_len words.new ≡ vec_len words.old }
+    ensures kept { (j : ℕ) → j < n → row_in words.new.items j ≡ row_in words.old.items j }
+    ensures clean { (j : ℕ) → n ≤ j → row_in words.new.items j ≡ false }
+{
+    if n % 64 > 0 {
+        words[n / 64] &= low_bits(n % 64);
+    }
+}
+
+/// No row from n on stays.
+pub(crate) fn without_rest(mut words: Vec<u64>, n: usize) -> Vec<u64>
+    requires { vec_len words ≡ (n + 63) / 64 }
+    ensures len { vec_len result ≡ vec_len words }
+    ensures kept { (j : ℕ) → j < n → row_in result.items j ≡ row_in words.items j }
+    ensures clean { (j : ℕ) → n ≤ j → row_in result.items j ≡ false }
+{
+    cut(&mut words, n);
+    words
+}
+
+/// A word of zeros in front of row n, where n begins a word.
+pub(crate) fn begin_word(words: &mut Vec<u64>, n: usize)
+    requires count { vec_len words.old ≡ (n + 63) / 64 }
+    requires room { n < 64 * vec_capacity words.old }
+    ensures len { vec_len words.new ≡ n / 64 + 1 }
+    ensures room { vec_capacity words.old ≤ vec_capacity words.new }
+    ensures rows { (j : ℕ) → row_in words.new.items j ≡ row_in words.old.items j }
+{
+    if n % 64 == 0 {
+        let Ok(()) = words.push(0) else {
+            unreachable!()
+        };
+    }
+}
+
+/// The place of the lowest bit that is set.
+fn lowest(word: u64) -> usize
+    requires { 0 < word }
+    ensures below { result < 64 }
+    ensures set { bit_of word result ≡ true }
+    ensures least { (i : ℕ) → i < result → bit_of word i ≡ false }
+{
+    word.trailing_zeros() as usize
+}
+
+/// The least row from i on that is in.
+pub(crate) fn next_row(words: &[u64], i: usize) -> Option<usize>
+    requires { length words.now ≤ 2 ^ 32 }
+    ensures { IsNext (row_in words.now) i result }
+{
+    let first = i / 64;
+    if first >= words.len() {
+        return None;
+    }
+    let word = words[first] & (u64::MAX << (i % 64));
+    if word != 0 {
+        return Some(first * 64 + lowest(word));
+    }
+    for k in first + 1..words.len() {
+        let word = words[k];
+        if word != 0 {
+            return Some(k * 64 + lowest(word));
+        }
+    }
+    None
+}
+
+/// How many bits are set.
+pub(crate) fn count_words(words: &[u64]) -> u64
+    requires { length words.now ≤ 2 ^ 56 }
+    ensures sum { result ≡ sum_by count_ones words.now }
+    ensures fits { (k : ℕ) → slice_index words.now k < 2 ^ 64 }
+{
+    words.iter().map(|word| word.count_ones() as u64).sum()
+}

@@ -1,0 +1,86 @@
+//! The rows that an INSERT adds.
+
+ghost use Rattle.std.specs.Prelude.{◌≡◌, IfOk, map, option_map, position};
+ghost use Rattle.std.specs.Str.{bytes_eq};
+ghost use Rattle.bw_model.specs.Insert.{row_for, target_columns};
+
+use crate::store::{Header, Row, names, value_from};
+use bw_sql::{Name, Value, ValueRows};
+use std::alloc::{AllocError, Global};
+
+/// The columns that the values are for: where none is listed, all of them in order.
+pub fn target_columns(
+    alloc: Global,
+    headers: &[Header],
+    listed: &Option<Vec<Name>>,
+) -> Result<Vec<Name>, AllocError>
+    ensures { IfOk result (λ columns. columns.items ≡ target_columns headers.now (option_map (λ list. list.items) listed.now)) }
+{
+    match listed {
+        None => names(alloc, headers),
+        Some(list) => copied(alloc, list),
+    }
+}
+
+/// The same names.
+pub fn copied(alloc: Global, names: &[Name]) -> Result<Vec<Name>, AllocError>
+    ensures { IfOk result (λ list. list.items ≡ names.now) }
+{
+    let mut list = Vec::new(alloc);
+    for name in names {
+        list.push(name.try_clone(alloc)?)?;
+    }
+    Ok(list)
+}
+
+/// The row of these values: a column that isn't listed is NULL.
+fn row_for(
+    alloc: Global,
+    headers: &[Header],
+    list: &[Name],
+    values: &Row,
+) -> Result<Vec<Value>, AllocError>
+    ensures { IfOk result (λ row. row.items ≡ row_for headers.now list.now values.now) }
+{
+    headers
+        .iter()
+        .map(|header| value_from(values.values(), place_among(list, header.name())))
+        .collect(alloc)
+}
+
+/// The place of this name in the list.
+fn place_among(list: &[Name], name: &Name) -> Option<usize>
+    ensures { result ≡ position (bytes_eq name.now) list.now }
+{
+    list.iter().position(|other| name == other)
+}
+
+/// The rows of these values, in order.
+pub fn rows_for(
+    alloc: Global,
+    headers: &[Header],
+    list: &[Name],
+    rows: &[Row],
+) -> Result<Vec<Row>, AllocError>
+    ensures { IfOk result (λ new. new.items ≡ map (row_for headers.now list.now) rows.now) }
+{
+    let mut new = Vec::new(alloc);
+    for values in rows {
+        new.push(Row::new(row_for(alloc, headers, list, values)?))?;
+    }
+    Ok(new)
+}
+
+/// The rows of a VALUES list.
+pub fn rows_of(alloc: Global, rows: &ValueRows) -> Result<Vec<Row>, AllocError>
+    ensures { IfOk result (λ list. list.items ≡ rows.now) }
+{
+    let mut list = Vec::new(alloc);
+    let mut rest = rows.values();
+    for width in rows.widths() {
+        let (row, after) = rest.split_at(*width);
+        list.push(Row::new(Vec::from_slice(alloc, row)?))?;
+        rest = after;
+    }
+    Ok(list)
+}
