@@ -31,4 +31,3 @@ pub or_of_false : (a : TruthValue) → or_of a False ≡ a
 or_of_false True = refl
 or_of_false False = refl
 or_of_false Unknown = refl
-

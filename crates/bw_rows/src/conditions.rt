@@ -36,15 +36,13 @@ fn rows_that_a_condition_finds(rt: HostRuntime) {
 fn ranges(rt: HostRuntime) {
     check_examples(
         &rt,
-        &[
-            (
-                "CREATE TABLE t (a INTEGER); INSERT INTO t VALUES (1), (2), (4); \
+        &[(
+            "CREATE TABLE t (a INTEGER); INSERT INTO t VALUES (1), (2), (4); \
                  SELECT a FROM t WHERE a NOT BETWEEN 3 AND NULL; SELECT a FROM t WHERE a BETWEEN 3 AND NULL; \
                  SELECT a FROM t WHERE a BETWEEN 5 AND 1; SELECT a FROM t WHERE a BETWEEN 2 AND 4; \
                  SELECT a FROM t WHERE 2 BETWEEN a AND 3;",
-                "ok\nok 3\nA\n1\n2\nrows 2\nA\nrows 0\nA\nrows 0\nA\n2\n4\nrows 2\nA\n1\n2\nrows 2\n",
-            ),
-        ],
+            "ok\nok 3\nA\n1\n2\nrows 2\nA\nrows 0\nA\nrows 0\nA\n2\n4\nrows 2\nA\n1\n2\nrows 2\n",
+        )],
     );
 }
 
@@ -53,18 +51,16 @@ fn ranges(rt: HostRuntime) {
 fn two_columns(rt: HostRuntime) {
     check_examples(
         &rt,
-        &[
-            (
-                "CREATE TABLE t (a INT USING V, b INT USING S DICTIONARY); \
+        &[(
+            "CREATE TABLE t (a INT USING V, b INT USING S DICTIONARY); \
                  INSERT INTO t VALUES (5, 5), (-3, 4), (NULL, 1), (7, NULL); SELECT * FROM t WHERE a < b; \
                  SELECT * FROM t WHERE a = b; SELECT * FROM t WHERE NOT a < b; SELECT * FROM t WHERE b <> 2; \
                  SELECT * FROM t WHERE 4 < a; SELECT * FROM t WHERE 1 = 1; \
                  SELECT * FROM t WHERE b IN (1, 4) OR a IS NULL AND b = 9;",
-                "ok\nok 4\nA,B\n-3,4\nrows 1\nA,B\n5,5\nrows 1\nA,B\n5,5\nrows 1\nA,B\n5,5\n-3,4\nNULL,1\n\
+            "ok\nok 4\nA,B\n-3,4\nrows 1\nA,B\n5,5\nrows 1\nA,B\n5,5\nrows 1\nA,B\n5,5\n-3,4\nNULL,1\n\
                  rows 3\nA,B\n5,5\n7,NULL\nrows 2\nA,B\n5,5\n-3,4\nNULL,1\n7,NULL\nrows 4\nA,B\n-3,4\n\
                  NULL,1\nrows 2\n",
-            ),
-        ],
+        )],
     );
 }
 
@@ -73,16 +69,14 @@ fn two_columns(rt: HostRuntime) {
 fn how_tightly_words_bind(rt: HostRuntime) {
     check_examples(
         &rt,
-        &[
-            (
-                "CREATE TABLE t (a INTEGER); INSERT INTO t VALUES (1), (2), (NULL); \
+        &[(
+            "CREATE TABLE t (a INTEGER); INSERT INTO t VALUES (1), (2), (NULL); \
                  SELECT a FROM t WHERE a = 1 OR a = 2 AND a = 3; \
                  SELECT a FROM t WHERE (a = 1 OR a = 2) AND a = 2; \
                  SELECT a FROM t WHERE NOT a = 1 AND a = 1; SELECT a FROM t WHERE NOT (a = 1 AND a = 1); \
                  SELECT a FROM t WHERE NOT a = 1 IS UNKNOWN;",
-                "ok\nok 3\nA\n1\nrows 1\nA\n2\nrows 1\nA\nrows 0\nA\n2\nrows 1\nA\n1\n2\nrows 2\n",
-            ),
-        ],
+            "ok\nok 3\nA\n1\nrows 1\nA\n2\nrows 1\nA\nrows 0\nA\n2\nrows 1\nA\n1\n2\nrows 2\n",
+        )],
     );
 }
 
@@ -91,21 +85,19 @@ fn how_tightly_words_bind(rt: HostRuntime) {
 fn what_is_no_condition(rt: HostRuntime) {
     check_examples(
         &rt,
-        &[
-            (
-                "CREATE TABLE t (a INT); SELECT a FROM t WHERE; SELECT a FROM t WHERE a; \
+        &[(
+            "CREATE TABLE t (a INT); SELECT a FROM t WHERE; SELECT a FROM t WHERE a; \
                  SELECT a FROM t WHERE NOT NOT a = 1; SELECT a FROM t WHERE a = 1 IS TRUE IS TRUE; \
                  SELECT a FROM t WHERE a BETWEEN 1; SELECT a FROM t WHERE a IN (); \
                  SELECT a FROM t WHERE a IN (a); SELECT a FROM t WHERE (a) = 1; \
                  SELECT a FROM t WHERE a IS NOT 1; SELECT a FROM t WHERE (a = 1; \
                  SELECT a FROM t WHERE a = 1 OR; SELECT a FROM t WHERE a NOT = 1; \
                  SELECT a FROM t WHERE a IS NULL IS UNKNOWN;",
-                "ok\nerror 10: syntax error\nerror 10: syntax error\nerror 10: syntax error\n\
+            "ok\nerror 10: syntax error\nerror 10: syntax error\nerror 10: syntax error\n\
                  error 10: syntax error\nerror 10: syntax error\nerror 10: syntax error\n\
                  error 10: syntax error\nerror 10: syntax error\nerror 10: syntax error\n\
                  error 10: syntax error\nerror 10: syntax error\nerror 10: syntax error\nA\nrows 0\n",
-            ),
-        ],
+        )],
     );
 }
 

@@ -49,8 +49,7 @@ fn depth_of_parentheses(rt: HostRuntime) -> Result<(), Fail> {
             &rt,
             format!(in rt.alloc();
                 "CREATE TABLE t (a INT); INSERT INTO t VALUES (1); SELECT a FROM t WHERE {opened}a = 1{closed};"
-            )?
-            .as_str(),
+            )?.as_str(),
             reply,
         );
     }
