@@ -2,3 +2,4 @@ pub mod Evaluation
 pub mod PlanLaws
 pub mod RowLemmas
 pub mod Tables
+pub mod TruthWords

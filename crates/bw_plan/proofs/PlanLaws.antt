@@ -1,5 +1,5 @@
 -- A condition with places for names says what the condition says.
-use Rattle.std.proofs.Common.{◌≡◌, ◌∙◌, ◌+◌, ◌<◌, ◌≤◌, ℕ, add-one, ap, ap₂, drop, drop-cons, get_or, length, refl, suc, sym, take, arith, List, [], ◌∷◌, map, Option, Some, None}
+use Rattle.std.proofs.Common.{◌≡◌, ◌∙◌, ◌+◌, ◌<◌, ◌≤◌, ℕ, ap, ap₂, drop, drop-cons, get_or, length, refl, suc, sym, take, arith, List, [], ◌∷◌, map, Option, Some, None}
 use Rattle.std.specs.Prelude.{is_none}
 use Rattle.std.proofs.lemmas.List.{take_all}
 use Rattle.std.specs.Global.{Box, Vec}
@@ -13,8 +13,8 @@ use Rattle.bw_plan.specs.declared.plan.RowCondition.TheVariants as rows
 use Rattle.bw_plan.specs.declared.plan.RowCondition.TheOpen.{RowCondition-F}
 use Rattle.bw_plan.specs.declared.plan.RowCondition.TheFolds.{fold-roll-RowCondition}
 use Rattle.bw_mask.specs.Truth.{and_of, is_of, not_of, or_of, truth_of_bool}
-use Rattle.bw_model.specs.Condition.{compared, each_truth, is_one_of, lies_between, some_truth, truth_at, truth_of_word, value_of}
-use Rattle.bw_model.specs.Store.{Header, Row, Value, place_of, value_from}
+use Rattle.bw_model.specs.Condition.{compared, each_truth, is_one_of, some_truth, truth_at, truth_of_word, value_of}
+use Rattle.bw_model.specs.Store.{Header, Row, place_of, value_from}
 use Rattle.bw_sql.specs.Tree.{ConditionTree, ConditionTrees, among, between, comparison, each_of, more, negated, none, null, some_of, tested, condition_of, condition_step, trees_of}
 use Rattle.bw_sql.specs.declared.tree.Operand.{Operand}
 use Rattle.bw_sql.specs.declared.tree.Operand.TheVariants.{Column, Constant}

@@ -1,6 +1,5 @@
 -- Conditions whose columns are places in a row, and what they say of it (SQL-92, search condition and predicates).
-use Rattle.std.specs.Prelude.{◌≡◌, ℕ, Bool, true, false, List, [], ◌∷◌, Option, Some, None, get_or, length, is_none, if◌then◌else◌}
-use Rattle.std.specs.Global.{Vec}
+use Rattle.std.specs.Prelude.{◌≡◌, ℕ, true, false, List, [], ◌∷◌, Option, Some, None, get_or, length, is_none, if◌then◌else◌}
 use Rattle.bw_mask.specs.Masks.{MaskRows, row_at}
 use Rattle.bw_mask.specs.Truth.{and_of, is_of, not_of, or_of, truth_of_bool}
 use Rattle.bw_mask.specs.Truths as truths

@@ -2,11 +2,12 @@
 
 ghost use Rattle.std.specs.Prelude.{◌≡◌, ◌<◌, IfOk, length};
 ghost use Rattle.bw_mask.specs.Masks.{len};
-ghost use Rattle.bw_plan.specs.Plans.{AreTruthsBy, IsTruthAt, plan_of, predicate_of, truth_if_needed};
+ghost use Rattle.bw_plan.specs.Plans.{AreTruthsBy, IsTruthAt, plan_of, predicate_of};
 ghost use Rattle.bw_mask.specs.declared.truth_value.TruthValue.TheVariants as value;
 
 use crate::plan::{Predicate, RowCondition};
 use crate::rows::Rows;
+use crate::truth_word::test_word;
 use bw_mask::{Mask, Truth, TruthValue};
 use std::alloc::{AllocError, Global};
 
@@ -77,23 +78,10 @@ fn test_rows(
 {
     let mut trues = Mask::filled(alloc, rows.len(), false)?;
     let mut falses = Mask::filled(alloc, rows.len(), false)?;
-    for i in 0..rows.len() {
-        let truth = truth_if_needed(predicate, rows, need, i);
-        trues.set(i, truth.is(TruthValue::True));
-        falses.set(i, truth.is(TruthValue::False));
+    for word in 0..rows.len().div_ceil(64) {
+        let truths = test_word(predicate, rows, need, 64 * word);
+        trues.put_bits(64 * word, 64, truths.trues);
+        falses.put_bits(64 * word, 64, truths.falses);
     }
     Ok(Truth::new(trues, falses))
-}
-
-/// The truth of a predicate at a row, or unknown where the row isn't needed.
-fn truth_if_needed(predicate: &Predicate, rows: &Rows<'_>, need: &Mask, i: usize) -> TruthValue
-    requires row { i < length rows.now }
-    requires all { len need.now ≡ length rows.now }
-    ensures { result ≡ truth_if_needed (predicate_of predicate.now) rows.now need.now i }
-{
-    if need.get(i) {
-        predicate.truth_at(rows.row(i))
-    } else {
-        TruthValue::Unknown
-    }
 }

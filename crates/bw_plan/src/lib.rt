@@ -6,6 +6,7 @@ mod headers;
 mod plan;
 mod resolution;
 mod rows;
+mod truth_word;
 
 pub use evaluate::evaluate_rows;
 pub use headers::{Header, Headers, Kind, Layout, place_in};

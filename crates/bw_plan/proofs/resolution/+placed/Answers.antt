@@ -1,6 +1,6 @@
-use Rattle.std.proofs.Common.{◌≡◌, ◌∙◌, ap, sym, length, map, arith}
-use Rattle.bw_sql.specs.Tree.{condition_of, trees_of}
-use Rattle.bw_plan.specs.Plans.{all_planned, each_of, plan_of, planned, plans_of, some_of}
+use Rattle.std.proofs.Common.{◌∙◌, ap, sym, map, arith}
+use Rattle.bw_sql.specs.Tree.{condition_of}
+use Rattle.bw_plan.specs.Plans.{each_of, plan_of, planned, some_of}
 use Rattle.bw_plan.proofs.PlanLaws.{opened_and, opened_or, plan_and, plan_or, plans_whole}
 use Rattle.bw_plan.proofs.resolution.+placed.Goals as goal
 

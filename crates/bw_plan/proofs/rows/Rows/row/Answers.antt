@@ -1,4 +1,4 @@
-use Rattle.std.proofs.Common.{◌≡◌, ◌+◌, ◌*◌, ◌<◌, ◌≤◌, ◌∙◌, ap, sym, length, get_or, take, drop, [], arith, length-drop}
+use Rattle.std.proofs.Common.{◌*◌, ◌<◌, ◌∙◌, ap, sym, length, get_or, take, [], arith, length-drop}
 use Rattle.bw_model.specs.Answers.{lines_of}
 use Rattle.bw_plan.proofs.RowLemmas.{as_lines, few_cells, line_at, row_within}
 use Rattle.bw_plan.proofs.rows.Rows.row.Goals as goal
