@@ -1,5 +1,6 @@
 -- Found rows, by their places and by the condition.
-use Rattle.std.proofs.Common.{◌≡◌, ◌∙◌, ℕ, ◌+◌, ◌<◌, Bool, true, false, if◌then◌else◌, List, [], ◌∷◌, ◌++◌, append-nil, append_assoc, filter, get_or, length, map, replicate, take, zero, suc, refl, sym, ap, arith, inl, inr, Option, Some, None, IfOk, Result, Ok, Err}
+use Rattle.std.proofs.Common.{◌≡◌, ◌∙◌, ℕ, ◌+◌, ◌<◌, Bool, true, false, if◌then◌else◌, List, [], ◌∷◌, ◌++◌, append-nil, append_assoc, filter, get_or, length, map, replicate, take, zero, suc, refl, sym, ap, arith, Option, Some, None}
+use Rattle.std.specs.Prelude.{option_map}
 use Rattle.std.proofs.lemmas.List.{get_or-replicate, length-replicate}
 use Rattle.bw_mask.specs.Masks.{MaskRows, len, row_at}
 use Rattle.bw_mask.specs.Truth.{is_value}
@@ -9,15 +10,10 @@ use Rattle.bw_mask.specs.declared.truth_value.TruthValue.TheVariants.{True, Unkn
 use Rattle.bw_sql.specs.Rows.{joined}
 use Rattle.bw_sql.specs.Tree.{ConditionTree}
 use Rattle.bw_model.specs.Condition.{found_rows, is_found}
-use Rattle.bw_model.specs.Refusals.{has_long_list, names_missing, first_that_holds}
 use Rattle.bw_model.specs.Store.{Header, Row, Table}
-use Rattle.bw_model.specs.declared.refusal.Refusal.{Refusal}
-use Rattle.bw_model.specs.declared.refusal.Refusal.TheVariants as refusal
-use Rattle.bw_plan.specs.Plans.{AreTruthsBy, IsPlanFault, Plan, planned, truth_by}
+use Rattle.bw_plan.specs.Plans.{AreTruthsBy, Plan, planned, truth_by}
 use Rattle.bw_plan.proofs.PlanLaws.{keeps_truth}
-use Rattle.bw_engine.specs.Found.{AreFound, is_in, rows_where}
-use Rattle.bw_engine.specs.Outcomes.{MayRefuse, condition_tests}
-use Rattle.bw_engine.proofs.Tests.{no_test, this_test}
+use Rattle.bw_engine.specs.Found.{AreFoundBy, is_found_by, is_in, rows_where}
 
 with_front : {A : Type 0} (b : Bool) (x : A) (l m : List A) → (if b then x ∷ (l ++ m) else l ++ m) ≡ (if b then x ∷ l else l) ++ m
 with_front true x l m = refl
@@ -42,8 +38,14 @@ where-filter test p (x ∷ xs) d same =
     ap (λ b. if b then x ∷ rows_where (λ i. test (suc i)) xs else rows_where (λ i. test (suc i)) xs) (same 0 (omega arith))
     ∙ ap (λ l. if p x then x ∷ l else l) (where-filter (λ i. test (suc i)) p xs d (λ i h. same (suc i) (omega (arith, h))))
 
-pub rows_found : (table : Table) (condition : Option ConditionTree) (found : Option MaskRows) → AreFound table condition found → rows_where (is_in found) table.rows ≡ found_rows table condition
-rows_found table condition found are = where-filter (is_in found) (is_found table.headers condition) table.rows [] are.1
+-- what a condition's plan finds is what the condition finds
+finds_by_plan : (headers : List Header) (condition : Option ConditionTree) (plan : Option Plan) → plan ≡ option_map (planned headers) condition → (row : Row) → is_found_by plan row ≡ is_found headers condition row
+finds_by_plan headers None plan is row = ap (λ p. is_found_by p row) is
+finds_by_plan headers (Some condition) plan is row = ap (λ p. is_found_by p row) is ∙ ap (λ t. is_value t True) (keeps_truth headers row condition)
+
+-- the rows that a condition's plan finds are those that the condition finds
+pub rows_found : (table : Table) (condition : Option ConditionTree) (plan : Option Plan) (found : Option MaskRows) → plan ≡ option_map (planned table.headers) condition → AreFoundBy table.rows plan found → rows_where (is_in found) table.rows ≡ found_rows table condition
+rows_found table condition plan found is are = where-filter (is_in found) (is_found table.headers condition) table.rows [] (λ i within. are.1 i within ∙ finds_by_plan table.headers condition plan is (get_or table.rows i []))
 
 joined-push : {A B : Type 0} (f : A → List B) (xs : List A) (x : A) → joined (map f (xs ++ x ∷ [])) ≡ joined (map f xs) ++ f x
 joined-push f [] x = append-nil (f x)
@@ -78,21 +80,3 @@ true_mask plan rows all mask truths whole are lens each = (
   lens ∙ are.0 ∙ ap length whole ∙ length-replicate (length rows) true,
   λ i within. each i ∙ ap (λ t. is_value t True) (are.1 i ∙ there (row_at all i) _ Unknown (ap (λ l. get_or l i false) whole ∙ get_or-replicate (length rows) i true false within)),
 )
-
--- a plan's true rows are the found ones
-pub found_by_plan : (table : Table) (condition : ConditionTree) (plan : Plan) (mask : MaskRows) → plan ≡ planned table.headers condition
-    → (len mask ≡ length table.rows) × ((i : ℕ) → i < length table.rows → row_at mask i ≡ is_value (truth_by plan (get_or table.rows i [])) True) → AreFound table (Some condition) (Some mask)
-found_by_plan table condition plan mask is found = (
-  found.0,
-  λ i within.
-      found.1 i within ∙ ap (λ p. is_value (truth_by p (get_or table.rows i [])) True) is ∙ ap (λ t. is_value t True) (keeps_truth table.headers (get_or table.rows i []) condition),
-)
-
-pub plan_passes : (headers : List Header) (condition : ConditionTree) → names_missing headers condition ≡ false → has_long_list condition ≡ false → first_that_holds (condition_tests headers (Some condition)) ≡ None
-plan_passes headers condition e f = no_test _ _ _ e ∙ no_test _ _ _ f
-
-pub plan_refused : (headers : List Header) (condition : ConditionTree) (why : Refusal) → IsPlanFault headers condition why → MayRefuse (condition_tests headers (Some condition)) why
-plan_refused headers condition refusal.NoSuchColumn h = inr (this_test _ _ _ h)
-plan_refused headers condition refusal.OverLimit h = inr (no_test _ _ _ h.0 ∙ this_test _ _ _ h.1)
-plan_refused headers condition refusal.OutOfMemory h = inl refl
-plan_refused headers condition _ h = absurd h

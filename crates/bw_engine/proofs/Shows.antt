@@ -1,5 +1,5 @@
 -- What a SELECT shows, from the cells that lie flat.
-use Rattle.std.proofs.Common.{◌≡◌, ℕ, ◌<◌, List, Option, Some, filter, length, map, sym, ap, ◌∙◌, arith}
+use Rattle.std.proofs.Common.{◌≡◌, ℕ, ◌<◌, List, Option, Some, length, map, sym, ap, ◌∙◌, arith}
 use Rattle.std.proofs.lemmas.List.{length-map}
 use Rattle.bw_sql.specs.Rows.{joined}
 use Rattle.bw_sql.specs.Tree.{ConditionTree, ItemsTree}
@@ -11,7 +11,7 @@ use Rattle.bw_model.specs.declared.answer.Cell.{Cell}
 use Rattle.bw_model.specs.declared.answer.Heading.{Heading}
 use Rattle.bw_model.specs.declared.answer.Heading.TheVariants.{Column}
 use Rattle.bw_model.proofs.Lines.{All-map, lines_of-joined, shown_lines}
-use Rattle.bw_engine.proofs.Places.{line_by_places}
+use Rattle.bw_plan.proofs.Places.{line_by_places}
 
 module _ (headers : List Header) (list : List (List ℕ)) (places : List ℕ) (headings : List Heading) (cells : List Cell) (rows : List Row)
     (some : 0 < length list)

@@ -10,7 +10,8 @@ use Rattle.bw_model.specs.Store.{Store, Table, table_of}
 use Rattle.bw_model.specs.declared.refusal.Refusal.{Refusal}
 use Rattle.bw_model.specs.declared.reply.Reply.{Reply}
 use Rattle.bw_model.specs.declared.reply.Reply.TheVariants.{Refused}
-use Rattle.bw_engine.specs.Outcomes.{CarriesOut, MayRefuse, reply_of}
+use Rattle.bw_plan.specs.Checks.{MayRefuse}
+use Rattle.bw_engine.specs.Outcomes.{CarriesOut, reply_of}
 
 pub table_of-lookup : (store : Store) (name : List ℕ) → table_of store name ≡ lookup (bytes_eq name) store
 table_of-lookup [] name = refl

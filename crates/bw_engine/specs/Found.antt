@@ -1,9 +1,10 @@
 -- Which rows of a table are found.
 use Rattle.std.specs.Prelude.{◌≡◌, ℕ, ◌<◌, suc, Bool, true, List, [], ◌∷◌, Option, Some, None, get_or, length, if◌then◌else◌}
 use Rattle.bw_mask.specs.Masks.{MaskRows, len, row_at}
-use Rattle.bw_model.specs.Condition.{is_found}
-use Rattle.bw_model.specs.Store.{Row, Table}
-use Rattle.bw_sql.specs.Tree.{ConditionTree}
+use Rattle.bw_mask.specs.Truth.{is_value}
+use Rattle.bw_mask.specs.declared.truth_value.TruthValue.TheVariants.{True}
+use Rattle.bw_model.specs.Store.{Row}
+use Rattle.bw_plan.specs.Plans.{Plan, truth_by}
 
 -- whether the row at a place is found; without a mask every row is
 abbrev pub is_in : Option MaskRows → ℕ → Bool
@@ -20,6 +21,11 @@ abbrev pub HasRows : ℕ → Option MaskRows → Type 0
 HasRows n None = Unit {0}
 HasRows n (Some mask) = len mask ≡ n
 
--- the rows that a condition finds
-abbrev pub AreFound : Table → Option ConditionTree → Option MaskRows → Type 0
-AreFound table condition found = HasRows (length table.rows) found × ((i : ℕ) → i < length table.rows → is_in found i ≡ is_found table.headers condition (get_or table.rows i []))
+-- whether a plan finds a row; where there is none, every row is found
+abbrev pub is_found_by : Option Plan → Row → Bool
+is_found_by None row = true
+is_found_by (Some plan) row = is_value (truth_by plan row) True
+
+-- the rows that a plan finds
+abbrev pub AreFoundBy : List Row → Option Plan → Option MaskRows → Type 0
+AreFoundBy rows plan found = HasRows (length rows) found × ((i : ℕ) → i < length rows → is_in found i ≡ is_found_by plan (get_or rows i []))

@@ -1,43 +1,13 @@
--- What a part of a statement answers, by the tests that it makes.
-use Rattle.std.specs.Prelude.{◌≡◌, ◌⊎◌, ◌==◌, ℕ, List, [], ◌∷◌, Option, Some, None, Result, Ok, Err, MatchResult, length, not}
-use Rattle.std.specs.List.{list_all, list_any}
-use Rattle.bw_sql.specs.Tree.{ConditionTree, StatementTree}
-use Rattle.bw_model.specs.Refusals.{Tests, condition_misses, first_that_holds, is_in_range, is_missing, lists_too_long, tests_of}
+-- What a statement answers, and the store behind it.
+use Rattle.std.specs.Prelude.{◌≡◌, Result, Ok, Err}
+use Rattle.bw_sql.specs.Tree.{StatementTree}
+use Rattle.bw_model.specs.Refusals.{tests_of}
 use Rattle.bw_model.specs.Step.{carried_out}
-use Rattle.bw_model.specs.Store.{Header, Row, Store, are_distinct}
+use Rattle.bw_model.specs.Store.{Store}
 use Rattle.bw_model.specs.declared.refusal.Refusal.{Refusal}
-use Rattle.bw_model.specs.declared.refusal.Refusal.TheVariants as refusal
 use Rattle.bw_model.specs.declared.reply.Reply.{Reply}
 use Rattle.bw_model.specs.declared.reply.Reply.TheVariants.{Refused}
-
--- the first test that holds, or want of memory
-abbrev pub MayRefuse : Tests → Refusal → Type 0
-MayRefuse tests e = (e ≡ refusal.OutOfMemory) ⊎ (first_that_holds tests ≡ Some e)
-
--- where no test holds, a value of which P is true
-abbrev pub Answers : {T : Type 0} → Tests → Result T Refusal → (T → Type 0) → Type 0
-Answers tests result P = MatchResult result (λ x. (first_that_holds tests ≡ None) × P x) (MayRefuse tests)
-
-abbrev pub shown_tests : List Header → List (List ℕ) → Tests
-shown_tests headers columns = (refusal.NoSuchColumn, list_any (is_missing headers) columns) ∷ []
-
-abbrev pub condition_tests : List Header → Option ConditionTree → Tests
-condition_tests headers condition = (refusal.NoSuchColumn, condition_misses headers condition) ∷ (refusal.OverLimit, lists_too_long condition) ∷ []
-
-abbrev pub listed_tests : List Header → List (List ℕ) → Tests
-listed_tests headers columns =
-    (refusal.NoSuchColumn, list_any (is_missing headers) columns)
-    ∷ (refusal.ColumnNamedTwice, not (are_distinct columns))
-    ∷ []
-
-abbrev pub range_tests : Row → Tests
-range_tests values = (refusal.OutOfRange, not (list_all is_in_range values)) ∷ []
-
-abbrev pub value_tests : ℕ → List Row → Tests
-value_tests width rows =
-    (refusal.WrongNumberOfValues, not (list_all (λ row. length row == width) rows))
-    ∷ (refusal.OutOfRange, not (list_all (list_all is_in_range) rows))
-    ∷ []
+use Rattle.bw_plan.specs.Checks.{Answers}
 
 abbrev pub reply_of : Result Reply Refusal → Reply
 reply_of (Ok reply) = reply

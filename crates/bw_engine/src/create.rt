@@ -5,7 +5,8 @@ ghost use Rattle.bw_model.specs.Refusals.{create_tests};
 ghost use Rattle.bw_model.specs.Store.{are_distinct, column_limit, header_of, table_limit};
 ghost use Rattle.bw_sql.specs.Tree.{statement_of};
 ghost use Rattle.bw_sql.specs.declared.tree.Statement.TheVariants as statements;
-ghost use Rattle.bw_engine.specs.Outcomes.{Answers, CarriesOut};
+ghost use Rattle.bw_engine.specs.Outcomes.{CarriesOut};
+ghost use Rattle.bw_plan.specs.Checks.{Answers};
 
 use crate::table::Table;
 use bw_model::{Refusal, Reply};

@@ -1,26 +1,20 @@
 //! INSERT.
 
-ghost use Rattle.std.specs.Prelude.{◌≡◌, ◌*◌, ◌++◌, ◌≤◌, ◌<◌, [], ◌∷◌, length, map, not, position, IfOk, OnOk, OnErr};
-ghost use Rattle.std.specs.List.{list_any};
-ghost use Rattle.std.specs.Str.{bytes_eq};
-ghost use Rattle.bw_model.specs.Answers.{AreWholeLines, lines_of};
-ghost use Rattle.bw_model.specs.Insert.{row_for, target_columns, with_rows};
-ghost use Rattle.bw_model.specs.Refusals.{insert_tests, is_in_range, is_missing, over};
-ghost use Rattle.bw_model.specs.Step.{with_table};
-ghost use Rattle.bw_model.specs.Store.{AreHeaders, are_distinct, names, table_of, value_from};
-ghost use Rattle.bw_model.specs.declared.refusal.Refusal.TheVariants.{OutOfRange};
+ghost use Rattle.std.specs.Prelude.{◌≡◌, length, OnErr};
+ghost use Rattle.bw_model.specs.Insert.{target_columns, with_rows};
+ghost use Rattle.bw_model.specs.Refusals.{insert_tests};
 ghost use Rattle.bw_model.specs.declared.reply.Reply.TheVariants.{Count};
-ghost use Rattle.bw_sql.specs.Rows.{joined};
 ghost use Rattle.bw_sql.specs.Tree.{statement_of};
 ghost use Rattle.bw_sql.specs.declared.tree.Statement.TheVariants as statements;
-ghost use Rattle.bw_engine.specs.Outcomes.{Answers, CarriesOut, listed_tests, range_tests, value_tests};
+ghost use Rattle.bw_engine.specs.Outcomes.{CarriesOut};
+ghost use Rattle.bw_plan.specs.Checks.{Answers};
 
 use crate::table::{ROW_LIMIT, Table};
 use bw_model::{Refusal, Reply};
-use bw_plan::{Header, place_in, value_at};
-use bw_sql::{Insert, Name, NameList, Value, ValueRows};
+use bw_plan::resolve_insert;
+use bw_sql::{Insert, Name, NameList, ValueRows};
 use indexmap::IndexMap;
-use std::alloc::{AllocError, Global};
+use std::alloc::Global;
 
 /// Puts rows last in a table. A column that isn't listed gets NULL.
 pub fn insert(
@@ -52,192 +46,10 @@ fn insert_rows(
     ensures reply { Answers (insert_tests (target_columns table.old.headers columns.now) rows.now table.old) result (λ reply. (reply ≡ Count (length rows.now)) × (table.new ≡ with_rows columns.now rows.now table.old)) }
     ensures refused { OnErr result (table.new ≡ table.old) }
 {
-    let cells = new_cells(alloc, table.headers(), columns, rows)?;
+    let cells = resolve_insert(alloc, table.headers(), columns, rows)?;
     if rows.len() > ROW_LIMIT - table.row_count() {
         return Err(Refusal::TableFull);
     }
     table.append(cells.as_slice())?;
     Ok(Reply::Count(rows.len() as u64))
-}
-
-/// The cells of the rows for a table of these columns.
-fn new_cells(
-    alloc: Global,
-    headers: &[Header],
-    columns: &Option<NameList>,
-    rows: &ValueRows,
-) -> Result<Vec<Option<i32>>, Refusal>
-    requires { AreHeaders headers.now }
-    ensures { let targets = target_columns headers.now columns.now in Answers (listed_tests headers.now targets ++ value_tests (length targets) rows.now) result (λ cells. cells.items ≡ joined (map (row_for headers.now targets) rows.now)) }
-{
-    match columns {
-        Some(names) => listed_cells(alloc, headers, names.as_slice(), rows),
-        None => whole_cells(alloc, headers, rows),
-    }
-}
-
-/// The cells of rows that name all columns in order.
-fn whole_cells(
-    alloc: Global,
-    headers: &[Header],
-    rows: &ValueRows,
-) -> Result<Vec<Option<i32>>, Refusal>
-    requires { AreHeaders headers.now }
-    ensures { Answers (listed_tests headers.now (names headers.now) ++ value_tests (length (names headers.now)) rows.now) result (λ cells. cells.items ≡ joined (map (row_for headers.now (names headers.now)) rows.now)) }
-{
-    cells_of_width(alloc, headers.len(), rows)
-}
-
-/// The cells of rows that name some columns, in the order of the table's columns.
-fn listed_cells(
-    alloc: Global,
-    headers: &[Header],
-    names: &[Name],
-    rows: &ValueRows,
-) -> Result<Vec<Option<i32>>, Refusal>
-    requires { 0 < length names.now }
-    ensures { Answers (listed_tests headers.now names.now ++ value_tests (length names.now) rows.now) result (λ cells. cells.items ≡ joined (map (row_for headers.now names.now) rows.now)) }
-{
-    check_listed(headers, names)?;
-    let values = cells_of_width(alloc, names.len(), rows)?;
-    let sources = sources_of(alloc, headers, names)?;
-    let cells = spread(alloc, values.as_slice(), names.len(), sources.as_slice())?;
-    Ok(cells)
-}
-
-/// Refuses a list that names what is no column, or a column twice.
-fn check_listed(headers: &[Header], names: &[Name]) -> Result<(), Refusal>
-    ensures { Answers (listed_tests headers.now names.now) result (λ _. Unit {0}) }
-{
-    if lacks_any(headers, names) {
-        return Err(Refusal::NoSuchColumn);
-    }
-    if name_twice(names) {
-        return Err(Refusal::ColumnNamedTwice);
-    }
-    Ok(())
-}
-
-/// Whether one of the names isn't that of a column.
-fn lacks_any(headers: &[Header], names: &[Name]) -> bool
-    ensures { result ≡ list_any (is_missing headers.now) names.now }
-{
-    names.iter().any(|name| place_in(headers, name).is_none())
-}
-
-/// Whether a name stands twice. Among more names than columns one stands twice near the front, so
-/// this is quick where all of them are columns.
-fn name_twice(names: &[Name]) -> bool
-    ensures { result ≡ not (are_distinct names.now) }
-{
-    for (i, name) in names.iter().enumerate() {
-        if names[..i].contains(name) {
-            return true;
-        }
-    }
-    false
-}
-
-/// The cells of rows of this width, row after row.
-fn cells_of_width(
-    alloc: Global,
-    width: usize,
-    rows: &ValueRows,
-) -> Result<Vec<Option<i32>>, Refusal>
-    ensures { Answers (value_tests width rows.now) result (λ cells. cells.items ≡ joined rows.now) }
-{
-    if !rows.are_all_of_width(width) {
-        return Err(Refusal::WrongNumberOfValues);
-    }
-    narrowed(alloc, rows.values())
-}
-
-/// The values, each as an INTEGER.
-fn narrowed(alloc: Global, values: &[Value]) -> Result<Vec<Option<i32>>, Refusal>
-    ensures { Answers (range_tests values.now) result (λ cells. cells.items ≡ values.now) }
-{
-    let mut cells = Vec::with_capacity(alloc, values.len())?;
-    for value in values {
-        cells.push(integer(*value)?)?;
-    }
-    Ok(cells)
-}
-
-/// The value as an INTEGER, which is -2147483648 to 2147483647 or NULL.
-fn integer(value: Value) -> Result<Option<i32>, Refusal>
-    ensures { Answers ((OutOfRange, not (is_in_range value)) ∷ []) result (λ cell. cell ≡ value) }
-{
-    match value {
-        None => Ok(None),
-        Some(number) => match i32::try_from(number) {
-            Ok(number) => Ok(Some(number)),
-            Err(_) => Err(Refusal::OutOfRange),
-        },
-    }
-}
-
-/// For each column the place in the list at which it is named.
-fn sources_of(
-    alloc: Global,
-    headers: &[Header],
-    names: &[Name],
-) -> Result<Vec<Option<usize>>, AllocError>
-    ensures { IfOk result (λ sources. sources.items ≡ map (λ h. position (bytes_eq h.name) names.now) headers.now) }
-{
-    headers
-        .iter()
-        .map(|header| place_among(names, header.name()))
-        .collect(alloc)
-}
-
-/// The place of this name in the list.
-fn place_among(names: &[Name], name: &Name) -> Option<usize>
-    ensures { result ≡ position (bytes_eq name.now) names.now }
-{
-    names.iter().position(|other| name == other)
-}
-
-/// Rows of this width, with their values in the places of their columns, and NULL in the others.
-fn spread(
-    alloc: Global,
-    values: &[Option<i32>],
-    width: usize,
-    sources: &[Option<usize>],
-) -> Result<Vec<Option<i32>>, AllocError>
-    requires { AreWholeLines width values.now }
-    ensures { IfOk result (λ cells. cells.items ≡ joined (map (λ row. map (value_from row) sources.now) (lines_of width values.now))) }
-{
-    let capacity = (values.len() / width).saturating_mul(sources.len());
-    let mut cells = Vec::with_capacity(alloc, capacity)?;
-    let mut rest = values;
-    while !rest.is_empty() {
-        let (row, after) = rest.split_at(width);
-        place(&mut cells, row, sources)?;
-        rest = after;
-    }
-    Ok(cells)
-}
-
-/// Puts the values from these places of a row last.
-fn place(
-    cells: &mut Vec<Option<i32>>,
-    row: &[Option<i32>],
-    sources: &[Option<usize>],
-) -> Result<(), AllocError>
-    ensures { OnOk result (cells.new.items ≡ cells.old.items ++ map (value_from row.now) sources.now) }
-{
-    for source in sources {
-        cells.push(value_from(row, *source))?;
-    }
-    Ok(())
-}
-
-/// The value at this place, or NULL where there is none.
-fn value_from(row: &[Option<i32>], source: Option<usize>) -> Option<i32>
-    ensures { result ≡ value_from row.now source }
-{
-    match source {
-        Some(place) => value_at(row, place),
-        None => None,
-    }
 }

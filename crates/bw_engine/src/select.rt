@@ -9,17 +9,18 @@ ghost use Rattle.bw_model.specs.declared.answer.Heading.TheVariants.{Column};
 ghost use Rattle.bw_sql.specs.Rows.{joined};
 ghost use Rattle.bw_sql.specs.Tree.{condition_of, items_of, statement_of};
 ghost use Rattle.bw_sql.specs.declared.tree.Statement.TheVariants as statements;
-ghost use Rattle.bw_engine.specs.Outcomes.{Answers, CarriesOut, condition_tests, shown_tests};
-ghost use Rattle.bw_engine.specs.Found.{AreFound, HasRows, is_in, rows_where};
+ghost use Rattle.bw_engine.specs.Found.{AreFoundBy, HasRows, is_in, rows_where};
+ghost use Rattle.bw_engine.specs.Outcomes.{CarriesOut};
 ghost use Rattle.bw_mask.specs.Masks.{len, row_at};
 ghost use Rattle.bw_mask.specs.Truth.{is_value};
 ghost use Rattle.bw_mask.specs.declared.truth_value.TruthValue.TheVariants.{True};
+ghost use Rattle.bw_plan.specs.Checks.{Answers};
 ghost use Rattle.bw_plan.specs.Plans.{plan_of, truth_by};
 
 use crate::table::Table;
 use bw_mask::Mask;
 use bw_model::{Answer, Cell, Heading, Refusal, Reply};
-use bw_plan::{Header, RowCondition, Rows, evaluate_rows, place_in, resolve, value_at};
+use bw_plan::{Header, RowCondition, Rows, evaluate_rows, resolve_select, value_at};
 use bw_sql::{Condition, Name, Select, SelectItems};
 use indexmap::IndexMap;
 use std::alloc::{AllocError, Global};
@@ -52,10 +53,10 @@ fn answer_of(
 ) -> Result<Answer, Refusal>
     ensures { Answers (select_tests (shown_columns table.now.headers (items_of items)) (option_map condition_of condition.now) table.now) result (λ shows. shows ≡ answer table.now (items_of items) (option_map condition_of condition.now)) }
 {
-    let places = places_of(alloc, table.headers(), &items)?;
-    let found = found_rows(alloc, table, condition)?;
+    let plan = resolve_select(alloc, table.headers(), &items, condition)?;
+    let found = found_rows(alloc, table, &plan.condition)?;
     let headings = headings_of(alloc, table.headers(), items)?;
-    let cells = found_cells(alloc, table, places.as_slice(), &found)?;
+    let cells = found_cells(alloc, table, plan.places.as_slice(), &found)?;
     Ok(Answer::new(headings, cells))
 }
 
@@ -63,15 +64,12 @@ fn answer_of(
 fn found_rows(
     alloc: Global,
     table: &Table,
-    condition: &Option<Condition>,
-) -> Result<Option<Mask>, Refusal>
-    ensures { Answers (condition_tests table.now.headers (option_map condition_of condition.now)) result (AreFound table.now (option_map condition_of condition.now)) }
+    condition: &Option<RowCondition>,
+) -> Result<Option<Mask>, AllocError>
+    ensures { IfOk result (AreFoundBy table.now.rows (option_map plan_of condition.now)) }
 {
     match condition {
-        Some(condition) => {
-            let plan = resolve(alloc, table.headers(), condition)?;
-            Ok(Some(true_rows(alloc, &plan, &table.rows())?))
-        }
+        Some(condition) => Ok(Some(true_rows(alloc, condition, &table.rows())?)),
         None => Ok(None),
     }
 }
@@ -82,44 +80,6 @@ fn true_rows(alloc: Global, condition: &RowCondition, rows: &Rows<'_>) -> Result
 {
     let all = Mask::filled(alloc, rows.len(), true)?;
     Ok(evaluate_rows(alloc, condition, rows, &all)?.into_trues())
-}
-
-/// The places of the columns that are shown.
-fn places_of(alloc: Global, headers: &[Header], items: &SelectItems) -> Result<Vec<usize>, Refusal>
-    requires { AreHeaders headers.now }
-    ensures some { 0 < length (shown_columns headers.now (items_of items.now)) }
-    ensures found { Answers (shown_tests headers.now (shown_columns headers.now (items_of items.now))) result (λ places. map (λ place. Some place) places.items ≡ map (place_of headers.now) (shown_columns headers.now (items_of items.now))) }
-{
-    match items {
-        SelectItems::All => all_places(alloc, headers),
-        SelectItems::Columns(names) => places_of_names(alloc, headers, names.as_slice()),
-    }
-}
-
-/// The places of all columns.
-fn all_places(alloc: Global, headers: &[Header]) -> Result<Vec<usize>, Refusal>
-    requires { AreHeaders headers.now }
-    ensures { Answers (shown_tests headers.now (names headers.now)) result (λ places. map (λ place. Some place) places.items ≡ map (place_of headers.now) (names headers.now)) }
-{
-    let mut places = Vec::with_capacity(alloc, headers.len())?;
-    for place in 0..headers.len() {
-        places.push(place)?;
-    }
-    Ok(places)
-}
-
-/// The places of these columns.
-fn places_of_names(alloc: Global, headers: &[Header], names: &[Name]) -> Result<Vec<usize>, Refusal>
-    ensures { Answers (shown_tests headers.now names.now) result (λ places. map (λ place. Some place) places.items ≡ map (place_of headers.now) names.now) }
-{
-    let mut places = Vec::with_capacity(alloc, names.len())?;
-    for name in names {
-        match place_in(headers, name) {
-            Some(place) => places.push(place)?,
-            None => return Err(Refusal::NoSuchColumn),
-        }
-    }
-    Ok(places)
 }
 
 /// The headings of the columns that are shown.

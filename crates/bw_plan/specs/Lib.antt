@@ -1,3 +1,4 @@
+pub mod Checks
 pub mod Flat
 pub mod Plans
 pub mod Words

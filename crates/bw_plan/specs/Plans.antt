@@ -109,13 +109,6 @@ plan_step (RowCondition-F.Test test) = predicate_of test
 abbrev pub plan_of : RowCondition → Plan
 plan_of = fold-RowCondition Plan plan_step
 
--- why a condition has no plan: the first reason that holds, or want of memory
-abbrev pub IsPlanFault : List Header → ConditionTree → Refusal → Type 0
-IsPlanFault headers condition refusal.NoSuchColumn = names_missing headers condition ≡ true
-IsPlanFault headers condition refusal.OverLimit = (names_missing headers condition ≡ false) × (has_long_list condition ≡ true)
-IsPlanFault headers condition refusal.OutOfMemory = Unit {0}
-IsPlanFault headers condition _ = ⊥
-
 -- a truth at each needed row, and unknown at the others
 abbrev pub IsTruthAt : (ℕ → TruthValue) → MaskRows → List TruthValue → Type 0
 IsTruthAt truth need found = (length found ≡ length need.rows) × ((i : ℕ) → truths.truth_at found i ≡ (if row_at need i then truth i else Unknown))

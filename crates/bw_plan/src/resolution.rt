@@ -1,10 +1,11 @@
 //! A condition's names become places in a row.
 
-ghost use Rattle.std.specs.Prelude.{◌≡◌, false, IfOk, List, MatchResult};
+ghost use Rattle.std.specs.Prelude.{◌≡◌, IfOk, List, Some};
 ghost use Rattle.bw_model.specs.Condition.{truth_at, truth_of_word};
 ghost use Rattle.bw_model.specs.Refusals.{has_long_list, names_missing, operand_is_missing};
 ghost use Rattle.bw_model.specs.Store.{Header as AnyHeader, Row};
-ghost use Rattle.bw_plan.specs.Plans.{IsPlanFault, plan_of, planned, source_of, truth_by};
+ghost use Rattle.bw_plan.specs.Checks.{Answers, condition_tests};
+ghost use Rattle.bw_plan.specs.Plans.{plan_of, planned, source_of, truth_by};
 ghost use Rattle.bw_sql.specs.Tree.{ConditionTree, condition_of};
 
 use crate::headers::{Header, place_in};
@@ -19,14 +20,12 @@ const ENTRY_LIMIT: usize = 1_000;
 
 /// The condition with each column's name as its place among the columns. It is refused where a
 /// column isn't there, and else where an IN list has more than 1,000 entries.
-pub fn resolve(
+pub(crate) fn resolve_condition(
     alloc: Global,
     headers: &[Header],
     condition: &Condition,
 ) -> Result<RowCondition, Refusal>
-    ensures { MatchResult result
-        (λ plan. (names_missing headers.now (condition_of condition.now) ≡ false) × (has_long_list (condition_of condition.now) ≡ false) × (plan_of plan ≡ planned headers.now (condition_of condition.now)))
-        (λ refusal. IsPlanFault headers.now (condition_of condition.now) refusal) }
+    ensures { Answers (condition_tests headers.now (Some (condition_of condition.now))) result (λ plan. plan_of plan ≡ planned headers.now (condition_of condition.now)) }
 {
     if names_missing(headers, condition) {
         return Err(Refusal::NoSuchColumn);

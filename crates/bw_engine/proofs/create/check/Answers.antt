@@ -2,7 +2,7 @@ use Rattle.std.proofs.Common.{◌∙◌, ◌==◌, ◌||◌, inr, ap, is_some, l
 use Rattle.std.proofs.lemmas.List.{length-map}
 use Rattle.bw_model.specs.Store.{column_limit, table_limit}
 use Rattle.bw_engine.proofs.Steps.{table_of-lookup}
-use Rattle.bw_engine.proofs.Tests.{no_test, this_test}
+use Rattle.bw_plan.proofs.Tests.{no_test, this_test}
 use Rattle.bw_engine.proofs.create.check.Goals as goal
 
 pub returns-then-contains_key : goal.returns-then-contains_key

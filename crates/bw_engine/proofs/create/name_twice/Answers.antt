@@ -1,5 +1,5 @@
 use Rattle.std.proofs.Common.{refl}
-use Rattle.bw_engine.proofs.Names.{once_in, seen_in, twice_in}
+use Rattle.bw_engine.proofs.Columns.{once_in, seen_in, twice_in}
 use Rattle.bw_engine.proofs.create.name_twice.Goals as goal
 
 pub returns-then-not-branch : goal.returns-then-not-branch

@@ -9,7 +9,7 @@ use Rattle.bw_model.specs.Store.{Store, table_of}
 use Rattle.bw_model.specs.declared.reply.Reply.{Reply}
 use Rattle.bw_model.specs.declared.reply.Reply.TheVariants.{Count}
 use Rattle.bw_engine.proofs.Steps.{set_value-same, set_value-with_table, table_of-lookup}
-use Rattle.bw_engine.proofs.Tests.{answers_same}
+use Rattle.bw_plan.proofs.Tests.{answers_same}
 use Rattle.bw_engine.proofs.insert.insert.Goals as goal
 
 pub returns-in-Some-clause-reply : goal.returns-in-Some-clause-reply

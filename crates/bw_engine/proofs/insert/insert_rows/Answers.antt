@@ -7,9 +7,9 @@ use Rattle.bw_model.specs.Refusals.{insert_tests}
 use Rattle.bw_model.specs.Store.{row_limit}
 use Rattle.bw_model.specs.declared.refusal.Refusal.TheVariants.{TableFull}
 use Rattle.bw_model.specs.declared.reply.Reply.TheVariants.{Count}
-use Rattle.bw_engine.specs.Outcomes.{listed_tests, value_tests}
+use Rattle.bw_plan.specs.Checks.{listed_tests, value_tests}
 use Rattle.bw_model.proofs.Lines.{All-map, count-lines_of, length-joined_map, lines_of-joined, whole_lines}
-use Rattle.bw_engine.proofs.Tests.{first-append_none, no_test, passed_on, refuse_left, refuse_right, this_test}
+use Rattle.bw_plan.proofs.Tests.{first-append_none, no_test, passed_on, refuse_left, refuse_right, this_test}
 use Rattle.bw_engine.proofs.insert.insert_rows.Goals as goal
 
 pub returns-in_err-cells-clause-reply : goal.returns-in_err-cells-clause-reply

@@ -1,4 +1,4 @@
-use Rattle.std.proofs.Common.{◌≡◌, ◌<◌, ◌++◌, ◌∙◌, [], ap, arith, length, map, take, sym}
+use Rattle.std.proofs.Common.{◌<◌, ◌++◌, ◌∙◌, [], ap, arith, length, map, sym}
 use Rattle.std.proofs.lemmas.List.{take_all}
 use Rattle.bw_sql.specs.Rows.{joined}
 use Rattle.bw_model.specs.Select.{shown}

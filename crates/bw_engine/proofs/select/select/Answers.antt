@@ -7,7 +7,7 @@ use Rattle.bw_model.specs.Store.{Store, table_of}
 use Rattle.bw_model.specs.declared.reply.Reply.{Reply}
 use Rattle.bw_model.specs.declared.reply.Reply.TheVariants.{Rows}
 use Rattle.bw_engine.proofs.Steps.{over_some, table_of-lookup}
-use Rattle.bw_engine.proofs.Tests.{passed_on}
+use Rattle.bw_plan.proofs.Tests.{passed_on}
 use Rattle.bw_engine.proofs.select.select.Goals as goal
 
 pub returns-in_err-answer_of-in-Some : goal.returns-in_err-answer_of-in-Some

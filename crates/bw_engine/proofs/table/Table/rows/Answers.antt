@@ -1,6 +1,4 @@
-use Rattle.std.proofs.Common.{◌∙◌, ap, arith, length, sym}
-use Rattle.bw_model.specs.Answers.{lines_of}
-use Rattle.bw_model.specs.Store.{row_limit}
+use Rattle.std.proofs.Common.{ap, arith, length}
 use Rattle.bw_model.proofs.Lines.{count-lines_of}
 use Rattle.bw_engine.proofs.table.Table.rows.Goals as goal
 

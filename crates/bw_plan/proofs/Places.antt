@@ -1,0 +1,161 @@
+-- Columns by their places.
+use Rattle.std.proofs.Common.{◌≡◌, ℕ, ◌+◌, ◌<◌, ◌≤◌, Bool, true, false, ◌&&◌, ◌||◌, not, List, [], ◌∷◌, ◌++◌, length, map, take, drop, drop-cons, take-append-drop, nat_lt, get_or, position, Option, None, Some, is_some, if◌then◌else◌, zero, suc, refl, sym, ap, ◌∙◌, arith, append_assoc, length-append, length-take}
+use Rattle.std.specs.List.{All, list_any, position_or_len}
+use Rattle.std.specs.Str.{bytes_eq}
+use Rattle.std.proofs.lemmas.Bool.{lt-ltb, true≢false}
+use Rattle.std.proofs.lemmas.List.{length-map, take_all, take_more}
+use Rattle.std.proofs.lemmas.List.Elements.{All-head, All-tail}
+use Rattle.std.proofs.lemmas.Simd.{map-map}
+use Rattle.std.proofs.lemmas.Slice.Eq.{bytes_eq-Decides}
+use Rattle.bw_model.specs.Insert.{row_for}
+use Rattle.bw_model.specs.Refusals.{first_that_holds, is_missing}
+use Rattle.bw_model.specs.Select.{line_of, shown}
+use Rattle.bw_model.specs.Store.{AreHeaders, Header, Row, Value, are_distinct, names, place_of, value_at, value_from}
+use Rattle.bw_plan.specs.Checks.{listed_tests, shown_tests}
+use Rattle.bw_model.proofs.Names.{are_distinct-push, bytes_eq-comm, map-push}
+use Rattle.bw_plan.proofs.Names.{are_distinct_front}
+use Rattle.bw_model.proofs.Passing.{neither}
+use Rattle.bw_plan.proofs.Tests.{no_test}
+
+isnt : (b c : Bool) → (b && not c) ≡ true → c ≡ false
+isnt true true e = sym e
+isnt true false e = refl
+isnt false c e = absurd (true≢false (sym e))
+
+one_plus : (n : ℕ) → 1 + n ≡ suc n
+one_plus n = omega arith
+
+length-front : {A : Type 0} (i : ℕ) (l : List A) → i < length l → length (take i l) ≡ i
+length-front i l within = omega (arith, length-take i l)
+
+get_or-mapped : {A B : Type 0} (f : A → B) (xs : List A) (i : ℕ) (d : A) (e : B) → i < length xs → get_or (map f xs) i e ≡ f (get_or xs i d)
+get_or-mapped f [] i d e within = absurd (omega arith)
+get_or-mapped f (x ∷ xs) zero d e within = refl
+get_or-mapped f (x ∷ xs) (suc i) d e within = get_or-mapped f xs i d e (omega arith)
+
+same_name : (x : List ℕ) → bytes_eq x x ≡ true
+same_name x = (bytes_eq-Decides x x).1 refl
+
+-- the first place that passes, behind a front in which none passes
+prefix-behind : {A : Type 0} (p : A → Bool) (front : List A) (x : A) (rest : List A) → list_any p front ≡ false → p x ≡ true → position_or_len p (front ++ x ∷ rest) ≡ length front
+prefix-behind p [] x rest none passes = ap (λ b. if not b then 1 + position_or_len p rest else 0) passes
+prefix-behind p (y ∷ front) x rest none passes =
+    let parts = neither (p y) (list_any p front) none in
+    ap (λ b. if not b then 1 + position_or_len p (front ++ x ∷ rest) else 0) parts.0
+    ∙ ap (λ n. 1 + n) (prefix-behind p front x rest parts.1 passes)
+    ∙ one_plus (length front)
+
+position-behind : {A : Type 0} (p : A → Bool) (front : List A) (x : A) (rest : List A) → list_any p front ≡ false → p x ≡ true → position p (front ++ x ∷ rest) ≡ Some (length front)
+position-behind p front x rest none passes =
+    ap (λ n. if nat_lt n (length (front ++ x ∷ rest)) then Some n else None) (prefix-behind p front x rest none passes)
+    ∙ ap (λ b. if b then Some (length front) else None) (lt-ltb (length front) (length (front ++ x ∷ rest)) (omega (arith, length-append front (x ∷ rest))))
+
+position_or_len-map : {A B : Type 0} (p : B → Bool) (f : A → B) (xs : List A) → position_or_len p (map f xs) ≡ position_or_len (λ x. p (f x)) xs
+position_or_len-map p f [] = refl
+position_or_len-map p f (x ∷ xs) = ap (λ n. if not (p (f x)) then 1 + n else 0) (position_or_len-map p f xs)
+
+pub position-map : {A B : Type 0} (p : B → Bool) (f : A → B) (xs : List A) → position p (map f xs) ≡ position (λ x. p (f x)) xs
+position-map p f xs =
+    ap (λ n. if nat_lt n (length (map f xs)) then Some n else None) (position_or_len-map p f xs)
+    ∙ ap (λ m. if nat_lt (position_or_len (λ x. p (f x)) xs) m then Some (position_or_len (λ x. p (f x)) xs) else None) (length-map xs f)
+
+pub place_of-names : (headers : List Header) (name : List ℕ) → place_of headers name ≡ position (bytes_eq name) (names headers)
+place_of-names headers name = sym (position-map (bytes_eq name) (λ h. h.name) headers)
+
+-- a name isn't in front of its place
+new_behind : (front : List (List ℕ)) (x : List ℕ) (rest : List (List ℕ)) → are_distinct (front ++ x ∷ rest) ≡ true → list_any (bytes_eq x) front ≡ false
+new_behind front x rest distinct =
+    let pushed : are_distinct (front ++ x ∷ []) ≡ true = are_distinct_front (front ++ x ∷ []) rest (ap are_distinct (append_assoc front (x ∷ []) rest) ∙ distinct) in
+    (λ j. list_any (λ y. bytes_eq-comm x y j) front)
+    ∙ isnt _ _ (sym (are_distinct-push front x) ∙ pushed)
+
+at_behind : (front : List (List ℕ)) (x : List ℕ) (rest : List (List ℕ)) → are_distinct (front ++ x ∷ rest) ≡ true → position (bytes_eq x) (front ++ x ∷ rest) ≡ Some (length front)
+at_behind front x rest distinct = position-behind (bytes_eq x) front x rest (new_behind front x rest distinct) (same_name x)
+
+-- each name's place is its own
+pub place_at : (list : List (List ℕ)) (i : ℕ) (d : List ℕ) → are_distinct list ≡ true → i < length list → position (bytes_eq (get_or list i d)) list ≡ Some i
+place_at list i d distinct within =
+    let x = get_or list i d in
+    let split : take i list ++ x ∷ drop (suc i) list ≡ list = ap (λ l. take i list ++ l) (sym (drop-cons list i d within)) ∙ take-append-drop i list in
+    ap (position (bytes_eq x)) (sym split)
+    ∙ at_behind (take i list) x (drop (suc i) list) (ap are_distinct split ∙ distinct)
+    ∙ ap (λ n. Some n) (length-front i list within)
+
+value_behind : (front : Row) (v : Value) (rest : Row) → value_at (front ++ v ∷ rest) (length front) ≡ v
+value_behind [] v rest = refl
+value_behind (u ∷ front) v rest = value_behind front v rest
+
+values_behind : (front rest : List (List ℕ)) (vfront vrest : Row) → are_distinct (front ++ rest) ≡ true → length vfront ≡ length front → length vrest ≡ length rest
+    → map (λ n. value_from (vfront ++ vrest) (position (bytes_eq n) (front ++ rest))) rest ≡ vrest
+values_behind front [] vfront [] distinct same_front same_rest = refl
+values_behind front [] vfront (v ∷ vrest) distinct same_front same_rest = absurd (omega arith)
+values_behind front (x ∷ rest) vfront [] distinct same_front same_rest = absurd (omega arith)
+values_behind front (x ∷ rest) vfront (v ∷ vrest) distinct same_front same_rest =
+    let moved : (front ++ x ∷ []) ++ rest ≡ front ++ x ∷ rest = append_assoc front (x ∷ []) rest in
+    let vmoved : (vfront ++ v ∷ []) ++ vrest ≡ vfront ++ v ∷ vrest = append_assoc vfront (v ∷ []) vrest in
+    ap (λ o. value_from (vfront ++ v ∷ vrest) o ∷ map (λ n. value_from (vfront ++ v ∷ vrest) (position (bytes_eq n) (front ++ x ∷ rest))) rest) (at_behind front x rest distinct)
+    ∙ ap (λ m. value_at (vfront ++ v ∷ vrest) m ∷ map (λ n. value_from (vfront ++ v ∷ vrest) (position (bytes_eq n) (front ++ x ∷ rest))) rest) (sym same_front)
+    ∙ ap (λ u. u ∷ map (λ n. value_from (vfront ++ v ∷ vrest) (position (bytes_eq n) (front ++ x ∷ rest))) rest) (value_behind vfront v vrest)
+    ∙ ap (λ l. v ∷ map (λ n. value_from (vfront ++ v ∷ vrest) (position (bytes_eq n) l)) rest) (sym moved)
+    ∙ ap (λ l. v ∷ map (λ n. value_from l (position (bytes_eq n) ((front ++ x ∷ []) ++ rest))) rest) (sym vmoved)
+    ∙ ap (λ l. v ∷ l) (values_behind (front ++ x ∷ []) rest (vfront ++ v ∷ []) vrest (ap are_distinct moved ∙ distinct) (omega (arith, length-append front (x ∷ []), length-append vfront (v ∷ []))) (omega arith))
+
+found_behind : (front rest : List (List ℕ)) → are_distinct (front ++ rest) ≡ true → list_any (λ n. not (is_some (position (bytes_eq n) (front ++ rest)))) rest ≡ false
+found_behind front [] distinct = refl
+found_behind front (x ∷ rest) distinct =
+    let moved : (front ++ x ∷ []) ++ rest ≡ front ++ x ∷ rest = append_assoc front (x ∷ []) rest in
+    ap (λ o. not (is_some o) || list_any (λ n. not (is_some (position (bytes_eq n) (front ++ x ∷ rest)))) rest) (at_behind front x rest distinct)
+    ∙ ap (λ l. list_any (λ n. not (is_some (position (bytes_eq n) l))) rest) (sym moved)
+    ∙ found_behind (front ++ x ∷ []) rest (ap are_distinct moved ∙ distinct)
+
+-- the row of values for all columns in order is these values
+pub row_for-all : (headers : List Header) (row : Row) → AreHeaders headers → length row ≡ length headers → row_for headers (names headers) row ≡ row
+row_for-all headers row valid same =
+    sym (map-map (λ n. value_from row (position (bytes_eq n) (names headers))) (λ h. h.name) headers)
+    ∙ values_behind [] (names headers) [] row valid.distinct refl (same ∙ sym (length-map headers (λ h. h.name)))
+
+pub rows_for-all : (headers : List Header) (rows : List Row) → AreHeaders headers → All (λ row. length row ≡ length headers) rows → map (row_for headers (names headers)) rows ≡ rows
+rows_for-all headers [] valid all = refl
+rows_for-all headers (row ∷ rows) valid all =
+    ap (λ r. r ∷ map (row_for headers (names headers)) rows) (row_for-all headers row valid (All-head (λ r. length r ≡ length headers) row rows all))
+    ∙ ap (λ l. row ∷ l) (rows_for-all headers rows valid (All-tail (λ r. length r ≡ length headers) row rows all))
+
+none_missing : (headers : List Header) → AreHeaders headers → list_any (is_missing headers) (names headers) ≡ false
+none_missing headers valid =
+    (λ j. list_any (λ n. not (is_some (place_of-names headers n j))) (names headers)) ∙ found_behind [] (names headers) valid.distinct
+
+pub some_names : (headers : List Header) → AreHeaders headers → 0 < length (names headers)
+some_names headers valid = omega (arith, length-map headers (λ h. h.name), valid.some)
+
+-- all columns in order pass the tests on a list
+pub all_shown : (headers : List Header) → AreHeaders headers → first_that_holds (shown_tests headers (names headers)) ≡ None
+all_shown headers valid = no_test _ _ _ (none_missing headers valid)
+
+pub all_listed : (headers : List Header) → AreHeaders headers → first_that_holds (listed_tests headers (names headers)) ≡ None
+all_listed headers valid = no_test _ _ _ (none_missing headers valid) ∙ no_test _ _ _ (ap not valid.distinct)
+
+-- the places so far, and the next
+pub next_place : (headers : List Header) (places : List ℕ) (i : ℕ) → AreHeaders headers → i < length headers → map (λ place. Some place) places ≡ take i (map (place_of headers) (names headers)) → map (λ place. Some place) (places ++ i ∷ []) ≡ take (i + 1) (map (place_of headers) (names headers))
+next_place headers places i valid within so_far =
+    let list = names headers in
+    let inside : i < length list = omega (arith, length-map headers (λ h. h.name)) in
+    let room : i < length (map (place_of headers) list) = omega (arith, length-map list (place_of headers)) in
+    map-push (λ place. Some place) places i
+    ∙ ap (λ l. l ++ Some i ∷ []) so_far
+    ∙ ap (λ o. take i (map (place_of headers) list) ++ o ∷ []) (sym (get_or-mapped (place_of headers) list i [] None inside ∙ place_of-names headers (get_or list i []) ∙ place_at list i [] valid.distinct inside))
+    ∙ sym (take_more (map (place_of headers) list) i None room)
+
+-- a line by places is the line by names
+pub line_by_places : (headers : List Header) (list : List (List ℕ)) (places : List ℕ) (row : Row) → map (λ place. Some place) places ≡ map (place_of headers) list → map (λ place. shown (value_at row place)) places ≡ line_of headers list row
+line_by_places headers list places row same =
+    sym (map-map (λ o. shown (value_from row o)) (λ place. Some place) places)
+    ∙ ap (map (λ o. shown (value_from row o))) same
+    ∙ map-map (λ o. shown (value_from row o)) (place_of headers) list
+
+pub row_by_sources : (headers : List Header) (list : List (List ℕ)) (sources : List (Option ℕ)) (row : Row) → sources ≡ map (λ h. position (bytes_eq h.name) list) headers → map (value_from row) sources ≡ row_for headers list row
+row_by_sources headers list sources row same = ap (map (value_from row)) same ∙ map-map (value_from row) (λ h. position (bytes_eq h.name) list) headers
+
+-- the places when all have come
+pub all_places_are : (headers : List Header) (places : List ℕ) (i : ℕ) → i ≤ length headers → length headers ≤ i → map (λ place. Some place) places ≡ take i (map (place_of headers) (names headers)) → map (λ place. Some place) places ≡ map (place_of headers) (names headers)
+all_places_are headers places i low high so_far =
+    so_far ∙ take_all i (map (place_of headers) (names headers)) (omega (arith, length-map (names headers) (place_of headers), length-map headers (λ h. h.name)))
