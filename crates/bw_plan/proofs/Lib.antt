@@ -4,6 +4,5 @@ pub mod Names
 pub mod Places
 pub mod PlanLaws
 pub mod RowLemmas
-pub mod Tables
 pub mod Tests
 pub mod TruthWords

@@ -111,7 +111,7 @@ fn lies_between(value: Value, low: Value, high: Value) -> TruthValue
     compared(CompareOp::Ge, value, low).and(compared(CompareOp::Le, value, high))
 }
 
-#[tactic(auto, using(crate::proofs::Tables::or_of_assoc, crate::proofs::Tables::or_of_false))]
+#[tactic(auto, using(bw_mask::proofs::Tables::or_of_assoc, bw_mask::proofs::Tables::or_of_False))]
 fn is_one_of(value: Value, entries: &[Value]) -> TruthValue
     ensures { result ≡ is_one_of value entries.now }
 {

@@ -4,17 +4,17 @@ use Rattle.bw_mask.specs.declared.truth_value.TruthValue.TheVariants.{True, Fals
 use Rattle.bw_plan.specs.Plans.{AreTruthsBy, plan_of, tested, truth_by}
 use Rattle.bw_plan.proofs.Evaluation.{is_all, joins_next}
 use Rattle.bw_plan.proofs.PlanLaws.{each_split, plan_is, some_split}
-use Rattle.bw_plan.proofs.Tables.{and_of_assoc, and_of_true, or_of_assoc, or_of_false}
+use Rattle.bw_mask.proofs.Tables.{and_of_True, and_of_assoc, or_of_False, or_of_assoc}
 use Rattle.bw_plan.proofs.evaluate.+evaluate_rows.Goals as goal
 
 pub loop-part-preserved : goal.loop-part-preserved
 loop-part-preserved t c =
-    joins_next and_of True and_of_assoc and_of_true refl _ _ _ _ _ _ _ _ c.loop-part.invariant
+    joins_next and_of True and_of_assoc and_of_True refl _ _ _ _ _ _ _ _ c.loop-part.invariant
     (λ i. each_split _ _ _ _ _ c.loop-part-test.true c.part-item.is) c.in_ok-evaluate_rows-in-And.ensures c.and_in.ensures.len c.and_in.ensures.rows
 
 pub loop-part-2-preserved : goal.loop-part-2-preserved
 loop-part-2-preserved t c =
-    joins_next or_of False or_of_assoc or_of_false refl _ _ _ _ _ _ _ _ c.loop-part-2.invariant
+    joins_next or_of False or_of_assoc or_of_False refl _ _ _ _ _ _ _ _ c.loop-part-2.invariant
     (λ i. some_split _ _ _ _ _ c.loop-part-2-test.true c.part-item-in-loop-part-2.is) c.in_ok-evaluate_rows-in-Or.ensures c.or_in.ensures.len c.or_in.ensures.rows
 
 pub returns-in_ok-truth-in-Is : goal.returns-in_ok-truth-in-Is
