@@ -1,16 +1,16 @@
 -- A step keeps a store well formed.
-use Rattle.std.proofs.Common.{◌≡◌, inl, inr, ℕ, ◌+◌, ◌<◌, ◌≤◌, Bool, true, false, ◌&&◌, ◌||◌, not, is_some, IsTrue, List, [], ◌∷◌, ◌++◌, length, map, nat_lt, position, slice_get, Option, None, Some, if◌then◌else◌, zero, suc, refl, sym, ap, subst, ◌∙◌, arith, length-append}
+use Rattle.std.proofs.Common.{◌≡◌, inl, inr, ℕ, ◌+◌, Bool, true, false, ◌&&◌, ◌||◌, not, is_some, IsTrue, List, [], ◌∷◌, ◌++◌, length, map, position, Option, None, Some, if◌then◌else◌, zero, suc, refl, sym, ap, subst, ◌∙◌, arith, length-append}
 use Rattle.std.specs.List.{All, list_all, list_any}
 use Rattle.std.specs.Str.{bytes_eq}
 use Rattle.std.proofs.lemmas.Bool.{ltb-false, not-false, true≢false}
 use Rattle.std.proofs.lemmas.List.{length-map}
 use Rattle.std.proofs.lemmas.List.Elements.{All-append, All-cons, All-head, All-map, All-nil, All-push, All-tail}
-use Rattle.bw_sql.specs.Tree.{ConditionTree, ItemsTree, StatementTree, create_table, insert, select}
+use Rattle.bw_sql.specs.Tree.{StatementTree, create_table, insert, select}
 use Rattle.bw_sql.specs.declared.tree.ColumnDefinition.{ColumnDefinition}
 use Rattle.bw_model.specs.Insert.{row_for, target_columns, with_rows}
 use Rattle.bw_model.specs.Refusals.{first_that_holds, insert_tests, is_in_range, over, tests_of}
 use Rattle.bw_model.specs.Step.{Step, carried_out, refused_or, with_table}
-use Rattle.bw_model.specs.Store.{Header, Row, Store, Table, Value, are_distinct, header_of, row_limit, table_of, value_at, value_from}
+use Rattle.bw_model.specs.Store.{Header, Row, Store, Table, are_distinct, header_of, row_limit, table_of, value_at, value_from}
 use Rattle.bw_model.specs.WellFormed.{IsRow, IsStore, IsTable}
 use Rattle.bw_model.specs.declared.refusal.Refusal.{Refusal}
 use Rattle.bw_model.specs.declared.reply.Reply.{Reply}

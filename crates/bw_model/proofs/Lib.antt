@@ -1,6 +1,7 @@
 pub mod Answered
 pub mod CellTexts
 pub mod Commas
+pub mod ConditionLaws
 pub mod Cuts
 pub mod HeadingTexts
 pub mod Kept

@@ -3,6 +3,7 @@
 
 mod answer;
 mod condition;
+mod condition_laws;
 mod insert;
 mod laws;
 mod refusal;
@@ -15,6 +16,9 @@ mod texts;
 
 pub use answer::{Answer, Cell, Heading};
 pub use condition::{found_rows, truth_at};
+pub use condition_laws::{
+    between_is_two_comparisons, in_is_a_run_of_or, not_in_with_null_finds_nothing,
+};
 pub use laws::{refusals_change_nothing, stores_stay_well_formed, texts_tell_replies};
 pub use refusal::Refusal;
 pub use reply::Reply;
