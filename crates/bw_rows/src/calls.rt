@@ -6,8 +6,8 @@ use bw_mask::TruthValue;
 use bw_model::{Header, Reply, Row, Table, answer_of, found_rows, truth_at};
 use bw_shell::{Folder, FolderFault, MemoryFolder};
 use bw_sql::{
-    CompareOp, CreateTable, Part, Select, Span, SqlFault, Statement, Symbol, Token, TokenKind,
-    Value, parts, tokens,
+    CompareOp, CreateTable, Insert, Part, Select, Span, SqlFault, Statement, Symbol, Token,
+    TokenKind, Value, parts, tokens,
 };
 use std::process::Abort;
 
@@ -49,16 +49,6 @@ fn parts_of_a_script(rt: HostRuntime) {
     );
 }
 
-#[test]
-fn statements_of_texts(rt: HostRuntime) {
-    let select = statement_in(&rt, "SELECT * FROM t");
-    assert!(rt; matches!(select, Statement::Select(_)));
-    let insert = statement_in(&rt, "INSERT INTO t VALUES (1)");
-    assert!(rt; matches!(insert, Statement::Insert(_)));
-    let create = statement_in(&rt, "CREATE TABLE t (a INT)");
-    assert!(rt; matches!(create, Statement::CreateTable(_)));
-}
-
 fn create_in<R: Abort + AllocGlobal>(rt: &R, text: &str) -> CreateTable {
     match statement_in(rt, text) {
         Statement::CreateTable(create) => create,
@@ -71,6 +61,21 @@ fn select_in<R: Abort + AllocGlobal>(rt: &R, text: &str) -> Select {
         Statement::Select(select) => select,
         _ => panic!(rt; "no SELECT"),
     }
+}
+
+fn insert_in<R: Abort + AllocGlobal>(rt: &R, text: &str) -> Insert {
+    match statement_in(rt, text) {
+        Statement::Insert(insert) => insert,
+        _ => panic!(rt; "no INSERT"),
+    }
+}
+
+// Each of these fails where the text says another statement.
+#[test]
+fn statements_of_texts(rt: HostRuntime) {
+    select_in(&rt, "SELECT * FROM t");
+    insert_in(&rt, "INSERT INTO t VALUES (1)");
+    create_in(&rt, "CREATE TABLE t (a INT)");
 }
 
 #[test]
