@@ -9,18 +9,13 @@ without them is taken away. Build bitcol first, by `rt run` in crates/bitcol.
 """
 
 import random
-import shutil
 import subprocess
 import sys
 import time
-from pathlib import Path
 
-HERE = Path(__file__).resolve().parent
-DATA = HERE / "data"
-BITCOL = HERE.parent / "crates" / "bitcol" / "out" / "bitcol"
+from common import MOST, built, data_file, insert, random_row, random_value, sqlite3, written
 
 ROWS_A_STATEMENT = 2_000
-LEAST, MOST = -(2**31), 2**31 - 1
 ROUNDS = 3
 
 
@@ -29,19 +24,18 @@ def inserts(rows):
     yield "CREATE TABLE t (a INTEGER, b INTEGER);\n"
     for start in range(0, rows, ROWS_A_STATEMENT):
         count = min(ROWS_A_STATEMENT, rows - start)
-        tuples = (f"({generator.randint(LEAST, MOST)},{generator.randint(LEAST, MOST)})" for _ in range(count))
-        yield "INSERT INTO t VALUES " + ",".join(tuples) + ";\n"
+        yield insert(written(random_row(generator)) for _ in range(count))
 
 
 def select(predicates):
     """Each predicate but the last is true at nearly all rows, so that each looks at them; the last at none."""
     generator = random.Random(predicates)
-    tests = [f"{generator.choice('ab')} <> {generator.randint(LEAST, MOST)}" for _ in range(predicates - 1)]
+    tests = [f"{generator.choice('ab')} <> {random_value(generator)}" for _ in range(predicates - 1)]
     return "SELECT a FROM t WHERE " + " AND ".join(tests + [f"b > {MOST}"]) + ";\n"
 
 
 def seconds(command, script):
-    path = DATA / "conditions.sql"
+    path = data_file("conditions.sql")
     path.write_text(script)
     best = None
     for _ in range(ROUNDS):
@@ -55,12 +49,9 @@ def seconds(command, script):
 
 def main():
     rows = int(sys.argv[1]) if len(sys.argv) > 1 else 1_000_000
-    if not BITCOL.exists():
-        sys.exit("build bitcol first: rt run, in crates/bitcol")
-    DATA.mkdir(exist_ok=True)
     fill = "".join(inserts(rows))
-    programs = {"bitcol": ([str(BITCOL)], fill)}
-    if sqlite := shutil.which("sqlite3"):
+    programs = {"bitcol": ([built("bitcol")], fill)}
+    if sqlite := sqlite3():
         programs["sqlite3"] = ([sqlite, ":memory:"], "BEGIN;\n" + fill + "COMMIT;\n")
     filled = {name: seconds(command, script) for name, (command, script) in programs.items()}
     for predicates, selects in ((1, 20), (10, 5), (100, 1)):

@@ -12,55 +12,45 @@ import random
 import re
 import subprocess
 import sys
-from pathlib import Path
 
-HERE = Path(__file__).resolve().parent
-DATA = HERE / "data"
-TIMER = HERE.parent / "crates" / "bw_bench" / "out" / "bw_bench"
+from common import built, data_file, insert, random_row, rows_of_a_statement, written
 
 STATEMENTS = 50
-STATEMENT_BYTES = 60_000
 FIGURE = re.compile(r"(\w+) (\d+) ns")
 
 
-def random_row(generator):
-    return f"({generator.randint(-2**31, 2**31 - 1)},{generator.randint(-2**31, 2**31 - 1)})"
+def full_row(generator):
+    return written(random_row(generator))
 
 
 def dense_row(generator):
-    return f"({generator.randint(0, 9)},{generator.randint(0, 9)})"
+    return written((generator.randint(0, 9), generator.randint(0, 9)))
 
 
-def written_row(generator):
+def loose_row(generator):
     values = [generator.choice(["NULL", "+7", "- 12", "300", "-45000"]) for _ in range(3)]
     return f"( {', '.join(values)} )"
 
 
-SCRIPTS = {"random": random_row, "dense": dense_row, "written": written_row}
+SCRIPTS = {"random": full_row, "dense": dense_row, "written": loose_row}
 
 
 def write_script(name, row):
     generator = random.Random(name)
-    path = DATA / f"parsing-{name}.sql"
+    path = data_file(f"parsing-{name}.sql")
     with path.open("w") as out:
         for _ in range(STATEMENTS):
-            rows, length = [], 0
-            while length < STATEMENT_BYTES:
-                rows.append(row(generator))
-                length += len(rows[-1]) + 1
-            out.write("INSERT INTO t VALUES " + ",".join(rows) + ";\n")
+            out.write(insert(rows_of_a_statement(lambda: row(generator))))
     return path
 
 
 def main():
     rounds = int(sys.argv[1]) if len(sys.argv) > 1 else 20
-    if not TIMER.exists():
-        sys.exit("build the timing program first: rt run, in crates/bw_bench")
-    DATA.mkdir(exist_ok=True)
+    timer = built("bw_bench")
     for name, row in SCRIPTS.items():
         path = write_script(name, row)
         with path.open("rb") as script:
-            done = subprocess.run([TIMER, str(rounds)], stdin=script, capture_output=True, text=True, check=True)
+            done = subprocess.run([timer, str(rounds)], stdin=script, capture_output=True, text=True, check=True)
         times = {what: int(nanoseconds) for what, nanoseconds in FIGURE.findall(done.stderr)}
         size = path.stat().st_size * rounds
         for what in ("tokens", "statement"):

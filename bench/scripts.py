@@ -17,14 +17,10 @@ import time
 from dataclasses import dataclass
 from pathlib import Path
 
-HERE = Path(__file__).resolve().parent
-DATA = HERE / "data"
-BITCOL = HERE.parent / "crates" / "bitcol" / "out" / "bitcol"
+from common import LEAST, MOST, built, data_file, insert, random_row, rows_of_a_statement, sqlite3, written
 
 MEGABYTE = 1_000_000
-STATEMENT_BYTES = 60_000
 ROUNDS = 5
-LEAST, MOST = -(2**31), 2**31 - 1
 # The values of the first column are spread evenly, so that 1% of them lie below this.
 BOUND = LEAST + (MOST - LEAST + 1) // 100
 
@@ -46,27 +42,23 @@ class Run:
     found: int
 
 
-def rows_of(generator):
-    while True:
-        yield generator.randint(LEAST, MOST), generator.randint(LEAST, MOST)
-
-
 def write_script(megabytes):
     """A script of about this size; the same one each time."""
-    path = DATA / f"rows-{megabytes}.sql"
-    rows = rows_of(random.Random(megabytes))
+    path = data_file(f"rows-{megabytes}.sql")
+    generator = random.Random(megabytes)
     size = count = found = 0
+
+    def next_row():
+        nonlocal count, found
+        row = random_row(generator)
+        count += 1
+        found += row[0] < BOUND
+        return written(row)
+
     with path.open("w") as out:
         size += out.write("CREATE TABLE t (a INTEGER, b INTEGER);\n")
         while size < megabytes * MEGABYTE:
-            tuples, length = [], 0
-            while length < STATEMENT_BYTES:
-                a, b = next(rows)
-                tuples.append(f"({a},{b})")
-                length += len(tuples[-1]) + 1
-                found += a < BOUND
-            count += len(tuples)
-            size += out.write("INSERT INTO t VALUES " + ",".join(tuples) + ";\n")
+            size += out.write(insert(rows_of_a_statement(next_row)))
         out.write(f"SELECT a, b FROM t WHERE a < {BOUND};\n")
     return Script(path, count, found)
 
@@ -78,7 +70,7 @@ def best_of(command, source, found_in):
 
 def timed(command, source, found_in):
     """Runs the command over the file, and reads how many rows it found from its last lines."""
-    answers = DATA / "answers"
+    answers = data_file("answers")
     with source.open("rb") as stdin, answers.open("wb") as stdout:
         start = time.perf_counter()
         child = subprocess.Popen(command, stdin=stdin, stdout=stdout)
@@ -127,12 +119,8 @@ def report(name, run, script, beside=None):
 
 def main():
     sizes = [int(word) for word in sys.argv[1:]] or [1, 10, 100]
-    if not BITCOL.exists():
-        sys.exit("build bitcol first: rt run, in crates/bitcol")
-    DATA.mkdir(exist_ok=True)
-    sqlite = shutil.which("sqlite3")
-    if sqlite is None:
-        print("sqlite3 is not there: bitcol alone")
+    bitcol = built("bitcol")
+    sqlite = sqlite3()
     for size in sizes:
         script = write_script(size)
         beside = None
@@ -140,7 +128,7 @@ def main():
             beside = best_of([sqlite, ":memory:"], sqlite_script(script), sqlite_found)
             check("sqlite3", beside, script)
             report("sqlite3", beside, script)
-        run = best_of([str(BITCOL)], script.path, bitcol_found)
+        run = best_of([bitcol], script.path, bitcol_found)
         check("bitcol", run, script)
         report("bitcol", run, script, beside)
 

@@ -1,13 +1,15 @@
 //! Each call that may want memory, seen answering.
 
+use crate::harness::statement_in;
 use bw_engine::{Engine, FileAnswer};
 use bw_mask::TruthValue;
 use bw_model::{Header, Reply, Row, Table, answer_of, found_rows, truth_at};
 use bw_shell::{Folder, FolderFault, MemoryFolder};
 use bw_sql::{
-    CompareOp, Part, Span, SqlFault, Statement, Symbol, Token, TokenKind, parts, statement, tokens,
+    CompareOp, CreateTable, Insert, Part, Select, Span, SqlFault, Statement, Symbol, Token,
+    TokenKind, Value, parts, tokens,
 };
-use std::test::Fail;
+use std::process::Abort;
 
 fn token(kind: TokenKind, start: usize, end: usize) -> Token {
     Token {
@@ -17,8 +19,8 @@ fn token(kind: TokenKind, start: usize, end: usize) -> Token {
 }
 
 #[test]
-fn tokens_of_a_text(rt: HostRuntime) -> Result<(), Fail> {
-    let found = tokens(rt.alloc(), b"a<>-12 'it''s'--x\n>=")?;
+fn tokens_of_a_text(rt: HostRuntime) {
+    let found = tokens(rt.alloc(), b"a<>-12 'it''s'--x\n>=").expect(&rt, "tokens");
     assert_eq!(rt;
         found.as_slice(),
         [
@@ -32,12 +34,11 @@ fn tokens_of_a_text(rt: HostRuntime) -> Result<(), Fail> {
         .as_slice()
     );
     assert_eq!(rt; tokens(rt.alloc(), b"12a").err(), Some(SqlFault::Syntax));
-    Ok(())
 }
 
 #[test]
-fn parts_of_a_script(rt: HostRuntime) -> Result<(), Fail> {
-    let found = parts(rt.alloc(), b"a; ;'b;' ; c")?;
+fn parts_of_a_script(rt: HostRuntime) {
+    let found = parts(rt.alloc(), b"a; ;'b;' ; c").expect(&rt, "parts");
     let part = |start, end, is_closed| Part {
         span: Span { start, end },
         is_closed,
@@ -46,69 +47,75 @@ fn parts_of_a_script(rt: HostRuntime) -> Result<(), Fail> {
         found.as_slice(),
         [part(0, 1, true), part(4, 9, true), part(10, 12, false)].as_slice()
     );
-    Ok(())
+}
+
+fn create_in<R: Abort + AllocGlobal>(rt: &R, text: &str) -> CreateTable {
+    match statement_in(rt, text) {
+        Statement::CreateTable(create) => create,
+        _ => panic!(rt; "no CREATE TABLE"),
+    }
+}
+
+fn select_in<R: Abort + AllocGlobal>(rt: &R, text: &str) -> Select {
+    match statement_in(rt, text) {
+        Statement::Select(select) => select,
+        _ => panic!(rt; "no SELECT"),
+    }
+}
+
+fn insert_in<R: Abort + AllocGlobal>(rt: &R, text: &str) -> Insert {
+    match statement_in(rt, text) {
+        Statement::Insert(insert) => insert,
+        _ => panic!(rt; "no INSERT"),
+    }
+}
+
+// Each of these fails where the text says another statement.
+#[test]
+fn statements_of_texts(rt: HostRuntime) {
+    select_in(&rt, "SELECT * FROM t");
+    insert_in(&rt, "INSERT INTO t VALUES (1)");
+    create_in(&rt, "CREATE TABLE t (a INT)");
 }
 
 #[test]
-fn statements_of_texts(rt: HostRuntime) -> Result<(), Fail> {
-    assert!(rt;
-        matches!(
-            statement(rt.alloc(), b"SELECT * FROM t")?,
-            Statement::Select(_)
-        )
-    );
-    assert!(rt;
-        matches!(
-            statement(rt.alloc(), b"INSERT INTO t VALUES (1)")?,
-            Statement::Insert(_)
-        )
-    );
-    assert!(rt;
-        matches!(
-            statement(rt.alloc(), b"CREATE TABLE t (a INT)")?,
-            Statement::CreateTable(_)
-        )
-    );
-    Ok(())
-}
-
-#[test]
-fn a_name_is_copied(rt: HostRuntime) -> Result<(), Fail> {
-    let Statement::CreateTable(create) = statement(rt.alloc(), b"create table Visits (day int)")?
-    else {
-        return Err(Fail::from("no CREATE TABLE"));
-    };
-    let copy = create.table.try_clone(rt.alloc())?;
+fn a_name_is_copied(rt: HostRuntime) {
+    let create = create_in(&rt, "create table Visits (day int)");
+    let copy = create.table.try_clone(rt.alloc()).expect(&rt, "memory");
     assert_eq!(rt; copy.as_bytes(), b"VISITS".as_slice());
     assert_eq!(rt; copy, create.table);
-    Ok(())
+}
+
+/// A table of one column, with rows of these values.
+fn table_of<R: Abort + AllocGlobal>(rt: &R, create: &CreateTable, values: &[Value]) -> Table {
+    let mut headers = Vec::new(rt.alloc());
+    for column in &create.columns {
+        let header = Header::new(rt.alloc(), column).expect(rt, "memory");
+        headers.push(header).expect(rt, "memory");
+    }
+    assert_eq!(rt; headers.len(), 1);
+    let mut rows = Vec::new(rt.alloc());
+    for value in values {
+        let row = vec![in rt.alloc(); *value].expect(rt, "memory");
+        rows.push(Row::new(row)).expect(rt, "memory");
+    }
+    let mut table = Table::new(rt.alloc(), headers);
+    table.append(rows).expect(rt, "memory");
+    table
 }
 
 #[test]
-fn the_plain_program_answers(rt: HostRuntime) -> Result<(), Fail> {
-    let alloc = rt.alloc();
-    let Statement::CreateTable(create) = statement(alloc, b"CREATE TABLE t (a INT)")? else {
-        return Err(Fail::from("no CREATE TABLE"));
-    };
-    let mut headers = Vec::new(alloc);
-    for column in &create.columns {
-        headers.push(Header::new(alloc, column)?)?;
-    }
-    assert_eq!(rt; headers.len(), 1);
-    let mut table = Table::new(alloc, headers);
-    let mut rows = Vec::new(alloc);
-    for value in [Some(3), None, Some(-1)] {
-        rows.push(Row::new(vec![in alloc; value]?))?;
-    }
-    table.append(rows)?;
-    let Statement::Select(select) = statement(alloc, b"SELECT a FROM t WHERE a < 3")? else {
-        return Err(Fail::from("no SELECT"));
-    };
-    let found = found_rows(alloc, &table, &select.condition)?;
+fn the_plain_program_answers(rt: HostRuntime) {
+    let create = create_in(&rt, "CREATE TABLE t (a INT)");
+    let table = table_of(&rt, &create, &[Some(3), None, Some(-1)]);
+    let select = select_in(&rt, "SELECT a FROM t WHERE a < 3");
+    let found = found_rows(rt.alloc(), &table, &select.condition).expect(&rt, "memory");
     assert_eq!(rt; found.len(), 1);
-    let answer = answer_of(alloc, &table, &select.items, &select.condition)?;
+    let answer = answer_of(rt.alloc(), &table, &select.items, &select.condition).expect(
+        &rt, "memory",
+    );
     assert_eq!(rt; answer.line_count(), 1);
-    let condition = select.condition.as_ref().ok_or("no condition")?;
+    let condition = select.condition.as_ref().expect(&rt, "a condition");
     for (row, truth) in table
         .rows()
         .iter()
@@ -116,38 +123,35 @@ fn the_plain_program_answers(rt: HostRuntime) -> Result<(), Fail> {
     {
         assert_eq!(rt; truth_at(table.headers(), row, condition), truth);
     }
-    Ok(())
 }
 
 #[test]
-fn an_engine_executes(rt: HostRuntime) -> Result<(), Fail> {
-    let mut engine = Engine::new(rt.alloc())?;
-    let create = statement(rt.alloc(), b"CREATE TABLE t (a INT)")?;
+fn an_engine_executes(rt: HostRuntime) {
+    let mut engine = Engine::new(rt.alloc()).expect(&rt, "memory");
+    let create = statement_in(&rt, "CREATE TABLE t (a INT)");
     assert_eq!(rt; engine.wants(&create), None);
     assert!(rt; matches!(engine.execute(create, FileAnswer::NotAsked), Reply::Done));
-    let insert = statement(rt.alloc(), b"INSERT INTO t VALUES (1), (NULL)")?;
+    let insert = statement_in(&rt, "INSERT INTO t VALUES (1), (NULL)");
     assert!(rt;
         matches!(
             engine.execute(insert, FileAnswer::NotAsked),
             Reply::Count(2)
         )
     );
-    let select = statement(rt.alloc(), b"SELECT a FROM t")?;
-    let Reply::Rows(answer) = engine.execute(select, FileAnswer::NotAsked) else {
-        return Err(Fail::from("no rows"));
-    };
-    assert_eq!(rt; answer.line_count(), 2);
-    Ok(())
+    let select = statement_in(&rt, "SELECT a FROM t");
+    match engine.execute(select, FileAnswer::NotAsked) {
+        Reply::Rows(answer) => assert_eq!(rt; answer.line_count(), 2),
+        _ => panic!(&rt; "no rows"),
+    }
 }
 
 #[test]
-fn a_folder_keeps_files(rt: HostRuntime) -> Result<(), Fail> {
+fn a_folder_keeps_files(rt: HostRuntime) {
     let mut folder = MemoryFolder::new(rt.alloc());
     assert_eq!(rt; folder.read("f", 10).err(), Some(FolderFault::Missing));
     assert_eq!(rt; folder.write("f", b"abc"), Ok(()));
     assert_eq!(rt; folder.read("f", 2).err(), Some(FolderFault::TooLarge));
-    let bytes = folder.read("f", 3).ok().ok_or("no file")?;
+    let bytes = folder.read("f", 3).expect(&rt, "a file");
     assert_eq!(rt; bytes.as_slice(), b"abc".as_slice());
     assert_eq!(rt; folder.failures(), 0);
-    Ok(())
 }

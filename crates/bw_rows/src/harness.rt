@@ -1,69 +1,74 @@
-//! Runs a script over bytes in memory, and by the plain program.
+//! Runs a script over bytes in memory, and by the plain program. Where memory is wanting, a test fails.
 
 use bw_model::{Refusal, Reply, Store, reply_text, step};
 use bw_shell::{MemoryFolder, OnError, RunEnd, run};
-use bw_sql::{LONGEST_STATEMENT, parts, statement};
-use std::alloc::{AllocError, Global};
+use bw_sql::{LONGEST_STATEMENT, Statement, parts, statement};
+use std::alloc::Global;
+use std::io::{Read, Write};
+use std::ops::Range;
 use std::process::Abort;
 
 /// A script and the replies to it.
 pub(crate) type Example = (&'static str, &'static str);
 
-/// What a run wrote, and how it ended.
-#[derive(Drop)]
-pub(crate) struct Written {
-    pub(crate) output: Vec<u8>,
-    pub(crate) end: RunEnd,
+/// Runs what a reader gives over an empty folder.
+pub(crate) fn run_over<I: Read, O: Write>(
+    alloc: Global,
+    reader: &mut I,
+    writer: &mut O,
+    on_error: OnError,
+) -> RunEnd {
+    let mut folder = MemoryFolder::new(alloc);
+    run(alloc, reader, writer, &mut folder, on_error)
 }
 
-/// Runs a script from its first byte to its last.
-pub(crate) fn run_script(alloc: Global, script: &[u8], on_error: OnError) -> Written {
-    let mut reader = script;
-    let mut output = Vec::new(alloc);
-    let mut folder = MemoryFolder::new(alloc);
-    let end = run(alloc, &mut reader, &mut output, &mut folder, on_error);
-    Written { output, end }
+/// The statement that a text says.
+pub(crate) fn statement_in<R: Abort + AllocGlobal>(rt: &R, text: &str) -> Statement {
+    statement(rt.alloc(), text.as_bytes()).expect(rt, text)
 }
 
 /// What the plain program answers to a script: its step for each statement, over lists of rows.
-fn plain_output<R: Abort + AllocGlobal>(rt: &R, script: &[u8]) -> Result<Vec<u8>, AllocError> {
-    let alloc = rt.alloc();
-    let mut store = Store::new(alloc);
-    let mut output = Vec::new(alloc);
-    for part in parts(alloc, script)?.as_slice() {
+fn plain_output<R: Abort + AllocGlobal>(rt: &R, script: &[u8]) -> Vec<u8> {
+    let mut store = Store::new(rt.alloc());
+    let mut output = Vec::new(rt.alloc());
+    let parts = parts(rt.alloc(), script).expect(rt, "memory");
+    for part in &parts {
         let text = script
             .get(part.span.start..part.span.end)
             .expect(rt, "a part of the script");
-        let reply = plain_reply(alloc, &mut store, text, part.is_closed)?;
-        output.append(&mut reply_text(alloc, &reply)?)?;
+        let reply = plain_reply(rt, &mut store, text, part.is_closed);
+        let mut text = reply_text(rt.alloc(), &reply).expect(rt, "memory");
+        output.append(&mut text).expect(rt, "memory");
     }
-    Ok(output)
+    output
 }
 
-fn plain_reply(
-    alloc: Global,
+fn plain_reply<R: Abort + AllocGlobal>(
+    rt: &R,
     store: &mut Store,
     text: &[u8],
     is_closed: bool,
-) -> Result<Reply, AllocError> {
+) -> Reply {
     if text.len() > LONGEST_STATEMENT {
-        return Ok(Reply::Refused(Refusal::StatementTooLong));
+        return Reply::Refused(Refusal::StatementTooLong);
     }
     if !is_closed {
-        return Ok(Reply::Refused(Refusal::Syntax));
+        return Reply::Refused(Refusal::Syntax);
     }
-    match statement(alloc, text) {
-        Ok(statement) => step(alloc, store, &statement),
-        Err(fault) => Ok(Reply::Refused(Refusal::from(fault))),
+    match statement(rt.alloc(), text) {
+        Ok(statement) => step(rt.alloc(), store, &statement).expect(rt, "memory"),
+        Err(fault) => Reply::Refused(Refusal::from(fault)),
     }
 }
 
 /// Checks that a script gets these replies, from the run and from the plain program.
 pub(crate) fn check_script<R: Abort + AllocGlobal>(rt: &R, script: &str, replies: &str) {
-    let written = run_script(rt.alloc(), script.as_bytes(), OnError::Continue);
-    assert_eq!(rt; written.end, RunEnd::Done, "{script}");
-    assert_eq!(rt; written.output.as_slice(), replies.as_bytes(), "{script}");
-    let plain = plain_output(rt, script.as_bytes()).expect(rt, "memory");
+    let mut reader = script.as_bytes();
+    let mut output = Vec::new(rt.alloc());
+    let end = run_over(rt.alloc(), &mut reader, &mut output, OnError::Continue);
+    assert_eq!(rt; end, RunEnd::Done, "{script}");
+    assert_eq!(rt; output.as_slice(), replies.as_bytes(), "{script}");
+    let plain = plain_output(rt, script.as_bytes());
     assert_eq!(rt; plain.as_slice(), replies.as_bytes(), "{script}");
 }
 
@@ -74,11 +79,38 @@ pub(crate) fn check_examples<R: Abort + AllocGlobal>(rt: &R, examples: &[Example
     }
 }
 
-/// A text so many times, one behind the other.
-pub(crate) fn repeated(alloc: Global, text: &str, times: usize) -> Result<String, AllocError> {
-    let mut all = String::new(alloc);
-    for _ in 0..times {
-        all.push_str(text)?;
+/// Checks that a script gets these replies, which is made of pieces, each so many times.
+pub(crate) fn check_pieces<R: Abort + AllocGlobal>(
+    rt: &R,
+    pieces: &[(&str, usize)],
+    replies: &str,
+) {
+    let script = joined(rt, pieces);
+    check_script(rt, script.as_str(), replies);
+}
+
+/// Pieces, each so many times, one behind the other.
+pub(crate) fn joined<R: Abort + AllocGlobal>(rt: &R, pieces: &[(&str, usize)]) -> String {
+    let mut text = String::new(rt.alloc());
+    for (piece, times) in pieces {
+        for _ in 0..*times {
+            text.push_str(piece).expect(rt, "memory");
+        }
     }
-    Ok(all)
+    text
+}
+
+/// Each number between two texts, one behind the other.
+pub(crate) fn numbered<R: Abort + AllocGlobal>(
+    rt: &R,
+    before: &str,
+    numbers: Range<u32>,
+    after: &str,
+) -> String {
+    let mut text = String::new(rt.alloc());
+    for number in numbers {
+        let piece = format!(in rt.alloc(); "{before}{number}{after}").expect(rt, "memory");
+        text.push_str(piece.as_str()).expect(rt, "memory");
+    }
+    text
 }

@@ -2,8 +2,7 @@
 
 use bw_mask::TruthValue::{False, True, Unknown};
 use bw_mask::{Mask, Truth, TruthValue};
-use std::alloc::{AllocError, Global};
-use std::test::Fail;
+use std::process::Abort;
 
 /// Two sides, their AND and their OR.
 const TABLES: [(TruthValue, TruthValue, TruthValue, TruthValue); 9] = [
@@ -25,13 +24,15 @@ const TESTS: [(TruthValue, TruthValue, bool, bool, bool); 3] = [
     (Unknown, Unknown, false, false, true),
 ];
 
-/// One row more.
-fn add(mask: &mut Mask, bit: bool) -> Result<(), AllocError> {
-    if mask.len() < 1000 {
-        mask.reserve(1)?;
-        mask.push(bit);
-    }
-    Ok(())
+/// So many rows of one truth.
+fn rows_of<R: Abort + AllocGlobal>(rt: &R, truth: TruthValue) -> Truth {
+    Truth::filled(rt.alloc(), 70, truth).expect(rt, "memory")
+}
+
+/// So many rows, all in or all out.
+fn mask_of<R: Abort + AllocGlobal>(rt: &R, rows: usize, bit: bool) -> Mask {
+    assert!(rt; rows < 1000);
+    Mask::filled(rt.alloc(), rows, bit).expect(rt, "memory")
 }
 
 /// The truth at a row, where there is such a row.
@@ -44,47 +45,44 @@ fn at_row(truths: &Truth, row: usize) -> Option<TruthValue> {
 }
 
 /// AND, at the last of 70 rows.
-fn and_of_rows(
-    alloc: Global,
+fn and_of_rows<R: Abort + AllocGlobal>(
+    rt: &R,
     left: TruthValue,
     right: TruthValue,
-) -> Result<Option<TruthValue>, AllocError> {
-    let mut truths = Truth::filled(alloc, 70, left)?;
-    let other = Truth::filled(alloc, 70, right)?;
-    if truths.len() == other.len() {
-        truths.and_in(&other);
-    }
-    Ok(at_row(&truths, 69))
+) -> Option<TruthValue> {
+    let mut truths = rows_of(rt, left);
+    let other = rows_of(rt, right);
+    assert_eq!(rt; truths.len(), other.len());
+    truths.and_in(&other);
+    at_row(&truths, 69)
 }
 
 /// OR, at the last of 70 rows.
-fn or_of_rows(
-    alloc: Global,
+fn or_of_rows<R: Abort + AllocGlobal>(
+    rt: &R,
     left: TruthValue,
     right: TruthValue,
-) -> Result<Option<TruthValue>, AllocError> {
-    let mut truths = Truth::filled(alloc, 70, left)?;
-    let other = Truth::filled(alloc, 70, right)?;
-    if truths.len() == other.len() {
-        truths.or_in(&other);
-    }
-    Ok(at_row(&truths, 69))
+) -> Option<TruthValue> {
+    let mut truths = rows_of(rt, left);
+    let other = rows_of(rt, right);
+    assert_eq!(rt; truths.len(), other.len());
+    truths.or_in(&other);
+    at_row(&truths, 69)
 }
 
 /// IS FALSE, or where negated IS NOT FALSE, at a row of 70, where the first alone is needed.
-fn is_false_of_rows(
-    alloc: Global,
+fn is_false_of_rows<R: Abort + AllocGlobal>(
+    rt: &R,
     truth: TruthValue,
     negated: bool,
     row: usize,
-) -> Result<Option<TruthValue>, AllocError> {
-    let mut truths = Truth::filled(alloc, 70, truth)?.try_clone()?;
-    let mut need = Mask::filled(alloc, 70, false)?;
+) -> Option<TruthValue> {
+    let mut truths = rows_of(rt, truth).try_clone().expect(rt, "memory");
+    let mut need = mask_of(rt, 70, false);
     need.put_bits(0, 1, 1);
-    if need.len() == truths.len() {
-        truths.is_test_in(False, negated, &need);
-    }
-    Ok(at_row(&truths, row))
+    assert_eq!(rt; need.len(), truths.len());
+    truths.is_test_in(False, negated, &need);
+    at_row(&truths, row)
 }
 
 #[test]
@@ -106,72 +104,65 @@ fn tables_of_not_and_is(rt: HostRuntime) {
 }
 
 #[test]
-fn and_and_or_of_rows(rt: HostRuntime) -> Result<(), Fail> {
+fn and_and_or_of_rows(rt: HostRuntime) {
     for (left, right, and, or) in TABLES {
-        assert_eq!(rt; and_of_rows(rt.alloc(), left, right)?, Some(and));
-        assert_eq!(rt; or_of_rows(rt.alloc(), left, right)?, Some(or));
+        assert_eq!(rt; and_of_rows(&rt, left, right), Some(and));
+        assert_eq!(rt; or_of_rows(&rt, left, right), Some(or));
     }
-    Ok(())
 }
 
 #[test]
-fn is_tests_of_rows(rt: HostRuntime) -> Result<(), Fail> {
+fn is_tests_of_rows(rt: HostRuntime) {
     for (truth, is, is_not) in [
         (True, False, True),
         (False, True, False),
         (Unknown, False, True),
     ] {
-        assert_eq!(rt; is_false_of_rows(rt.alloc(), truth, false, 0)?, Some(is));
-        assert_eq!(rt; is_false_of_rows(rt.alloc(), truth, true, 0)?, Some(is_not));
-        assert_eq!(rt;
-            is_false_of_rows(rt.alloc(), truth, true, 1)?,
-            Some(Unknown)
-        );
+        assert_eq!(rt; is_false_of_rows(&rt, truth, false, 0), Some(is));
+        assert_eq!(rt; is_false_of_rows(&rt, truth, true, 0), Some(is_not));
+        assert_eq!(rt; is_false_of_rows(&rt, truth, true, 1), Some(Unknown));
     }
-    Ok(())
 }
 
 #[test]
-fn rows_of_a_mask(rt: HostRuntime) -> Result<(), Fail> {
-    let mut mask = Mask::filled(rt.alloc(), 70, true)?;
+fn rows_of_a_mask(rt: HostRuntime) {
+    let mut mask = mask_of(&rt, 70, true);
     assert_eq!(rt; mask.words(), [u64::MAX, 0x3f].as_slice());
     mask.complement_in();
     assert!(rt; !mask.any());
     mask.put_bits(62, 4, 0b1011);
     mask.put_bits(68, 64, u64::MAX);
-    add(&mut mask, true)?;
+    assert_eq!(rt; mask.len(), 70);
+    mask.reserve(1).expect(&rt, "memory");
+    mask.push(true);
     assert_eq!(rt; mask.words(), [0xc000_0000_0000_0000, 0x72].as_slice());
     assert_eq!(rt; (mask.len(), mask.count()), (71, 6));
-    Ok(())
 }
 
 #[test]
-fn bits_of_a_mask(rt: HostRuntime) -> Result<(), Fail> {
-    let mut mask = Mask::filled(rt.alloc(), 71, false)?;
+fn bits_of_a_mask(rt: HostRuntime) {
+    let mut mask = mask_of(&rt, 71, false);
     mask.put_bits(60, 11, 0x72c);
     assert_eq!(rt; mask.bits(60, 64), 0x72c);
     assert_eq!(rt; mask.bits(60, 6), 0x2c);
     assert_eq!(rt; mask.next_from(0), Some(62));
     assert_eq!(rt; mask.next_from(64), Some(65));
     assert_eq!(rt; mask.next_from(71), None);
-    Ok(())
 }
 
 #[test]
-fn two_masks(rt: HostRuntime) -> Result<(), Fail> {
-    let mut left = Mask::filled(rt.alloc(), 4, false)?;
+fn two_masks(rt: HostRuntime) {
+    let mut left = mask_of(&rt, 4, false);
     left.put_bits(0, 4, 0b1100);
-    let mut right = Mask::filled(rt.alloc(), 4, false)?;
+    let mut right = mask_of(&rt, 4, false);
     right.put_bits(0, 4, 0b1010);
-    let mut both = left.try_clone()?;
-    let mut one = left.try_clone()?;
-    if right.len() == both.len() && right.len() == left.len() && right.len() == one.len() {
-        both.and_in(&right);
-        left.or_in(&right);
-        one.andnot_in(&right);
-    }
+    let mut both = left.try_clone().expect(&rt, "memory");
+    let mut one = left.try_clone().expect(&rt, "memory");
+    assert!(rt; right.len() == both.len() && right.len() == left.len() && right.len() == one.len());
+    both.and_in(&right);
+    left.or_in(&right);
+    one.andnot_in(&right);
     assert_eq!(rt; both.words(), [0b1000].as_slice());
     assert_eq!(rt; left.words(), [0b1110].as_slice());
     assert_eq!(rt; one.words(), [0b0100].as_slice());
-    Ok(())
 }

@@ -1,7 +1,6 @@
 //! Tables made, filled and read.
 
-use crate::harness::{check_examples, check_script};
-use std::test::Fail;
+use crate::harness::{check_examples, check_pieces, numbered};
 
 #[test]
 fn rows_that_meet_a_comparison(rt: HostRuntime) {
@@ -63,15 +62,18 @@ fn the_ends_of_the_type(rt: HostRuntime) {
 }
 
 #[test]
-fn two_hundred_and_fifty_seven_rows(rt: HostRuntime) -> Result<(), Fail> {
-    let mut script = String::from_str(
-        rt.alloc(),
-        "CREATE TABLE t (a INT USING V); INSERT INTO t VALUES (0)",
-    )?;
-    for i in 1..257u32 {
-        script.push_str(format!(in rt.alloc(); ",({i})")?.as_str())?;
-    }
-    script.push_str("; SELECT a FROM t WHERE a >= 255;")?;
-    check_script(&rt, script.as_str(), "ok\nok 257\nA\n255\n256\nrows 2\n");
-    Ok(())
+fn two_hundred_and_fifty_seven_rows(rt: HostRuntime) {
+    let others = numbered(&rt, ",(", 1..257, ")");
+    check_pieces(
+        &rt,
+        &[
+            (
+                "CREATE TABLE t (a INT USING V); INSERT INTO t VALUES (0)",
+                1,
+            ),
+            (others.as_str(), 1),
+            ("; SELECT a FROM t WHERE a >= 255;", 1),
+        ],
+        "ok\nok 257\nA\n255\n256\nrows 2\n",
+    );
 }

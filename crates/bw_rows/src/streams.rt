@@ -1,8 +1,10 @@
 //! Readers and writers that give or take a few bytes at a time, and fail.
 
-use bw_shell::{MemoryFolder, OnError, RunEnd, run};
+use crate::harness::run_over;
+use bw_shell::{OnError, RunEnd};
 use std::io;
 use std::io::{ErrorKind, Read, Write};
+use std::process::Abort;
 
 const SCRIPT: &[u8] =
     b"CREATE TABLE t (a INTEGER); INSERT INTO t VALUES (3), (NULL), (-1); SELECT a FROM t WHERE a < 3;";
@@ -56,84 +58,6 @@ impl Write for FullWriter {
     }
 }
 
-#[test]
-fn a_writer_that_takes_four_bytes(rt: HostRuntime) {
-    for step in 1..5 {
-        let mut reader = SCRIPT;
-        let mut writer = FullWriter {
-            taken: Vec::new(rt.alloc()),
-            room: 4,
-            step,
-        };
-        let mut folder = MemoryFolder::new(rt.alloc());
-        let end = run(
-            rt.alloc(),
-            &mut reader,
-            &mut writer,
-            &mut folder,
-            OnError::Continue,
-        );
-        assert_eq!(rt; end, RunEnd::WriteFault);
-        assert_eq!(rt; writer.taken.as_slice(), b"ok\no".as_slice());
-    }
-}
-
-#[test]
-fn a_reader_that_fails_behind_a_cut(rt: HostRuntime) {
-    for step in [1, 5, 27] {
-        let mut reader = FailingReader {
-            rest: b"CREATE TABLE t (a INTEGER);",
-            step,
-        };
-        let mut output = Vec::new(rt.alloc());
-        let mut folder = MemoryFolder::new(rt.alloc());
-        let end = run(
-            rt.alloc(),
-            &mut reader,
-            &mut output,
-            &mut folder,
-            OnError::Continue,
-        );
-        assert_eq!(rt; end, RunEnd::ReadFault);
-        assert_eq!(rt; output.as_slice(), b"ok\n".as_slice());
-    }
-}
-
-#[test]
-fn a_reader_that_fails_before_a_cut(rt: HostRuntime) {
-    let mut reader = FailingReader {
-        rest: b"CREATE TABLE t (a INTEGER); SELECT a FROM t",
-        step: 7,
-    };
-    let mut output = Vec::new(rt.alloc());
-    let mut folder = MemoryFolder::new(rt.alloc());
-    let end = run(
-        rt.alloc(),
-        &mut reader,
-        &mut output,
-        &mut folder,
-        OnError::Continue,
-    );
-    assert_eq!(rt; end, RunEnd::ReadFault);
-    assert_eq!(rt; output.as_slice(), b"ok\n".as_slice());
-}
-
-#[test]
-fn a_stop_at_the_first_error(rt: HostRuntime) {
-    let mut reader: &[u8] = b"SELECT a FROM t; CREATE TABLE t (a INT);";
-    let mut output = Vec::new(rt.alloc());
-    let mut folder = MemoryFolder::new(rt.alloc());
-    let end = run(
-        rt.alloc(),
-        &mut reader,
-        &mut output,
-        &mut folder,
-        OnError::Stop,
-    );
-    assert_eq!(rt; end, RunEnd::Stopped);
-    assert_eq!(rt; output.as_slice(), b"error 20: no such table\n".as_slice());
-}
-
 // Takes everything, and fails at a later flush.
 #[derive(Drop)]
 struct UnflushedWriter {
@@ -156,6 +80,79 @@ impl Write for UnflushedWriter {
     }
 }
 
+// Checks how a run over what a reader gives ends, and what it writes.
+fn check_reader<R: Abort + AllocGlobal, I: Read>(
+    rt: &R,
+    reader: &mut I,
+    on_error: OnError,
+    end: RunEnd,
+    replies: &[u8],
+) {
+    let mut output = Vec::new(rt.alloc());
+    let found = run_over(rt.alloc(), reader, &mut output, on_error);
+    assert_eq!(rt; found, end);
+    assert_eq!(rt; output.as_slice(), replies);
+}
+
+#[test]
+fn a_writer_that_takes_four_bytes(rt: HostRuntime) {
+    for step in 1..5 {
+        let mut reader = SCRIPT;
+        let mut writer = FullWriter {
+            taken: Vec::new(rt.alloc()),
+            room: 4,
+            step,
+        };
+        let end = run_over(rt.alloc(), &mut reader, &mut writer, OnError::Continue);
+        assert_eq!(rt; end, RunEnd::WriteFault);
+        assert_eq!(rt; writer.taken.as_slice(), b"ok\no".as_slice());
+    }
+}
+
+#[test]
+fn a_reader_that_fails_behind_a_cut(rt: HostRuntime) {
+    for step in [1, 5, 27] {
+        let mut reader = FailingReader {
+            rest: b"CREATE TABLE t (a INTEGER);",
+            step,
+        };
+        check_reader(
+            &rt,
+            &mut reader,
+            OnError::Continue,
+            RunEnd::ReadFault,
+            b"ok\n",
+        );
+    }
+}
+
+#[test]
+fn a_reader_that_fails_before_a_cut(rt: HostRuntime) {
+    let mut reader = FailingReader {
+        rest: b"CREATE TABLE t (a INTEGER); SELECT a FROM t",
+        step: 7,
+    };
+    check_reader(
+        &rt,
+        &mut reader,
+        OnError::Continue,
+        RunEnd::ReadFault,
+        b"ok\n",
+    );
+}
+
+#[test]
+fn a_stop_at_the_first_error(rt: HostRuntime) {
+    let mut reader: &[u8] = b"SELECT a FROM t; CREATE TABLE t (a INT);";
+    check_reader(
+        &rt,
+        &mut reader,
+        OnError::Stop,
+        RunEnd::Stopped,
+        b"error 20: no such table\n",
+    );
+}
+
 #[test]
 fn a_flush_that_fails_behind_a_reply(rt: HostRuntime) {
     for (flushes_left, taken, end) in [
@@ -168,14 +165,7 @@ fn a_flush_that_fails_behind_a_reply(rt: HostRuntime) {
             taken: Vec::new(rt.alloc()),
             flushes_left,
         };
-        let mut folder = MemoryFolder::new(rt.alloc());
-        let found = run(
-            rt.alloc(),
-            &mut reader,
-            &mut writer,
-            &mut folder,
-            OnError::Continue,
-        );
+        let found = run_over(rt.alloc(), &mut reader, &mut writer, OnError::Continue);
         assert_eq!(rt; found, end);
         assert_eq!(rt; writer.taken.as_slice(), taken);
     }
