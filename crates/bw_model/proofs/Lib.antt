@@ -11,6 +11,5 @@ pub mod Passing
 pub mod RefusalTexts
 pub mod ReplyTexts
 pub mod Stores
-pub mod Tables
 pub mod Unchanged
 pub mod Values
