@@ -1,12 +1,12 @@
 -- What a SELECT shows, from the cells of its lines.
-use Rattle.std.proofs.Common.{◌≡◌, ℕ, ◌<◌, List, Option, length, map, sym, ap, ◌∙◌, arith}
+use Rattle.std.proofs.Common.{◌≡◌, ℕ, ◌<◌, List, Option, length, map, ap, ◌∙◌}
 use Rattle.std.proofs.lemmas.List.{length-map}
 use Rattle.bw_sql.specs.Rows.{joined}
 use Rattle.bw_sql.specs.Tree.{ConditionTree, ItemsTree}
 use Rattle.bw_model.specs.Answers.{AreWholeLines, Shown, lines_of}
 use Rattle.bw_model.specs.Condition.{found_rows}
 use Rattle.bw_model.specs.Select.{answer, line_of, shown, shown_columns}
-use Rattle.bw_model.specs.Store.{Header, Row, Table, place_of, value_from}
+use Rattle.bw_model.specs.Store.{Row, Table, place_of, value_from}
 use Rattle.bw_model.specs.declared.answer.Cell.{Cell}
 use Rattle.bw_model.specs.declared.answer.Heading.{Heading}
 use Rattle.bw_model.specs.declared.answer.Heading.TheVariants.{Column}

@@ -11,7 +11,7 @@ use Rattle.bw_model.specs.Told.{IsCell}
 use Rattle.bw_model.specs.declared.answer.Cell.{Cell}
 use Rattle.bw_model.specs.declared.answer.Cell.TheVariants.{Null, Number, Name}
 use Rattle.bw_model.proofs.Cuts.{Between, Each, each_between, each_weaker}
-use Rattle.bw_model.proofs.NameTexts.{NameText, name_text}
+use Rattle.bw_model.proofs.NameTexts.{name_text}
 
 -- decimals
 

@@ -1,16 +1,14 @@
 -- A heading is told by its text, but that two headings of a list of tables read like columns.
-use Rattle.std.proofs.Common.{◌≡◌, ◌≢◌, inl, inr, ◌⊎◌, ℕ, ◌≤◌, Bool, true, false, ◌&&◌, not, ◌==◌, if◌then◌else◌, List, [], ◌∷◌, ◌++◌, codes, refl, ap, subst, sym, ◌∙◌, append_assoc, arith}
+use Rattle.std.proofs.Common.{◌≡◌, ◌≢◌, inl, inr, ◌⊎◌, ℕ, Bool, true, false, if◌then◌else◌, List, [], ◌∷◌, ◌++◌, codes, refl, ap, subst, sym, ◌∙◌, arith}
 use Rattle.std.specs.Str.{bytes_eq}
-use Rattle.std.proofs.lemmas.Bool.{eqb-false, leb-true, not-true}
 use Rattle.std.proofs.lemmas.Slice.Eq.{bytes_eq-Decides}
 use Rattle.bw_sql.specs.Names.{IsName}
-use Rattle.bw_model.specs.ReplyText.{call_text, heading_text}
+use Rattle.bw_model.specs.ReplyText.{heading_text}
 use Rattle.bw_model.specs.Told.{IsHeading, heading_as_read}
 use Rattle.bw_model.specs.declared.answer.Heading.{Heading}
 use Rattle.bw_model.specs.declared.answer.Heading.TheVariants as heading
-use Rattle.bw_model.proofs.Cuts.{Between, Each, cut, each-append, each_between, each_passes, each_weaker, not_cut}
-use Rattle.bw_model.proofs.NameTexts.{NameText, name_text}
-use Rattle.bw_model.proofs.Passing.{two}
+use Rattle.bw_model.proofs.Cuts.{Between, Each, cut, each-append, each_between, each_weaker, not_cut}
+use Rattle.bw_model.proofs.NameTexts.{name_text}
 
 by_no : (b : Bool) → (b ≡ true → ⊥) → b ≡ false
 by_no true no_way = absurd (no_way refl)

@@ -1,23 +1,23 @@
 -- A step keeps a store well formed.
-use Rattle.std.proofs.Common.{◌≡◌, inl, inr, ℕ, ◌+◌, ◌<◌, ◌≤◌, Bool, true, false, ◌&&◌, ◌||◌, not, is_some, IsTrue, List, [], ◌∷◌, ◌++◌, length, map, nat_lt, position, slice_get, Option, None, Some, if◌then◌else◌, zero, suc, refl, sym, ap, subst, ◌∙◌, arith, length-append}
+use Rattle.std.proofs.Common.{◌≡◌, inl, inr, ℕ, ◌+◌, Bool, true, false, ◌&&◌, ◌||◌, not, is_some, IsTrue, List, [], ◌∷◌, ◌++◌, length, map, position, Option, None, Some, if◌then◌else◌, zero, suc, refl, sym, ap, subst, ◌∙◌, arith, length-append}
 use Rattle.std.specs.List.{All, list_all, list_any}
 use Rattle.std.specs.Str.{bytes_eq}
 use Rattle.std.proofs.lemmas.Bool.{ltb-false, not-false, true≢false}
 use Rattle.std.proofs.lemmas.List.{length-map}
 use Rattle.std.proofs.lemmas.List.Elements.{All-append, All-cons, All-head, All-map, All-nil, All-push, All-tail}
-use Rattle.bw_sql.specs.Tree.{ConditionTree, ItemsTree, StatementTree, create_table, insert, select}
+use Rattle.bw_sql.specs.Tree.{StatementTree, create_table, insert, select}
 use Rattle.bw_sql.specs.declared.tree.ColumnDefinition.{ColumnDefinition}
 use Rattle.bw_model.specs.Insert.{row_for, target_columns, with_rows}
 use Rattle.bw_model.specs.Refusals.{first_that_holds, insert_tests, is_in_range, over, tests_of}
 use Rattle.bw_model.specs.Step.{Step, carried_out, refused_or, with_table}
-use Rattle.bw_model.specs.Store.{Header, Row, Store, Table, Value, are_distinct, header_of, row_limit, table_of, value_at, value_from}
+use Rattle.bw_model.specs.Store.{Header, Row, Store, Table, are_distinct, header_of, row_limit, table_of, value_at, value_from}
 use Rattle.bw_model.specs.WellFormed.{IsRow, IsStore, IsTable}
 use Rattle.bw_model.specs.declared.refusal.Refusal.{Refusal}
 use Rattle.bw_model.specs.declared.reply.Reply.{Reply}
 use Rattle.bw_model.proofs.Names.{are_distinct-push, bytes_eq-comm, headers_from, map-push}
 use Rattle.bw_model.proofs.Passing.{Passes, none_holds, passes, two}
 
-everywhere : {A : Type 0} (P : A → Type 0) (xs : List A) → ((x : A) → P x) → All P xs
+pub everywhere : {A : Type 0} (P : A → Type 0) (xs : List A) → ((x : A) → P x) → All P xs
 everywhere P [] each = All-nil P
 everywhere P (x ∷ xs) each = All-cons P x xs (each x) (everywhere P xs each)
 
@@ -90,7 +90,7 @@ tables_with (entry ∷ store) name change table there is are =
     put_in (bytes_eq name entry.0) entry store (with_table store name change) name change table there is (All-head (λ e. IsTable e.1) entry store are) others
     (λ deeper. tables_with store name change table deeper is others)
 
-table_in : (store : Store) (name : List ℕ) (table : Table) → table_of store name ≡ Some table → AreTables store → IsTable table
+pub table_in : (store : Store) (name : List ℕ) (table : Table) → table_of store name ≡ Some table → AreTables store → IsTable table
 table_in [] name table there are = cc
 table_in (entry ∷ store) name table there are = by (bytes_eq name entry.0) there (λ deeper. table_in store name table deeper (All-tail (λ e. IsTable e.1) entry store are))
   where

@@ -7,8 +7,10 @@ pub mod Kept
 pub mod Lines
 pub mod NameTexts
 pub mod Names
+pub mod Naming
 pub mod Passing
 pub mod RefusalTexts
+pub mod Replied
 pub mod ReplyTexts
 pub mod Stores
 pub mod Unchanged

@@ -1,5 +1,5 @@
 -- A refusal is told by its text.
-use Rattle.std.proofs.Common.{◌≡◌, ◌≢◌, ℕ, ◌+◌, ◌-◌, ◌*◌, ◌≤◌, ◌<◌, ◌^◌, ◌==◌, if◌then◌else◌, List, [], ◌∷◌, ◌++◌, codes, decimal, drop, get_or, refl, ap, sym, subst, ◌∙◌, append_assoc, arith}
+use Rattle.std.proofs.Common.{◌≡◌, ℕ, ◌+◌, ◌-◌, ◌*◌, ◌<◌, ◌^◌, ◌==◌, if◌then◌else◌, List, ◌∷◌, ◌++◌, codes, decimal, drop, get_or, refl, ap, sym, subst, ◌∙◌, append_assoc, arith}
 use Rattle.bw_model.specs.ReplyText.{refusal_text}
 use Rattle.bw_model.specs.Told.{IsRefusal}
 use Rattle.bw_model.specs.declared.refusal.Refusal.{Refusal}

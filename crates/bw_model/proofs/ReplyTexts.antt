@@ -1,10 +1,10 @@
 -- Replies are told by their texts, one after the other.
-use Rattle.std.proofs.Common.{◌≡◌, ◌≢◌, ℕ, ◌≤◌, ◌<◌, ◌^◌, List, [], ◌∷◌, ◌++◌, codes, decimal, drop, get_or, length, map, refl, ap, sym, subst, ◌∙◌, append_assoc, arith}
+use Rattle.std.proofs.Common.{◌≡◌, ℕ, ◌≤◌, ◌<◌, ◌^◌, List, [], ◌∷◌, ◌++◌, codes, decimal, drop, get_or, length, map, refl, ap, sym, ◌∙◌, append_assoc, arith}
 use Rattle.std.specs.List.{All, flat_map}
 use Rattle.std.proofs.lemmas.List.Elements.{All-head, All-tail}
 use Rattle.bw_model.specs.Answers.{Shown}
 use Rattle.bw_model.specs.ReplyText.{cell_text, heading_text, line, lines_text, refusal_text, reply_text, with_commas}
-use Rattle.bw_model.specs.Told.{IsCell, IsHeading, IsRefusal, IsReply, as_read, heading_as_read}
+use Rattle.bw_model.specs.Told.{IsCell, IsHeading, IsReply, as_read, heading_as_read}
 use Rattle.bw_model.specs.declared.answer.Cell.{Cell}
 use Rattle.bw_model.specs.declared.answer.Heading.{Heading}
 use Rattle.bw_model.specs.declared.refusal.Refusal.{Refusal}

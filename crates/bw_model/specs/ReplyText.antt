@@ -1,5 +1,5 @@
 -- The bytes of a reply: its lines, each ended by the byte 10 (this product's own; names and NULL are spelled as SQL-92's regular identifiers and null specification).
-use Rattle.std.specs.Prelude.{ℕ, List, [], ◌∷◌, ◌++◌, length, codes, decimal}
+use Rattle.std.specs.Prelude.{ℕ, List, ◌++◌, length, codes, decimal}
 use Rattle.std.specs.Fmt.{signed_decimal}
 use Rattle.std.specs.List.{flat_map, join_by}
 use Rattle.bw_model.specs.Answers.{Shown}

@@ -1,5 +1,5 @@
 -- What the text of replies tells of them (this product's own).
-use Rattle.std.specs.Prelude.{◌<◌, ◌^◌, ℕ, All, FitsSigned, codes, map}
+use Rattle.std.specs.Prelude.{◌<◌, ◌^◌, All, FitsSigned, codes, map}
 use Rattle.std.specs.Int.{w128}
 use Rattle.bw_sql.specs.Names.{IsName}
 use Rattle.bw_model.specs.declared.answer.Heading.{Heading}

@@ -1,5 +1,5 @@
 -- What every store is that statements lead to: names are distinct, rows fit their columns, and nothing is above a limit (SQL-92, tables and columns; limits of this product's own).
-use Rattle.std.specs.Prelude.{◌≡◌, ◌≤◌, ℕ, List, All, IsTrue, length, map}
+use Rattle.std.specs.Prelude.{◌≡◌, ◌≤◌, List, All, IsTrue, length, map}
 use Rattle.bw_model.specs.Refusals.{is_in_range}
 use Rattle.bw_model.specs.Store.{AreHeaders, Header, Row, Store, Table, are_distinct, row_limit, table_limit}
 

@@ -15,7 +15,9 @@ mod texts;
 
 pub use answer::{Answer, Cell, Heading};
 pub use condition::{found_rows, truth_at};
-pub use laws::{refusals_change_nothing, stores_stay_well_formed, texts_tell_replies};
+pub use laws::{
+    refusals_change_nothing, replies_are_told, stores_stay_well_formed, texts_tell_replies,
+};
 pub use refusal::Refusal;
 pub use reply::Reply;
 pub use select::answer_of;

@@ -1,6 +1,5 @@
-use Rattle.std.proofs.Common.{◌≡◌, ◌∙◌, None, Some, sym, ap}
+use Rattle.std.proofs.Common.{None, Some, sym}
 use Rattle.bw_sql.specs.Tree.{create_table}
-use Rattle.bw_model.specs.Refusals.{first_that_holds, tests_of}
 use Rattle.bw_model.proofs.Stores.{create_first, created, outcome_is}
 use Rattle.bw_model.proofs.steps.create_table.Goals as goal
 

@@ -1,4 +1,4 @@
-use Rattle.std.proofs.Common.{◌∙◌, sym}
+use Rattle.std.proofs.Common.{sym}
 use Rattle.bw_model.proofs.Stores.{absent, inserted, no_table}
 use Rattle.bw_model.proofs.steps.insert.Goals as goal
 
