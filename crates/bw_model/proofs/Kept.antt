@@ -17,7 +17,7 @@ use Rattle.bw_model.specs.declared.reply.Reply.{Reply}
 use Rattle.bw_model.proofs.Names.{are_distinct-push, bytes_eq-comm, headers_from, map-push}
 use Rattle.bw_model.proofs.Passing.{Passes, none_holds, passes, two}
 
-everywhere : {A : Type 0} (P : A → Type 0) (xs : List A) → ((x : A) → P x) → All P xs
+pub everywhere : {A : Type 0} (P : A → Type 0) (xs : List A) → ((x : A) → P x) → All P xs
 everywhere P [] each = All-nil P
 everywhere P (x ∷ xs) each = All-cons P x xs (each x) (everywhere P xs each)
 
@@ -90,7 +90,7 @@ tables_with (entry ∷ store) name change table there is are =
     put_in (bytes_eq name entry.0) entry store (with_table store name change) name change table there is (All-head (λ e. IsTable e.1) entry store are) others
     (λ deeper. tables_with store name change table deeper is others)
 
-table_in : (store : Store) (name : List ℕ) (table : Table) → table_of store name ≡ Some table → AreTables store → IsTable table
+pub table_in : (store : Store) (name : List ℕ) (table : Table) → table_of store name ≡ Some table → AreTables store → IsTable table
 table_in [] name table there are = cc
 table_in (entry ∷ store) name table there are = by (bytes_eq name entry.0) there (λ deeper. table_in store name table deeper (All-tail (λ e. IsTable e.1) entry store are))
   where

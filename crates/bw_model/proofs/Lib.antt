@@ -8,10 +8,11 @@ pub mod Kept
 pub mod Lines
 pub mod NameTexts
 pub mod Names
+pub mod Naming
 pub mod Passing
 pub mod RefusalTexts
+pub mod Replied
 pub mod ReplyTexts
 pub mod Stores
-pub mod Tables
 pub mod Unchanged
 pub mod Values

@@ -1,6 +1,7 @@
 pub mod Answers
 pub mod Condition
 pub mod Insert
+pub mod Named
 pub mod Refusals
 pub mod ReplyText
 pub mod Select

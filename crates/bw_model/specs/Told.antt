@@ -11,7 +11,7 @@ use Rattle.bw_model.specs.declared.refusal.Refusal.TheVariants as refusal
 use Rattle.bw_model.specs.declared.reply.Reply.{Reply}
 use Rattle.bw_model.specs.declared.reply.Reply.TheVariants as reply
 
--- what the types of the code say of a reply: names are names, and numbers fit
+-- what the text of a reply needs of it: names are names, and numbers fit
 
 abbrev pub IsHeading : Heading → Type 0
 IsHeading (heading.Column name) = IsName name

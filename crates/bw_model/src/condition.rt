@@ -62,7 +62,7 @@ fn lies_between(value: Value, low: Value, high: Value) -> TruthValue
 }
 
 /// `x IN (a, b)` is `x = a OR x = b`.
-#[tactic(auto, using(crate::proofs::Tables::or_of_assoc, crate::proofs::Tables::or_of_false))]
+#[tactic(auto, using(bw_mask::proofs::Tables::or_of_assoc, bw_mask::proofs::Tables::or_of_False))]
 fn is_one_of(value: Value, entries: &[Value]) -> TruthValue
     ensures { result ≡ is_one_of value entries.now }
 {
@@ -74,7 +74,7 @@ fn is_one_of(value: Value, entries: &[Value]) -> TruthValue
 }
 
 /// What a condition says of a row of these columns.
-#[tactic(auto, using(crate::proofs::Tables::and_of_assoc, crate::proofs::Tables::or_of_assoc, crate::proofs::Tables::and_of_true, crate::proofs::Tables::or_of_false))]
+#[tactic(auto, using(bw_mask::proofs::Tables::and_of_assoc, bw_mask::proofs::Tables::or_of_assoc, bw_mask::proofs::Tables::and_of_True, bw_mask::proofs::Tables::or_of_False))]
 pub fn truth_at(headers: &[Header], row: &Row, condition: &Condition) -> TruthValue
     ensures { result ≡ truth_at headers.now row.now (condition_of condition.now) }
 {

@@ -2,6 +2,7 @@
 
 ghost use Rattle.std.specs.Prelude.{◌≡◌, [], All, List, map};
 ghost use Rattle.std.specs.List.{flat_map};
+ghost use Rattle.bw_model.specs.Named.{AreNamed, names_brought};
 ghost use Rattle.bw_model.specs.ReplyText.{reply_text};
 ghost use Rattle.bw_model.specs.Step.{Step};
 ghost use Rattle.bw_model.specs.Store.{Store};
@@ -10,6 +11,7 @@ ghost use Rattle.bw_model.specs.WellFormed.{IsStore};
 ghost use Rattle.bw_model.specs.declared.refusal.Refusal.{Refusal as AnyRefusal};
 ghost use Rattle.bw_model.specs.declared.reply.Reply.{Reply as AnyReply};
 ghost use Rattle.bw_model.specs.declared.reply.Reply.TheVariants.{Refused};
+ghost use Rattle.bw_sql.specs.Names.{IsName};
 ghost use Rattle.bw_sql.specs.Tree.{StatementTree};
 
 /// A statement that is refused changes nothing.
@@ -27,4 +29,13 @@ pub fn stores_stay_well_formed()
 /// headings `COLUMNS` and `ROWS` of a list of tables read like columns of these names.
 pub fn texts_tell_replies()
     ensures { (a b : List AnyReply) → All IsReply a → All IsReply b → flat_map reply_text a ≡ flat_map reply_text b → map as_read a ≡ map as_read b }
+{}
+
+/// Over a well-formed store whose names are names, each reply of a step is one that its text tells; and
+/// names stay names, where a statement brings in no others. So two replies of runs with the same text
+/// are the same reply, but for the headings `COLUMNS` and `ROWS`.
+pub fn replies_are_told()
+    ensures empty { AreNamed [] }
+    ensures kept { (store after : Store) (statement : StatementTree) (reply : AnyReply) → AreNamed store → All IsName (names_brought statement) → Step store statement reply after → AreNamed after }
+    ensures told { (store after : Store) (statement : StatementTree) (reply : AnyReply) → IsStore store → AreNamed store → Step store statement reply after → IsReply reply }
 {}

@@ -1,0 +1,144 @@
+-- Each reply of a step is one that its text tells.
+use Rattle.std.proofs.Common.{◌≡◌, inl, inr, ℕ, ℤ, pos, negsuc, ◌+◌, ◌<◌, ◌^◌, Bool, true, false, not, is_some, IsTrue, FitsSigned, List, [], ◌∷◌, get_or, length, map, filter, Option, None, Some, if◌then◌else◌, zero, suc, refl, sym, ap, subst, arith}
+use Rattle.std.specs.Int.{w128}
+use Rattle.std.specs.List.{All, list_any}
+use Rattle.std.specs.Str.{bytes_eq}
+use Rattle.std.proofs.lemmas.Bool.{leb-true, ltb-false, true≢false}
+use Rattle.std.proofs.lemmas.List.Elements.{All-cons, All-filter, All-get_or, All-head, All-map, All-nil, All-tail}
+use Rattle.std.proofs.lemmas.List.Quantifiers.{position-Some}
+use Rattle.std.proofs.lemmas.Slice.Eq.{bytes_eq-Decides}
+use Rattle.bw_sql.specs.Names.{IsName}
+use Rattle.bw_sql.specs.Tree.{ConditionTree, ItemsTree, StatementTree, all_columns, columns, create_table, insert, select}
+use Rattle.bw_sql.specs.declared.tree.LayoutWord.TheVariants.{V}
+use Rattle.bw_sql.specs.declared.tree.KindWord.TheVariants.{Offset}
+use Rattle.bw_model.specs.Condition.{is_found}
+use Rattle.bw_model.specs.Insert.{target_columns}
+use Rattle.bw_model.specs.Named.{AreNamed, HaveNames}
+use Rattle.bw_model.specs.Refusals.{Tests, first_that_holds, insert_tests, is_in_range, is_missing, over, select_tests, tests_of}
+use Rattle.bw_model.specs.Select.{answer, line_of, shown, shown_columns}
+use Rattle.bw_model.specs.Step.{Step, carried_out, refused_or, table_or_none}
+use Rattle.bw_model.specs.Store.{Header, Row, Store, Table, Value, place_of, row_limit, table_of, value_at, value_from}
+use Rattle.bw_model.specs.Told.{IsCell, IsHeading, IsRefusal, IsReply}
+use Rattle.bw_model.specs.WellFormed.{IsRow, IsStore, IsTable}
+use Rattle.bw_model.specs.declared.answer.Heading.TheVariants.{Column}
+use Rattle.bw_model.specs.declared.refusal.Refusal.{Refusal}
+use Rattle.bw_model.specs.declared.reply.Reply.{Reply}
+use Rattle.bw_model.specs.declared.reply.Reply.TheVariants.{Rows}
+use Rattle.bw_model.proofs.Kept.{everywhere, table_in}
+use Rattle.bw_model.proofs.Naming.{named_in}
+use Rattle.bw_model.proofs.Passing.{neither, none_holds, two}
+
+-- the refusals of a statement say nothing of a file
+
+abbrev ArePlain : Tests → Type 0
+ArePlain [] = Unit {0}
+ArePlain (test ∷ tests) = IsRefusal test.0 × ArePlain tests
+
+plain_first : (tests : Tests) (refusal : Refusal) → ArePlain tests → first_that_holds tests ≡ Some refusal → IsRefusal refusal
+plain_first [] refusal plain e = cc
+plain_first (test ∷ tests) refusal plain e = by test.1 e (λ later. plain_first tests refusal plain.1 later)
+  where
+    by : (b : Bool) → (if b then Some test.0 else first_that_holds tests) ≡ Some refusal → (first_that_holds tests ≡ Some refusal → IsRefusal refusal) → IsRefusal refusal
+    by true here later = let same : test.0 ≡ refusal = cc in subst IsRefusal same plain.0
+    by false here later = later here
+
+plain_over : (there : Option Table) (tests : Table → Tests) → ((table : Table) → ArePlain (tests table)) → ArePlain (over there tests)
+plain_over None tests each = (tt, tt)
+plain_over (Some table) tests each = each table
+
+plain_tests : (store : Store) (statement : StatementTree) → ArePlain (tests_of store statement)
+plain_tests store (create_table name definitions) = (tt, (tt, (tt, tt)))
+plain_tests store (insert name listed rows) =
+    plain_over (table_of store name) (λ table. insert_tests (target_columns table.headers listed) rows table) (λ table. (tt, (tt, (tt, (tt, (tt, tt))))))
+plain_tests store (select items name condition) =
+    plain_over (table_of store name) (λ table. select_tests (shown_columns table.headers items) condition table) (λ table. (tt, (tt, (tt, tt))))
+
+-- cells
+
+integer_fits : (n : ℤ) → is_in_range (Some n) ≡ true → FitsSigned w128 n
+integer_fits (pos n) e = let few = leb-true n 2147483647 e in omega (arith, few)
+integer_fits (negsuc n) e = let few = leb-true n 2147483647 (two _ _ e).0 in omega (arith, few)
+
+cell_fits : (value : Value) → is_in_range value ≡ true → IsCell (shown value)
+cell_fits None e = tt
+cell_fits (Some n) e = integer_fits n e
+
+abbrev AreIntegers : Row → Type 0
+AreIntegers row = All (λ value. IsTrue (is_in_range value)) row
+
+value_fits : (row : Row) (place : ℕ) → AreIntegers row → is_in_range (value_at row place) ≡ true
+value_fits [] place all = refl
+value_fits (value ∷ row) zero all = All-head (λ v. IsTrue (is_in_range v)) value row all
+value_fits (value ∷ row) (suc place) all = value_fits row place (All-tail (λ v. IsTrue (is_in_range v)) value row all)
+
+place_fits : (row : Row) (place : Option ℕ) → AreIntegers row → is_in_range (value_from row place) ≡ true
+place_fits row None all = refl
+place_fits row (Some place) all = value_fits row place all
+
+line_fits : (headers : List Header) (list : List (List ℕ)) (row : Row) → IsRow headers row → All IsCell (line_of headers list row)
+line_fits headers list row is =
+    All-map IsCell (λ name. shown (value_from row (place_of headers name))) list
+    (everywhere (λ name. IsCell (shown (value_from row (place_of headers name)))) list
+    (λ name. cell_fits (value_from row (place_of headers name)) (place_fits row (place_of headers name) is.integers)))
+
+lines_fit : (headers : List Header) (list : List (List ℕ)) (rows : List Row) → All (IsRow headers) rows → All (All IsCell) (map (line_of headers list) rows)
+lines_fit headers list [] all = All-nil (All IsCell)
+lines_fit headers list (row ∷ rows) all =
+    All-cons (All IsCell) (line_of headers list row) (map (line_of headers list) rows) (line_fits headers list row (All-head (IsRow headers) row rows all))
+    (lines_fit headers list rows (All-tail (IsRow headers) row rows all))
+
+-- headings: a column that isn't missing has the name of one that is there
+
+name_there : (headers : List Header) (name : List ℕ) (place : Option ℕ) → place_of headers name ≡ place → not (is_some place) ≡ false → HaveNames headers → IsName name
+name_there headers name None at there named = absurd (true≢false there)
+name_there headers name (Some i) at there named =
+    let header : Header = record { name = name; layout = V; kind = Offset } in
+    let p = position-Some (λ h. bytes_eq name h.name) headers i header at in
+    let same = (bytes_eq-Decides name (get_or headers i header).name).0 p.1 in
+    subst IsName (sym same) (All-get_or (λ h. IsName h.name) headers i header p.0 named)
+
+names_there : (headers : List Header) (list : List (List ℕ)) → list_any (is_missing headers) list ≡ false → HaveNames headers → All IsName list
+names_there headers [] e named = All-nil IsName
+names_there headers (name ∷ list) e named =
+    let p = neither (is_missing headers name) (list_any (is_missing headers) list) e in
+    All-cons IsName name list (name_there headers name (place_of headers name) refl p.0 named) (names_there headers list p.1 named)
+
+shown_names : (headers : List Header) (items : ItemsTree) → list_any (is_missing headers) (shown_columns headers items) ≡ false → HaveNames headers → All IsName (shown_columns headers items)
+shown_names headers all_columns e named = All-map IsName (λ header. header.name) headers named
+shown_names headers (columns list) e named = names_there headers list e named
+
+-- each statement
+
+selects : (there : Option Table) (items : ItemsTree) (condition : Option ConditionTree) → ((table : Table) → there ≡ Some table → IsTable table × HaveNames table.headers)
+    → first_that_holds (over there (λ table. select_tests (shown_columns table.headers items) condition table)) ≡ None → IsReply (Rows (answer (table_or_none there) items condition))
+selects None items condition is none = cc
+selects (Some table) items condition is none =
+    let list = shown_columns table.headers items in
+    let p = none_holds (select_tests list condition table) none in
+    let t = is table refl in (
+      All-map IsHeading (λ name. Column name) list (shown_names table.headers items p.0 t.1),
+      lines_fit table.headers list (filter (is_found table.headers condition) table.rows) (All-filter (is_found table.headers condition) (IsRow table.headers) table.rows t.0.rows),
+    )
+
+counts : (there : Option Table) (listed : Option (List (List ℕ))) (rows : List Row) → first_that_holds (over there (λ table. insert_tests (target_columns table.headers listed) rows table)) ≡ None → length rows < 2 ^ 64
+counts None listed rows none = cc
+counts (Some table) listed rows none =
+    let p = none_holds (insert_tests (target_columns table.headers listed) rows table) none in
+    let few = ltb-false row_limit (length table.rows + length rows) p.1.1.1.1.0 in omega (arith, few)
+
+carries_out : (store : Store) (statement : StatementTree) → IsStore store → AreNamed store → first_that_holds (tests_of store statement) ≡ None → IsReply (carried_out store statement).0
+carries_out store (create_table name definitions) are named none = tt
+carries_out store (insert name listed rows) are named none = counts (table_of store name) listed rows none
+carries_out store (select items name condition) are named none =
+    selects (table_of store name) items condition (λ table there. (table_in store name table there are.tables, named_in store name table there named)) none
+
+answers : (first : Option Refusal) (store : Store) (statement : StatementTree) → IsStore store → AreNamed store → first_that_holds (tests_of store statement) ≡ first → IsReply (refused_or first store (carried_out store statement)).0
+answers None store statement are named none = carries_out store statement are named none
+answers (Some refusal) store statement are named some = plain_first (tests_of store statement) refusal (plain_tests store statement) some
+
+pub replied : (store after : Store) (statement : StatementTree) (reply : Reply) → IsStore store → AreNamed store → Step store statement reply after → IsReply reply
+replied store after statement reply are named step =
+    elim step [
+      | inl free ↦ subst IsReply (sym free.0) tt
+      | inr e ↦ subst IsReply (sym (ap (λ p. p.0) e)) (answers (first_that_holds (tests_of store statement)) store statement are named refl)
+    ]
