@@ -6,9 +6,9 @@ use Rattle.std.specs.declared.cmp.Ordering.TheVariants.{Less, Equal, Greater}
 use Rattle.bw_mask.specs.Truth.{and_of, is_of, is_value, not_of, or_of, truth_of_bool}
 use Rattle.bw_mask.specs.declared.truth_value.TruthValue.{TruthValue}
 use Rattle.bw_mask.specs.declared.truth_value.TruthValue.TheVariants.{True, False, Unknown}
+use Rattle.bw_lex.specs.declared.token.CompareOp.{CompareOp}
+use Rattle.bw_lex.specs.declared.token.CompareOp.TheVariants.{Eq, Ne, Lt, Le, Gt, Ge}
 use Rattle.bw_sql.specs.Tree.{ConditionTree, ConditionTrees, among, between, comparison, each_of, more, negated, none, null, some_of, tested}
-use Rattle.bw_sql.specs.declared.token.CompareOp.{CompareOp}
-use Rattle.bw_sql.specs.declared.token.CompareOp.TheVariants.{Eq, Ne, Lt, Le, Gt, Ge}
 use Rattle.bw_sql.specs.declared.tree.Operand.{Operand}
 use Rattle.bw_sql.specs.declared.tree.Operand.TheVariants.{Column, Constant}
 use Rattle.bw_sql.specs.declared.tree.TruthWord.{TruthWord}

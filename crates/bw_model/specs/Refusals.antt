@@ -2,9 +2,9 @@
 -- of table definition, insert statement and query specification, and limits of this product's own).
 use Rattle.std.specs.Prelude.{ℕ, ◌+◌, ◌==◌, Bool, true, false, ◌||◌, ◌&&◌, not, nat_le, nat_lt, int_le, pos, negsuc, List, [], ◌∷◌, Option, Some, None, is_some, length, map, if◌then◌else◌}
 use Rattle.std.specs.List.{list_all, list_any}
+use Rattle.bw_lex.specs.declared.fault.SqlFault.{SqlFault}
+use Rattle.bw_lex.specs.declared.fault.SqlFault.TheVariants as fault
 use Rattle.bw_sql.specs.Tree.{ConditionTree, ConditionTrees, StatementTree, among, between, comparison, create_table, each_of, insert, more, negated, none, null, select, some_of, tested}
-use Rattle.bw_sql.specs.declared.fault.SqlFault.{SqlFault}
-use Rattle.bw_sql.specs.declared.fault.SqlFault.TheVariants as fault
 use Rattle.bw_sql.specs.declared.tree.Operand.{Operand}
 use Rattle.bw_sql.specs.declared.tree.Operand.TheVariants.{Column, Constant}
 use Rattle.bw_model.specs.Insert.{target_columns}

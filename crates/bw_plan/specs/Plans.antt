@@ -11,9 +11,9 @@ use Rattle.bw_model.specs.Refusals.{has_long_list, names_missing}
 use Rattle.bw_model.specs.Store.{Header, Row, Value, place_of, value_at}
 use Rattle.bw_model.specs.declared.refusal.Refusal.{Refusal}
 use Rattle.bw_model.specs.declared.refusal.Refusal.TheVariants as refusal
+use Rattle.bw_lex.specs.declared.token.CompareOp.{CompareOp}
 use Rattle.bw_sql.specs.Tree.{ConditionTree, ConditionTrees}
 use Rattle.bw_sql.specs.Tree as tree
-use Rattle.bw_sql.specs.declared.token.CompareOp.{CompareOp}
 use Rattle.bw_sql.specs.declared.tree.Operand.{Operand}
 use Rattle.bw_sql.specs.declared.tree.Operand.TheVariants as operand
 use Rattle.bw_plan.specs.declared.plan.Predicate.{Predicate}

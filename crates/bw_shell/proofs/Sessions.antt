@@ -2,7 +2,7 @@
 use Rattle.std.proofs.Common.{◌≡◌, ℕ, ◌+◌, ◌<◌, ◌≤◌, inl, inr, true, false, List, [], ◌∷◌, ◌++◌, drop, length, Option, refl, sym, ap, ◌∙◌, subst, append_assoc, append-nil, get_or, drop-cons, add-one}
 use Rattle.std.proofs.lemmas.List.{drop_all}
 use Rattle.std.specs.Io.KnownBytes.{Appends}
-use Rattle.bw_sql.specs.declared.script.Part.{Part}
+use Rattle.bw_lex.specs.declared.script.Part.{Part}
 use Rattle.bw_model.specs.ReplyText.{reply_text}
 use Rattle.bw_model.specs.Store.{Store}
 use Rattle.bw_model.specs.declared.reply.Reply.{Reply}

@@ -1,7 +1,7 @@
 -- The output of a script (SQL-92, direct invocation of SQL), where nothing fails.
 use Rattle.std.specs.Prelude.{◌≢◌, ℕ, List, ◌++◌}
-use Rattle.bw_sql.specs.Parts.{AreParts}
-use Rattle.bw_sql.specs.declared.script.Part.{Part}
+use Rattle.bw_lex.specs.Parts.{AreParts}
+use Rattle.bw_lex.specs.declared.script.Part.{Part}
 use Rattle.bw_model.specs.ReplyText.{reply_text}
 use Rattle.bw_model.specs.Store.{Store}
 use Rattle.bw_model.specs.declared.refusal.Refusal.TheVariants.{OutOfMemory}

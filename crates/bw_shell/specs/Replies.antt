@@ -1,7 +1,7 @@
 -- Which replies a run wrote: what a session comes to, part by part (SQL-92, direct invocation of SQL).
 use Rattle.std.specs.Prelude.{◌≡◌, ℕ, true, false, List, [], ◌∷◌, ◌++◌}
 use Rattle.std.specs.List.{flat_map, list_any}
-use Rattle.bw_sql.specs.declared.script.Part.{Part}
+use Rattle.bw_lex.specs.declared.script.Part.{Part}
 use Rattle.bw_model.specs.ReplyText.{reply_text}
 use Rattle.bw_model.specs.Store.{Store}
 use Rattle.bw_model.specs.declared.refusal.Refusal.{Refusal}

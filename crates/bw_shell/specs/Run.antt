@@ -1,11 +1,11 @@
 -- A run of a script (SQL-92: direct invocation of SQL): its parts are answered in order over one store, and the replies are written.
 use Rattle.std.specs.Prelude.{◌≡◌, ◌<◌, ◌≤◌, ◌⊎◌, ℕ, Bool, true, false, not, List, [], ◌∷◌, ◌++◌, length, slice_range, Option}
 use Rattle.std.specs.Io.KnownBytes.{Appends, Keeps}
-use Rattle.bw_sql.specs.Parts.{AreParts}
+use Rattle.bw_lex.specs.Parts.{AreParts}
+use Rattle.bw_lex.specs.declared.fault.SqlFault.{SqlFault}
+use Rattle.bw_lex.specs.declared.script.Part.{Part}
 use Rattle.bw_sql.specs.Statements.{IsStatementFault, Says, longest_statement}
 use Rattle.bw_sql.specs.Tree.{StatementTree}
-use Rattle.bw_sql.specs.declared.fault.SqlFault.{SqlFault}
-use Rattle.bw_sql.specs.declared.script.Part.{Part}
 use Rattle.bw_model.specs.Refusals.{refusal_of_fault}
 use Rattle.bw_model.specs.ReplyText.{reply_text}
 use Rattle.bw_model.specs.Step.{Step}

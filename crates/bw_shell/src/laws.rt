@@ -8,7 +8,7 @@ ghost use Rattle.bw_shell.specs.Run.{Session};
 ghost use Rattle.bw_shell.specs.declared.reading.ScriptEnd.{ScriptEnd as HowRead};
 ghost use Rattle.bw_shell.specs.declared.session.OnError.{OnError as WhatThen};
 ghost use Rattle.bw_shell.specs.declared.session.RunEnd.{RunEnd as HowEnded};
-ghost use Rattle.bw_sql.specs.declared.script.Part.{Part as AnyPart};
+ghost use Rattle.bw_lex.specs.declared.script.Part.{Part as AnyPart};
 
 /// What a session wrote is the texts of replies, one to each part in order: of all parts where it is
 /// done, up to the first error where it is stopped there, and else a front of the next behind them.

@@ -1,7 +1,7 @@
 //! A script run from its bytes to the bytes of its replies.
 
 ghost use Rattle.std.specs.Prelude.{◌≡◌, All};
-ghost use Rattle.bw_sql.specs.Parts.{IsPartOf};
+ghost use Rattle.bw_lex.specs.Parts.{IsPartOf};
 ghost use Rattle.bw_model.specs.ReplyText.{reply_text};
 ghost use Rattle.bw_shell.specs.Run.{HasRun, MayAnswer, RunsTo, is_dropped, last_end, stops};
 ghost use Rattle.bw_shell.specs.Writing.{Wrote};

@@ -1,7 +1,7 @@
 -- A condition that is in the grammar is read, where it can't go on.
 use Rattle.std.proofs.Common.{◌≡◌, ◌∙◌, ℕ, ℤ, ◌<◌, zero, suc, List, [], ◌∷◌, length, Option, Some, None, refl, ap, arith}
+use Rattle.bw_lex.specs.declared.token.Symbol.TheVariants as s
 use Rattle.bw_sql.specs.declared.keyword.Keyword.TheVariants as k
-use Rattle.bw_sql.specs.declared.token.Symbol.TheVariants as s
 use Rattle.bw_sql.specs.declared.terminal.Terminal.{Terminal}
 use Rattle.bw_sql.specs.declared.terminal.Terminal.TheVariants as t
 use Rattle.bw_sql.specs.declared.tree.Operand.{Operand}

@@ -1,7 +1,7 @@
 -- A condition that is read is in the grammar.
 use Rattle.std.proofs.Common.{◌≡◌, ◌∙◌, ℕ, ℤ, zero, suc, List, [], ◌∷◌, Option, Some, None, refl, sym, ap, subst}
+use Rattle.bw_lex.specs.declared.token.Symbol.TheVariants as s
 use Rattle.bw_sql.specs.declared.keyword.Keyword.TheVariants as k
-use Rattle.bw_sql.specs.declared.token.Symbol.TheVariants as s
 use Rattle.bw_sql.specs.declared.terminal.Terminal.{Terminal}
 use Rattle.bw_sql.specs.declared.terminal.Terminal.TheVariants as t
 use Rattle.bw_sql.specs.declared.tree.Operand.{Operand}

@@ -7,19 +7,19 @@ use Rattle.std.proofs.Math.Nat.{add-sub_cancel_left, mul-le-mul_right, mul_assoc
 use Rattle.std.proofs.lemmas.Bool.{and_parts}
 use Rattle.std.proofs.lemmas.List.{map-append}
 use Rattle.std.proofs.lemmas.List.Sums.{sum_by-append, sum_by-cons}
-use Rattle.bw_sql.specs.declared.fault.SqlFault.{SqlFault}
-use Rattle.bw_sql.specs.declared.fault.SqlFault.TheVariants as faults
-use Rattle.bw_sql.specs.declared.piece.Piece.TheVariants as p
+use Rattle.bw_lex.specs.declared.fault.SqlFault.{SqlFault}
+use Rattle.bw_lex.specs.declared.fault.SqlFault.TheVariants as faults
+use Rattle.bw_lex.specs.declared.piece.Piece.TheVariants as p
+use Rattle.bw_lex.specs.declared.token.Token.{Token}
+use Rattle.bw_lex.specs.declared.token.TokenKind.{TokenKind}
+use Rattle.bw_lex.specs.Pieces.{FitsIn, first_piece}
+use Rattle.bw_lex.specs.Spellings.{IsSpelled}
+use Rattle.bw_lex.specs.Tokens.{AreTokensFrom, done, token}
+use Rattle.bw_lex.proofs.Lexing.{Progress, finished, next_at, over_separator, over_token, spelled_next, start, stopped, token_at}
+use Rattle.bw_lex.proofs.Longest.{first_piece_fits, in_range}
 use Rattle.bw_sql.specs.declared.terminal.Terminal.{Terminal}
-use Rattle.bw_sql.specs.declared.token.Token.{Token}
-use Rattle.bw_sql.specs.declared.token.TokenKind.{TokenKind}
-use Rattle.bw_sql.specs.Pieces.{FitsIn, first_piece}
-use Rattle.bw_sql.specs.Spellings.{IsSpelled}
 use Rattle.bw_sql.specs.Statements.{AreTerminals, HasBadFirst, IsOverLimit}
 use Rattle.bw_sql.specs.Terminals.{depth_fault, ends_in_minus, first_limit_fault, is_close, is_minus, is_open, limit_fault, number_fault, or_else, terminal_of, terminals_of, token_terminal, value_after}
-use Rattle.bw_sql.specs.Tokens.{AreTokensFrom, done, token}
-use Rattle.bw_sql.proofs.Lexing.{Progress, finished, next_at, over_separator, over_token, spelled_next, start, stopped, token_at}
-use Rattle.bw_sql.proofs.Longest.{first_piece_fits, in_range}
 
 -- a number grows with each digit
 pub value_after-ge : (n : ℕ) (digits : List ℕ) → n ≤ value_after n digits

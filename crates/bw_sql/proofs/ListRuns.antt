@@ -1,13 +1,13 @@
 -- A loop that reads values with a separator between two of them.
 use Rattle.std.proofs.Common.{◌≡◌, ℕ, zero, suc, ◌<◌, List, [], ◌∷◌, ◌++◌, length, map, Option, Some, None, refl, sym, ap, ◌∙◌, append_assoc, append-nil, length-append, arith}
+use Rattle.bw_lex.specs.declared.token.Symbol.TheVariants as s
+use Rattle.bw_lex.specs.declared.fault.SqlFault.{SqlFault}
+use Rattle.bw_lex.specs.declared.fault.SqlFault.TheVariants as faults
+use Rattle.bw_lex.specs.declared.token.CompareOp.{CompareOp}
 use Rattle.bw_sql.specs.declared.terminal.Terminal.{Terminal}
 use Rattle.bw_sql.specs.declared.terminal.Terminal.TheVariants as t
-use Rattle.bw_sql.specs.declared.token.Symbol.TheVariants as s
-use Rattle.bw_sql.specs.declared.fault.SqlFault.{SqlFault}
-use Rattle.bw_sql.specs.declared.fault.SqlFault.TheVariants as faults
 use Rattle.bw_sql.specs.declared.keyword.Keyword.TheVariants as k
 use Rattle.bw_sql.specs.declared.tree.Condition.{Condition}
-use Rattle.bw_sql.specs.declared.token.CompareOp.{CompareOp}
 use Rattle.bw_sql.specs.declared.tree.Operand.{Operand}
 use Rattle.bw_sql.specs.Reading.{Fails, Read, after_and, after_comma, after_or, more_at, parts_at, range_at, tail_at, with_first, with_front}
 use Rattle.bw_sql.specs.Tree.{condition_of}

@@ -5,8 +5,8 @@ use Rattle.std.specs.Char.{is_ascii_alphabetic, is_ascii_alphanumeric, is_ascii_
 use Rattle.std.proofs.lemmas.Grind.{common_steps}
 use Rattle.std.proofs.lemmas.List.{length-map}
 use Rattle.std.proofs.lemmas.Bool.{le-leb}
+use Rattle.bw_lex.specs.Spellings.{IsWord, is_word_byte}
 use Rattle.bw_sql.specs.Names.{IsName, begins_with_letter, is_name, is_name_byte, keyword_of}
-use Rattle.bw_sql.specs.Spellings.{IsWord, is_word_byte}
 
 letter_up : (b : ℕ) → is_ascii_alphabetic b ≡ true → is_ascii_uppercase (to_ascii_uppercase b) ≡ true
 letter_up b h = grind (arith, common_steps)

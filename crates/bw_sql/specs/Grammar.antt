@@ -2,9 +2,9 @@
 -- terminals spell a statement. Each relation reads: these terminals begin with a spelling of the value, and
 -- the rest follows it.
 use Rattle.std.specs.Prelude.{ℕ, ℤ, ◌<◌, ◌≤◌, ◌^◌, pos, neg_ℤ, List, [], ◌∷◌, Option, Some, None, codes}
+use Rattle.bw_lex.specs.declared.token.CompareOp.{CompareOp}
+use Rattle.bw_lex.specs.declared.token.Symbol.TheVariants as s
 use Rattle.bw_sql.specs.declared.keyword.Keyword.TheVariants as k
-use Rattle.bw_sql.specs.declared.token.CompareOp.{CompareOp}
-use Rattle.bw_sql.specs.declared.token.Symbol.TheVariants as s
 use Rattle.bw_sql.specs.declared.terminal.Terminal.{Terminal}
 use Rattle.bw_sql.specs.declared.terminal.Terminal.TheVariants as t
 use Rattle.bw_sql.specs.declared.tree.LayoutWord.{LayoutWord}

@@ -1,13 +1,8 @@
-pub mod Fronts
 pub mod Grammar
 pub mod Names
-pub mod Parts
-pub mod Pieces
 pub mod Reading
 pub mod Rows
-pub mod Spellings
 pub mod Statements
 pub mod Terminals
-pub mod Tokens
 pub mod Tree
 pub mod Words

@@ -1,10 +1,10 @@
 -- Which statement a text says, and which fault a text has that says none (SQL-92: direct SQL statement).
 use Rattle.std.specs.Prelude.{◌≡◌, ◌⊎◌, ℕ, ◌<◌, ◌≤◌, List, [], length, Some, None}
-use Rattle.bw_sql.specs.declared.fault.SqlFault.{SqlFault}
-use Rattle.bw_sql.specs.declared.fault.SqlFault.TheVariants as faults
+use Rattle.bw_lex.specs.declared.fault.SqlFault.{SqlFault}
+use Rattle.bw_lex.specs.declared.fault.SqlFault.TheVariants as faults
+use Rattle.bw_lex.specs.declared.token.Token.{Token}
+use Rattle.bw_lex.specs.Tokens.{AreTokens, AreTokensFrom, AreTokensToBad}
 use Rattle.bw_sql.specs.declared.terminal.Terminal.{Terminal}
-use Rattle.bw_sql.specs.declared.token.Token.{Token}
-use Rattle.bw_sql.specs.Tokens.{AreTokens, AreTokensFrom, AreTokensToBad}
 use Rattle.bw_sql.specs.Terminals.{first_limit_fault, terminals_of}
 use Rattle.bw_sql.specs.Tree.{StatementTree}
 use Rattle.bw_sql.specs.Grammar.{Spells}

@@ -2,13 +2,13 @@
 -- limits on tokens.
 use Rattle.std.specs.Prelude.{◌≡◌, ℕ, ◌+◌, ◌-◌, ◌*◌, ◌^◌, Bool, true, false, nat_le, if◌then◌else◌, List, [], ◌∷◌, ◌++◌, map, count_by, slice_range, Option, Some, None}
 use Rattle.std.specs.Char.{to_ascii_uppercase}
-use Rattle.bw_sql.specs.declared.fault.SqlFault.{SqlFault}
-use Rattle.bw_sql.specs.declared.fault.SqlFault.TheVariants as faults
+use Rattle.bw_lex.specs.declared.fault.SqlFault.{SqlFault}
+use Rattle.bw_lex.specs.declared.fault.SqlFault.TheVariants as faults
+use Rattle.bw_lex.specs.declared.token.Symbol.TheVariants as s
+use Rattle.bw_lex.specs.declared.token.Token.{Token}
+use Rattle.bw_lex.specs.declared.token.TokenKind.{TokenKind}
+use Rattle.bw_lex.specs.declared.token.TokenKind.TheVariants as kinds
 use Rattle.bw_sql.specs.declared.keyword.Keyword.{Keyword}
-use Rattle.bw_sql.specs.declared.token.Symbol.TheVariants as s
-use Rattle.bw_sql.specs.declared.token.Token.{Token}
-use Rattle.bw_sql.specs.declared.token.TokenKind.{TokenKind}
-use Rattle.bw_sql.specs.declared.token.TokenKind.TheVariants as kinds
 use Rattle.bw_sql.specs.declared.terminal.Terminal.{Terminal}
 use Rattle.bw_sql.specs.declared.terminal.Terminal.TheVariants as t
 use Rattle.bw_sql.specs.Names.{keyword_of}

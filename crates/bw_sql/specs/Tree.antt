@@ -2,7 +2,7 @@
 -- search condition and predicates), without where they lie in memory. A name is its bytes, a value a number or none.
 use Rattle.std.specs.Prelude.{ℕ, ℤ, List, [], ◌∷◌, map, Option, option_map}
 use Rattle.std.specs.Global.{Vec}
-use Rattle.bw_sql.specs.declared.token.CompareOp.{CompareOp}
+use Rattle.bw_lex.specs.declared.token.CompareOp.{CompareOp}
 use Rattle.bw_sql.specs.declared.tree.Operand.{Operand}
 use Rattle.bw_sql.specs.declared.tree.Condition.{Condition}
 use Rattle.bw_sql.specs.declared.tree.Condition.TheOpen.{Condition-F}

@@ -1,19 +1,18 @@
 //! Conditions out of terminals, read from the left.
 
 ghost use Rattle.std.specs.Prelude.{◌≡◌, ◌<◌, ◌≤◌, ◌∷◌, ℕ, IfOk, List, MatchOption, MatchResult, OnOk, length};
+ghost use Rattle.bw_lex.specs.declared.token.CompareOp.{CompareOp as AnyCompareOp};
 ghost use Rattle.bw_sql.specs.declared.terminal.Terminal.{Terminal};
-ghost use Rattle.bw_sql.specs.declared.token.CompareOp.{CompareOp as AnyCompareOp};
 ghost use Rattle.bw_sql.specs.Grammar as grammar;
 ghost use Rattle.bw_sql.specs.Reading as reading;
 ghost use Rattle.bw_sql.specs.Reading.{Gives};
 ghost use Rattle.bw_sql.specs.Tree.{condition_of, comparison, conditions_in, negated, tested};
 
-use crate::fault::SqlFault;
 use crate::keyword::Keyword;
 use crate::parser::Parser;
 use crate::terminal::Terminal;
-use crate::token::{CompareOp, Symbol};
 use crate::tree::{Condition, Operand, TruthWord};
+use bw_lex::{CompareOp, SqlFault, Symbol};
 
 impl<'a> Parser<'a> {
     // cond = term {OR term}

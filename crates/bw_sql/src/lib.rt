@@ -1,32 +1,27 @@
-//! The language: a script's parts, a part's tokens, and the statement that they spell.
+//! The language: the statement that a text says. The parts of a script and the tokens of a text come
+//! from the lexical layer and are passed on.
 #![tactic(auto)]
 
 mod condition;
-mod fault;
 mod keyword;
-mod lanes;
-mod lexer;
 mod limits;
 mod name;
 mod name_list;
 mod parser;
-mod piece;
 mod rows;
-mod script;
 mod statement_text;
 mod terminal;
-mod token;
 mod tree;
 
-pub use fault::SqlFault;
+pub use bw_lex::{
+    CompareOp, Part, Span, SqlFault, Symbol, Token, TokenKind, one_reading, one_splitting, parts,
+    tokens,
+};
 pub use keyword::Keyword;
-pub use lexer::{one_reading, tokens};
 pub use name::Name;
 pub use name_list::NameList;
 pub use rows::ValueRows;
-pub use script::{Part, one_splitting, parts};
 pub use statement_text::{LONGEST_STATEMENT, one_statement, statement};
-pub use token::{CompareOp, Span, Symbol, Token, TokenKind};
 pub use tree::{
     ColumnDefinition, Condition, CreateTable, Insert, KindWord, LayoutWord, Operand, Select,
     SelectItems, Statement, TruthWord, Value,

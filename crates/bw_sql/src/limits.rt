@@ -3,16 +3,14 @@
 ghost use Rattle.std.specs.Prelude.{◌≡◌, ◌+◌, ◌-◌, ◌*◌, ◌^◌, ◌<◌, ◌≤◌, [], All, IfErr, IfOk, IsTrue, MatchResult, None, OnOk, Some, SomeIff, if◌then◌else◌, length, map};
 ghost use Rattle.std.specs.Char.{is_ascii_digit, to_ascii_uppercase};
 ghost use Rattle.std.specs.List.{list_all};
+ghost use Rattle.bw_lex.specs.Spellings.{IsSpelled, IsWord};
 ghost use Rattle.bw_sql.specs.Names.{keyword_of};
-ghost use Rattle.bw_sql.specs.Spellings.{IsSpelled, IsWord};
 ghost use Rattle.bw_sql.specs.Statements.{AreTerminals, IsTerminalsFault};
 ghost use Rattle.bw_sql.specs.Terminals.{depth_fault, is_close, is_minus, is_open, number_fault, number_value, terminal_of, word_or_name};
 
-use crate::fault::SqlFault;
 use crate::keyword::reserved_word;
-use crate::piece::{Piece, first_piece};
 use crate::terminal::{NameWord, Terminal};
-use crate::token::{Symbol, TokenKind};
+use bw_lex::{Piece, SqlFault, Symbol, TokenKind, first_piece};
 use std::alloc::Global;
 
 // How many `(` and `)` stood before, and whether a `-` came last.

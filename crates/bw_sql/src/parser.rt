@@ -8,17 +8,16 @@ ghost use Rattle.bw_sql.specs.Reading.{Gives, GivesAll, GivesRow};
 ghost use Rattle.bw_sql.specs.Statements.{IsParseFault};
 ghost use Rattle.bw_sql.specs.Tree.{condition_of, items_of, statement_of};
 
-use crate::fault::SqlFault;
 use crate::keyword::Keyword;
 use crate::name::Name;
 use crate::name_list::NameList;
 use crate::rows::ValueRows;
 use crate::terminal::Terminal;
-use crate::token::Symbol;
 use crate::tree::{
     ColumnDefinition, Condition, CreateTable, Insert, KindWord, LayoutWord, Select, SelectItems,
     Statement, Value,
 };
+use bw_lex::{SqlFault, Symbol};
 use std::alloc::Global;
 
 /// What is left of the terminals.

@@ -1,14 +1,14 @@
 //! The statement that a text says.
 
 ghost use Rattle.std.specs.Prelude.{◌≡◌, ◌≢◌, ◌<◌, ◌≤◌, ℕ, IfErr, IfOk, List, length};
+ghost use Rattle.bw_lex.specs.declared.fault.SqlFault.{SqlFault as AnyFault};
 ghost use Rattle.bw_sql.specs.Statements.{IsStatementFault, Says, longest_statement};
 ghost use Rattle.bw_sql.specs.Tree.{StatementTree, statement_of};
-ghost use Rattle.bw_sql.specs.declared.fault.SqlFault.{SqlFault as AnyFault};
 
-use crate::fault::SqlFault;
 use crate::limits::terminals;
 use crate::parser::parse;
 use crate::tree::Statement;
+use bw_lex::SqlFault;
 use std::alloc::Global;
 
 /// How many bytes a statement may have.

@@ -7,8 +7,8 @@ ghost use Rattle.bw_sql.specs.Words.{kind_of, layout_of};
 
 use crate::keyword::{Keyword, spells};
 use crate::name::Name;
-use crate::token::Symbol;
 use crate::tree::{KindWord, LayoutWord};
+use bw_lex::Symbol;
 use std::alloc::{AllocError, Global};
 use std::marker::Model;
 

@@ -3,7 +3,7 @@
 use crate::name::Name;
 use crate::name_list::NameList;
 use crate::rows::ValueRows;
-use crate::token::CompareOp;
+use bw_lex::CompareOp;
 
 /// A number, or `None` for NULL.
 pub type Value = Option<i64>;

@@ -1,0 +1,10 @@
+pub mod LaneLemmas
+pub mod Lexing
+pub mod Longest
+pub mod OneSplit
+pub mod Prefixes
+pub mod Quotes
+pub mod Runs
+pub mod Shapes
+pub mod Splits
+pub mod Utf
