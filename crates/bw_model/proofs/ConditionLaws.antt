@@ -7,7 +7,7 @@ use Rattle.bw_mask.specs.declared.truth_value.TruthValue.TheVariants.{True, Fals
 use Rattle.bw_mask.proofs.Tables.{and_of_True}
 use Rattle.bw_model.specs.Condition.{compared, found_rows, is_found, is_one_of, truth_at, value_of}
 use Rattle.bw_model.specs.Store.{Header, Row, Table, Value}
-use Rattle.bw_sql.specs.declared.token.CompareOp.TheVariants.{Eq, Ge, Le}
+use Rattle.bw_lex.specs.declared.token.CompareOp.TheVariants.{Eq, Ge, Le}
 use Rattle.bw_sql.specs.declared.tree.Operand.{Operand}
 use Rattle.bw_sql.specs.declared.tree.Operand.TheVariants.{Constant}
 use Rattle.bw_sql.specs.Tree.{among, between, comparison, each_of, more, negated, none, some_of, trees_of}

@@ -6,7 +6,7 @@ ghost use Rattle.bw_mask.specs.declared.truth_value.TruthValue.TheVariants.{True
 ghost use Rattle.bw_mask.specs.Truth.{is_value};
 ghost use Rattle.bw_model.specs.Condition.{found_rows, truth_at};
 ghost use Rattle.bw_model.specs.Store.{Header as AnyHeader, Row as AnyRow, Table as AnyTable, Value as AnyValue};
-ghost use Rattle.bw_sql.specs.declared.token.CompareOp.TheVariants.{Eq, Ge, Le};
+ghost use Rattle.bw_lex.specs.declared.token.CompareOp.TheVariants.{Eq, Ge, Le};
 ghost use Rattle.bw_sql.specs.declared.tree.Operand.{Operand as AnyOperand};
 ghost use Rattle.bw_sql.specs.declared.tree.Operand.TheVariants.{Constant};
 ghost use Rattle.bw_sql.specs.Tree.{among, between, comparison, each_of, more, negated, none, some_of, trees_of};
