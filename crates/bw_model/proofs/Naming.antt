@@ -7,7 +7,8 @@ use Rattle.bw_sql.specs.Names.{IsName}
 use Rattle.bw_sql.specs.Tree.{StatementTree, create_table, insert, select}
 use Rattle.bw_sql.specs.declared.tree.ColumnDefinition.{ColumnDefinition}
 use Rattle.bw_model.specs.Insert.{with_rows}
-use Rattle.bw_model.specs.Named.{AreNamed, HaveNames, names_brought}
+use Rattle.bw_sql.specs.Brought.{names_brought}
+use Rattle.bw_model.specs.Named.{AreNamed, HaveNames}
 use Rattle.bw_model.specs.Refusals.{first_that_holds, tests_of}
 use Rattle.bw_model.specs.Step.{Step, carried_out, refused_or, with_table}
 use Rattle.bw_model.specs.Store.{Row, Store, Table, header_of, table_of}

@@ -2,7 +2,7 @@
 
 ghost use Rattle.std.specs.Prelude.{◌≡◌, [], All, List, map};
 ghost use Rattle.std.specs.List.{flat_map};
-ghost use Rattle.bw_model.specs.Named.{AreNamed, names_brought};
+ghost use Rattle.bw_model.specs.Named.{AreNamed};
 ghost use Rattle.bw_model.specs.ReplyText.{reply_text};
 ghost use Rattle.bw_model.specs.Step.{Step};
 ghost use Rattle.bw_model.specs.Store.{Store};
@@ -11,6 +11,7 @@ ghost use Rattle.bw_model.specs.WellFormed.{IsStore};
 ghost use Rattle.bw_model.specs.declared.refusal.Refusal.{Refusal as AnyRefusal};
 ghost use Rattle.bw_model.specs.declared.reply.Reply.{Reply as AnyReply};
 ghost use Rattle.bw_model.specs.declared.reply.Reply.TheVariants.{Refused};
+ghost use Rattle.bw_sql.specs.Brought.{names_brought};
 ghost use Rattle.bw_sql.specs.Names.{IsName};
 ghost use Rattle.bw_sql.specs.Tree.{StatementTree};
 
@@ -32,7 +33,8 @@ pub fn texts_tell_replies()
 {}
 
 /// Over a well-formed store whose names are names, each reply of a step is one that its text tells; and
-/// names stay names, where a statement brings in no others. So two replies of runs with the same text
+/// names stay names, where a statement brings in no others, as no text says one that does
+/// (`names_are_names`). So two replies of runs with the same text
 /// are the same reply, but for the headings `COLUMNS` and `ROWS`.
 pub fn replies_are_told()
     ensures empty { AreNamed [] }

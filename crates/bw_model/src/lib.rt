@@ -16,16 +16,12 @@ mod texts;
 
 pub use answer::{Answer, Cell, Heading};
 pub use condition::{found_rows, truth_at};
-<<<<<<< HEAD
 pub use condition_laws::{
     between_is_two_comparisons, in_is_a_run_of_or, not_in_with_null_finds_nothing,
 };
-pub use laws::{refusals_change_nothing, stores_stay_well_formed, texts_tell_replies};
-=======
 pub use laws::{
     refusals_change_nothing, replies_are_told, stores_stay_well_formed, texts_tell_replies,
 };
->>>>>>> 62b2cc4f057b3c39dc982d4e5a139478b86cadf9
 pub use refusal::Refusal;
 pub use reply::Reply;
 pub use select::answer_of;

@@ -1,3 +1,4 @@
+pub mod Brought
 pub mod Grammar
 pub mod Names
 pub mod Reading

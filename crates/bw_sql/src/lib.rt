@@ -21,7 +21,7 @@ pub use keyword::Keyword;
 pub use name::Name;
 pub use name_list::NameList;
 pub use rows::ValueRows;
-pub use statement_text::{LONGEST_STATEMENT, one_statement, statement};
+pub use statement_text::{LONGEST_STATEMENT, names_are_names, one_statement, statement};
 pub use tree::{
     ColumnDefinition, Condition, CreateTable, Insert, KindWord, LayoutWord, Operand, Select,
     SelectItems, Statement, TruthWord, Value,

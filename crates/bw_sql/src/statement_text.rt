@@ -1,6 +1,8 @@
 //! The statement that a text says.
 
-ghost use Rattle.std.specs.Prelude.{◌≡◌, ◌≢◌, ◌<◌, ◌≤◌, ℕ, IfErr, IfOk, List, length};
+ghost use Rattle.std.specs.Prelude.{◌≡◌, ◌≢◌, ◌<◌, ◌≤◌, ℕ, All, IfErr, IfOk, List, length};
+ghost use Rattle.bw_sql.specs.Brought.{names_brought};
+ghost use Rattle.bw_sql.specs.Names.{IsName};
 ghost use Rattle.bw_lex.specs.declared.fault.SqlFault.{SqlFault as AnyFault};
 ghost use Rattle.bw_sql.specs.Statements.{IsStatementFault, Says, longest_statement};
 ghost use Rattle.bw_sql.specs.Tree.{StatementTree, statement_of};
@@ -44,4 +46,9 @@ pub fn one_statement()
     ensures same { (text : List ℕ) (a b : StatementTree) → Says text a → Says text b → a ≡ b }
     ensures no_fault { (text : List ℕ) (a : StatementTree) (fault : AnyFault) → Says text a → IsStatementFault fault text → fault ≡ SqlFault.Memory }
     ensures one_fault { (text : List ℕ) (a b : AnyFault) → IsStatementFault a text → IsStatementFault b text → a ≢ SqlFault.Memory → b ≢ SqlFault.Memory → a ≡ b }
+{}
+
+/// The names that a statement brings into a store are names.
+pub fn names_are_names()
+    ensures { (text : List ℕ) (statement : StatementTree) → Says text statement → All IsName (names_brought statement) }
 {}
