@@ -33,9 +33,9 @@ pub fn texts_tell_replies()
 {}
 
 /// Over a well-formed store whose names are names, each reply of a step is one that its text tells; and
-/// names stay names, where a statement brings in no others, as no text says one that does
-/// (`names_are_names`). So two replies of runs with the same text
-/// are the same reply, but for the headings `COLUMNS` and `ROWS`.
+/// names stay names, where a statement brings in no others. No text says a statement that does
+/// (`names_are_names`). So two replies of runs with the same text are the same reply, but for the
+/// headings `COLUMNS` and `ROWS`.
 pub fn replies_are_told()
     ensures empty { AreNamed [] }
     ensures kept { (store after : Store) (statement : StatementTree) (reply : AnyReply) → AreNamed store → All IsName (names_brought statement) → Step store statement reply after → AreNamed after }
