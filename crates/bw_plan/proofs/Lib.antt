@@ -6,3 +6,4 @@ pub mod PlanLaws
 pub mod RowLemmas
 pub mod Tests
 pub mod TruthWords
+pub mod WordLemmas

@@ -1,17 +1,10 @@
 -- Lines of one width that lie flat.
-use Rattle.std.proofs.Common.{◌≡◌, ℕ, ◌+◌, ◌*◌, ◌/◌, ◌<◌, ◌≤◌, Result, Ok, Err, OnOk, is_ok, Bool, true, false, if◌then◌else◌, List, [], ◌∷◌, ◌++◌, append_assoc, append-nil, filter, map, ◌==◌, length, replicate, take, drop, zero, suc, refl, sym, ap, ◌∙◌, arith, length-append, length-drop}
-use Rattle.std.proofs.lemmas.List.{length-map, length-replicate, take-append-le, drop-append-le}
-use Rattle.std.proofs.Math.Nat.{mul-div_cancel}
-use Rattle.std.proofs.lemmas.Bool.{eqb-true, true≢false}
-use Rattle.std.specs.List.{All}
-use Rattle.std.proofs.lemmas.List.Elements.{All-cons, All-head, All-nil, All-tail}
-use Rattle.std.proofs.Math.Seq.{drop-append_seam, take-append_seam}
+use Rattle.std.proofs.Common.{◌≡◌, ℕ, ◌+◌, ◌*◌, ◌<◌, ◌≤◌, Bool, false, List, [], ◌∷◌, ◌++◌, append_assoc, append-nil, map, ◌==◌, length, replicate, take, drop, zero, suc, refl, sym, ap, ◌∙◌, arith, length-append, length-drop}
+use Rattle.std.proofs.lemmas.List.{take-append-le, drop-append-le}
+use Rattle.std.proofs.lemmas.Bool.{true≢false}
 use Rattle.bw_sql.specs.Rows.{joined, rows_of}
-use Rattle.bw_sql.proofs.RowLemmas.{length-rows_of}
 use Rattle.bw_model.specs.Answers.{AreWholeLines, lines_of}
-use Rattle.bw_model.specs.Store.{Header, Table, Value, row_limit}
-use Rattle.bw_model.proofs.Lines.{count-lines_of, count-of, length-joined_map, lines_of-first, lines_of-nil, whole_rest}
-use Rattle.bw_plan.specs.Flat.{AreRows}
+use Rattle.bw_model.proofs.Lines.{count-of, lines_of-first, lines_of-nil, whole_rest}
 
 module _ {A : Type 0} where
   pub rows_of-append : (w n m : ℕ) (a b : List A) → length a ≡ n * w → rows_of (replicate (n + m) w) (a ++ b) ≡ rows_of (replicate n w) a ++ rows_of (replicate m w) b

@@ -1,14 +1,12 @@
 -- Lists of names in which no name stands twice.
-use Rattle.std.proofs.Common.{◌≡◌, ℕ, ◌+◌, ◌<◌, ◌≤◌, Bor, IsTrue, if◌then◌else◌, Bool, true, false, ◌&&◌, ◌||◌, not, List, [], ◌∷◌, ◌++◌, length, map, get_or, zero, suc, refl, sym, ap, subst, ◌∙◌, arith, take, drop, take-append-drop}
+use Rattle.std.proofs.Common.{◌≡◌, ℕ, ◌+◌, ◌<◌, Bool, true, false, ◌&&◌, ◌||◌, not, List, [], ◌∷◌, ◌++◌, length, get_or, refl, sym, ap, subst, ◌∙◌, take, drop, take-append-drop}
 use Rattle.std.specs.List.{list_any}
 use Rattle.std.specs.Str.{bytes_eq}
 use Rattle.std.proofs.lemmas.Bool.{true≢false, both_ways}
-use Rattle.std.proofs.lemmas.List.{length-map, take_more}
+use Rattle.std.proofs.lemmas.List.{take_more}
 use Rattle.std.proofs.lemmas.List.Folds.{list_any-append}
-use Rattle.std.proofs.lemmas.Slice.Eq.{bytes_eq-Decides}
 use Rattle.bw_model.specs.Store.{are_distinct}
-use Rattle.bw_model.proofs.Names.{are_distinct-push, bytes_eq-comm, map-push}
-use Rattle.bw_sql.specs.declared.tree.ColumnDefinition.{ColumnDefinition}
+use Rattle.bw_model.proofs.Names.{are_distinct-push}
 
 fronts : (a b c d : Bool) → (c ≡ true → d ≡ true) → (not (a || b) && c) ≡ true → (not a && d) ≡ true
 fronts true b c d rest e = e

@@ -85,3 +85,6 @@ plans_whole headers plans parts items n so_far same over =
 
 pub plan_is : (part : Box RowCondition) (value : TruthValue) → plan_of (rows.Is part value) ≡ plan.tested (plan_of part.value) value
 plan_is part value = ap plan_of (sym (rows.rolls-Is part value)) ∙ fold-roll-RowCondition Plan plan_step (RowCondition-F.Is part value)
+
+pub plan_not : (part : Box RowCondition) → plan_of (rows.Not part) ≡ plan.negated (plan_of part.value)
+plan_not part = ap plan_of (sym (rows.rolls-Not part)) ∙ fold-roll-RowCondition Plan plan_step (RowCondition-F.Not part)

@@ -1,12 +1,12 @@
 -- Tests in their order, and what a part of a statement answers by them.
-use Rattle.std.proofs.Common.{◌≡◌, inl, inr, ℕ, ◌<◌, ◌≤◌, ◌==◌, Bool, true, false, ◌&&◌, ◌||◌, not, is_some, List, [], ◌∷◌, ◌++◌, length, get_or, nat_le, nat_lt, Option, None, Some, Result, Ok, Err, IsErrAnd, if◌then◌else◌, zero, suc, refl, sym, ap, subst, ◌∙◌, arith}
+use Rattle.std.proofs.Common.{◌≡◌, inl, inr, ℕ, ◌<◌, ◌==◌, Bool, true, false, ◌&&◌, not, List, [], ◌∷◌, ◌++◌, length, get_or, Option, None, Some, Result, Ok, Err, IsErrAnd, if◌then◌else◌, zero, suc, refl, sym, ap, subst, ◌∙◌, arith}
 use Rattle.std.specs.List.{All, list_all}
 use Rattle.std.proofs.lemmas.Bool.{eq-eqb, not-false, true≢false}
-use Rattle.std.proofs.lemmas.List.Elements.{All-cons, All-head, All-nil, All-tail}
+use Rattle.std.proofs.lemmas.List.Elements.{All-head, All-tail}
 use Rattle.std.proofs.lemmas.List.Folds.{list_all-append}
 use Rattle.bw_sql.specs.Rows.{joined}
-use Rattle.bw_model.specs.Refusals.{Tests, create_tests, first_that_holds, is_in_range}
-use Rattle.bw_model.specs.Store.{Row, Store, Value, are_distinct, column_limit, table_limit, table_of}
+use Rattle.bw_model.specs.Refusals.{Tests, first_that_holds, is_in_range}
+use Rattle.bw_model.specs.Store.{Row, Value}
 use Rattle.bw_model.specs.declared.refusal.Refusal.{Refusal}
 use Rattle.bw_model.specs.declared.refusal.Refusal.TheVariants.{OutOfRange, WrongNumberOfValues}
 use Rattle.bw_model.proofs.Passing.{if_none, widths}

@@ -1,78 +1,14 @@
--- A predicate over rows, 64 rows at a time.
-use Rattle.std.proofs.Common.{◌≡◌, ◌≢◌, ◌∙◌, ℕ, ◌+◌, ◌-◌, ◌*◌, ◌%◌, ◌^◌, ◌==◌, ◌<◌, ◌≤◌, Bool, true, false, ◌||◌, if◌then◌else◌, List, length, replicate, refl, sym, ap, arith, bit_or, nat_lt, ◌&&◌, inl, inr}
-use Rattle.std.proofs.lemmas.Bool.{cases_lt, lt-ltb}
+-- Truths that are put into masks, 64 rows at a time.
+use Rattle.std.proofs.Common.{◌≡◌, ◌∙◌, ℕ, ◌+◌, ◌-◌, ◌<◌, ◌≤◌, Bool, true, false, if◌then◌else◌, List, length, replicate, refl, sym, ap, arith, bit_and, nat_lt, ◌&&◌, inl, inr}
+use Rattle.std.proofs.lemmas.Bool.{and_right, cases_lt, lt-ltb}
 use Rattle.std.proofs.lemmas.List.{length-replicate}
-use Rattle.std.proofs.lemmas.Nat.Bits.{bit_at_ones_above}
-use mir.Val.{bool_byte}
 use Rattle.bw_mask.specs.Masks.{MaskRows, SameShape, bit_of, len, row_at}
 use Rattle.bw_mask.specs.Truth.{is_value}
 use Rattle.bw_mask.specs.Truths.{AreTruths, truth_at, truth_from}
 use Rattle.bw_mask.specs.declared.truth_value.TruthValue.{TruthValue}
 use Rattle.bw_mask.specs.declared.truth_value.TruthValue.TheVariants.{True, False, Unknown}
-use Rattle.bw_mask.proofs.Bits.{bit_below_shl, bit_of_or, bit_of_shl, bit_of_zero}
+use Rattle.bw_mask.proofs.Bits.{and_true, bit_of_and}
 use Rattle.bw_plan.proofs.Evaluation.{empty_row, past_end}
-
--- How a bool is counted.
-
-bool_bit : (b : Bool) (n : ℕ) → n ≡ bool_byte b → bit_of n 0 ≡ b
-bool_bit true n e = ap (λ m. bit_of m 0) e
-bool_bit false n e = ap (λ m. bit_of m 0) e ∙ bit_of_zero 0
-
-bool_above : (b : Bool) (n i : ℕ) → n ≡ bool_byte b → 0 < i → bit_of n i ≡ false
-bool_above true n i e h = ap (λ m. bit_of m i) e ∙ ap (λ x. x == 1) (bit_at_ones_above 1 i h)
-bool_above false n i e h = ap (λ m. bit_of m i) e ∙ bit_of_zero i
-
-no_more : (b : Bool) → (b || false) ≡ b
-no_more true = refl
-no_more false = refl
-
--- A bit is put beside those that are there.
-
-pub bit_here : (word i : ℕ) (bit : Bool) → i < 64 → (n : ℕ) → n ≡ bool_byte bit → bit_of (bit_or word (n * 2 ^ i % 2 ^ 64)) i ≡ (bit_of word i || bit)
-bit_here word i bit h n e =
-    let none : i - i ≡ 0 = omega arith in
-    bit_of_or word (n * 2 ^ i % 2 ^ 64) i ∙ ap (λ b. bit_of word i || b) (bit_of_shl n i i (omega arith) h ∙ ap (bit_of n) none ∙ bool_bit bit n e)
-
-pub bit_beside : (word i : ℕ) (bit : Bool) (j : ℕ) → j < 64 → j ≢ i → (n : ℕ) → n ≡ bool_byte bit → bit_of (bit_or word (n * 2 ^ i % 2 ^ 64)) j ≡ bit_of word j
-bit_beside word i bit j h d n e =
-    bit_of_or word (n * 2 ^ i % 2 ^ 64) j ∙ ap (λ b. bit_of word j || b) (elim (cases_lt j i) [
-      | inl p ↦ bit_below_shl n i j p h
-      | inr p ↦ bit_of_shl n i j p h ∙ bool_above bit n (j - i) e (omega (arith, p, d))
-    ]) ∙ no_more (bit_of word j)
-
--- One word: the bits below a place are done.
-
-abbrev pub DoneBelow : (ℕ → Bool) → ℕ → ℕ → Type 0
-DoneBelow value n word = ((i : ℕ) → i < n → i < 64 → bit_of word i ≡ value i) × ((i : ℕ) → n ≤ i → i < 64 → bit_of word i ≡ false)
-
-module _ (value : ℕ → Bool) where
-  pub done_none : DoneBelow value 0 0
-  done_none = (λ i h l. absurd (omega (arith, h)), λ i h l. bit_of_zero i)
-
-  -- a bit that isn't set
-  pub done_passed : (n word : ℕ) → DoneBelow value n word → value n ≡ false → DoneBelow value (n + 1) word
-  done_passed n word done none = (
-    λ i h l. elim (cases_lt i n) [
-      | inl p ↦ done.0 i p l
-      | inr p ↦
-          let same : i ≡ n = omega (arith, h, p) in
-          done.1 i p l ∙ sym none ∙ ap value (sym same)
-    ],
-    λ i h l. done.1 i (omega (arith, h)) l,
-  )
-
-  -- a bit that is put in
-  pub done_put : (n word new : ℕ) (bit : Bool) → n < 64 → DoneBelow value n word → bit ≡ value n → bit_of new n ≡ (bit_of word n || bit)
-      → ((j : ℕ) → j < 64 → j ≢ n → bit_of new j ≡ bit_of word j) → DoneBelow value (n + 1) new
-  done_put n word new bit within done is same other = (
-    λ i h l. elim (cases_lt i n) [
-      | inl p ↦ other i l (λ e. omega (arith, p, e)) ∙ done.0 i p l
-      | inr p ↦
-          let here : i ≡ n = omega (arith, h, p) in
-          ap (bit_of new) here ∙ same ∙ ap (λ b. b || bit) (done.1 n (omega arith) within) ∙ is ∙ ap value (sym here)
-    ],
-    λ i h l. other i l (λ e. omega (arith, h, e)) ∙ done.1 i (omega (arith, h)) l,
-  )
 
 -- Which rows are needed, by the bits of the need mask.
 
@@ -82,18 +18,16 @@ row_in_need need k e = elim (cases_lt k (len need)) [
   | inr p ↦ absurd (let f : true ≡ false = sym e ∙ past_end need.rows k p in cc)
 ]
 
-module _ (need : MaskRows) (at i : ℕ) (bit : Bool) (within : i < 64) (bits : bit ≡ (nat_lt i 64 && row_at need (at + i))) where
-  row_is : bit ≡ row_at need (at + i)
-  row_is = bits ∙ ap (λ b. b && row_at need (at + i)) (lt-ltb i 64 within)
+by_need : (needed said : Bool) (truth value : TruthValue) → (needed ≡ true → said ≡ is_value truth value) → is_value Unknown value ≡ false → (said && needed) ≡ is_value (if needed then truth else Unknown) value
+by_need true said truth value is none = and_true said ∙ is refl
+by_need false said truth value is none = and_right said false refl ∙ sym none
 
-  pub needed_row : bit ≡ true → at + i < len need
-  needed_row e = row_in_need need (at + i) (sym row_is ∙ e)
-
-  pub needed_truth : (truth : TruthValue) → bit ≡ true → truth ≡ (if row_at need (at + i) then truth else Unknown)
-  needed_truth truth e = sym (ap (λ b. if b then truth else Unknown) (sym row_is ∙ e))
-
-  pub unneeded_truth : (truth : TruthValue) → bit ≡ false → (if row_at need (at + i) then truth else Unknown) ≡ Unknown
-  unneeded_truth truth e = ap (λ b. if b then truth else Unknown) (sym row_is ∙ e)
+-- what is said of a row that isn't needed is left out
+pub needed_bit : (need : MaskRows) (at i said needed : ℕ) (truth value : TruthValue) → i < 64 → is_value Unknown value ≡ false → bit_of needed i ≡ (nat_lt i 64 && row_at need (at + i))
+    → (at + i < len need → bit_of said i ≡ is_value truth value) → bit_of (bit_and said needed) i ≡ is_value (if row_at need (at + i) then truth else Unknown) value
+needed_bit need at i said needed truth value within none bits is =
+    bit_of_and said needed i ∙ ap (λ b. bit_of said i && b) (bits ∙ ap (λ b. b && row_at need (at + i)) (lt-ltb i 64 within))
+    ∙ by_need (row_at need (at + i)) (bit_of said i) truth value (λ e. is (row_in_need need (at + i) e)) none
 
 -- A mask: the rows below a place are done.
 

@@ -1,5 +1,5 @@
 -- What a part of a statement answers, by the tests that it makes.
-use Rattle.std.specs.Prelude.{◌≡◌, ◌⊎◌, ◌==◌, ℕ, List, [], ◌∷◌, ◌++◌, Option, Some, None, Result, MatchResult, length, not}
+use Rattle.std.specs.Prelude.{◌≡◌, ◌⊎◌, ◌==◌, ℕ, List, [], ◌∷◌, Option, Some, None, Result, MatchResult, length, not}
 use Rattle.std.specs.List.{list_all, list_any}
 use Rattle.bw_sql.specs.Tree.{ConditionTree}
 use Rattle.bw_model.specs.Refusals.{Tests, condition_misses, first_that_holds, is_in_range, is_missing, lists_too_long}

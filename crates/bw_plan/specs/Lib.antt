@@ -1,3 +1,4 @@
+pub mod BitRows
 pub mod Checks
 pub mod Flat
 pub mod Plans

@@ -1,5 +1,5 @@
 -- Conditions whose columns are places in a row, and what they say of it (SQL-92, search condition and predicates).
-use Rattle.std.specs.Prelude.{◌≡◌, ℕ, true, false, List, [], ◌∷◌, Option, Some, None, get_or, length, is_none, if◌then◌else◌}
+use Rattle.std.specs.Prelude.{◌≡◌, ℕ, List, [], ◌∷◌, Option, Some, None, get_or, length, is_none, if◌then◌else◌}
 use Rattle.bw_mask.specs.Masks.{MaskRows, row_at}
 use Rattle.bw_mask.specs.Truth.{and_of, is_of, not_of, or_of, truth_of_bool}
 use Rattle.bw_mask.specs.Truths as truths
@@ -7,10 +7,7 @@ use Rattle.bw_mask.specs.declared.truth_value.TruthValue.{TruthValue}
 use Rattle.bw_mask.specs.declared.truth_value.TruthValue.TheVariants.{Unknown}
 use Rattle.bw_mask.specs.declared.truth_value.TruthValue.TheVariants as value
 use Rattle.bw_model.specs.Condition.{compared, is_one_of, lies_between, truth_of_word}
-use Rattle.bw_model.specs.Refusals.{has_long_list, names_missing}
 use Rattle.bw_model.specs.Store.{Header, Row, Value, place_of, value_at}
-use Rattle.bw_model.specs.declared.refusal.Refusal.{Refusal}
-use Rattle.bw_model.specs.declared.refusal.Refusal.TheVariants as refusal
 use Rattle.bw_lex.specs.declared.token.CompareOp.{CompareOp}
 use Rattle.bw_sql.specs.Tree.{ConditionTree, ConditionTrees}
 use Rattle.bw_sql.specs.Tree as tree

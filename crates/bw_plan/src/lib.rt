@@ -1,6 +1,7 @@
 //! Statements over the rows of a table: columns' names become places, and a condition the truth of each row.
 #![tactic(auto)]
 
+mod condition_word;
 mod evaluate;
 mod headers;
 mod insertion;
@@ -9,6 +10,7 @@ mod resolution;
 mod rows;
 mod selection;
 mod truth_word;
+mod values;
 
 pub use evaluate::evaluate_rows;
 pub use headers::{Header, Headers, Kind, Layout, place_in};

@@ -1,15 +1,12 @@
-//! Truths of 64 rows at a time.
+//! Truths of 64 rows.
 
-ghost use Rattle.std.specs.Prelude.{◌≡◌, ◌≢◌, ℕ, ◌+◌, ◌<◌, ◌≤◌, ◌||◌, length};
-ghost use Rattle.bw_mask.specs.Masks.{bit_of, len, row_at};
-ghost use Rattle.bw_mask.specs.Truth.{is_value};
-ghost use Rattle.bw_mask.specs.declared.truth_value.TruthValue.TheVariants.{False, True};
-ghost use Rattle.bw_model.specs.Store.{row_limit};
-ghost use Rattle.bw_plan.specs.Plans.{predicate_of, truth_if_needed};
+ghost use Rattle.std.specs.Prelude.{◌≡◌, ℕ, Bool, not, if◌then◌else◌};
+ghost use Rattle.bw_mask.specs.Truth.{and_of, is_of, is_value, not_of, or_of, truth_of_bool};
+ghost use Rattle.bw_mask.specs.declared.truth_value.TruthValue.{TruthValue};
+ghost use Rattle.bw_mask.specs.declared.truth_value.TruthValue.TheVariants.{Unknown};
+ghost use Rattle.bw_plan.specs.BitRows.{AreBitTruths, AreBits};
 
-use crate::plan::Predicate;
-use crate::rows::Rows;
-use bw_mask::{Mask, TruthValue};
+use bw_mask::TruthValue;
 
 /// The truths of 64 rows: bit i of a word speaks of the i-th of them. A row in neither word is unknown.
 #[derive(Clone, Copy)]
@@ -18,39 +15,89 @@ pub(crate) struct TruthWord {
     pub(crate) falses: u64,
 }
 
-/// What a predicate says of 64 rows from `at` on. It is unknown at a row that isn't needed.
-pub(crate) fn test_word(predicate: &Predicate, rows: &Rows<'_>, need: &Mask, at: usize) -> TruthWord
-    requires lengths { len need.now ≡ length rows.now }
-    requires near { at ≤ row_limit }
-    ensures trues { (i : ℕ) → i < 64 → bit_of result.trues i ≡ is_value (truth_if_needed (predicate_of predicate.now) rows.now need.now (at + i)) True }
-    ensures falses { (i : ℕ) → i < 64 → bit_of result.falses i ≡ is_value (truth_if_needed (predicate_of predicate.now) rows.now need.now (at + i)) False }
-{
-    let needed = need.bits(at, 64);
-    let mut trues = 0;
-    let mut falses = 0;
-    for i in 0..64 {
-        if is_set(needed, i) {
-            let truth = predicate.truth_at(rows.row(at + i));
-            trues = with_bit(trues, i, truth.is(TruthValue::True));
-            falses = with_bit(falses, i, truth.is(TruthValue::False));
+impl TruthWord {
+    /// True at the known rows that are in the word, and false at the other known rows.
+    pub(crate) fn of(word: u64, known: u64) -> TruthWord
+        ensures { (holds there : ℕ → Bool) (n : ℕ) → AreBits holds n word → AreBits there n known → AreBitTruths (λ i. if there i then truth_of_bool (holds i) else Unknown) n result.trues result.falses }
+    {
+        TruthWord {
+            trues: word & known,
+            falses: others(word) & known,
         }
     }
-    TruthWord { trues, falses }
+
+    /// The same in each row: true, false or unknown.
+    pub(crate) fn everywhere(value: TruthValue) -> TruthWord
+        ensures { (n : ℕ) → AreBitTruths (λ _. value) n result.trues result.falses }
+    {
+        match value {
+            TruthValue::True => TruthWord {
+                trues: u64::MAX,
+                falses: 0,
+            },
+            TruthValue::False => TruthWord {
+                trues: 0,
+                falses: u64::MAX,
+            },
+            TruthValue::Unknown => TruthWord {
+                trues: 0,
+                falses: 0,
+            },
+        }
+    }
+
+    /// The IS test, row by row: it is never unknown.
+    pub(crate) fn is(self, value: TruthValue) -> TruthWord
+        ensures { (truth : ℕ → TruthValue) (n : ℕ) → AreBitTruths truth n self.trues self.falses → AreBitTruths (λ i. is_of (truth i) value) n result.trues result.falses }
+    {
+        TruthWord::of(self.rows_of(value), u64::MAX)
+    }
+
+    /// The rows at which the truth is this value.
+    fn rows_of(self, value: TruthValue) -> u64
+        ensures { (truth : ℕ → TruthValue) (n : ℕ) → AreBitTruths truth n self.trues self.falses → AreBits (λ i. is_value (truth i) value) n result }
+    {
+        match value {
+            TruthValue::True => self.trues,
+            TruthValue::False => self.falses,
+            TruthValue::Unknown => others(self.trues | self.falses),
+        }
+    }
+
+    /// NOT, row by row.
+    pub(crate) fn not(self) -> TruthWord
+        ensures { (truth : ℕ → TruthValue) (n : ℕ) → AreBitTruths truth n self.trues self.falses → AreBitTruths (λ i. not_of (truth i)) n result.trues result.falses }
+    {
+        TruthWord {
+            trues: self.falses,
+            falses: self.trues,
+        }
+    }
+
+    /// AND, row by row.
+    pub(crate) fn and(self, other: TruthWord) -> TruthWord
+        ensures { (left right : ℕ → TruthValue) (n : ℕ) → AreBitTruths left n self.trues self.falses → AreBitTruths right n other.trues other.falses → AreBitTruths (λ i. and_of (left i) (right i)) n result.trues result.falses }
+    {
+        TruthWord {
+            trues: self.trues & other.trues,
+            falses: self.falses | other.falses,
+        }
+    }
+
+    /// OR, row by row.
+    pub(crate) fn or(self, other: TruthWord) -> TruthWord
+        ensures { (left right : ℕ → TruthValue) (n : ℕ) → AreBitTruths left n self.trues self.falses → AreBitTruths right n other.trues other.falses → AreBitTruths (λ i. or_of (left i) (right i)) n result.trues result.falses }
+    {
+        TruthWord {
+            trues: self.trues | other.trues,
+            falses: self.falses & other.falses,
+        }
+    }
 }
 
-/// Whether bit i is set.
-fn is_set(word: u64, i: usize) -> bool
-    requires { i < 64 }
-    ensures { result ≡ bit_of word i }
+/// The rows that are not in the word.
+pub(crate) fn others(word: u64) -> u64
+    ensures { (rows : ℕ → Bool) (n : ℕ) → AreBits rows n word → AreBits (λ i. not (rows i)) n result }
 {
-    word >> i & 1 == 1
-}
-
-/// The word with bit i set too, where `bit` says so.
-fn with_bit(word: u64, i: usize, bit: bool) -> u64
-    requires { i < 64 }
-    ensures same { bit_of result i ≡ (bit_of word i || bit) }
-    ensures other { (j : ℕ) → j < 64 → j ≢ i → bit_of result j ≡ bit_of word j }
-{
-    word | u64::from(bit) << i
+    !word
 }

@@ -3,7 +3,6 @@ use Rattle.bw_model.specs.Select.{shown_columns}
 use Rattle.bw_model.specs.Store.{place_of}
 use Rattle.bw_plan.specs.Checks.{condition_tests, shown_tests}
 use Rattle.bw_plan.specs.Plans.{plan_of, planned}
-use Rattle.bw_plan.specs.declared.selection.SelectPlan.{SelectPlan}
 use Rattle.bw_plan.proofs.Tests.{passed_on, refuse_left, refuse_right}
 use Rattle.bw_sql.specs.Tree.{condition_of, items_of}
 use Rattle.bw_plan.proofs.selection.resolve_select.Goals as goal
