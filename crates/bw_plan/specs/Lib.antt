@@ -1,4 +1,5 @@
 pub mod BitRows
+pub mod Blocks
 pub mod Checks
 pub mod Flat
 pub mod Plans

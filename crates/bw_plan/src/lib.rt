@@ -1,6 +1,7 @@
 //! Statements over the rows of a table: columns' names become places, and a condition the truth of each row.
 #![tactic(auto)]
 
+mod block;
 mod condition_word;
 mod evaluate;
 mod headers;

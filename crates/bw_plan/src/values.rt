@@ -7,9 +7,8 @@ ghost use Rattle.bw_model.specs.Condition.{compared};
 ghost use Rattle.bw_lex.specs.declared.token.CompareOp.TheVariants as compare;
 ghost use Rattle.bw_model.specs.Store.{Value, row_limit, value_at};
 ghost use Rattle.bw_plan.specs.BitRows.{AreBitTruths, AreValues, IsCoded};
-ghost use Rattle.bw_plan.specs.Plans.{value_by};
 
-use crate::plan::{Source, widened};
+use crate::plan::widened;
 use crate::rows::{Rows, value_at};
 use crate::truth_word::{TruthWord, others};
 use bw_sql::{CompareOp, Value};
@@ -23,17 +22,6 @@ pub(crate) struct Values {
 }
 
 impl Values {
-    /// The values of a source in the rows from `at` on, as far as there are such rows.
-    pub(crate) fn of(source: Source, rows: &Rows<'_>, at: usize) -> Values
-        requires { at ≤ row_limit }
-        ensures { AreValues (λ i. value_by source (get_or rows.now (at + i) [])) (length rows.now - at) result.codes result.present }
-    {
-        match source {
-            Source::Place(place) => Values::at_place(place, rows, at),
-            Source::Constant(value) => Values::everywhere(value),
-        }
-    }
-
     /// The same value in each row.
     pub(crate) fn everywhere(value: Value) -> Values
         ensures { (n : ℕ) → AreValues (λ _. value) n result.codes result.present }
@@ -45,7 +33,7 @@ impl Values {
     }
 
     /// The values at this place of the rows.
-    fn at_place(place: usize, rows: &Rows<'_>, at: usize) -> Values
+    pub(crate) fn at_place(place: usize, rows: &Rows<'_>, at: usize) -> Values
         requires { at ≤ row_limit }
         ensures { AreValues (λ i. value_at (get_or rows.now (at + i) []) place) (length rows.now - at) result.codes result.present }
     {

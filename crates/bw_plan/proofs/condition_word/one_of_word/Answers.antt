@@ -15,20 +15,20 @@ loop-entry-init c = so_far_none or_of False or_of_assoc or_of_False _ _ _ _ _ (�
 
 pub loop-entry-preserved : goal.loop-entry-preserved
 loop-entry-preserved c =
-    let n = length c.args.rows.now - c.args.at in
+    let n = length c.args.block.now.rows.now - c.args.block.now.at in
     let entries = c.args.entries.now in
     let index = c.loop-entry.entry-index in
     let entry = get_or entries index None in
-    let value : ℕ → Value = λ i. value_by c.args.value (get_or c.args.rows.now (c.args.at + i) []) in
+    let value : ℕ → Value = λ i. value_by c.args.value (get_or c.args.block.now.rows.now (c.args.block.now.at + i) []) in
     so_far_more or_of False or_of_assoc or_of_False n (λ i. is_one_of (value i) (drop index entries)) (λ i. is_one_of (value i) (drop (index + 1) entries)) (λ i. is_one_of (value i) entries)
     (λ i. compared Eq (value i) entry) c.loop-entry.found.trues c.loop-entry.found.falses c.or-found.result.trues c.or-found.result.falses c.loop-entry.invariant
     (λ i. ap (is_one_of (value i)) (drop_more entries index None c.loop-entry-test.true))
-    (c.or-found.ensures c.loop-entry.invariant.so_far (λ i. compared Eq (value i) entry) n c.loop-entry.invariant.bits (c.compared-equal.ensures value (λ _. entry) n c.of-value.ensures (c.everywhere.ensures n)))
+    (c.or-found.ensures c.loop-entry.invariant.so_far (λ i. compared Eq (value i) entry) n c.loop-entry.invariant.bits (c.compared-equal.ensures value (λ _. entry) n c.values-value.ensures (c.everywhere.ensures n)))
 
 pub returns : goal.returns
 returns c =
     let entries = c.args.entries.now in
     let index = c.loop-entry.entry-index in
-    let value : ℕ → Value = λ i. value_by c.args.value (get_or c.args.rows.now (c.args.at + i) []) in
-    so_far_all or_of False or_of_assoc or_of_False (length c.args.rows.now - c.args.at) (λ i. is_one_of (value i) (drop index entries)) (λ i. is_one_of (value i) entries)
+    let value : ℕ → Value = λ i. value_by c.args.value (get_or c.args.block.now.rows.now (c.args.block.now.at + i) []) in
+    so_far_all or_of False or_of_assoc or_of_False (length c.args.block.now.rows.now - c.args.block.now.at) (λ i. is_one_of (value i) (drop index entries)) (λ i. is_one_of (value i) entries)
     c.loop-entry.found.trues c.loop-entry.found.falses c.loop-entry.invariant (λ i. ap (is_one_of (value i)) (drop_all index entries c.loop-entry-test.false))
