@@ -55,7 +55,12 @@ impl<'a> Block<'a> {
 }
 
 /// Gathers the columns at these places into the list, in place of what it held.
-pub(crate) fn gather(columns: &mut Vec<Column>, places: &[usize], rows: &Rows<'_>, at: usize) -> Result<(), AllocError>
+pub(crate) fn gather(
+    columns: &mut Vec<Column>,
+    places: &[usize],
+    rows: &Rows<'_>,
+    at: usize,
+) -> Result<(), AllocError>
     requires { at ≤ row_limit }
     ensures { IfOk result (λ _. AreColumns rows.now at columns.new.items) }
 {

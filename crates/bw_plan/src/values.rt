@@ -17,7 +17,7 @@ use std::simd::prelude::*;
 /// The values of 64 rows. Bit i of `present` says whether the i-th is a number; a NULL has any code.
 #[derive(Clone, Copy)]
 pub(crate) struct Values {
-    codes: [u64; 64],
+    codes: u64x64,
     present: u64,
 }
 
@@ -27,7 +27,7 @@ impl Values {
         ensures { (n : ℕ) → AreValues (λ _. value) n result.codes result.present }
     {
         Values {
-            codes: [code_of(value); 64],
+            codes: u64x64::splat(code_of(value)),
             present: all_or_none(value.is_some()),
         }
     }
@@ -45,7 +45,7 @@ impl Values {
             present[i] = u8::from(value.is_some());
         }
         Values {
-            codes,
+            codes: u64x64::from_array(codes),
             present: set_bytes(&present),
         }
     }
@@ -68,14 +68,14 @@ impl Values {
         ensures { (left right : ℕ → Value) (n : ℕ) → AreValues left n self.now.codes self.now.present → AreValues right n other.now.codes other.now.present → AreBitTruths (λ i. compared compare.Eq (left i) (right i)) n result.trues result.falses }
     {
         let known = self.present & other.present;
-        TruthWord::of(equal(&self.codes, &other.codes), known)
+        TruthWord::of(equal(self.codes, other.codes), known)
     }
 
     fn less_than(&self, other: &Values) -> TruthWord
         ensures { (left right : ℕ → Value) (n : ℕ) → AreValues left n self.now.codes self.now.present → AreValues right n other.now.codes other.now.present → AreBitTruths (λ i. compared compare.Lt (left i) (right i)) n result.trues result.falses }
     {
         let known = self.present & other.present;
-        TruthWord::of(less(&self.codes, &other.codes), known)
+        TruthWord::of(less(self.codes, other.codes), known)
     }
 
     /// At which rows the value is NULL.
@@ -107,21 +107,17 @@ fn all_or_none(bit: bool) -> u64
 }
 
 /// Bit i says whether the i-th codes are equal.
-fn equal(left: &[u64; 64], right: &[u64; 64]) -> u64
-    ensures { (i : ℕ) → i < 64 → bit_of result i ≡ (get_or left.now i 0 == get_or right.now i 0) }
+fn equal(left: u64x64, right: u64x64) -> u64
+    ensures { (i : ℕ) → i < 64 → bit_of result i ≡ (get_or left i 0 == get_or right i 0) }
 {
-    u64x64::from_array(*left)
-        .simd_eq(u64x64::from_array(*right))
-        .to_bitmask()
+    left.simd_eq(right).to_bitmask()
 }
 
 /// Bit i says whether the i-th code is less.
-fn less(left: &[u64; 64], right: &[u64; 64]) -> u64
-    ensures { (i : ℕ) → i < 64 → bit_of result i ≡ nat_lt (get_or left.now i 0) (get_or right.now i 0) }
+fn less(left: u64x64, right: u64x64) -> u64
+    ensures { (i : ℕ) → i < 64 → bit_of result i ≡ nat_lt (get_or left i 0) (get_or right i 0) }
 {
-    u64x64::from_array(*left)
-        .simd_lt(u64x64::from_array(*right))
-        .to_bitmask()
+    left.simd_lt(right).to_bitmask()
 }
 
 /// Bit i says whether byte i is set.

@@ -3,4 +3,4 @@ use Rattle.bw_plan.proofs.WordLemmas.{lane_bit}
 use Rattle.bw_plan.proofs.values.less.Goals as goal
 
 pub returns : goal.returns
-returns c i h = lane_bit w64 nat_lt c.args.left.now c.args.right.now i c.told-left c.told-right h
+returns c i h = lane_bit w64 nat_lt c.args.left c.args.right i c.fits-left.0 c.fits-right.0 h
