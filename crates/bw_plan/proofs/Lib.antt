@@ -1,4 +1,3 @@
-pub mod Evaluation
 pub mod Lines
 pub mod Names
 pub mod Places
@@ -6,4 +5,5 @@ pub mod PlanLaws
 pub mod RowLemmas
 pub mod Tests
 pub mod TruthWords
+pub mod UnsetRows
 pub mod WordLemmas

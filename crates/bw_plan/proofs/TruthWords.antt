@@ -8,7 +8,7 @@ use Rattle.bw_mask.specs.Truths.{AreTruths, truth_at, truth_from}
 use Rattle.bw_mask.specs.declared.truth_value.TruthValue.{TruthValue}
 use Rattle.bw_mask.specs.declared.truth_value.TruthValue.TheVariants.{True, False, Unknown}
 use Rattle.bw_mask.proofs.Bits.{and_true, bit_of_and}
-use Rattle.bw_plan.proofs.Evaluation.{empty_row, past_end}
+use Rattle.bw_plan.proofs.UnsetRows.{empty_row, past_end}
 
 -- Which rows are needed, by the bits of the need mask.
 

@@ -18,8 +18,7 @@ pub(crate) struct Column {
     values: Values,
 }
 
-/// The rows from `at` on, of which 64 are looked at, as far as there are such rows. Columns that are looked at more than
-/// once are gathered beforehand.
+/// The 64 rows from `at` on, as far as there are such rows. The values of each column that is looked at lie side by side.
 #[derive(Clone, Copy)]
 pub(crate) struct Block<'a> {
     pub(crate) rows: &'a Rows<'a>,

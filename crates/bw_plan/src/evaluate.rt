@@ -6,8 +6,9 @@ ghost use Rattle.bw_plan.specs.Plans.{AreTruthsBy, plan_of};
 
 use crate::block::{Block, gather};
 use crate::condition_word::condition_word;
-use crate::plan::{Predicate, RowCondition, Source};
+use crate::plan::RowCondition;
 use crate::rows::Rows;
+use crate::used_places::used_places;
 use bw_mask::{Mask, Truth};
 use std::alloc::{AllocError, Global};
 
@@ -23,8 +24,7 @@ pub fn evaluate_rows(
 {
     let mut trues = Mask::filled(alloc, rows.len(), false)?;
     let mut falses = Mask::filled(alloc, rows.len(), false)?;
-    let mut places = Vec::new(alloc);
-    add_places(condition, &mut places)?;
+    let places = used_places(alloc, condition)?;
     let mut columns = Vec::new(alloc);
     for word in 0..rows.len().div_ceil(64) {
         let at = 64 * word;
@@ -42,42 +42,4 @@ pub fn evaluate_rows(
         falses.put_bits(at, 64, truths.falses & needed);
     }
     Ok(Truth::new(trues, falses))
-}
-
-/// Adds the places that a condition looks at, each once. What is found doesn't depend on them, only how fast.
-fn add_places(condition: &RowCondition, places: &mut Vec<usize>) -> Result<(), AllocError> {
-    match condition {
-        RowCondition::And(parts) | RowCondition::Or(parts) => {
-            for part in parts {
-                add_places(part, places)?;
-            }
-            Ok(())
-        }
-        RowCondition::Not(part) | RowCondition::Is(part, _) => add_places(part, places),
-        RowCondition::Test(predicate) => add_predicate_places(predicate, places),
-    }
-}
-
-fn add_predicate_places(predicate: &Predicate, places: &mut Vec<usize>) -> Result<(), AllocError> {
-    match predicate {
-        Predicate::Compare(left, _, right) => {
-            add_place(*left, places)?;
-            add_place(*right, places)
-        }
-        Predicate::Between(value, low, high) => {
-            add_place(*value, places)?;
-            add_place(*low, places)?;
-            add_place(*high, places)
-        }
-        Predicate::In(value, _) | Predicate::IsNull(value) => add_place(*value, places),
-    }
-}
-
-fn add_place(source: Source, places: &mut Vec<usize>) -> Result<(), AllocError> {
-    if let Source::Place(place) = source
-        && !places.contains(&place)
-    {
-        places.push(place)?;
-    }
-    Ok(())
 }

@@ -11,6 +11,7 @@ mod resolution;
 mod rows;
 mod selection;
 mod truth_word;
+mod used_places;
 mod values;
 
 pub use evaluate::evaluate_rows;
