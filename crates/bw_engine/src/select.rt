@@ -20,7 +20,7 @@ ghost use Rattle.bw_plan.specs.Plans.{plan_of, truth_by};
 use crate::table::Table;
 use bw_mask::Mask;
 use bw_model::{Answer, Cell, Heading, Refusal, Reply};
-use bw_plan::{Header, RowCondition, Rows, evaluate_rows, resolve_select, value_at};
+use bw_plan::{Header, Headers, RowCondition, Rows, evaluate_rows, resolve_select, value_at};
 use bw_sql::{Condition, Name, Select, SelectItems};
 use indexmap::IndexMap;
 use std::alloc::{AllocError, Global};
@@ -85,13 +85,13 @@ fn true_rows(alloc: Global, condition: &RowCondition, rows: &Rows<'_>) -> Result
 /// The headings of the columns that are shown.
 fn headings_of(
     alloc: Global,
-    headers: &[Header],
+    headers: &Headers,
     items: SelectItems,
 ) -> Result<Vec<Heading>, AllocError>
     ensures { IfOk result (λ headings. headings.items ≡ map (λ name. Column name) (shown_columns headers.now (items_of items))) }
 {
     match items {
-        SelectItems::All => all_headings(alloc, headers),
+        SelectItems::All => all_headings(alloc, headers.as_slice()),
         SelectItems::Columns(names) => column_headings(alloc, names.into_vec()),
     }
 }

@@ -1,10 +1,10 @@
 //! A table in memory.
 
-ghost use Rattle.std.specs.Prelude.{◌≡◌, ◌+◌, ◌*◌, ◌/◌, ◌≤◌, ◌++◌, [], length, OnOk, OnErr};
+ghost use Rattle.std.specs.Prelude.{◌≡◌, ◌+◌, ◌*◌, ◌/◌, ◌<◌, ◌≤◌, ◌++◌, [], length, OnOk, OnErr};
 ghost use Rattle.bw_model.specs.Answers.{AreWholeLines, lines_of};
-ghost use Rattle.bw_model.specs.Store.{AreHeaders, row_limit};
+ghost use Rattle.bw_model.specs.Store.{row_limit};
 
-use bw_plan::{Header, Headers, Rows};
+use bw_plan::{Headers, Rows};
 use std::alloc::{AllocError, Global};
 use std::marker::Model;
 
@@ -45,11 +45,11 @@ impl Table {
     }
 
     /// The columns, in order.
-    pub fn headers(&self) -> &[Header]
+    pub fn headers(&self) -> &Headers
         ensures value { result.now ≡ self.now.headers }
-        ensures valid { AreHeaders result.now }
+        ensures some { 0 < length self.now.headers }
     {
-        self.headers.as_slice()
+        &self.headers
     }
 
     /// How many rows there are.

@@ -11,7 +11,7 @@ ghost use Rattle.bw_model.specs.declared.refusal.Refusal.TheVariants.{OutOfRange
 ghost use Rattle.bw_plan.specs.Checks.{Answers, listed_tests, range_tests, value_tests};
 ghost use Rattle.bw_sql.specs.Rows.{joined};
 
-use crate::headers::{Header, place_in};
+use crate::headers::{Header, Headers, place_in};
 use crate::rows::value_at;
 use bw_model::Refusal;
 use bw_sql::{Name, NameList, Value, ValueRows};
@@ -23,16 +23,15 @@ use std::alloc::{AllocError, Global};
 /// another number of values than there are columns, and where a value is no INTEGER.
 pub fn resolve_insert(
     alloc: Global,
-    headers: &[Header],
+    headers: &Headers,
     columns: &Option<NameList>,
     rows: &ValueRows,
 ) -> Result<Vec<Option<i32>>, Refusal>
-    requires { AreHeaders headers.now }
     ensures { let targets = target_columns headers.now columns.now in Answers (listed_tests headers.now targets ++ value_tests (length targets) rows.now) result (λ cells. cells.items ≡ joined (map (row_for headers.now targets) rows.now)) }
 {
     match columns {
-        Some(names) => listed_cells(alloc, headers, names.as_slice(), rows),
-        None => whole_cells(alloc, headers, rows),
+        Some(names) => listed_cells(alloc, headers.as_slice(), names.as_slice(), rows),
+        None => whole_cells(alloc, headers.as_slice(), rows),
     }
 }
 

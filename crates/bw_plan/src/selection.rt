@@ -7,7 +7,7 @@ ghost use Rattle.bw_plan.specs.Checks.{Answers, condition_tests, shown_tests};
 ghost use Rattle.bw_plan.specs.Plans.{plan_of, planned};
 ghost use Rattle.bw_sql.specs.Tree.{condition_of, items_of};
 
-use crate::headers::{Header, place_in};
+use crate::headers::{Header, Headers, place_in};
 use crate::plan::RowCondition;
 use crate::resolution::resolve_condition;
 use bw_model::Refusal;
@@ -28,11 +28,10 @@ pub struct SelectPlan {
 /// isn't there, and where an IN list has more than 1,000 entries.
 pub fn resolve_select(
     alloc: Global,
-    headers: &[Header],
+    headers: &Headers,
     items: &SelectItems,
     condition: &Option<Condition>,
 ) -> Result<SelectPlan, Refusal>
-    requires { AreHeaders headers.now }
     ensures some { 0 < length (shown_columns headers.now (items_of items.now)) }
     ensures plan { let columns = shown_columns headers.now (items_of items.now) in let found = option_map condition_of condition.now in Answers (shown_tests headers.now columns ++ condition_tests headers.now found) result (λ plan. (map (λ place. Some place) plan.places.items ≡ map (place_of headers.now) columns) × (option_map plan_of plan.condition ≡ option_map (planned headers.now) found)) }
 {
@@ -44,26 +43,25 @@ pub fn resolve_select(
 /// The condition over places, where there is one.
 fn plan_if_any(
     alloc: Global,
-    headers: &[Header],
+    headers: &Headers,
     condition: &Option<Condition>,
 ) -> Result<Option<RowCondition>, Refusal>
     ensures { let found = option_map condition_of condition.now in Answers (condition_tests headers.now found) result (λ plan. option_map plan_of plan ≡ option_map (planned headers.now) found) }
 {
     match condition {
-        Some(condition) => Ok(Some(resolve_condition(alloc, headers, condition)?)),
+        Some(condition) => Ok(Some(resolve_condition(alloc, headers.as_slice(), condition)?)),
         None => Ok(None),
     }
 }
 
 /// The places of the columns that are shown.
-fn places_of(alloc: Global, headers: &[Header], items: &SelectItems) -> Result<Vec<usize>, Refusal>
-    requires { AreHeaders headers.now }
+fn places_of(alloc: Global, headers: &Headers, items: &SelectItems) -> Result<Vec<usize>, Refusal>
     ensures some { 0 < length (shown_columns headers.now (items_of items.now)) }
     ensures found { Answers (shown_tests headers.now (shown_columns headers.now (items_of items.now))) result (λ places. map (λ place. Some place) places.items ≡ map (place_of headers.now) (shown_columns headers.now (items_of items.now))) }
 {
     match items {
-        SelectItems::All => all_places(alloc, headers),
-        SelectItems::Columns(names) => places_of_names(alloc, headers, names.as_slice()),
+        SelectItems::All => all_places(alloc, headers.as_slice()),
+        SelectItems::Columns(names) => places_of_names(alloc, headers.as_slice(), names.as_slice()),
     }
 }
 

@@ -35,14 +35,14 @@ returns-then-len-row_count-clause-reply c =
 pub append-requires-clause-whole : goal.append-requires-clause-whole
 append-requires-clause-whole c =
     let table = c.args.table.now in
-    let some : 0 < length table.headers = rw c.headers.ensures.value at c.headers.ensures.valid.some in
+    let some : 0 < length table.headers = c.headers.ensures.some in
     let fits = rw c.headers.ensures.value at c.in_ok-cells.ensures in
     rw (c.as_slice.ensures.value, fits.1) (whole_lines (length table.headers) (length c.args.rows.now) _ some (length-joined_map (row_for table.headers _) (length table.headers) c.args.rows.now (λ row. length-map table.headers _)))
 
 pub append-requires-clause-room : goal.append-requires-clause-room
 append-requires-clause-room c =
     let table = c.args.table.now in
-    let some : 0 < length table.headers = rw c.headers.ensures.value at c.headers.ensures.valid.some in
+    let some : 0 < length table.headers = c.headers.ensures.some in
     let fits = rw c.headers.ensures.value at c.in_ok-cells.ensures in
     let count = count-lines_of (length table.headers) (length c.args.rows.now) _ some (length-joined_map (row_for table.headers (target_columns table.headers c.args.columns.now)) (length table.headers) c.args.rows.now (λ row. length-map table.headers _)) in
     rw (c.as_slice.ensures.value, fits.1, count) (omega (arith, c.row_count.ensures.value, c.row_count.ensures.bound, c.len.ensures, c.if-len-row_count.false))
@@ -52,7 +52,7 @@ returns-clause-reply c =
     let table = c.args.table.now in
     let targets = target_columns table.headers c.args.columns.now in
     let rows = c.args.rows.now in
-    let some : 0 < length table.headers = rw c.headers.ensures.value at c.headers.ensures.valid.some in
+    let some : 0 < length table.headers = c.headers.ensures.some in
     let fits = rw c.headers.ensures.value at c.in_ok-cells.ensures in
     let room : nat_lt row_limit (length table.rows + length rows) ≡ false =
     le-ltb row_limit (length table.rows + length rows) (omega (arith, c.row_count.ensures.value, c.row_count.ensures.bound, c.len.ensures, c.if-len-row_count.false)) in
