@@ -1,6 +1,6 @@
 //! 64 rows, with the columns that a condition looks at.
 
-ghost use Rattle.std.specs.Prelude.{◌≡◌, ◌+◌, ◌-◌, ◌≤◌, [], IfOk, get_or, length};
+ghost use Rattle.std.specs.Prelude.{◌≡◌, ◌+◌, ◌-◌, ◌≤◌, [], IfOk, get_or, length, map};
 ghost use Rattle.bw_model.specs.Store.{row_limit, value_at};
 ghost use Rattle.bw_plan.specs.BitRows.{AreValues};
 ghost use Rattle.bw_plan.specs.Blocks.{AreColumns};
@@ -61,7 +61,8 @@ pub(crate) fn gather(
     at: usize,
 ) -> Result<(), AllocError>
     requires { at ≤ row_limit }
-    ensures { IfOk result (λ _. AreColumns rows.now at columns.new.items) }
+    ensures values { IfOk result (λ _. AreColumns rows.now at columns.new.items) }
+    ensures places { IfOk result (λ _. map (λ column. column.place) columns.new.items ≡ places.now) }
 {
     columns.clear();
     for place in places {

@@ -1,17 +1,17 @@
 -- A script has one output.
-use Rattle.std.proofs.Common.{◌≡◌, ◌≢◌, ◌<◌, ◌≤◌, ◌⊎◌, ℕ, inl, inr, Bool, true, false, List, [], ◌∷◌, ◌++◌, length, refl, sym, ap, ◌∙◌, subst, append_assoc, arith}
+use Rattle.std.proofs.Common.{◌≡◌, ◌≢◌, ◌⊎◌, ℕ, inl, inr, Bool, true, false, List, [], ◌∷◌, ◌++◌, refl, sym, ap, ◌∙◌, subst, append_assoc, arith}
 use Rattle.bw_lex.specs.declared.fault.SqlFault.{SqlFault}
 use Rattle.bw_lex.specs.declared.fault.SqlFault.TheVariants as faults
 use Rattle.bw_lex.specs.declared.script.Part.{Part}
 use Rattle.bw_lex.proofs.OneSplit.{same_parts}
-use Rattle.bw_sql.specs.Statements.{IsStatementFault, Says, longest_statement}
+use Rattle.bw_sql.specs.Statements.{IsStatementFault, Says}
 use Rattle.bw_sql.specs.Tree.{StatementTree}
 use Rattle.bw_sql.proofs.WholeStatement.{no_fault, one_fault, says_once}
 use Rattle.bw_model.specs.Refusals.{refusal_of_fault}
 use Rattle.bw_model.specs.ReplyText.{reply_text}
-use Rattle.bw_model.specs.Step.{Step, outcome_of}
+use Rattle.bw_model.specs.Step.{Step}
 use Rattle.bw_model.specs.Store.{Store}
-use Rattle.bw_model.specs.declared.refusal.Refusal.TheVariants.{OutOfMemory, StatementTooLong, Syntax}
+use Rattle.bw_model.specs.declared.refusal.Refusal.TheVariants.{OutOfMemory}
 use Rattle.bw_model.specs.declared.reply.Reply.{Reply}
 use Rattle.bw_model.specs.declared.reply.Reply.TheVariants.{Refused}
 use Rattle.bw_shell.specs.Output.{IsOutput, SaysNoWant}

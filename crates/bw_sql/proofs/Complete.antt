@@ -1,5 +1,5 @@
 -- A statement that is in the grammar is read.
-use Rattle.std.proofs.Common.{◌≡◌, ℕ, ◌<◌, List, [], ◌∷◌, length, Option, Some, refl, arith}
+use Rattle.std.proofs.Common.{◌≡◌, ℕ, ◌<◌, List, length, Some, refl, arith}
 use Rattle.bw_sql.specs.declared.terminal.Terminal.{Terminal}
 use Rattle.bw_sql.specs.Tree.{StatementTree}
 use Rattle.bw_sql.specs.Grammar.{Spells, creates, inserts, inserts_into, selects, selects_where}

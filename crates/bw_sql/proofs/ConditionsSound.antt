@@ -1,16 +1,15 @@
 -- A condition that is read is in the grammar.
-use Rattle.std.proofs.Common.{◌≡◌, ◌∙◌, ℕ, ℤ, zero, suc, List, [], ◌∷◌, Option, Some, None, refl, sym, ap, subst}
+use Rattle.std.proofs.Common.{◌≡◌, ◌∙◌, ℕ, ℤ, zero, suc, List, ◌∷◌, Option, Some, None, refl, sym, ap, subst}
 use Rattle.bw_lex.specs.declared.token.Symbol.TheVariants as s
 use Rattle.bw_sql.specs.declared.keyword.Keyword.TheVariants as k
 use Rattle.bw_sql.specs.declared.terminal.Terminal.{Terminal}
 use Rattle.bw_sql.specs.declared.terminal.Terminal.TheVariants as t
 use Rattle.bw_sql.specs.declared.tree.Operand.{Operand}
 use Rattle.bw_sql.specs.declared.tree.Operand.TheVariants.{Column, Constant}
-use Rattle.bw_sql.specs.declared.tree.TruthWord.{TruthWord}
 use Rattle.bw_sql.specs.declared.tree.TruthWord.TheVariants.{True, False, Unknown}
 use Rattle.bw_sql.specs.Tree.{ConditionTree, among, between, comparison, negated, null, tested}
 use Rattle.bw_sql.specs.Grammar.{all_of, any_of, ListOf, ValuePart, OperandPart, constant, column_name, BoundsPart, bounds, RangePart, between_bounds, in_values, TailPart, compares, in_range, not_in_range, is_null, is_not_null, TruthPart, true_word, false_word, unknown_word, ConditionPart, run_of_or, TermsPart, last_term, or_term, TermPart, run_of_and, FactorsPart, last_factor, and_factor, FactorPart, plain, not, TestPart, untested, is_truth, is_not_truth, PrimaryPart, in_parentheses, predicate}
-use Rattle.bw_sql.specs.Reading.{Read, after_and, after_close, after_null, after_open, after_or, among_at, bounds_at, closed, condition_at, condition_by, factor_by, is_at, map_first, null_at, operand_at, parts_at, predicate_at, primary_at, range_at, tail_at, term_by, test_by, tested_at, truth_at, value_at, values_at, ◌>>=◌}
+use Rattle.bw_sql.specs.Reading.{Read, after_and, after_close, after_null, after_open, after_or, among_at, bounds_at, closed, condition_at, condition_by, factor_by, is_at, null_at, operand_at, parts_at, predicate_at, primary_at, range_at, tail_at, term_by, test_by, tested_at, truth_at, value_at, values_at}
 use Rattle.bw_sql.proofs.ListsSound.{IsSound, after_and-is, after_close-is, after_null-is, after_open-is, after_or-is, answers_once, bound, mapped, moved, separated_sound, value_sound, values_sound}
 
 operand_sound : IsSound OperandPart operand_at

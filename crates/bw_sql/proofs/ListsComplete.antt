@@ -1,15 +1,12 @@
 -- Values, lists and columns that are in the grammar are read, where they can't go on.
-use Rattle.std.proofs.Common.{◌≡◌, ◌∙◌, ℕ, ℤ, ◌<◌, ◌≤◌, ◌^◌, Bool, true, false, cond, nat_le, nat_lt, pos, neg_ℤ, zero, suc, List, [], ◌∷◌, length, Option, Some, None, refl, sym, ap, subst, arith}
+use Rattle.std.proofs.Common.{◌≡◌, ◌∙◌, ℕ, ℤ, ◌<◌, ◌≤◌, ◌^◌, zero, suc, List, [], ◌∷◌, length, Option, Some, None, refl, ap, arith}
 use Rattle.std.proofs.lemmas.Bool.{le-leb, lt-ltb}
 use Rattle.bw_lex.specs.declared.token.Symbol.TheVariants as s
-use Rattle.bw_sql.specs.declared.keyword.Keyword.TheVariants as k
 use Rattle.bw_sql.specs.declared.terminal.Terminal.{Terminal}
 use Rattle.bw_sql.specs.declared.terminal.Terminal.TheVariants as t
 use Rattle.bw_sql.specs.declared.tree.LayoutWord.{LayoutWord}
 use Rattle.bw_sql.specs.declared.tree.KindWord.{KindWord}
-use Rattle.bw_sql.specs.declared.tree.KindWord.TheVariants.{Offset, Dictionary}
 use Rattle.bw_sql.specs.declared.tree.ColumnDefinition.{ColumnDefinition}
-use Rattle.bw_sql.specs.Words.{kind_of, kind_spelling, layout_of, layout_spelling}
 use Rattle.bw_sql.specs.Tree.{ItemsTree, columns}
 use Rattle.bw_sql.specs.Grammar.{ListOf, last, next, NamePart, name, LiteralPart, number, plus, minus, ValuePart, null_value, literal_value, RowPart, row, TypePart, integer, int, UsingPart, no_layout, using_layout, KindPart, no_kind, kind, ColumnPart, column, ItemsPart, star, some_columns}
 use Rattle.bw_sql.specs.Reading.{Read, after_comma, after_type, column_at, columns_at, items_at, kind_at, layout_at, literal_at, more_at, name_at, names_at, negative, number_at, parts_at, positive, row_at, rows_at, using_at, value_at, values_at, with_first}

@@ -1,5 +1,5 @@
 -- Rows that lie flat.
-use Rattle.std.proofs.Common.{◌≡◌, ℕ, ◌+◌, ◌-◌, ◌≤◌, List, [], ◌∷◌, ◌++◌, length, map, sum, take, drop, suc, refl, sym, ap, ◌∙◌, arith, append-nil, length-append, length-drop, length-take, take-append-drop, append_assoc, add-zero}
+use Rattle.std.proofs.Common.{◌≡◌, ℕ, ◌+◌, ◌≤◌, List, [], ◌∷◌, ◌++◌, length, map, sum, take, drop, suc, refl, sym, ap, ◌∙◌, arith, length-drop, length-take, take-append-drop, add-zero}
 use Rattle.std.proofs.lemmas.List.{drop-append-le, take_all, take-append-le}
 use Rattle.std.proofs.lemmas.List.Sums.{sum_by-append, sum_by-cons}
 use Rattle.std.specs.List.{All}

@@ -1,8 +1,8 @@
 -- Loops that read the values of a row, and rows.
-use Rattle.std.proofs.Common.{◌≡◌, ℕ, ℤ, ◌+◌, ◌<◌, List, [], ◌∷◌, ◌++◌, length, sum, Option, Some, None, refl, sym, ap, ◌∙◌, append_assoc, length-append, arith}
+use Rattle.std.proofs.Common.{◌≡◌, ℕ, ℤ, ◌+◌, ◌<◌, List, [], ◌∷◌, ◌++◌, length, sum, Option, Some, None, refl, ap, ◌∙◌, append_assoc, length-append, arith}
 use Rattle.bw_lex.specs.declared.fault.SqlFault.{SqlFault}
 use Rattle.bw_sql.specs.declared.terminal.Terminal.{Terminal}
-use Rattle.bw_sql.specs.Reading.{AppendsRow, Fails, after_comma, parts_at, row_at, rows_at, value_at, values_at}
+use Rattle.bw_sql.specs.Reading.{AppendsRow, Fails, after_comma, row_at, value_at, values_at}
 use Rattle.bw_sql.specs.Rows.{rows_of}
 use Rattle.bw_sql.proofs.RowLemmas.{rows_of-push, sum-push}
 use Rattle.bw_sql.proofs.ListRuns.{Runs, done, fails_first, fails_next, first, next}

@@ -1,22 +1,12 @@
 -- A statement that is read is in the grammar.
-use Rattle.std.proofs.Common.{◌≡◌, ◌∙◌, ℕ, ℤ, ◌<◌, ◌≤◌, ◌^◌, Bool, true, false, cond, nat_le, nat_lt, pos, neg_ℤ, zero, suc, List, [], ◌∷◌, Option, Some, None, refl, sym, ap, subst}
-use Rattle.std.proofs.lemmas.Bool.{leb-true, ltb-true}
-use Rattle.std.specs.Str.{bytes_eq}
-use Rattle.std.specs.Cmp.Lexicographic.{bytes_decides}
-use Rattle.bw_lex.specs.declared.token.CompareOp.{CompareOp}
+use Rattle.std.proofs.Common.{◌≡◌, ◌∙◌, ℕ, ℤ, List, [], ◌∷◌, Option, Some, None, refl, ap, subst}
 use Rattle.bw_lex.specs.declared.token.Symbol.TheVariants as s
 use Rattle.bw_sql.specs.declared.keyword.Keyword.TheVariants as k
 use Rattle.bw_sql.specs.declared.terminal.Terminal.{Terminal}
 use Rattle.bw_sql.specs.declared.terminal.Terminal.TheVariants as t
-use Rattle.bw_sql.specs.declared.tree.LayoutWord.{LayoutWord}
-use Rattle.bw_sql.specs.declared.tree.KindWord.{KindWord}
-use Rattle.bw_sql.specs.declared.tree.ColumnDefinition.{ColumnDefinition}
-use Rattle.bw_sql.specs.declared.tree.Operand.TheVariants.{Column, Constant}
-use Rattle.bw_sql.specs.Words.{kind_of, kind_spelling, layout_of, layout_spelling}
-use Rattle.bw_sql.specs.Tree.{ConditionTree, comparison, ItemsTree, all_columns, columns, StatementTree, create_table, insert, select}
-use Rattle.bw_sql.specs.Grammar.{ListOf, last, next, NamePart, name, LiteralPart, number, plus, minus, ValuePart, null_value, literal_value, RowPart, row, TypePart, integer, int, UsingPart, no_layout, using_layout, KindPart, no_kind, kind, ColumnPart, column, ItemsPart, star, some_columns, ConditionPart, Spells, creates, inserts, inserts_into, selects, selects_where}
-use Rattle.bw_sql.specs.Reading.{Read, after_close, after_comma, after_from, after_into, after_open, after_table, after_type, after_values, closed, column_at, column_list_at, columns_at, condition_at, create_at, defined, ended, filter_at, go_on, insert_at, items_at, kind_at, kind_taken, layout_at, literal_at, map_first, more_at, name_at, names_at, negative, number_at, parts_at, positive, row_at, rows_at, select_at, statement_at, using_at, value_at, values_at, whole_at, with_first, with_rest, ◌>>=◌}
-use Rattle.bw_sql.proofs.WordLemmas.{kind_of-is, layout_of-is}
+use Rattle.bw_sql.specs.Tree.{ConditionTree, ItemsTree, all_columns, columns, StatementTree, create_table, insert, select}
+use Rattle.bw_sql.specs.Grammar.{ListOf, NamePart, RowPart, ColumnPart, ItemsPart, star, some_columns, ConditionPart, Spells, creates, inserts, inserts_into, selects, selects_where}
+use Rattle.bw_sql.specs.Reading.{after_close, after_from, after_into, after_open, after_table, after_values, column_list_at, columns_at, condition_at, create_at, ended, filter_at, insert_at, items_at, name_at, names_at, rows_at, select_at, statement_at, whole_at}
 use Rattle.bw_sql.proofs.ConditionsSound.{condition_sound}
 use Rattle.bw_sql.proofs.ListsSound.{IsSound, after_from-is, closes, after_into-is, after_open-is, after_table-is, after_values-is, answers_once, bound, columns_sound, mapped, moved, name_is, name_sound, names_sound, rows_sound}
 

@@ -1,5 +1,5 @@
 -- The statement that terminals spell, by reading them.
-use Rattle.std.proofs.Common.{◌≡◌, ◌≢◌, ◌∙◌, ◌++◌, ap, ℕ, ◌<◌, ◌≤◌, suc, List, [], length, map, Option, Some, None, Result, Ok, Err, IfErr, IfOk, sym, subst, refl, arith, inl, inr}
+use Rattle.std.proofs.Common.{◌≡◌, ◌≢◌, ◌∙◌, ◌++◌, ap, ℕ, ◌<◌, suc, List, [], length, Option, Some, None, Result, Ok, Err, IfErr, IfOk, sym, subst, refl, arith, inl, inr}
 use Rattle.bw_lex.specs.declared.fault.SqlFault.{SqlFault}
 use Rattle.bw_lex.specs.declared.fault.SqlFault.TheVariants as faults
 use Rattle.bw_lex.specs.Tokens.{AreTokensFrom}
@@ -12,7 +12,7 @@ use Rattle.bw_sql.specs.Terminals.{first_limit_fault, or_else, terminals_of, tok
 use Rattle.std.proofs.lemmas.List.{map-append}
 use Rattle.std.proofs.Common.{◌⊎◌}
 use Rattle.bw_lex.proofs.Lexing.{Stops, front_of, fronts, not_both, nothing_next, same_tokens}
-use Rattle.bw_sql.specs.Statements.{AreTerminals, HasBadFirst, IsOverLimit, IsParseFault, IsStatementFault, IsTerminalsFault, Says, SaysNothing, longest_statement}
+use Rattle.bw_sql.specs.Statements.{AreTerminals, HasBadFirst, IsOverLimit, IsParseFault, IsStatementFault, Says, SaysNothing}
 use Rattle.bw_sql.specs.Tree.{StatementTree, statement_of}
 use Rattle.bw_sql.proofs.Complete.{whole_reads}
 use Rattle.bw_sql.proofs.LimitLemmas.{first_limit_fault-append}

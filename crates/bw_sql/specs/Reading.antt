@@ -1,7 +1,6 @@
 -- Reading terminals from the left: the grammar as functions, which the parser's private functions cite.
-use Rattle.std.specs.Prelude.{◌≡◌, ℕ, ℤ, ◌^◌, ◌<◌, zero, suc, pos, neg_ℤ, nat_lt, nat_le, if◌then◌else◌, List, [], ◌∷◌, ◌++◌, length, codes, Option, Some, None, Result, Ok, Err}
+use Rattle.std.specs.Prelude.{◌≡◌, ℕ, ℤ, ◌^◌, ◌<◌, zero, suc, pos, neg_ℤ, nat_lt, nat_le, if◌then◌else◌, List, [], ◌∷◌, ◌++◌, length, Option, Some, None, Result, Ok, Err}
 use Rattle.std.specs.Option.{option_and_then}
-use Rattle.std.specs.Str.{bytes_eq}
 use Rattle.bw_lex.specs.declared.fault.SqlFault.{SqlFault}
 use Rattle.bw_lex.specs.declared.fault.SqlFault.TheVariants as faults
 use Rattle.bw_lex.specs.declared.token.Symbol.TheVariants as s
@@ -9,9 +8,7 @@ use Rattle.bw_sql.specs.declared.keyword.Keyword.TheVariants as k
 use Rattle.bw_sql.specs.declared.terminal.Terminal.{Terminal}
 use Rattle.bw_sql.specs.declared.terminal.Terminal.TheVariants as t
 use Rattle.bw_sql.specs.declared.tree.LayoutWord.{LayoutWord}
-use Rattle.bw_sql.specs.declared.tree.LayoutWord.TheVariants.{P, V, H, S}
 use Rattle.bw_sql.specs.declared.tree.KindWord.{KindWord}
-use Rattle.bw_sql.specs.declared.tree.KindWord.TheVariants.{Offset, Dictionary}
 use Rattle.bw_sql.specs.declared.tree.Operand.{Operand}
 use Rattle.bw_sql.specs.declared.tree.Operand.TheVariants.{Column, Constant}
 use Rattle.bw_sql.specs.declared.tree.TruthWord.{TruthWord}

@@ -1,4 +1,4 @@
-use Rattle.std.proofs.Common.{◌≡◌, cond, ltb, arith}
+use Rattle.std.proofs.Common.{ltb, arith}
 use Rattle.std.proofs.lemmas.Simd.{zip2_splat, zip2_splat_left}
 use Rattle.bw_lex.proofs.LaneLemmas.{either, marked, masked, no_digit_is, top_either}
 use Rattle.std.proofs.Common.{◌∙◌}

@@ -1,4 +1,4 @@
-use Rattle.std.proofs.Common.{◌≡◌, ◌∙◌, eqb, arith}
+use Rattle.std.proofs.Common.{◌∙◌, eqb, arith}
 use Rattle.std.proofs.lemmas.Simd.{zip2_splat}
 use Rattle.bw_lex.proofs.LaneLemmas.{either, marked, masked, no_plain_is, top_one_of}
 use Rattle.bw_lex.proofs.lanes.not_plain.Goals as goal

@@ -1,5 +1,4 @@
-use Rattle.std.proofs.Common.{◌∙◌, ap, sym, arith, length-drop}
-use Rattle.std.proofs.lemmas.List.Sums.{prefix_len-le-length}
+use Rattle.std.proofs.Common.{◌∙◌, ap, sym, arith}
 use lib.Count.{count_trailing_zeros}
 use Rattle.bw_lex.specs.Fronts.{is_plain}
 use Rattle.bw_lex.proofs.LaneLemmas.{rest_len, run_stops, run_through}

@@ -1,4 +1,3 @@
-use Rattle.std.proofs.Common.{arith, subst, sym, ap}
 use Rattle.bw_sql.proofs.LimitLemmas.{all_read, too_large}
 use Rattle.bw_sql.proofs.limits.long_number.Goals as goal
 

@@ -1,4 +1,4 @@
-use Rattle.std.proofs.Common.{◌∙◌, sym, rules, arith}
+use Rattle.std.proofs.Common.{◌∙◌, sym}
 use Rattle.std.proofs.lemmas.Result.{err_from_is_err_and}
 use Rattle.bw_lex.proofs.Lexing.{rest_is}
 use Rattle.bw_sql.proofs.LimitLemmas.{bad_first, seen_all, seen_big_number, seen_next, seen_separator, seen_too_deep, spelled_at}

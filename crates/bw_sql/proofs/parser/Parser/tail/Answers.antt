@@ -1,4 +1,4 @@
-use Rattle.std.proofs.Common.{◌≡◌, ◌∙◌, sym, ap, subst, rules}
+use Rattle.std.proofs.Common.{◌≡◌, ◌∙◌, sym, ap, subst}
 use Rattle.bw_sql.specs.Reading.{Gives, range_at}
 use Rattle.bw_sql.specs.Tree.{condition_of}
 use Rattle.bw_sql.proofs.ListRuns.{tail_at-range}

@@ -1,4 +1,4 @@
-use Rattle.std.proofs.Common.{◌≡◌, ◌∷◌, ◌++◌, length, ap, rules, arith, [], Some}
+use Rattle.std.proofs.Common.{◌≡◌, length, ap, rules, arith, Some}
 use Rattle.std.proofs.lemmas.Result.{err_from_is_err_and}
 use Rattle.bw_sql.specs.Reading.{after_comma}
 use Rattle.bw_sql.proofs.ListRuns.{after_comma-none}

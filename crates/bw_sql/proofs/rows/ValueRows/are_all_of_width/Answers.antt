@@ -1,5 +1,3 @@
-use Rattle.std.proofs.Common.{◌≡◌, length, ap, sym, subst, List}
-use Rattle.std.specs.List.{All}
 use Rattle.bw_sql.proofs.RowLemmas.{rows_as_wide, widths_as_rows}
 use Rattle.bw_sql.proofs.rows.ValueRows.are_all_of_width.Goals as goal
 
