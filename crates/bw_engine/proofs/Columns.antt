@@ -30,6 +30,13 @@ not_isnt : (a b : Bool) → a ≡ not b → a ≡ true → b ≡ false
 not_isnt a true p q = sym q ∙ p
 not_isnt a false p q = refl
 
+-- a name among those of the columns so far
+pub among : (columns : List ColumnDefinition) (i : ℕ) (name : List ℕ) → list_any (λ c. bytes_eq name c.name) (take i columns) ≡ list_any (λ y. bytes_eq y name) (take i (map (λ c. c.name) columns))
+among [] zero name = refl
+among [] (suc i) name = refl
+among (c ∷ columns) zero name = refl
+among (c ∷ columns) (suc i) name = ap (λ b. b || list_any (λ c. bytes_eq name c.name) (take i columns)) (bytes_eq-comm name c.name) ∙ ap (λ b. bytes_eq c.name name || b) (among columns i name)
+
 -- a set of the names so far
 module _ (columns : List ColumnDefinition) (i : ℕ) (column : ColumnDefinition) (keys : List (Bor (List ℕ))) (added : Bool)
     (within : i < length columns) (at : column ≡ get_or columns i column)
@@ -54,3 +61,13 @@ module _ (columns : List ColumnDefinition) (i : ℕ) (column : ColumnDefinition)
       ∙ ap (λ l. l ++ key.now ∷ []) seen
       ∙ ap (λ x. take i (map (λ c. c.name) columns) ++ x ∷ []) is
       ∙ sym (one_more (map (λ c. c.name) columns) i column.name fits (get_or-map (λ c. c.name) columns i column at within))
+
+-- a name looked for among the columns so far
+module _ (columns : List ColumnDefinition) (i : ℕ) (column : ColumnDefinition) (found : Bool)
+    (within : i < length columns) (at : column ≡ get_or columns i column)
+    (says : found ≡ list_any (λ c. bytes_eq column.name c.name) (take i columns)) where
+  pub twice_among : found ≡ true → true ≡ not (are_distinct (map (λ c. c.name) columns))
+  twice_among here = sym (twice_at (map (λ c. c.name) columns) i column.name (omega (arith, within, length-map columns (λ c. c.name))) (get_or-map (λ c. c.name) columns i column at within) (sym (among columns i column.name) ∙ sym says ∙ here))
+
+  pub once_among : found ≡ false → are_distinct (take i (map (λ c. c.name) columns)) ≡ true → are_distinct (take (i + 1) (map (λ c. c.name) columns)) ≡ true
+  once_among absent before = once_to (map (λ c. c.name) columns) i column.name (omega (arith, within, length-map columns (λ c. c.name))) (get_or-map (λ c. c.name) columns i column at within) before (sym (among columns i column.name) ∙ sym says ∙ absent)

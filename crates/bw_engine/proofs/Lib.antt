@@ -1,3 +1,4 @@
+mod Added
 pub mod Columns
 pub mod Founds
 pub mod Lines

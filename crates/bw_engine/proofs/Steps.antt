@@ -49,7 +49,7 @@ pub steps : (store after : Store) (statement : StatementTree) (r : Result Reply 
 steps store after statement (Ok reply) h stays = inr (h.1 ∙ ap (λ o. refused_or o store (carried_out store statement)) (sym h.0))
 steps store after statement (Err e) h stays =
     elim h [
-      | inl p ↦ inl (ap (λ x. Refused x) p, stays)
+      | inl p ↦ inl (record { accepted = p.0; says = ap (λ x. Refused x) p.1; stays = stays })
       | inr p ↦ inr (ap (λ s. (Refused e, s)) stays ∙ ap (λ o. refused_or o store (carried_out store statement)) (sym p))
     ]
 

@@ -1,12 +1,14 @@
 //! CREATE TABLE.
 
 ghost use Rattle.std.specs.Prelude.{◌≡◌, ◌++◌, ◌≤◌, ◌<◌, [], ◌∷◌, length, map, ◌==◌, nat_le, nat_lt, not, ◌||◌, IfOk, IsTrue, OnErr};
+ghost use Rattle.std.specs.List.{list_any};
+ghost use Rattle.std.specs.Str.{bytes_eq};
 ghost use Rattle.bw_model.specs.Refusals.{create_tests};
 ghost use Rattle.bw_model.specs.Store.{are_distinct, column_limit, header_of, table_limit};
 ghost use Rattle.bw_sql.specs.Tree.{statement_of};
 ghost use Rattle.bw_sql.specs.declared.tree.Statement.TheVariants as statements;
 ghost use Rattle.bw_engine.specs.Outcomes.{CarriesOut};
-ghost use Rattle.bw_plan.specs.Checks.{Answers};
+ghost use Rattle.bw_plan.specs.Checks.{Decides};
 
 use crate::table::Table;
 use bw_model::{Refusal, Reply};
@@ -44,12 +46,12 @@ fn check(
     table: &Name,
     columns: &[ColumnDefinition],
 ) -> Result<(), Refusal>
-    ensures { Answers (create_tests (map (λ c. c.name) columns.now) table.now tables.now.entries) result (λ _. Unit {0}) }
+    ensures { Decides (create_tests (map (λ c. c.name) columns.now) table.now tables.now.entries) result (λ _. Unit {0}) }
 {
     if tables.contains_key(table) {
         return Err(Refusal::TableExists);
     }
-    if name_twice(alloc, columns)? {
+    if name_twice(alloc, columns) {
         return Err(Refusal::ColumnNamedTwice);
     }
     if is_over_limit(columns.len(), tables.len()) {
@@ -66,8 +68,36 @@ fn is_over_limit(columns: usize, tables: usize) -> bool
     columns == 0 || columns > COLUMN_LIMIT || tables >= TABLE_LIMIT
 }
 
-/// Whether two columns have one name.
-fn name_twice(alloc: Global, columns: &[ColumnDefinition]) -> Result<bool, AllocError>
+/// Whether two columns have one name. Where there is no memory for a set of the names, each is looked for
+/// among those before it, so that a name which stands twice is found all the same.
+fn name_twice(alloc: Global, columns: &[ColumnDefinition]) -> bool
+    ensures { result ≡ not (are_distinct (map (λ c. c.name) columns.now)) }
+{
+    match twice_by_set(alloc, columns) {
+        Ok(twice) => twice,
+        Err(_) => twice_by_search(columns),
+    }
+}
+
+fn twice_by_search(columns: &[ColumnDefinition]) -> bool
+    ensures { result ≡ not (are_distinct (map (λ c. c.name) columns.now)) }
+{
+    for (i, column) in columns.iter().enumerate() {
+        if is_among(&columns[..i], &column.name) {
+            return true;
+        }
+    }
+    false
+}
+
+/// Whether one of the columns has this name.
+fn is_among(columns: &[ColumnDefinition], name: &Name) -> bool
+    ensures { result ≡ list_any (λ column. bytes_eq name.now column.name) columns.now }
+{
+    columns.iter().any(|column| name == &column.name)
+}
+
+fn twice_by_set(alloc: Global, columns: &[ColumnDefinition]) -> Result<bool, AllocError>
     ensures { IfOk result (λ twice. twice ≡ not (are_distinct (map (λ c. c.name) columns.now))) }
 {
     let mut names = IndexSet::with_capacity(alloc, columns.len())?;

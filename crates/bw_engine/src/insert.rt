@@ -9,7 +9,7 @@ ghost use Rattle.bw_sql.specs.declared.tree.Statement.TheVariants as statements;
 ghost use Rattle.bw_engine.specs.Outcomes.{CarriesOut};
 ghost use Rattle.bw_plan.specs.Checks.{Answers};
 
-use crate::table::{ROW_LIMIT, Table};
+use crate::table::Table;
 use bw_model::{Refusal, Reply};
 use bw_plan::resolve_insert;
 use bw_sql::{Insert, Name, NameList, ValueRows};
@@ -46,10 +46,7 @@ fn insert_rows(
     ensures reply { Answers (insert_tests (target_columns table.old.headers columns.now) rows.now table.old) result (λ reply. (reply ≡ Count (length rows.now)) × (table.new ≡ with_rows columns.now rows.now table.old)) }
     ensures refused { OnErr result (table.new ≡ table.old) }
 {
-    let cells = resolve_insert(alloc, table.headers(), columns, rows)?;
-    if rows.len() > ROW_LIMIT - table.row_count() {
-        return Err(Refusal::TableFull);
-    }
+    let cells = resolve_insert(alloc, table.headers(), columns, rows, table.room())?;
     table.append(cells.as_slice())?;
     Ok(Reply::Count(rows.len() as u64))
 }

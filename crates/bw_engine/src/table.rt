@@ -9,7 +9,7 @@ use std::alloc::{AllocError, Global};
 use std::marker::Model;
 
 /// The most rows that a table holds.
-pub const ROW_LIMIT: usize = 16_777_216;
+const ROW_LIMIT: usize = 16_777_216;
 
 /// Columns, and rows of as many cells. The rows lie flat in one buffer, one after the other. A
 /// contract sees the columns and the list of the rows.
@@ -58,6 +58,13 @@ impl Table {
         ensures bound { result ≤ row_limit }
     {
         self.cells.as_slice().len() / self.headers.as_slice().len()
+    }
+
+    /// How many rows more there may be.
+    pub fn room(&self) -> usize
+        ensures { result + length self.now.rows ≡ row_limit }
+    {
+        ROW_LIMIT - self.row_count()
     }
 
     /// The rows, in order.

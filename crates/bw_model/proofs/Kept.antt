@@ -160,7 +160,7 @@ after_first (Some refusal) store statement are some = are
 pub kept : (store after : Store) (statement : StatementTree) (reply : Reply) → IsStore store → Step store statement reply after → IsStore after
 kept store after statement reply are step =
     elim step [
-      | inl free ↦ subst IsStore (sym free.1) are
+      | inl free ↦ subst IsStore (sym free.stays) are
       | inr e ↦ subst IsStore (sym (ap (λ p. p.1) e)) (after_first (first_that_holds (tests_of store statement)) store statement are refl)
     ]
 

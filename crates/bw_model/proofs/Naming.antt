@@ -58,7 +58,7 @@ after_first (Some refusal) store statement named brought = named
 pub names_kept : (store after : Store) (statement : StatementTree) (reply : Reply) → AreNamed store → All IsName (names_brought statement) → Step store statement reply after → AreNamed after
 names_kept store after statement reply named brought step =
     elim step [
-      | inl free ↦ subst AreNamed (sym free.1) named
+      | inl free ↦ subst AreNamed (sym free.stays) named
       | inr e ↦ subst AreNamed (sym (ap (λ p. p.1) e)) (after_first (first_that_holds (tests_of store statement)) store statement named brought)
     ]
 

@@ -139,6 +139,6 @@ answers (Some refusal) store statement are named some = plain_first (tests_of st
 pub replied : (store after : Store) (statement : StatementTree) (reply : Reply) → IsStore store → AreNamed store → Step store statement reply after → IsReply reply
 replied store after statement reply are named step =
     elim step [
-      | inl free ↦ subst IsReply (sym free.0) tt
+      | inl free ↦ subst IsReply (sym free.says) tt
       | inr e ↦ subst IsReply (sym (ap (λ p. p.0) e)) (answers (first_that_holds (tests_of store statement)) store statement are named refl)
     ]

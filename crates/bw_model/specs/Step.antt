@@ -35,7 +35,12 @@ refused_or (Some refusal) store done = (Refused refusal, store)
 abbrev pub outcome_of : Store → StatementTree → Reply × Store
 outcome_of store statement = refused_or (first_that_holds (tests_of store statement)) store (carried_out store statement)
 
--- A statement may take the store to `after` with this reply. Want of memory may stand in place of any reply, and changes nothing.
+-- a statement that isn't refused may want memory, and then changes nothing
+pub record WantsMemory (store : Store) (statement : StatementTree) (reply : Reply) (after : Store) : Type 0 where
+  pub accepted : first_that_holds (tests_of store statement) ≡ None
+  pub says : reply ≡ Refused OutOfMemory
+  pub stays : after ≡ store
+
+-- A statement may take the store to `after` with this reply: that of its outcome, or that memory is wanting.
 abbrev pub Step : Store → StatementTree → Reply → Store → Type 0
-Step store statement reply after =
-    ((reply ≡ Refused OutOfMemory) × (after ≡ store)) ⊎ (◌≡◌ {A = Reply × Store} (reply, after) (outcome_of store statement))
+Step store statement reply after = WantsMemory store statement reply after ⊎ (◌≡◌ {A = Reply × Store} (reply, after) (outcome_of store statement))

@@ -1,8 +1,9 @@
 //! Laws of the definitions.
 
-ghost use Rattle.std.specs.Prelude.{◌≡◌, [], All, List, map};
+ghost use Rattle.std.specs.Prelude.{◌≡◌, [], All, List, Some, map};
 ghost use Rattle.std.specs.List.{flat_map};
 ghost use Rattle.bw_model.specs.Named.{AreNamed};
+ghost use Rattle.bw_model.specs.Refusals.{first_that_holds, tests_of};
 ghost use Rattle.bw_model.specs.ReplyText.{reply_text};
 ghost use Rattle.bw_model.specs.Step.{Step};
 ghost use Rattle.bw_model.specs.Store.{Store};
@@ -20,6 +21,11 @@ pub fn refusals_change_nothing()
     ensures { (store after : Store) (statement : StatementTree) (refusal : AnyRefusal) → Step store statement (Refused refusal) after → after ≡ store }
 {}
 
+/// A statement that is to be refused is refused for its first reason, also where memory is wanting.
+pub fn refusals_need_no_memory()
+    ensures { (store after : Store) (statement : StatementTree) (reply : AnyReply) (refusal : AnyRefusal) → first_that_holds (tests_of store statement) ≡ Some refusal → Step store statement reply after → (reply ≡ Refused refusal) × (after ≡ store) }
+{}
+
 /// A store without tables is well formed, and every statement leaves a well-formed store so.
 pub fn stores_stay_well_formed()
     ensures empty { IsStore [] }
@@ -34,8 +40,7 @@ pub fn texts_tell_replies()
 
 /// Over a well-formed store whose names are names, each reply of a step is one that its text tells; and
 /// names stay names, where a statement brings in no others. No text says a statement that does
-/// (`names_are_names`). So two replies of runs with the same text are the same reply, but for the
-/// headings `COLUMNS` and `ROWS`.
+/// (`names_are_names`).
 pub fn replies_are_told()
     ensures empty { AreNamed [] }
     ensures kept { (store after : Store) (statement : StatementTree) (reply : AnyReply) → AreNamed store → All IsName (names_brought statement) → Step store statement reply after → AreNamed after }

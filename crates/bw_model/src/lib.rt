@@ -20,7 +20,8 @@ pub use condition_laws::{
     between_is_two_comparisons, in_is_a_run_of_or, not_in_with_null_finds_nothing,
 };
 pub use laws::{
-    refusals_change_nothing, replies_are_told, stores_stay_well_formed, texts_tell_replies,
+    refusals_change_nothing, refusals_need_no_memory, replies_are_told, stores_stay_well_formed,
+    texts_tell_replies,
 };
 pub use refusal::Refusal;
 pub use reply::Reply;

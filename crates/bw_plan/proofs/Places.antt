@@ -11,11 +11,11 @@ use Rattle.bw_model.specs.Insert.{row_for}
 use Rattle.bw_model.specs.Refusals.{first_that_holds, is_missing}
 use Rattle.bw_model.specs.Select.{line_of, shown}
 use Rattle.bw_model.specs.Store.{AreHeaders, Header, Row, Value, are_distinct, names, place_of, value_at, value_from}
-use Rattle.bw_plan.specs.Checks.{listed_tests, shown_tests}
+use Rattle.bw_plan.specs.Checks.{listed_tests, shown_tests, value_tests}
 use Rattle.bw_model.proofs.Names.{are_distinct-push, bytes_eq-comm, map-push}
 use Rattle.bw_plan.proofs.Names.{are_distinct_front}
 use Rattle.bw_model.proofs.Passing.{neither}
-use Rattle.bw_plan.proofs.Tests.{no_test}
+use Rattle.bw_plan.proofs.Tests.{first-append_none, no_test}
 
 isnt : (b c : Bool) → (b && not c) ≡ true → c ≡ false
 isnt true true e = sym e
@@ -120,7 +120,7 @@ rows_for-all headers (row ∷ rows) valid all =
     ap (λ r. r ∷ map (row_for headers (names headers)) rows) (row_for-all headers row valid (All-head (λ r. length r ≡ length headers) row rows all))
     ∙ ap (λ l. row ∷ l) (rows_for-all headers rows valid (All-tail (λ r. length r ≡ length headers) row rows all))
 
-none_missing : (headers : List Header) → AreHeaders headers → list_any (is_missing headers) (names headers) ≡ false
+pub none_missing : (headers : List Header) → AreHeaders headers → list_any (is_missing headers) (names headers) ≡ false
 none_missing headers valid =
     (λ j. list_any (λ n. not (is_some (place_of-names headers n j))) (names headers)) ∙ found_behind [] (names headers) valid.distinct
 
@@ -133,6 +133,12 @@ all_shown headers valid = no_test _ _ _ (none_missing headers valid)
 
 pub all_listed : (headers : List Header) → AreHeaders headers → first_that_holds (listed_tests headers (names headers)) ≡ None
 all_listed headers valid = no_test _ _ _ (none_missing headers valid) ∙ no_test _ _ _ (ap not valid.distinct)
+
+-- the tests of rows that name all columns in order
+pub whole_first : (headers : List Header) (room : ℕ) (rows : List Row) → AreHeaders headers → first_that_holds (listed_tests headers (names headers) ++ value_tests (length (names headers)) room rows) ≡ first_that_holds (value_tests (length headers) room rows)
+whole_first headers room rows valid =
+    first-append_none (listed_tests headers (names headers)) (value_tests (length (names headers)) room rows) (all_listed headers valid)
+    ∙ ap (λ w. first_that_holds (value_tests w room rows)) (length-map headers (λ h. h.name))
 
 -- the places so far, and the next
 pub next_place : (headers : List Header) (places : List ℕ) (i : ℕ) → AreHeaders headers → i < length headers → map (λ place. Some place) places ≡ take i (map (place_of headers) (names headers)) → map (λ place. Some place) (places ++ i ∷ []) ≡ take (i + 1) (map (place_of headers) (names headers))

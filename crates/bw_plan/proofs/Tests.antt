@@ -1,16 +1,15 @@
 -- Tests in their order, and what a part of a statement answers by them.
-use Rattle.std.proofs.Common.{◌≡◌, inl, inr, ℕ, ◌<◌, ◌==◌, Bool, true, false, ◌&&◌, not, List, [], ◌∷◌, ◌++◌, length, get_or, Option, None, Some, Result, Ok, Err, IsErrAnd, if◌then◌else◌, zero, suc, refl, sym, ap, subst, ◌∙◌, arith}
+use Rattle.std.proofs.Common.{◌≡◌, inl, inr, ℕ, ◌<◌, ◌==◌, Bool, true, false, ◌&&◌, List, [], ◌∷◌, ◌++◌, length, get_or, Option, None, Some, Result, Ok, Err, IsErrAnd, if◌then◌else◌, zero, suc, refl, sym, ap, subst, ◌∙◌, arith}
 use Rattle.std.specs.List.{All, list_all}
 use Rattle.std.proofs.lemmas.Bool.{eq-eqb, not-false, true≢false}
 use Rattle.std.proofs.lemmas.List.Elements.{All-head, All-tail}
 use Rattle.std.proofs.lemmas.List.Folds.{list_all-append}
 use Rattle.bw_sql.specs.Rows.{joined}
 use Rattle.bw_model.specs.Refusals.{Tests, first_that_holds, is_in_range}
-use Rattle.bw_model.specs.Store.{Row, Value}
+use Rattle.bw_model.specs.Store.{Row}
 use Rattle.bw_model.specs.declared.refusal.Refusal.{Refusal}
-use Rattle.bw_model.specs.declared.refusal.Refusal.TheVariants.{OutOfRange, WrongNumberOfValues}
 use Rattle.bw_model.proofs.Passing.{if_none, widths}
-use Rattle.bw_plan.specs.Checks.{Answers, MayRefuse, range_tests, value_tests}
+use Rattle.bw_plan.specs.Checks.{Answers, MayRefuse, value_tests}
 
 if_some : (b : Bool) (x y : Refusal) (r s : Option Refusal) → (r ≡ Some y → s ≡ Some y) → (if b then Some x else r) ≡ Some y → (if b then Some x else s) ≡ Some y
 if_some true x y r s h e = e
@@ -26,11 +25,15 @@ pub first-append_some : (a b : Tests) (e : Refusal) → first_that_holds a ≡ S
 first-append_some [] b e h = cc
 first-append_some (t ∷ a) b e h = if_some t.1 t.0 e (first_that_holds a) (first_that_holds (a ++ b)) (first-append_some a b e) h
 
-pub refuse_left : (a b : Tests) (e : Refusal) → MayRefuse a e → MayRefuse (a ++ b) e
-refuse_left a b e may = elim may [ inl p ↦ inl p | inr p ↦ inr (first-append_some a b e p) ]
+pub first-append_both : (a b : Tests) → first_that_holds a ≡ None → first_that_holds b ≡ None → first_that_holds (a ++ b) ≡ None
+first-append_both a b none also = first-append_none a b none ∙ also
 
-pub refuse_right : (a b : Tests) (e : Refusal) → first_that_holds a ≡ None → MayRefuse b e → MayRefuse (a ++ b) e
-refuse_right a b e none may = elim may [ inl p ↦ inl p | inr p ↦ inr (first-append_none a b none ∙ p) ]
+-- where a front of the tests is decided
+pub decides_left : (a b : Tests) (e : Refusal) → first_that_holds a ≡ Some e → MayRefuse (a ++ b) e
+decides_left a b e first = inr (first-append_some a b e first)
+
+pub decides_right : (a b : Tests) (e : Refusal) → first_that_holds a ≡ None → first_that_holds b ≡ Some e → MayRefuse (a ++ b) e
+decides_right a b e none first = inr (first-append_none a b none ∙ first)
 
 -- a refusal that is handed on
 pub passed_on : {T : Type 0} (tests : Tests) (r : Result T Refusal) (P : T → Type 0) (x : Refusal) → MayRefuse tests x → IsErrAnd r (λ e. e ≡ x) → Answers tests r P
@@ -40,7 +43,7 @@ passed_on tests (Err e) P x may h = subst (MayRefuse tests) (sym h) may
 -- other tests of which the same one is first
 pub answers_same : {T : Type 0} (a b : Tests) (r : Result T Refusal) (P Q : T → Type 0) → first_that_holds a ≡ first_that_holds b → ((x : T) → first_that_holds a ≡ None → P x → Q x) → Answers a r P → Answers b r Q
 answers_same a b (Ok x) P Q same so h = (sym same ∙ h.0, so x h.0 h.1)
-answers_same a b (Err e) P Q same so h = elim h [ inl p ↦ inl p | inr p ↦ inr (sym same ∙ p) ]
+answers_same a b (Err e) P Q same so h = elim h [ inl p ↦ inl (sym same ∙ p.0, p.1) | inr p ↦ inr (sym same ∙ p) ]
 
 -- what passes a test everywhere passes it at a place
 pub list_all_at : {A : Type 0} (p : A → Bool) (xs : List A) (i : ℕ) (d : A) → i < length xs → list_all p xs ≡ true → p (get_or xs i d) ≡ true
@@ -56,15 +59,6 @@ list_all_at p (x ∷ xs) (suc i) d within all = list_all_at p xs i d (omega arit
     back true c e = e
     back false c e = absurd (true≢false (sym e))
 
-out_by : (v all : Bool) (e : Refusal) → (all ≡ true → v ≡ true) → MayRefuse ((OutOfRange, not v) ∷ []) e → MayRefuse ((OutOfRange, not all) ∷ []) e
-out_by true all e imp may = elim may [ inl p ↦ inl p | inr p ↦ cc ]
-out_by false true e imp may = absurd (true≢false (sym (imp refl)))
-out_by false false e imp may = may
-
--- one value out of range
-pub out_at : (values : Row) (i : ℕ) (d : Value) (e : Refusal) → i < length values → MayRefuse ((OutOfRange, not (is_in_range (get_or values i d))) ∷ []) e → MayRefuse (range_tests values) e
-out_at values i d e within may = out_by (is_in_range (get_or values i d)) (list_all is_in_range values) e (list_all_at is_in_range values i d within) may
-
 pub list_all-joined : {A : Type 0} (p : A → Bool) (rows : List (List A)) → list_all (list_all p) rows ≡ list_all p (joined rows)
 list_all-joined p [] = refl
 list_all-joined p (row ∷ rows) = ap (λ b. list_all p row && b) (list_all-joined p rows) ∙ sym (list_all-append p row (joined rows))
@@ -75,16 +69,12 @@ of_width w (row ∷ rows) all =
     ap (λ b. b && list_all (λ r. length r == w) rows) (eq-eqb (length row) w (All-head (λ r. length r ≡ w) row rows all))
     ∙ of_width w rows (All-tail (λ r. length r ≡ w) row rows all)
 
--- rows of one width whose values are looked at together
-pub first-value_tests : (w : ℕ) (rows : List Row) (values : Row) → All (λ row. length row ≡ w) rows → values ≡ joined rows → first_that_holds (range_tests values) ≡ first_that_holds (value_tests w rows)
-first-value_tests w rows values all e =
-    ap (λ l. first_that_holds (range_tests l)) e
-    ∙ ap (λ b. first_that_holds ((OutOfRange, not b) ∷ [])) (sym (list_all-joined is_in_range rows))
-    ∙ ap (λ b. if not b then Some WrongNumberOfValues else first_that_holds ((OutOfRange, not (list_all (list_all is_in_range) rows)) ∷ [])) (sym (of_width w rows all))
-
 -- rows that the tests on values let pass
-pub all_of_width : (w : ℕ) (rows : List Row) → first_that_holds (value_tests w rows) ≡ None → All (λ row. length row ≡ w) rows
-all_of_width w rows none = widths w rows (not-false _ (if_none _ _ _ none).0)
+pub all_of_width : (w room : ℕ) (rows : List Row) → first_that_holds (value_tests w room rows) ≡ None → All (λ row. length row ≡ w) rows
+all_of_width w room rows none = widths w rows (not-false _ (if_none _ _ _ none).0)
+
+pub all_integers : (w room : ℕ) (rows : List Row) → first_that_holds (value_tests w room rows) ≡ None → list_all is_in_range (joined rows) ≡ true
+all_integers w room rows none = sym (list_all-joined is_in_range rows) ∙ not-false _ (if_none _ _ _ (if_none _ _ _ none).1).0
 
 pub no_test : (b : Bool) (x : Refusal) (r : Option Refusal) → b ≡ false → (if b then Some x else r) ≡ r
 no_test true x r e = absurd (true≢false e)

@@ -1,5 +1,5 @@
 -- What a part of a statement answers, by the tests that it makes.
-use Rattle.std.specs.Prelude.{◌≡◌, ◌⊎◌, ◌==◌, ℕ, List, [], ◌∷◌, Option, Some, None, Result, MatchResult, length, not}
+use Rattle.std.specs.Prelude.{◌≡◌, ◌⊎◌, ◌==◌, ℕ, List, [], ◌∷◌, Option, Some, None, Result, MatchResult, length, nat_lt, not}
 use Rattle.std.specs.List.{list_all, list_any}
 use Rattle.bw_sql.specs.Tree.{ConditionTree}
 use Rattle.bw_model.specs.Refusals.{Tests, condition_misses, first_that_holds, is_in_range, is_missing, lists_too_long}
@@ -7,11 +7,15 @@ use Rattle.bw_model.specs.Store.{Header, Row, are_distinct}
 use Rattle.bw_model.specs.declared.refusal.Refusal.{Refusal}
 use Rattle.bw_model.specs.declared.refusal.Refusal.TheVariants as refusal
 
--- the first test that holds, or want of memory
-abbrev pub MayRefuse : Tests → Refusal → Type 0
-MayRefuse tests e = (e ≡ refusal.OutOfMemory) ⊎ (first_that_holds tests ≡ Some e)
+-- exactly the first test that holds; where none does, a value of which P is true
+abbrev pub Decides : {T : Type 0} → Tests → Result T Refusal → (T → Type 0) → Type 0
+Decides tests result P = MatchResult result (λ x. (first_that_holds tests ≡ None) × P x) (λ e. first_that_holds tests ≡ Some e)
 
--- where no test holds, a value of which P is true
+-- the first test that holds; where none does, want of memory
+abbrev pub MayRefuse : Tests → Refusal → Type 0
+MayRefuse tests e = ((first_that_holds tests ≡ None) × (e ≡ refusal.OutOfMemory)) ⊎ (first_that_holds tests ≡ Some e)
+
+-- the same where memory may be wanting for the value
 abbrev pub Answers : {T : Type 0} → Tests → Result T Refusal → (T → Type 0) → Type 0
 Answers tests result P = MatchResult result (λ x. (first_that_holds tests ≡ None) × P x) (MayRefuse tests)
 
@@ -27,11 +31,10 @@ listed_tests headers columns =
     ∷ (refusal.ColumnNamedTwice, not (are_distinct columns))
     ∷ []
 
-abbrev pub range_tests : Row → Tests
-range_tests values = (refusal.OutOfRange, not (list_all is_in_range values)) ∷ []
-
-abbrev pub value_tests : ℕ → List Row → Tests
-value_tests width rows =
+-- of rows to be added where there is room for so many
+abbrev pub value_tests : ℕ → ℕ → List Row → Tests
+value_tests width room rows =
     (refusal.WrongNumberOfValues, not (list_all (λ row. length row == width) rows))
     ∷ (refusal.OutOfRange, not (list_all (list_all is_in_range) rows))
+    ∷ (refusal.TableFull, nat_lt room (length rows))
     ∷ []

@@ -1,14 +1,13 @@
 //! INSERT: the cells of its rows, in the places of their columns.
 
-ghost use Rattle.std.specs.Prelude.{◌≡◌, ◌++◌, ◌<◌, [], ◌∷◌, length, map, not, position, IfOk, OnOk};
-ghost use Rattle.std.specs.List.{list_any};
+ghost use Rattle.std.specs.Prelude.{◌≡◌, ◌++◌, ◌<◌, All, length, map, not, position, true, IfOk, OnOk};
+ghost use Rattle.std.specs.List.{list_all, list_any};
 ghost use Rattle.std.specs.Str.{bytes_eq};
 ghost use Rattle.bw_model.specs.Answers.{AreWholeLines, lines_of};
 ghost use Rattle.bw_model.specs.Insert.{row_for, target_columns};
 ghost use Rattle.bw_model.specs.Refusals.{is_in_range, is_missing};
 ghost use Rattle.bw_model.specs.Store.{AreHeaders, are_distinct, names, value_from};
-ghost use Rattle.bw_model.specs.declared.refusal.Refusal.TheVariants.{OutOfRange};
-ghost use Rattle.bw_plan.specs.Checks.{Answers, listed_tests, range_tests, value_tests};
+ghost use Rattle.bw_plan.specs.Checks.{Answers, Decides, listed_tests, value_tests};
 ghost use Rattle.bw_sql.specs.Rows.{joined};
 
 use crate::headers::{Header, Headers, place_in};
@@ -20,18 +19,20 @@ use std::alloc::{AllocError, Global};
 /// The cells of the rows that an INSERT adds to a table of these columns, row after row: each value
 /// in the place of its column, and NULL in the places of columns that aren't listed. It is refused,
 /// in this order, where a listed column isn't there, where one is listed twice, where a row has
-/// another number of values than there are columns, and where a value is no INTEGER.
+/// another number of values than there are columns, where a value is no INTEGER, and where there are
+/// more rows than the table has room for. All of this is found before any memory is asked for.
 pub fn resolve_insert(
     alloc: Global,
     headers: &Headers,
     columns: &Option<NameList>,
     rows: &ValueRows,
+    room: usize,
 ) -> Result<Vec<Option<i32>>, Refusal>
-    ensures { let targets = target_columns headers.now columns.now in Answers (listed_tests headers.now targets ++ value_tests (length targets) rows.now) result (λ cells. cells.items ≡ joined (map (row_for headers.now targets) rows.now)) }
+    ensures { let targets = target_columns headers.now columns.now in Answers (listed_tests headers.now targets ++ value_tests (length targets) room rows.now) result (λ cells. cells.items ≡ joined (map (row_for headers.now targets) rows.now)) }
 {
     match columns {
-        Some(names) => listed_cells(alloc, headers.as_slice(), names.as_slice(), rows),
-        None => whole_cells(alloc, headers.as_slice(), rows),
+        Some(names) => listed_cells(alloc, headers.as_slice(), names.as_slice(), rows, room),
+        None => whole_cells(alloc, headers.as_slice(), rows, room),
     }
 }
 
@@ -40,11 +41,14 @@ fn whole_cells(
     alloc: Global,
     headers: &[Header],
     rows: &ValueRows,
+    room: usize,
 ) -> Result<Vec<Option<i32>>, Refusal>
     requires { AreHeaders headers.now }
-    ensures { Answers (listed_tests headers.now (names headers.now) ++ value_tests (length (names headers.now)) rows.now) result (λ cells. cells.items ≡ joined (map (row_for headers.now (names headers.now)) rows.now)) }
+    ensures { Answers (listed_tests headers.now (names headers.now) ++ value_tests (length (names headers.now)) room rows.now) result (λ cells. cells.items ≡ joined (map (row_for headers.now (names headers.now)) rows.now)) }
 {
-    cells_of_width(alloc, headers.len(), rows)
+    check_rows(headers.len(), rows, room)?;
+    let cells = narrowed(alloc, rows.values())?;
+    Ok(cells)
 }
 
 /// The cells of rows that name some columns, in the order of the table's columns.
@@ -53,12 +57,30 @@ fn listed_cells(
     headers: &[Header],
     names: &[Name],
     rows: &ValueRows,
+    room: usize,
 ) -> Result<Vec<Option<i32>>, Refusal>
     requires { 0 < length names.now }
-    ensures { Answers (listed_tests headers.now names.now ++ value_tests (length names.now) rows.now) result (λ cells. cells.items ≡ joined (map (row_for headers.now names.now) rows.now)) }
+    ensures { Answers (listed_tests headers.now names.now ++ value_tests (length names.now) room rows.now) result (λ cells. cells.items ≡ joined (map (row_for headers.now names.now) rows.now)) }
 {
     check_listed(headers, names)?;
-    let values = cells_of_width(alloc, names.len(), rows)?;
+    check_rows(names.len(), rows, room)?;
+    let cells = placed_cells(alloc, headers, names, rows)?;
+    Ok(cells)
+}
+
+/// The cells of rows that have a value for each of these columns.
+fn placed_cells(
+    alloc: Global,
+    headers: &[Header],
+    names: &[Name],
+    rows: &ValueRows,
+) -> Result<Vec<Option<i32>>, AllocError>
+    requires some { 0 < length names.now }
+    requires widths { All (λ row. length row ≡ length names.now) rows.now }
+    requires integers { list_all is_in_range (joined rows.now) ≡ true }
+    ensures { IfOk result (λ cells. cells.items ≡ joined (map (row_for headers.now names.now) rows.now)) }
+{
+    let values = narrowed(alloc, rows.values())?;
     let sources = sources_of(alloc, headers, names)?;
     let cells = spread(alloc, values.as_slice(), names.len(), sources.as_slice())?;
     Ok(cells)
@@ -66,7 +88,7 @@ fn listed_cells(
 
 /// Refuses a list that names what is no column, or a column twice.
 fn check_listed(headers: &[Header], names: &[Name]) -> Result<(), Refusal>
-    ensures { Answers (listed_tests headers.now names.now) result (λ _. Unit {0}) }
+    ensures { Decides (listed_tests headers.now names.now) result (λ _. Unit {0}) }
 {
     if lacks_any(headers, names) {
         return Err(Refusal::NoSuchColumn);
@@ -77,8 +99,40 @@ fn check_listed(headers: &[Header], names: &[Name]) -> Result<(), Refusal>
     Ok(())
 }
 
+/// Refuses a row of another width, a value that is no INTEGER, and more rows than there is room for.
+fn check_rows(width: usize, rows: &ValueRows, room: usize) -> Result<(), Refusal>
+    ensures { Decides (value_tests width room rows.now) result (λ _. Unit {0}) }
+{
+    if !rows.are_all_of_width(width) {
+        return Err(Refusal::WrongNumberOfValues);
+    }
+    if !are_integers(rows.values()) {
+        return Err(Refusal::OutOfRange);
+    }
+    if rows.len() > room {
+        return Err(Refusal::TableFull);
+    }
+    Ok(())
+}
+
+/// Whether each value is an INTEGER, which is -2147483648 to 2147483647, or NULL.
+fn are_integers(values: &[Value]) -> bool
+    ensures { result ≡ list_all is_in_range values.now }
+{
+    values.iter().all(is_integer)
+}
+
+fn is_integer(value: &Value) -> bool
+    ensures { result ≡ is_in_range value.now }
+{
+    match value {
+        Some(number) => i32::try_from(*number).is_ok(),
+        None => true,
+    }
+}
+
 /// Whether one of the names isn't that of a column.
-fn lacks_any(headers: &[Header], names: &[Name]) -> bool
+pub(crate) fn lacks_any(headers: &[Header], names: &[Name]) -> bool
     ensures { result ≡ list_any (is_missing headers.now) names.now }
 {
     names.iter().any(|name| place_in(headers, name).is_none())
@@ -97,41 +151,26 @@ fn name_twice(names: &[Name]) -> bool
     false
 }
 
-/// The cells of rows of this width, row after row.
-fn cells_of_width(
-    alloc: Global,
-    width: usize,
-    rows: &ValueRows,
-) -> Result<Vec<Option<i32>>, Refusal>
-    ensures { Answers (value_tests width rows.now) result (λ cells. cells.items ≡ joined rows.now) }
-{
-    if !rows.are_all_of_width(width) {
-        return Err(Refusal::WrongNumberOfValues);
-    }
-    narrowed(alloc, rows.values())
-}
-
 /// The values, each as an INTEGER.
-fn narrowed(alloc: Global, values: &[Value]) -> Result<Vec<Option<i32>>, Refusal>
-    ensures { Answers (range_tests values.now) result (λ cells. cells.items ≡ values.now) }
+fn narrowed(alloc: Global, values: &[Value]) -> Result<Vec<Option<i32>>, AllocError>
+    requires { list_all is_in_range values.now ≡ true }
+    ensures { IfOk result (λ cells. cells.items ≡ values.now) }
 {
     let mut cells = Vec::with_capacity(alloc, values.len())?;
     for value in values {
-        cells.push(integer(*value)?)?;
+        cells.push(integer(*value))?;
     }
     Ok(cells)
 }
 
-/// The value as an INTEGER, which is -2147483648 to 2147483647 or NULL.
-fn integer(value: Value) -> Result<Option<i32>, Refusal>
-    ensures { Answers ((OutOfRange, not (is_in_range value)) ∷ []) result (λ cell. cell ≡ value) }
+/// The same value as an INTEGER.
+fn integer(value: Value) -> Option<i32>
+    requires { is_in_range value ≡ true }
+    ensures { result ≡ value }
 {
     match value {
-        None => Ok(None),
-        Some(number) => match i32::try_from(number) {
-            Ok(number) => Ok(Some(number)),
-            Err(_) => Err(Refusal::OutOfRange),
-        },
+        Some(number) => i32::try_from(number).ok(),
+        None => None,
     }
 }
 

@@ -1,10 +1,10 @@
 //! A condition's names become places in a row.
 
-ghost use Rattle.std.specs.Prelude.{◌≡◌, IfOk, List, Some};
+ghost use Rattle.std.specs.Prelude.{◌≡◌, IfOk, List, option_map};
 ghost use Rattle.bw_model.specs.Condition.{truth_at, truth_of_word};
 ghost use Rattle.bw_model.specs.Refusals.{has_long_list, names_missing, operand_is_missing};
 ghost use Rattle.bw_model.specs.Store.{Header as AnyHeader, Row};
-ghost use Rattle.bw_plan.specs.Checks.{Answers, condition_tests};
+ghost use Rattle.bw_plan.specs.Checks.{Decides, condition_tests};
 ghost use Rattle.bw_plan.specs.Plans.{plan_of, planned, source_of, truth_by};
 ghost use Rattle.bw_sql.specs.Tree.{ConditionTree, condition_of};
 
@@ -18,22 +18,24 @@ use std::alloc::{AllocError, Global};
 /// The most entries of an IN list.
 const ENTRY_LIMIT: usize = 1_000;
 
-/// The condition with each column's name as its place among the columns. It is refused where a
-/// column isn't there, and else where an IN list has more than 1,000 entries.
-pub(crate) fn resolve_condition(
-    alloc: Global,
+/// Refuses a condition that names a column which isn't there, and else one with an IN list of more than
+/// 1,000 entries.
+pub(crate) fn check_condition(
     headers: &[Header],
-    condition: &Condition,
-) -> Result<RowCondition, Refusal>
-    ensures { Answers (condition_tests headers.now (Some (condition_of condition.now))) result (λ plan. plan_of plan ≡ planned headers.now (condition_of condition.now)) }
+    condition: &Option<Condition>,
+) -> Result<(), Refusal>
+    ensures { Decides (condition_tests headers.now (option_map condition_of condition.now)) result (λ _. Unit {0}) }
 {
+    let Some(condition) = condition else {
+        return Ok(());
+    };
     if names_missing(headers, condition) {
         return Err(Refusal::NoSuchColumn);
     }
     if has_long_list(condition) {
         return Err(Refusal::OverLimit);
     }
-    Ok(placed(alloc, headers, condition)?)
+    Ok(())
 }
 
 /// Whether the condition names a column that isn't there.
@@ -87,8 +89,8 @@ fn has_long_list(condition: &Condition) -> bool
     }
 }
 
-/// The condition with places for names.
-fn placed(
+/// The condition with each column's name as its place among the columns. A column that isn't there is NULL.
+pub(crate) fn placed(
     alloc: Global,
     headers: &[Header],
     condition: &Condition,

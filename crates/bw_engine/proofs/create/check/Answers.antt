@@ -1,4 +1,4 @@
-use Rattle.std.proofs.Common.{◌∙◌, ◌==◌, ◌||◌, inr, ap, is_some, length, nat_le, nat_lt, sym}
+use Rattle.std.proofs.Common.{◌∙◌, ◌==◌, ◌||◌, ap, is_some, length, nat_le, nat_lt, sym}
 use Rattle.std.proofs.lemmas.List.{length-map}
 use Rattle.bw_model.specs.Store.{column_limit, table_limit}
 use Rattle.bw_engine.proofs.Steps.{table_of-lookup}
@@ -7,12 +7,12 @@ use Rattle.bw_engine.proofs.create.check.Goals as goal
 
 pub returns-then-contains_key : goal.returns-then-contains_key
 returns-then-contains_key c =
-    inr (this_test _ _ _ (ap is_some (table_of-lookup c.args.tables.now.entries c.args.table.now) ∙ sym c.contains_key.ensures ∙ c.if-contains_key.true))
+    this_test _ _ _ (ap is_some (table_of-lookup c.args.tables.now.entries c.args.table.now) ∙ sym c.contains_key.ensures ∙ c.if-contains_key.true)
 
-pub returns-then-branch : goal.returns-then-branch
-returns-then-branch c =
+pub returns-then-name_twice : goal.returns-then-name_twice
+returns-then-name_twice c =
     let absent = ap is_some (table_of-lookup c.args.tables.now.entries c.args.table.now) ∙ sym c.contains_key.ensures ∙ c.if-contains_key.false in
-    inr (no_test _ _ _ absent ∙ this_test _ _ _ (sym c.in_ok-name_twice.ensures ∙ c.if-branch.true))
+    no_test _ _ _ absent ∙ this_test _ _ _ (sym c.name_twice.ensures ∙ c.if-name_twice.true)
 
 pub returns-then-is_over_limit : goal.returns-then-is_over_limit
 returns-then-is_over_limit c =
@@ -22,7 +22,7 @@ returns-then-is_over_limit c =
     ap (λ n. n == 0 || nat_lt column_limit n || nat_le table_limit (length c.args.tables.now.entries)) count
     ∙ ap (λ n. length c.args.columns.now == 0 || nat_lt column_limit (length c.args.columns.now) || nat_le table_limit n) (sym c.len.ensures.len)
     ∙ sym c.is_over_limit.ensures ∙ c.if-is_over_limit.true in
-    inr (no_test _ _ _ absent ∙ no_test _ _ _ (sym c.in_ok-name_twice.ensures ∙ c.if-branch.false) ∙ this_test _ _ _ over)
+    no_test _ _ _ absent ∙ no_test _ _ _ (sym c.name_twice.ensures ∙ c.if-name_twice.false) ∙ this_test _ _ _ over
 
 pub returns : goal.returns
 returns c =
@@ -32,4 +32,4 @@ returns c =
     ap (λ n. n == 0 || nat_lt column_limit n || nat_le table_limit (length c.args.tables.now.entries)) count
     ∙ ap (λ n. length c.args.columns.now == 0 || nat_lt column_limit (length c.args.columns.now) || nat_le table_limit n) (sym c.len.ensures.len)
     ∙ sym c.is_over_limit.ensures ∙ c.if-is_over_limit.false in
-    (no_test _ _ _ absent ∙ no_test _ _ _ (sym c.in_ok-name_twice.ensures ∙ c.if-branch.false) ∙ no_test _ _ _ within, tt)
+    (no_test _ _ _ absent ∙ no_test _ _ _ (sym c.name_twice.ensures ∙ c.if-name_twice.false) ∙ no_test _ _ _ within, tt)

@@ -1,6 +1,6 @@
 use Rattle.std.proofs.Common.{◌≡◌, true, map, take}
 use Rattle.bw_model.specs.Store.{are_distinct}
-use Rattle.bw_engine.proofs.create.name_twice.Given as goal
+use Rattle.bw_engine.proofs.create.twice_by_set.Given as goal
 
 -- the set holds the names so far, which are distinct
 abbrev pub invariant-loop-column : goal.invariant-loop-column

@@ -1,6 +1,6 @@
 use Rattle.std.proofs.Common.{refl}
 use Rattle.bw_engine.proofs.Columns.{once_in, seen_in, twice_in}
-use Rattle.bw_engine.proofs.create.name_twice.Goals as goal
+use Rattle.bw_engine.proofs.create.twice_by_set.Goals as goal
 
 pub returns-then-not-branch : goal.returns-then-not-branch
 returns-then-not-branch c =
