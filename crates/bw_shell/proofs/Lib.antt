@@ -3,5 +3,6 @@ pub mod Items
 pub mod Lines
 pub mod Outputs
 pub mod Sessions
+pub mod Telling
 pub mod Texts
 pub mod Written

@@ -31,9 +31,9 @@ pub record SameAnswer (reply other : Reply) (after left : Store) : Type 0 where
 same_step : (store after left : Store) (tree : StatementTree) (reply other : Reply) → reply ≢ Refused OutOfMemory → other ≢ Refused OutOfMemory → Step store tree reply after → Step store tree other left → SameAnswer reply other after left
 same_step store after left tree reply other p q a b =
     elim a [
-      | inl free ↦ absurd (p free.0)
+      | inl free ↦ absurd (p free.says)
       | inr x ↦ elim b [
-        | inl free ↦ absurd (q free.0)
+        | inl free ↦ absurd (q free.says)
         | inr y ↦ record { replies = ap (λ o. o.0) (x ∙ sym y); stores = ap (λ o. o.1) (x ∙ sym y) }
       ]
     ]

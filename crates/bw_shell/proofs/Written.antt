@@ -1,7 +1,8 @@
 -- A session's bytes are the texts of replies.
-use Rattle.std.proofs.Common.{◌≡◌, ◌⊎◌, ℕ, inl, inr, Bool, true, false, ◌||◌, List, [], ◌∷◌, ◌++◌, refl, sym, ap, ◌∙◌, subst, append_assoc}
+use Rattle.std.proofs.Common.{◌≡◌, ◌⊎◌, ℕ, ◌+◌, inl, inr, Bool, true, false, ◌||◌, not, if◌then◌else◌, List, [], ◌∷◌, ◌++◌, refl, sym, ap, ◌∙◌, subst, append_assoc}
 use Rattle.std.specs.List.{flat_map, list_any}
 use Rattle.std.proofs.lemmas.Bool.{true≢false}
+use Rattle.bw_lex.specs.Parts.{AreParts, ArePartsFrom, cut, is_blank_run, last, run_len}
 use Rattle.bw_lex.specs.declared.script.Part.{Part}
 use Rattle.bw_model.specs.ReplyText.{reply_text}
 use Rattle.bw_model.specs.Store.{Store}
@@ -21,9 +22,31 @@ either : (b : Bool) (A B C : Type 0) → (b ≡ true → A → C) → (b ≡ fal
 either true A B C f g e = f refl e
 either false A B C f g e = g refl e
 
+isnt : (b : Bool) → not b ≡ true → b ≡ false
+isnt true e = sym e
+isnt false e = refl
+
 no_front : (b c : Bool) → b ≡ false → c ≡ false → (b || c) ≡ false
 no_front true c e f = e
 no_front false c e f = f
+
+-- a part that no `;` closes is the last
+abbrev OpenIsLast : List Part → Type 0
+OpenIsLast [] = Unit {0}
+OpenIsLast (part ∷ parts) = (part.is_closed ≡ false → parts ≡ []) × OpenIsLast parts
+
+with_closed : (blank : Bool) (part : Part) (parts : List Part) → part.is_closed ≡ true → OpenIsLast parts → OpenIsLast (if blank then parts else part ∷ parts)
+with_closed true part parts closed more = more
+with_closed false part parts closed more = ((λ unclosed. absurd (true≢false (sym closed ∙ unclosed))), more)
+
+with_rest : (blank : Bool) (part : Part) → OpenIsLast (if blank then [] else part ∷ [])
+with_rest true part = tt
+with_rest false part = ((λ unclosed. refl), tt)
+
+open_is_last : (at : ℕ) (script : List ℕ) (parts : List Part) → ArePartsFrom at script parts → OpenIsLast parts
+open_is_last at script parts (cut {parts = more} run rest is after) =
+    with_closed (is_blank_run run) (record { span = record { start = at; end = at + run_len run }; is_closed = true }) more refl (open_is_last (at + run_len run + 1) rest more after)
+open_is_last at script parts (last run is) = with_rest (is_blank_run run) (record { span = record { start = at; end = at + run_len run }; is_closed = false })
 
 module _ (on_error : OnError) (script : List ℕ) where
   -- no part is left
@@ -32,9 +55,9 @@ module _ (on_error : OnError) (script : List ℕ) where
   at_end Fault store = record { answered = []; left = []; split = refl; kept = refl; replies = []; after = store; are_answered = none_left; begun = []; written = refl; leaves_off = (refl, tt, refl, refl) }
 
   -- the rest is dropped
-  at_dropped : (read : ScriptEnd) (store : Store) (part : Part) (parts : List Part) → is_dropped read part ≡ true → WroteReplies on_error read script store (part ∷ parts) (last_end read) []
-  at_dropped Reached store part parts dropped = absurd (true≢false (sym dropped))
-  at_dropped Fault store part parts dropped = record { answered = []; left = part ∷ parts; split = refl; kept = refl; replies = []; after = store; are_answered = none_left; begun = []; written = refl; leaves_off = (refl, dropped, refl, refl) }
+  at_dropped : (read : ScriptEnd) (store : Store) (part : Part) (parts : List Part) → (part.is_closed ≡ false → parts ≡ []) → is_dropped read part ≡ true → WroteReplies on_error read script store (part ∷ parts) (last_end read) []
+  at_dropped Reached store part parts alone dropped = absurd (true≢false (sym dropped))
+  at_dropped Fault store part parts alone dropped = record { answered = []; left = part ∷ parts; split = refl; kept = refl; replies = []; after = store; are_answered = none_left; begun = []; written = refl; leaves_off = (refl, (dropped, alone (isnt part.is_closed dropped)), refl, refl) }
 
   over : (read : ScriptEnd) (store : Store) (parts : List Part) (end : RunEnd) (bytes : List ℕ) → WroteReplies on_error read script store parts (last_end read) [] → IsOver (last_end read) end bytes → WroteReplies on_error read script store parts end bytes
   over read store parts end bytes wrote is =
@@ -96,12 +119,12 @@ more on_error read script store part parts reply after end rest kept answers goi
   leaves_off = leaves_off_more on_error read script wrote.after wrote.left reply wrote.replies wrote.begun end going wrote.leaves_off;
 }
 
-pub wrote_replies : (on_error : OnError) (read : ScriptEnd) (script : List ℕ) (store : Store) (parts : List Part) (end : RunEnd) (bytes : List ℕ) → Session on_error read script store parts end bytes → WroteReplies on_error read script store parts end bytes
-wrote_replies on_error read script store [] end bytes session = over on_error script read store [] end bytes (at_end on_error script read store) session
-wrote_replies on_error read script store (part ∷ parts) end bytes session =
+by_parts : (on_error : OnError) (read : ScriptEnd) (script : List ℕ) (store : Store) (parts : List Part) (end : RunEnd) (bytes : List ℕ) → OpenIsLast parts → Session on_error read script store parts end bytes → WroteReplies on_error read script store parts end bytes
+by_parts on_error read script store [] end bytes alone session = over on_error script read store [] end bytes (at_end on_error script read store) session
+by_parts on_error read script store (part ∷ parts) end bytes alone session =
     either (is_dropped read part) _ _ _
-    (λ dropped is. over on_error script read store (part ∷ parts) end bytes (at_dropped on_error script read store part parts dropped) is)
-    (λ kept answer. by_reply kept answer.0 answer.1 answer.2 (wrote_replies on_error read script answer.1 parts end) answer.3)
+    (λ dropped is. over on_error script read store (part ∷ parts) end bytes (at_dropped on_error script read store part parts alone.0 dropped) is)
+    (λ kept answer. by_reply kept answer.0 answer.1 answer.2 (λ rest. by_parts on_error read script answer.1 parts end rest alone.1) answer.3)
     session
   where
     by_reply : is_dropped read part ≡ false → (reply : Reply) (after : Store) → MayAnswer store part.is_closed (text_of script part) reply after → ((rest : List ℕ) → Session on_error read script after parts end rest → WroteReplies on_error read script after parts end rest)
@@ -115,3 +138,6 @@ wrote_replies on_error read script store (part ∷ parts) end bytes session =
               (λ going session. more on_error read script store part parts reply after end on.0 kept answers going (deeper on.0 session))
               on.2)
         ]
+
+pub wrote_replies : (on_error : OnError) (read : ScriptEnd) (script : List ℕ) (store : Store) (parts : List Part) (end : RunEnd) (bytes : List ℕ) → AreParts script parts → Session on_error read script store parts end bytes → WroteReplies on_error read script store parts end bytes
+wrote_replies on_error read script store parts end bytes are session = by_parts on_error read script store parts end bytes (open_is_last 0 script parts are) session

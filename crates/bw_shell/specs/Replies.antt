@@ -22,10 +22,10 @@ pub data Answered : List ℕ → Store → List Part → List Reply → Store �
   and_then : {script : List ℕ} {store mid after : Store} {part : Part} {parts : List Part} {reply : Reply} {replies : List Reply}
       → MayAnswer store part.is_closed (text_of script part) reply mid → Answered script mid parts replies after → Answered script store (part ∷ parts) (reply ∷ replies) after
 
--- nothing is left, or a rest that is dropped
+-- nothing is left, or only a rest that is dropped
 abbrev pub IsDroppedRest : ScriptEnd → List Part → Type 0
 IsDroppedRest read [] = Unit {0}
-IsDroppedRest read (part ∷ parts) = is_dropped read part ≡ true
+IsDroppedRest read (part ∷ parts) = (is_dropped read part ≡ true) × (parts ≡ [])
 
 -- the last reply is the first error
 abbrev pub IsLastAnError : List Reply → Type 0

@@ -9,8 +9,8 @@ mod text;
 mod writing;
 
 pub use folders::{Folder, FolderFault, MemoryFolder};
-pub use laws::{one_output, replies_are_written};
+pub use laws::{one_output, output_tells_replies, replies_are_written};
 pub use reading::ScriptEnd;
 pub use session::{OnError, RunEnd, run};
 pub use text::write_reply;
-pub use writing::WriteFault;
+pub use writing::{WriteFault, put};

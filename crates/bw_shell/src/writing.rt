@@ -11,7 +11,7 @@ use std::io::Write;
 pub struct WriteFault;
 
 /// Writes all of the bytes, or a front of them where the writer fails.
-pub(crate) fn put<W: Write>(writer: &mut W, bytes: &[u8]) -> Result<(), WriteFault>
+pub fn put<W: Write>(writer: &mut W, bytes: &[u8]) -> Result<(), WriteFault>
     ensures { Wrote (W.contents writer.old) (W.contents writer.new) bytes.now result }
 {
     let mut rest = bytes;
