@@ -1,0 +1,14 @@
+pub mod Answering
+pub mod BlockLemmas
+pub mod Bulk
+pub mod Codes
+pub mod Distinct
+pub mod Entries
+pub mod FitLemmas
+pub mod Fits
+pub mod LaneLemmas
+pub mod Least
+pub mod Meeting
+pub mod Offsets
+pub mod UnitLemmas
+pub mod Widths

@@ -1,0 +1,103 @@
+//! Columns of codes, in any layout.
+
+ghost use Rattle.std.specs.Prelude.{[], IfOk, OnOk, drop, length, slice_set, take, ℕ, ◌&&◌, ◌++◌, ◌+◌, ◌<◌, ◌^◌, ◌≡◌, ◌≤◌, ◌∷◌};
+ghost use Rattle.bw_mask.specs.Masks.{bit_of, len, row_at, SameShape};
+ghost use Rattle.bw_code.specs.declared.kind.Layout.{Layout};
+ghost use Rattle.bw_code.specs.Columns.{code_at, count, CodeList, Fit, KeepsShape};
+ghost use Rattle.bw_code.specs.Meters.{raised};
+ghost use Rattle.bw_code.specs.Tests.{meets, TestFits};
+ghost use Rattle.bw_code.specs.Units.{units_of_scan};
+
+use crate::compare::CodeTest;
+use crate::meter::Meter;
+use bw_mask::Mask;
+use std::alloc::{AllocError, Global};
+
+/// A column of at most 16,777,216 codes, each below 2^width. Row i has code i.
+pub trait CodeColumn: Sized {
+    ghost layout: { Layout };
+
+    ghost WIDEST: { ℕ };
+
+    ghost seen: { Self → CodeList };
+
+    /// The greatest width of the layout.
+    const WIDEST: u32;
+
+    /// A column without codes.
+    fn with_width(alloc: Global, width: u32) -> Result<Self, AllocError>
+        requires some { 1 ≤ width }
+        requires narrow { width ≤ WIDEST }
+        ensures width { IfOk result (λ column. (seen column).width ≡ width) }
+        ensures codes { IfOk result (λ column. (seen column).codes ≡ []) };
+
+    /// Makes room for so many codes more. The codes stay as they are, also where memory is wanting.
+    fn reserve(&mut self, more: usize) -> Result<(), AllocError>
+        requires { count (seen self.old) + more ≤ 2 ^ 24 }
+        ensures room { OnOk result (count (seen self.old) + more ≤ (seen self.new).room) }
+        ensures shape { KeepsShape (seen self.new) (seen self.old) }
+        ensures codes { (seen self.new).codes ≡ (seen self.old).codes };
+
+    /// Adds a code at the end, within the room.
+    fn push(&mut self, code: u64)
+        requires fits { code < 2 ^ (seen self.old).width }
+        requires room { count (seen self.old) < (seen self.old).room }
+        requires few { count (seen self.old) < 2 ^ 24 }
+        ensures shape { KeepsShape (seen self.new) (seen self.old) }
+        ensures codes { (seen self.new).codes ≡ (seen self.old).codes ++ code ∷ [] };
+
+    /// Adds codes at the end, within the room.
+    fn extend(&mut self, codes: &[u64])
+        requires fit { Fit (seen self.old).width codes.now }
+        requires room { count (seen self.old) + length codes.now ≤ (seen self.old).room }
+        requires few { count (seen self.old) + length codes.now ≤ 2 ^ 24 }
+        ensures shape { KeepsShape (seen self.new) (seen self.old) }
+        ensures codes { (seen self.new).codes ≡ (seen self.old).codes ++ codes.now };
+
+    /// How many codes there are.
+    fn len(&self) -> usize
+        ensures count { result ≡ count (seen self.now) }
+        ensures few { result ≤ 2 ^ 24 };
+
+    /// How many bits a code has.
+    fn width(&self) -> u32
+        ensures width { result ≡ (seen self.now).width }
+        ensures some { 1 ≤ result }
+        ensures narrow { result ≤ WIDEST };
+
+    /// Code i.
+    fn get(&self, i: usize) -> u64
+        requires { i < count (seen self.now) }
+        ensures code { result ≡ code_at (seen self.now) i }
+        ensures fits { result < 2 ^ (seen self.now).width };
+
+    /// Puts a code in place i.
+    fn set(&mut self, i: usize, code: u64)
+        requires there { i < count (seen self.old) }
+        requires fits { code < 2 ^ (seen self.old).width }
+        ensures shape { KeepsShape (seen self.new) (seen self.old) }
+        ensures codes { (seen self.new).codes ≡ slice_set (seen self.old).codes i code };
+
+    /// Fills `out` with the codes from row `at` on.
+    fn read(&self, at: usize, out: &mut [u64])
+        requires { at + length out.old ≤ count (seen self.now) }
+        ensures codes { out.new ≡ take (length out.old) (drop at (seen self.now).codes) }
+        ensures fit { Fit (seen self.now).width out.new };
+
+    /// `out` becomes the rows whose code has bit i. Bit 0 is the lowest.
+    fn plane(&self, i: u32, out: &mut Mask)
+        requires bit { i < (seen self.now).width }
+        requires out { len out.old ≡ count (seen self.now) }
+        ensures shape { SameShape out.new out.old }
+        ensures rows { (r : ℕ) → row_at out.new r ≡ bit_of (code_at (seen self.now) r) i };
+
+    /// `out` becomes the needed rows whose code meets the test. The units that this reads in the
+    /// column's layout are added to the meter.
+    fn scan(&self, test: CodeTest, need: &Mask, out: &mut Mask, meter: &mut Meter)
+        requires test { TestFits (seen self.now).width test }
+        requires need { len need.now ≡ count (seen self.now) }
+        requires out { len out.old ≡ count (seen self.now) }
+        ensures shape { SameShape out.new out.old }
+        ensures rows { (r : ℕ) → row_at out.new r ≡ (row_at need.now r && meets test (code_at (seen self.now) r)) }
+        ensures units { meter.new ≡ raised meter.old (units_of_scan layout (seen self.now).width test (row_at need.now) (seen self.now).codes) };
+}

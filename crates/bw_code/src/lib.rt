@@ -1,0 +1,32 @@
+//! Encodings of integers by codes that keep their order, tests on codes, what a scan costs, and columns of codes.
+#![tactic(auto)]
+
+mod column;
+mod compare;
+mod dictionary;
+mod encoding;
+mod ends;
+mod kind;
+mod lanes;
+mod laws;
+mod meter;
+mod offset;
+mod plain;
+mod ranks;
+mod source;
+mod unit_laws;
+mod width;
+
+pub use column::CodeColumn;
+pub use compare::{CmpOp, CodeTest};
+pub use dictionary::Dictionary;
+pub use encoding::{Encoding, fit};
+pub use kind::{Kind, Layout};
+pub use laws::{
+    bits_of_numbers, codes_keep_order, codes_of_values, equal_encodings, fits_of_values,
+};
+pub use meter::Meter;
+pub use offset::Offset;
+pub use plain::PlainColumn;
+pub use source::Source;
+pub use unit_laws::{units_of_scans, units_of_segments};
