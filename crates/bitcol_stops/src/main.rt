@@ -1,0 +1,20 @@
+//! `bitcol [--stop] [SCRIPT]` runs a script from a file, or from standard input, and writes the
+//! replies to standard output: the same program as `bitcol`, kept to be run on a script file with `--stop`.
+#![tactic(auto)]
+
+use bw_program::program;
+use std::io;
+use std::process::ExitCode;
+
+fn main(rt: HostRuntime) -> ExitCode {
+    let stderr = rt.stderr();
+    let mut errors = io::writer(&stderr);
+    program(
+        rt.alloc(),
+        &rt,
+        &rt,
+        &mut rt.reader(),
+        io::writer(&rt),
+        &mut errors,
+    )
+}

@@ -1,0 +1,4 @@
+pub mod Answers
+pub mod Command
+pub mod Endings
+pub mod Words

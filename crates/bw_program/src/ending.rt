@@ -1,0 +1,72 @@
+//! How the program ends: its status, and what it says on standard error.
+
+ghost use Rattle.std.specs.Prelude.{◌≡◌, ◌++◌, ◌∷◌, [], option_map};
+ghost use Rattle.std.specs.Process.{exit_status};
+ghost use Rattle.bw_program.specs.Endings.{line_of, said_by, status_of};
+ghost use Rattle.bw_shell.specs.Writing.{AppendsFront, Wrote};
+
+use crate::request::WordsFault;
+use bw_shell::{RunEnd, WriteFault, put};
+use std::io::Write;
+use std::process::ExitCode;
+
+/// How the program ends.
+#[derive(Clone, Copy, Debug, PartialEq, Eq)]
+pub enum Ending {
+    /// A run over the script ended so.
+    Ran(RunEnd),
+    /// The script can't be opened.
+    NotOpened,
+    /// The words ask for nothing.
+    NotAsked(WordsFault),
+}
+
+impl Ending {
+    /// The status that the program ends with.
+    pub fn status(self) -> u8
+        ensures { result ≡ status_of self }
+    {
+        match self {
+            Ending::Ran(RunEnd::Done) => 0,
+            Ending::Ran(RunEnd::Stopped) => 1,
+            Ending::Ran(RunEnd::ReadFault | RunEnd::WriteFault | RunEnd::Memory)
+            | Ending::NotOpened
+            | Ending::NotAsked(WordsFault::Memory) => 2,
+            Ending::NotAsked(WordsFault::Usage) => 64,
+        }
+    }
+
+    /// What the program says on standard error, without the byte that ends the line.
+    pub fn line(self) -> Option<&'static str>
+        ensures { option_map (λ line. line.now) result ≡ line_of self }
+    {
+        match self {
+            Ending::Ran(RunEnd::Done | RunEnd::Stopped) => None,
+            Ending::Ran(RunEnd::ReadFault) => Some("bitcol: reading failed"),
+            Ending::Ran(RunEnd::WriteFault) => Some("bitcol: writing failed"),
+            Ending::Ran(RunEnd::Memory) | Ending::NotAsked(WordsFault::Memory) => {
+                Some("bitcol: out of memory")
+            }
+            Ending::NotOpened => Some("bitcol: cannot open the script"),
+            Ending::NotAsked(WordsFault::Usage) => Some("usage: bitcol [--stop] [SCRIPT]"),
+        }
+    }
+}
+
+/// Says on standard error how the program ends, and gives its status. Where writing fails, a front of it is said.
+pub fn end_with<W: Write>(errors: &mut W, ending: Ending) -> ExitCode
+    ensures status { exit_status result ≡ status_of ending }
+    ensures said { AppendsFront (W.contents errors.old) (W.contents errors.new) (said_by ending) }
+{
+    if let Some(line) = ending.line() {
+        let _ = say(errors, line);
+    }
+    ExitCode::from(ending.status())
+}
+
+fn say<W: Write>(errors: &mut W, line: &str) -> Result<(), WriteFault>
+    ensures { Wrote (W.contents errors.old) (W.contents errors.new) (line.now ++ 10 ∷ []) result }
+{
+    put(errors, line.as_bytes())?;
+    put(errors, b"\n")
+}
