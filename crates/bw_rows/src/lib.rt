@@ -5,13 +5,21 @@
 #[cfg(test)]
 mod calls;
 #[cfg(test)]
+mod codes;
+#[cfg(test)]
 mod conditions;
 #[cfg(test)]
 mod harness;
 #[cfg(test)]
+mod large;
+#[cfg(test)]
 mod limits;
 #[cfg(test)]
 mod masks;
+#[cfg(test)]
+mod plain_codes;
+#[cfg(test)]
+mod program_ends;
 #[cfg(test)]
 mod refusals;
 #[cfg(test)]
@@ -20,3 +28,5 @@ mod selects;
 mod splitting;
 #[cfg(test)]
 mod streams;
+#[cfg(test)]
+mod units;

@@ -11,9 +11,9 @@ const SCRIPT: &[u8] =
 
 // Gives so many bytes a call, and then fails.
 #[derive(Drop)]
-struct FailingReader<'a> {
-    rest: &'a [u8],
-    step: usize,
+pub(crate) struct FailingReader<'a> {
+    pub(crate) rest: &'a [u8],
+    pub(crate) step: usize,
 }
 
 impl Read for FailingReader<'_> {
@@ -33,10 +33,10 @@ impl Read for FailingReader<'_> {
 
 // Takes so many bytes in all, so many a call, and then fails.
 #[derive(Drop)]
-struct FullWriter {
-    taken: Vec<u8>,
-    room: usize,
-    step: usize,
+pub(crate) struct FullWriter {
+    pub(crate) taken: Vec<u8>,
+    pub(crate) room: usize,
+    pub(crate) step: usize,
 }
 
 impl Write for FullWriter {

@@ -1,0 +1,58 @@
+//! Runs a script that is told by its pieces.
+
+use crate::pieces::{Piece, Pieces, Wanted};
+use bw_shell::{MemoryFolder, OnError, RunEnd, run};
+use std::ops::Range;
+use std::process::Abort;
+
+/// Checks that a script gets these replies, both told by their pieces.
+pub(crate) fn check_run<R: Abort + AllocGlobal>(
+    rt: &R,
+    script: &[Piece<'_>],
+    replies: &[Piece<'_>],
+) {
+    let mut reader = Pieces::new(script);
+    let mut writer = Wanted::new(replies);
+    let mut folder = MemoryFolder::new(rt.alloc());
+    let end = run(
+        rt.alloc(),
+        &mut reader,
+        &mut writer,
+        &mut folder,
+        OnError::Continue,
+    );
+    assert_eq!(rt; end, RunEnd::Done);
+    assert!(rt; writer.is_complete());
+}
+
+/// A text so many times between two others.
+pub(crate) fn repeated<R: Abort + AllocGlobal>(
+    rt: &R,
+    before: &str,
+    text: &str,
+    times: usize,
+    after: &str,
+) -> String {
+    let mut whole = String::new(rt.alloc());
+    whole.push_str(before).expect(rt, "memory");
+    for _ in 0..times {
+        whole.push_str(text).expect(rt, "memory");
+    }
+    whole.push_str(after).expect(rt, "memory");
+    whole
+}
+
+/// Each number between two texts, one behind the other.
+pub(crate) fn numbered<R: Abort + AllocGlobal>(
+    rt: &R,
+    before: &str,
+    numbers: Range<u32>,
+    after: &str,
+) -> String {
+    let mut text = String::new(rt.alloc());
+    for number in numbers {
+        let piece = format!(in rt.alloc(); "{before}{number}{after}").expect(rt, "memory");
+        text.push_str(piece.as_str()).expect(rt, "memory");
+    }
+    text
+}

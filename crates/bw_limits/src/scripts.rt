@@ -1,0 +1,80 @@
+//! Long scripts.
+
+use crate::harness::{check_run, repeated};
+
+#[test]
+fn statements_of_one_digit_values(rt: HostRuntime) {
+    // 60,021 bytes, and nearly as many terminals
+    let insert = repeated(&rt, "INSERT INTO t VALUES (1)", ",(1)", 14_999, ";");
+    check_run(
+        &rt,
+        &[
+            ("CREATE TABLE t (a INT);", 1),
+            (insert.as_str(), 40),
+            (
+                "SELECT a FROM t WHERE a = 1;SELECT a FROM t WHERE a = 2;",
+                1,
+            ),
+        ],
+        &[
+            ("ok\n", 1),
+            ("ok 15000\n", 40),
+            ("A\n", 1),
+            ("1\n", 600_000),
+            ("rows 600000\nA\nrows 0\n", 1),
+        ],
+    );
+}
+
+#[test]
+fn a_statement_of_all_its_bytes(rt: HostRuntime) {
+    // 65,536 bytes: 21, and 16,379 rows of 4 bytes with no comma behind the last
+    let insert = repeated(&rt, "INSERT INTO t VALUES ", "(1),", 16_378, "(1);");
+    check_run(
+        &rt,
+        &[("CREATE TABLE t (a INT);", 1), (insert.as_str(), 1)],
+        &[("ok\nok 16379\n", 1)],
+    );
+}
+
+#[test]
+fn a_hundred_thousand_statements(rt: HostRuntime) {
+    check_run(
+        &rt,
+        &[
+            ("CREATE TABLE t (a INT, b INT);", 1),
+            ("INSERT INTO t (b) VALUES (7);", 1),
+            ("SELECT a, b FROM t;", 100_000),
+            ("SELECT c FROM t;", 10_000),
+        ],
+        &[
+            ("ok\nok 1\n", 1),
+            ("A,B\nNULL,7\nrows 1\n", 100_000),
+            ("error 22: no such column\n", 10_000),
+        ],
+    );
+}
+
+#[test]
+fn a_million_parts_without_a_statement(rt: HostRuntime) {
+    let parts = repeated(&rt, "", "; ", 10_000, "");
+    check_run(
+        &rt,
+        &[(parts.as_str(), 100), ("SELECT a FROM t;", 1)],
+        &[("error 20: no such table\n", 1)],
+    );
+}
+
+#[test]
+fn comments_between_statements(rt: HostRuntime) {
+    let comment = repeated(&rt, "", "-- a comment; it ends here '\n", 2_000, "");
+    check_run(
+        &rt,
+        &[
+            ("CREATE TABLE t (a INT);", 1),
+            (comment.as_str(), 1),
+            ("SELECT a FROM t;", 1),
+        ],
+        &[("ok\nA\nrows 0\n", 1)],
+    );
+}
