@@ -1,13 +1,20 @@
-//! `bw_bench [ROUNDS]` reads a script from standard input and times how fast its parts are found, and their tokens and
-//! statements are read, beside a plain pass over the same bytes. The figures go to standard error; standard output has
-//! what was read. `bench/parsing.py` runs it.
+//! `bw_bench [ROUNDS [VALUES]]` reads a script from standard input and times how fast its parts are found, and their
+//! tokens and statements are read, beside a plain pass over the same bytes; and how fast so many values are fitted,
+//! encoded and scanned, beside plain passes over the same values. The figures go to standard error; standard output has
+//! what was read. `bench/parsing.py` and `bench/codes.py` run it.
 #![tactic(auto)]
 
+mod codes;
+
+use crate::codes::time_codes;
 use bw_sql::{Part, parts, statement, tokens};
 use std::alloc::Global;
 use std::io::Read;
 use std::time::{Duration, Instant};
 use std::{env, io};
+
+// How many values are encoded where no word says it.
+const VALUES: u32 = 1_000;
 
 // What is timed, each over the parts of the script.
 #[derive(Clone, Copy)]
@@ -25,7 +32,7 @@ fn main(rt: HostRuntime) -> io::Result<()> {
     let Ok(parts) = parts(alloc, &script) else {
         return Ok(());
     };
-    let rounds = rounds(&rt)?;
+    let rounds = word_or(&rt, 1, 1)?;
     let plain = timed(&rt, Work::PlainPass, &script, &parts, rounds)?;
     let lexed = timed(&rt, Work::Tokens, &script, &parts, rounds)?;
     let parsed = timed(&rt, Work::Statements, &script, &parts, rounds)?;
@@ -33,7 +40,8 @@ fn main(rt: HostRuntime) -> io::Result<()> {
     report(&rt, "tokens", lexed)?;
     report(&rt, "statement", parsed)?;
     println!(rt; "bytes {}, parts {}", script.len(), parts.len())?;
-    println!(rt; "tokens {}, statements {}", lexed.found, parsed.found)
+    println!(rt; "tokens {}, statements {}", lexed.found, parsed.found)?;
+    time_codes(&rt, rounds, word_or(&rt, 2, VALUES)? as usize)
 }
 
 // How long all rounds took together, and what one round found.
@@ -43,12 +51,12 @@ struct Figure {
     found: u64,
 }
 
-// The word that says how many rounds there are to be; 1 where there is none.
-fn rounds(rt: &HostRuntime) -> io::Result<u32> {
-    let word = env::args(rt)?.nth(1);
+// The number that this word of the command line says, or else the other.
+fn word_or(rt: &HostRuntime, place: usize, otherwise: u32) -> io::Result<u32> {
+    let word = env::args(rt)?.nth(place);
     Ok(match word {
-        Some(word) => word.parse().unwrap_or(1),
-        None => 1,
+        Some(word) => word.parse().unwrap_or(otherwise),
+        None => otherwise,
     })
 }
 
