@@ -1,3 +1,4 @@
+pub mod Following
 pub mod Requests
 pub mod Walks
 pub mod WordForms

@@ -1,10 +1,12 @@
--- Which script a request has answered, and how that may end.
-use Rattle.std.specs.Prelude.{◌≡◌, ℕ, List, Option}
+-- Which script the program has answered, and how that may end.
+use Rattle.std.specs.Prelude.{◌≡◌, ℕ, List, Option, Some, None, ⊤}
 use Rattle.bw_shell.specs.Run.{RunsTo}
 use Rattle.bw_shell.specs.declared.session.OnError.{OnError}
 use Rattle.bw_shell.specs.declared.session.RunEnd.{RunEnd}
 use Rattle.bw_program.specs.declared.ending.Ending.{Ending}
-use Rattle.bw_program.specs.declared.ending.Ending.TheVariants.{Ran}
+use Rattle.bw_program.specs.declared.ending.Ending.TheVariants.{NotAsked, NotOpened, Ran}
+use Rattle.bw_program.specs.declared.request.WordsFault.TheVariants.{Memory, Usage}
+use Rattle.bw_program.specs.Words.{Asked, Text, on_error_of}
 
 -- a run over what the reader gave ends so, whatever the writer held
 abbrev pub EndsOver : OnError → Option (List ℕ) → Option (List ℕ) → RunEnd → Type 0
@@ -13,3 +15,23 @@ EndsOver on_error given left end = (old : Option (List ℕ)) × (new : Option (L
 -- the program ends as a run over what the reader gave
 abbrev pub AnswersOver : OnError → Option (List ℕ) → Option (List ℕ) → Ending → Type 0
 AnswersOver on_error given left ending = (end : RunEnd) × (ending ≡ Ran end) × EndsOver on_error given left end
+
+-- a script that a path names was run, or couldn't be opened
+abbrev pub IsOfFile : Ending → Type 0
+IsOfFile (Ran _) = ⊤
+IsOfFile NotOpened = ⊤
+IsOfFile (NotAsked _) = ⊥
+
+-- standard input is answered where no path is named, and else it is left as it was
+abbrev pub AnswersScript : Option Text → OnError → Option (List ℕ) → Option (List ℕ) → Ending → Type 0
+AnswersScript None on_error given left ending = AnswersOver on_error given left ending
+AnswersScript (Some path) on_error given left ending = (left ≡ given) × IsOfFile ending
+
+-- the program did what its words ask for; where they are refused, or memory is wanting, standard input is left as it was
+abbrev pub Follows : Option Asked → Option (List ℕ) → Option (List ℕ) → Ending → Type 0
+Follows asked given left (NotAsked Memory) = left ≡ given
+Follows asked given left (NotAsked Usage) = (asked ≡ None) × (left ≡ given)
+Follows None given left (Ran _) = ⊥
+Follows None given left NotOpened = ⊥
+Follows (Some asked) given left (Ran end) = AnswersScript asked.script (on_error_of asked.stop) given left (Ran end)
+Follows (Some asked) given left NotOpened = AnswersScript asked.script (on_error_of asked.stop) given left NotOpened

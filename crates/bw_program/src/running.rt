@@ -1,15 +1,17 @@
 //! The program, but for its streams and its files.
 
-ghost use Rattle.std.specs.Prelude.{◌≡◌, IsSome, None};
+ghost use Rattle.std.specs.Prelude.{◌≡◌, List, map, option_map};
 ghost use Rattle.std.specs.Process.{exit_status};
-ghost use Rattle.bw_program.specs.Answers.{AnswersOver, EndsOver};
+ghost use Rattle.bw_program.specs.Answers.{AnswersScript, EndsOver, Follows};
 ghost use Rattle.bw_program.specs.Endings.{said_by, status_of};
+ghost use Rattle.bw_program.specs.Words.{Text, asked_by};
 ghost use Rattle.bw_shell.specs.Writing.{AppendsFront};
 
 use crate::ending::{Ending, end_with};
 use crate::request::{Request, WordsFault, request_of};
 use bw_shell::{MemoryFolder, OnError, RunEnd, run};
 use std::alloc::Global;
+use std::convert::AsStr;
 use std::env::Env;
 use std::fs::Files;
 use std::io::{BufWriter, ErrorKind, Read, Write};
@@ -28,13 +30,26 @@ pub fn program<E: Env, F: Files, I: Read, O: Write + Drop, W: Write>(
     output: O,
     errors: &mut W,
 ) -> ExitCode
-    ensures { (ending : Ending) × (exit_status result ≡ status_of ending) × AppendsFront (W.contents errors.old) (W.contents errors.new) (said_by ending) }
+    ensures { (words : List Text) × (ending : Ending) × Follows (asked_by words) (I.remaining input.old) (I.remaining input.new) ending × (exit_status result ≡ status_of ending) × AppendsFront (W.contents errors.old) (W.contents errors.new) (said_by ending) }
 {
-    let ending = match words_of(alloc, env) {
+    let ending = answer_asked(alloc, env, files, input, output);
+    end_with(errors, ending)
+}
+
+// Answers what the environment's words ask for. Words that can't be read are as words that are refused.
+fn answer_asked<E: Env, F: Files, I: Read, O: Write + Drop>(
+    alloc: Global,
+    env: &E,
+    files: &F,
+    input: &mut I,
+    output: O,
+) -> Ending
+    ensures { (words : List Text) × Follows (asked_by words) (I.remaining input.old) (I.remaining input.new) result }
+{
+    match words_of(alloc, env) {
         Ok(words) => answer_words(alloc, words.as_slice(), files, input, output),
         Err(fault) => Ending::NotAsked(fault),
-    };
-    end_with(errors, ending)
+    }
 }
 
 fn words_of<E: Env>(alloc: Global, env: &E) -> Result<Vec<String>, WordsFault> {
@@ -46,13 +61,15 @@ fn words_of<E: Env>(alloc: Global, env: &E) -> Result<Vec<String>, WordsFault> {
 }
 
 // The words are looked at first, and then the script is opened.
-fn answer_words<F: Files, I: Read, O: Write + Drop>(
+fn answer_words<S: AsStr, F: Files, I: Read, O: Write + Drop>(
     alloc: Global,
-    words: &[String],
+    words: &[S],
     files: &F,
     input: &mut I,
     output: O,
-) -> Ending {
+) -> Ending
+    ensures { Follows (asked_by (map S.text words.now)) (I.remaining input.old) (I.remaining input.new) result }
+{
     match request_of(alloc, words) {
         Ok(request) => answer(alloc, request, files, input, output),
         Err(fault) => Ending::NotAsked(fault),
@@ -67,8 +84,7 @@ pub fn answer<F: Files, I: Read, O: Write + Drop>(
     input: &mut I,
     output: O,
 ) -> Ending
-    ensures input { request.entry.script ≡ None → AnswersOver request.entry.on_error (I.remaining input.old) (I.remaining input.new) result }
-    ensures file { IsSome request.entry.script → input.new ≡ input.old }
+    ensures { AnswersScript (option_map (λ path. path.now) request.entry.script) request.entry.on_error (I.remaining input.old) (I.remaining input.new) result }
 {
     let Some(path) = request.script else {
         return Ending::Ran(run_script(alloc, input, output, request.on_error));
