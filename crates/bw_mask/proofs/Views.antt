@@ -1,8 +1,8 @@
 -- A list made from a function of the row, and what a changed word changes.
-use Rattle.std.proofs.Common.{◌≡◌, ℕ, ◌+◌, ◌*◌, ◌/◌, ◌%◌, ◌<◌, ◌≤◌, Bool, true, false, ◌&&◌, ◌==◌, ltb, List, [], ◌∷◌, ◌++◌, length, get_or, set, replicate, inl, inr, refl, sym, ap, ◌∙◌, arith, length-set}
+use Rattle.std.proofs.Common.{◌≡◌, ℕ, ◌+◌, ◌*◌, ◌/◌, ◌%◌, ◌<◌, ◌≤◌, Bool, true, false, ◌&&◌, ◌==◌, ltb, List, [], ◌∷◌, ◌++◌, length, get_or, set, replicate, inl, inr, refl, sym, ap, ◌∙◌, arith, length-set, length-append, ◌-◌}
 use mathlib.Core.Logic.{◌≢◌}
 use Rattle.std.proofs.lemmas.Bool.{cases_lt, cases_eq, lt-ltb, le-ltb, and_right}
-use Rattle.std.proofs.lemmas.List.{get_or_past, same_lists, get_or-set_same, get_or-set_other, get_or_default, get_or_push, get_or_append_left, get_or-replicate, length-replicate, length_push}
+use Rattle.std.proofs.lemmas.List.{get_or_past, same_lists, get_or-set_same, get_or-set_other, get_or_default, get_or_push, get_or_append_left, get_or-append_right, get_or-replicate, length-replicate, length_push}
 use Rattle.std.proofs.lemmas.List.FromFn.{length-map-range_with_len, get_or-map-range_with_len}
 use Rattle.std.proofs.lemmas.Nat.Bits.{bit_at-zero}
 use Rattle.bw_mask.specs.Masks.{bit_of, rows_of, row_in, AreWords}
@@ -52,6 +52,18 @@ rows_push n f g b same other =
       | inr d ↦
           let low : j < n = omega arith in
           get_or_append_left (rows_of n f) (b ∷ []) false j (omega (arith, rows_len n f)) ∙ rows_at n f j low ∙ sym (other j d)
+    ])
+
+-- n rows, and m more behind them
+pub rows_append : (n m : ℕ) (f g h : ℕ → Bool) → ((j : ℕ) → j < n → g j ≡ f j) → ((i : ℕ) → i < m → g (n + i) ≡ h i) → rows_of (n + m) g ≡ rows_of n f ++ rows_of m h
+rows_append n m f g h old more =
+    rows_are (n + m) g (rows_of n f ++ rows_of m h) (length-append (rows_of n f) (rows_of m h) ∙ omega (arith, rows_len n f, rows_len m h)) (λ j l.
+    elim (cases_lt j n) [
+      | inl p ↦ get_or_append_left (rows_of n f) (rows_of m h) false j (omega (arith, rows_len n f)) ∙ rows_at n f j p ∙ sym (old j p)
+      | inr p ↦
+          let here : n + (j - n) ≡ j = omega arith in
+          let low : j - n < m = omega arith in
+          get_or-append_right (rows_of n f) (rows_of m h) n j false (rows_len n f) p ∙ rows_at m h (j - n) low ∙ sym (more (j - n) low) ∙ ap g here
     ])
 
 pub rows_replicate : (n : ℕ) (f : ℕ → Bool) (b : Bool) → ((j : ℕ) → j < n → f j ≡ b) → rows_of n f ≡ replicate n b

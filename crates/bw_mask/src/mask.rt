@@ -2,11 +2,12 @@
 
 ghost use Rattle.std.specs.Prelude.{◌≡◌, ℕ, ◌+◌, ◌*◌, ◌/◌, ◌<◌, ◌≤◌, ◌^◌, [], ◌∷◌, ◌++◌, ◌&&◌, ◌||◌, not, count_by, false, nat_lt, replicate, slice_set, IfOk, OnOk, length};
 ghost use Rattle.std.specs.List.{list_any};
-ghost use Rattle.bw_mask.specs.Masks.{bit_of, len, row_at, row_in, IsNext, SameShape};
+ghost use Rattle.bw_mask.specs.Masks.{bit_of, len, row_at, row_in, rows_of, IsNext, SameShape};
 
 use crate::words;
 use std::alloc::{AllocError, Global};
 use std::marker::Model;
+use std::mem::replace;
 
 /// A mask of rows: for each row whether it is in. Row i is bit i % 64 of word i / 64, and bits past
 /// the end are 0. There are at most 2^32 rows.
@@ -75,6 +76,21 @@ impl Mask {
         self.len += 1;
     }
 
+    /// Adds n rows at the end, within the room: the n lowest bits of the word.
+    #[tactic(auto, using(crate::proofs::Views::rows_len))]
+    pub fn push_bits(&mut self, n: usize, word: u64)
+        requires most { n ≤ 64 }
+        requires room { len self.old + n ≤ self.old.room }
+        requires few { len self.old + n ≤ 2 ^ 32 }
+        ensures room { self.old.room ≤ self.new.room }
+        ensures rows { self.new.rows ≡ self.old.rows ++ rows_of n (bit_of word) }
+    {
+        let end = self.len + n;
+        words::fill_up(&mut self.words, end);
+        words::put_bits(&mut self.words, self.len, n, word);
+        self.len = end;
+    }
+
     /// How many rows there are.
     #[tactic(auto, using(crate::proofs::Views::rows_len))]
     pub fn len(&self) -> usize
@@ -133,6 +149,17 @@ impl Mask {
         words::andnot_words(&mut self.words, &other.words);
     }
 
+    /// Becomes the rows that are in both of two others.
+    #[tactic(auto, using(crate::proofs::Views::rows_len))]
+    pub fn become_intersection(&mut self, a: &Mask, b: &Mask)
+        requires a { len self.old ≡ len a.now }
+        requires b { len self.old ≡ len b.now }
+        ensures shape { SameShape self.new self.old }
+        ensures rows { (i : ℕ) → row_at self.new i ≡ (row_at a.now i && row_at b.now i) }
+    {
+        words::intersection_words(&mut self.words, &a.words, &b.words);
+    }
+
     /// Becomes the rows of `all` that are not in `some`.
     #[tactic(auto, using(crate::proofs::Views::rows_len))]
     pub(crate) fn become_difference(&mut self, all: &Mask, some: &Mask)
@@ -152,6 +179,19 @@ impl Mask {
     {
         words::not_words(&mut self.words);
         words::cut(&mut self.words, self.len);
+    }
+
+    /// Takes the rows out, so that none is left. Takes no memory.
+    pub(crate) fn take(&mut self) -> Mask
+        ensures taken { result ≡ self.old }
+        ensures left { self.new.rows ≡ [] }
+    {
+        let alloc = *self.words.allocator();
+        let none = Mask {
+            words: Vec::new(alloc),
+            len: 0,
+        };
+        replace(self, none)
     }
 
     /// How many rows are in.

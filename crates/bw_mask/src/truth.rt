@@ -1,6 +1,6 @@
 //! The truth of a condition at each row.
 
-ghost use Rattle.std.specs.Prelude.{◌≡◌, ℕ, ◌<◌, ◌≤◌, ◌^◌, ◌&&◌, ◌||◌, length, not, replicate, if◌then◌else◌, IfOk};
+ghost use Rattle.std.specs.Prelude.{◌≡◌, [], ℕ, ◌<◌, ◌≤◌, ◌^◌, ◌&&◌, ◌||◌, length, not, replicate, if◌then◌else◌, IfOk};
 ghost use Rattle.bw_mask.specs.Masks.{len, row_at, SameShape};
 ghost use Rattle.bw_mask.specs.Truth.{and_of, is_test, is_value, not_of, or_of};
 ghost use Rattle.bw_mask.specs.Truths.{truth_at, truth_from, AreDisjoint, AreTruths};
@@ -133,6 +133,18 @@ impl Truth {
     {
         let Truth { t: trues, f: _ } = self;
         trues
+    }
+
+    /// Takes out the masks of the true rows and of the false rows, so that no row is left. Takes no memory.
+    #[tactic(auto, using(crate::proofs::Pairs::truths_len, crate::proofs::Pairs::truths_at, crate::proofs::Pairs::from_True, crate::proofs::Pairs::from_False))]
+    pub fn take_masks(&mut self) -> (Mask, Mask)
+        ensures masks { AreTruths result.0 result.1 }
+        ensures len { len result.0 ≡ length self.old }
+        ensures trues { (i : ℕ) → row_at result.0 i ≡ is_value (truth_at self.old i) True }
+        ensures falses { (i : ℕ) → row_at result.1 i ≡ is_value (truth_at self.old i) False }
+        ensures left { self.new ≡ [] }
+    {
+        (self.t.take(), self.f.take())
     }
 
     /// NOT at each row.

@@ -50,6 +50,19 @@ pub(crate) fn not_words(a: &mut [u64])
     }
 }
 
+/// Into `out` come the rows that are in a and in b.
+#[tactic(auto, using(crate::proofs::Bits::bit_of_and))]
+pub(crate) fn intersection_words(out: &mut [u64], a: &[u64], b: &[u64])
+    requires a { length out.old ≡ length a.now }
+    requires b { length out.old ≡ length b.now }
+    ensures len { length out.new ≡ length out.old }
+    ensures rows { (i : ℕ) → i < 64 * length out.old → row_in out.new i ≡ (row_in a.now i && row_in b.now i) }
+{
+    for k in 0..out.len() {
+        out[k] = a[k] & b[k];
+    }
+}
+
 /// Into `out` come the rows of a that are not in b.
 #[tactic(auto, using(crate::proofs::Bits::bit_of_andnot))]
 pub(crate) fn difference_words(out: &mut [u64], a: &[u64], b: &[u64])
@@ -204,6 +217,19 @@ pub(crate) fn begin_word(words: &mut Vec<u64>, n: usize)
             unreachable!()
         };
     }
+}
+
+/// Words of zeros behind the last one, until there are as many as n rows need.
+pub(crate) fn fill_up(words: &mut Vec<u64>, n: usize)
+    requires count { vec_len words.old ≤ (n + 63) / 64 }
+    requires room { n ≤ 64 * vec_capacity words.old }
+    ensures len { vec_len words.new ≡ (n + 63) / 64 }
+    ensures room { vec_capacity words.old ≤ vec_capacity words.new }
+    ensures rows { (j : ℕ) → row_in words.new.items j ≡ row_in words.old.items j }
+{
+    let Ok(()) = words.resize(n.div_ceil(64), 0) else {
+        unreachable!()
+    };
 }
 
 /// The place of the lowest bit that is set.

@@ -1,0 +1,10 @@
+pub mod Changed
+pub mod Known
+pub mod Listed
+pub mod Lists
+pub mod Narrow
+pub mod Overwriting
+pub mod Presence
+pub mod Ranks
+pub mod Rows
+pub mod Scans

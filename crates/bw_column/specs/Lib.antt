@@ -1,0 +1,8 @@
+pub mod Codes
+pub mod Columns
+pub mod Comparisons
+pub mod Costs
+pub mod Lists
+pub mod Places
+pub mod Preparing
+pub mod Values

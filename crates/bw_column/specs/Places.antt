@@ -1,0 +1,16 @@
+-- Values put in the set places of a mask, in order.
+use Rattle.std.specs.Prelude.{List, Option, count_by, if◌then◌else◌, length, take, ℕ, ℤ}
+use Rattle.bw_mask.specs.Masks.{MaskRows, row_at}
+use Rattle.bw_column.specs.Lists.{made}
+use Rattle.bw_column.specs.Values.{value_at}
+
+-- how many places below i are set
+abbrev pub rank : MaskRows → ℕ → ℕ
+rank places i = count_by (λ row. row) (take i places.rows)
+
+-- the n-th set place has the n-th value, and any other place what it had
+abbrev pub put_at : MaskRows → List (Option ℤ) → List (Option ℤ) → ℕ → Option ℤ
+put_at places values old i = if row_at places i then value_at values (rank places i) else value_at old i
+
+abbrev pub overwritten : MaskRows → List (Option ℤ) → List (Option ℤ) → List (Option ℤ)
+overwritten places values old = made (length old) (put_at places values old)

@@ -1,0 +1,102 @@
+//! Many values at a time: their codes, which of them are there, and those that are not null.
+
+ghost use Rattle.std.specs.Bool.{OnTrue};
+ghost use Rattle.std.specs.Prelude.{All, IfOk, IfSome, IsSome, IsTrue, OnOk, is_some, length, map, option_to_list, vec_len, ◌++◌, ◌+◌, ◌<◌, ◌^◌, ◌↔◌, ◌≡◌, ◌≤◌};
+ghost use Rattle.bw_mask.specs.Masks.{bit_of, len, rows_of};
+ghost use Rattle.bw_column.specs.Codes.{IsCoded, code_for, codes_for};
+ghost use Rattle.bw_column.specs.Values.{known};
+
+use crate::bits::set_bytes;
+use bw_code::Encoding;
+use bw_mask::Mask;
+use std::alloc::{AllocError, Global};
+
+/// The code of a value, if it has one.
+fn code(encoding: &Encoding, value: Option<i64>) -> Option<u64>
+    ensures is { IfSome result (λ code. code ≡ code_for encoding.now value) }
+    ensures coded { IsSome result ↔ IsCoded encoding.now value }
+{
+    match value {
+        None => Some(0),
+        Some(x) => encoding.encode(x),
+    }
+}
+
+/// Writes each value's code to its place in `codes`, and answers whether every value has one. Where one has none,
+/// nothing is said of what `codes` holds.
+pub(crate) fn encode_all(encoding: &Encoding, values: &[Option<i64>], codes: &mut [u64]) -> bool
+    requires { length codes.old ≡ length values.now }
+    ensures all { IsTrue result ↔ All (IsCoded encoding.now) values.now }
+    ensures codes { OnTrue result (codes.new ≡ codes_for encoding.now values.now) }
+{
+    for i in 0..values.len() {
+        let Some(code) = code(encoding, values[i]) else {
+            return false;
+        };
+        codes[i] = code;
+    }
+    true
+}
+
+/// Bit i says whether value i is there.
+fn presence(values: &[Option<i64>]) -> u64
+    requires { length values.now ≤ 64 }
+    ensures { rows_of (length values.now) (bit_of result) ≡ map is_some values.now }
+{
+    let mut there = [0; 64];
+    for i in 0..values.len() {
+        there[i] = u8::from(values[i].is_some());
+    }
+    set_bytes(&there)
+}
+
+/// Adds a row for each value, within the room: whether the value is there.
+pub(crate) fn push_presence(mask: &mut Mask, values: &[Option<i64>])
+    requires room { len mask.old + length values.now ≤ mask.old.room }
+    requires few { len mask.old + length values.now ≤ 2 ^ 24 }
+    ensures room { mask.old.room ≤ mask.new.room }
+    ensures rows { mask.new.rows ≡ mask.old.rows ++ map is_some values.now }
+{
+    let blocks = values.len() / 64;
+    for q in 0..blocks {
+        mask.push_bits(64, presence(&values[64 * q..64 * q + 64]));
+    }
+    let rest = &values[64 * blocks..];
+    mask.push_bits(rest.len(), presence(rest));
+}
+
+/// Adds a value that is not null.
+fn push_if_known(list: &mut Vec<i64>, value: Option<i64>) -> Result<(), AllocError>
+    ensures { OnOk result (list.new.items ≡ list.old.items ++ option_to_list value) }
+{
+    if let Some(x) = value {
+        list.push(x)?;
+    }
+    Ok(())
+}
+
+/// Adds the values that are not null.
+#[tactic(auto, using(crate::proofs::Known::known_more))]
+fn push_known(list: &mut Vec<i64>, values: &[Option<i64>]) -> Result<(), AllocError>
+    ensures { OnOk result (list.new.items ≡ list.old.items ++ known values.now) }
+{
+    for value in values {
+        push_if_known(list, *value)?;
+    }
+    Ok(())
+}
+
+/// The values of both lists that are not null, one list behind the other.
+pub(crate) fn known_of(
+    alloc: Global,
+    values: &[Option<i64>],
+    more: &[Option<i64>],
+) -> Result<Vec<i64>, AllocError>
+    requires { length values.now + length more.now ≤ 2 ^ 32 }
+    ensures { IfOk result (λ list. list.items ≡ known (values.now ++ more.now)) }
+{
+    let mut list = Vec::with_capacity(alloc, values.len() + more.len())?;
+    push_known(&mut list, values)?;
+    push_known(&mut list, more)?;
+    Ok(list)
+}

@@ -1,0 +1,114 @@
+//! A column of integers and nulls.
+
+ghost use Rattle.std.specs.Prelude.{All, is_some, length, slice_set, ℕ, ◌<◌, ◌^◌, ◌≡◌, ◌≤◌};
+ghost use Rattle.bw_mask.specs.Masks.{SameShape, bit_of, len, row_at};
+ghost use Rattle.bw_code.specs.Encodings.{IsEncoding, kind_of, width};
+ghost use Rattle.bw_column.specs.Codes.{IsCoded, code_for};
+ghost use Rattle.bw_column.specs.Values.{IsNullOrInteger, value_at};
+
+use crate::reading::value;
+use bw_code::{CodeColumn, Encoding, Kind, Layout, PlainColumn};
+use bw_mask::Mask;
+use std::marker::Model;
+
+/// A column of integers and nulls: the codes of its values, 0 at a null, and the rows that are not null.
+#[derive(Drop)]
+pub struct Column {
+    pub(crate) layout: Layout,
+    pub(crate) encoding: Encoding,
+    pub(crate) codes: PlainColumn,
+    pub(crate) nonnull: Mask,
+}
+
+impl Model for Column {
+    ghost use Rattle.std.specs.Prelude.{min};
+    ghost use Rattle.bw_column.specs.Codes.{AreRowCodes, values_from};
+    ghost use Rattle.bw_column.specs.Columns.{ColumnView};
+
+    ghost Value = { ColumnView };
+
+    ghost view = { λ c. record { values = values_from c.encoding c.codes c.nonnull; layout = c.layout; encoding = c.encoding; room = min c.codes.room c.nonnull.room } };
+
+    ghost invariant = { λ c. AreRowCodes c.encoding c.codes c.nonnull };
+}
+
+impl Column {
+    /// How many values there are. Each is null or one of the integers that a column may hold.
+    #[tactic(auto, using(crate::proofs::Lists::made_len, crate::proofs::Rows::row_integers))]
+    pub fn len(&self) -> usize
+        ensures count { result ≡ length self.now.values }
+        ensures few { result ≤ 2 ^ 24 }
+        ensures integers { All IsNullOrInteger self.now.values }
+    {
+        self.codes.len()
+    }
+
+    /// The layout that was asked for.
+    pub fn layout(&self) -> Layout
+        ensures { result ≡ self.now.layout }
+    {
+        self.layout
+    }
+
+    /// The kind of the encoding.
+    pub fn kind(&self) -> Kind
+        ensures { result ≡ kind_of self.now.encoding }
+    {
+        self.encoding.kind()
+    }
+
+    /// The encoding of the values that are not null.
+    pub fn encoding(&self) -> &Encoding
+        ensures is { result.now ≡ self.now.encoding }
+        ensures sound { IsEncoding self.now.encoding }
+    {
+        &self.encoding
+    }
+
+    /// The rows whose value is not null.
+    #[tactic(auto, using(crate::proofs::Rows::known_rows, crate::proofs::Lists::made_len))]
+    pub fn nonnull(&self) -> &Mask
+        ensures len { len result.now ≡ length self.now.values }
+        ensures few { len result.now ≤ 2 ^ 24 }
+        ensures rows { (r : ℕ) → row_at result.now r ≡ is_some (value_at self.now.values r) }
+    {
+        &self.nonnull
+    }
+
+    /// Value i.
+    #[tactic(auto, using(crate::proofs::Lists::made_len))]
+    pub fn get(&self, i: usize) -> Option<i64>
+        requires { i < length self.now.values }
+        ensures is { result ≡ value_at self.now.values i }
+        ensures integer { IsNullOrInteger result }
+    {
+        value(&self.encoding, self.codes.get(i), self.nonnull.get(i))
+    }
+
+    /// `out` becomes the rows whose code has bit i. Bit 0 is the lowest. A null's code is 0.
+    #[tactic(auto, using(crate::proofs::Rows::row_codes, crate::proofs::Lists::made_len))]
+    pub fn plane(&self, i: u32, out: &mut Mask)
+        requires bit { i < width self.now.encoding }
+        requires out { len out.old ≡ length self.now.values }
+        ensures shape { SameShape out.new out.old }
+        ensures rows { (r : ℕ) → row_at out.new r ≡ bit_of (code_for self.now.encoding (value_at self.now.values r)) i }
+    {
+        self.codes.plane(i, out);
+    }
+
+    /// Puts a value with its code in place i.
+    #[tactic(auto, using(crate::proofs::Lists::made_len))]
+    pub(crate) fn put(&mut self, i: usize, value: Option<i64>, code: u64)
+        requires inside { i < length self.old.values }
+        requires coded { IsCoded self.old.encoding value }
+        requires code { code ≡ code_for self.old.encoding value }
+        requires integer { IsNullOrInteger value }
+        ensures values { self.new.values ≡ slice_set self.old.values i value }
+        ensures layout { self.new.layout ≡ self.old.layout }
+        ensures encoding { self.new.encoding ≡ self.old.encoding }
+        ensures room { self.old.room ≤ self.new.room }
+    {
+        self.codes.set(i, code);
+        self.nonnull.set(i, value.is_some());
+    }
+}

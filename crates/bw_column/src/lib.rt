@@ -1,0 +1,16 @@
+//! Columns of integers and nulls, kept as codes.
+#![tactic(auto)]
+
+mod bits;
+mod building;
+mod change;
+mod codes;
+mod column;
+mod compare;
+mod compare_anew;
+mod pairs;
+mod reading;
+mod split;
+
+pub use change::Prepared;
+pub use column::Column;

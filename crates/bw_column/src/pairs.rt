@@ -1,0 +1,135 @@
+//! Two columns compared row by row.
+
+ghost use Rattle.std.specs.Prelude.{is_some, length, not, ℕ, ◌&&◌, ◌+◌, ◌<◌, ◌^◌, ◌≡◌, ◌≤◌};
+ghost use Rattle.bw_mask.specs.Masks.{SameShape, bit_of, len, row_at};
+ghost use Rattle.bw_code.specs.Meters.{raised};
+ghost use Rattle.bw_code.specs.Tests.{int_compares};
+ghost use Rattle.bw_code.specs.Units.{units_of_fetches};
+ghost use Rattle.bw_column.specs.Comparisons.{compare_so};
+ghost use Rattle.bw_column.specs.Costs.{needed_known, units_of_columns};
+ghost use Rattle.bw_column.specs.Values.{value_at};
+
+use crate::bits::set_bytes;
+use crate::column::Column;
+use bw_code::{CmpOp, Meter};
+use bw_mask::Mask;
+
+/// Whether two integers compare so.
+fn integers_compare(op: CmpOp, x: i64, y: i64) -> bool
+    ensures { result ≡ int_compares op x y }
+{
+    match op {
+        CmpOp::Eq => x == y,
+        CmpOp::Ne => x != y,
+        CmpOp::Lt => x < y,
+        CmpOp::Le => x <= y,
+        CmpOp::Gt => x > y,
+        CmpOp::Ge => x >= y,
+    }
+}
+
+/// Whether two values compare so. A null does not.
+fn values_compare(op: CmpOp, left: Option<i64>, right: Option<i64>) -> bool
+    ensures { result ≡ compare_so op left right }
+{
+    match (left, right) {
+        (Some(x), Some(y)) => integers_compare(op, x, y),
+        _ => false,
+    }
+}
+
+/// Bit i says whether the i-th values compare so.
+fn compared_bits(op: CmpOp, left: &[Option<i64>], right: &[Option<i64>]) -> u64
+    requires few { length left.now ≤ 64 }
+    requires same { length right.now ≡ length left.now }
+    ensures { (i : ℕ) → i < length left.now → bit_of result i ≡ compare_so op (value_at left.now i) (value_at right.now i) }
+{
+    let mut told = [0; 64];
+    for i in 0..left.len() {
+        told[i] = u8::from(values_compare(op, left[i], right[i]));
+    }
+    set_bytes(&told)
+}
+
+/// The units of fetching two values at each row that is in.
+fn units_of_rows(rows: &Mask) -> u64
+    requires { len rows.now ≤ 2 ^ 24 }
+    ensures { result ≡ units_of_fetches (row_at rows.now) (len rows.now) }
+{
+    2 * rows.count() as u64
+}
+
+impl Column {
+    /// Bit i says whether the values of row `at + i` compare so, as far as there are such rows.
+    fn compared_block(&self, op: CmpOp, other: &Column, at: usize) -> u64
+        requires at { at ≤ length self.now.values }
+        requires other { length other.now.values ≡ length self.now.values }
+        ensures { (i : ℕ) → i < 64 → at + i < length self.now.values
+            → bit_of result i ≡ compare_so op (value_at self.now.values (at + i)) (value_at other.now.values (at + i)) }
+    {
+        let n = (self.len() - at).min(64);
+        let mut left = [None; 64];
+        let mut right = [None; 64];
+        let lefts = &mut left[..n];
+        self.read(at, lefts);
+        let rights = &mut right[..n];
+        other.read(at, rights);
+        compared_bits(op, lefts, rights)
+    }
+
+    /// Of the 64 rows from row `at` on, the needed ones whose values compare so.
+    #[tactic(auto, using(bw_mask::proofs::Bits::bit_of_and))]
+    fn chosen_of_block(&self, op: CmpOp, other: &Column, at: usize, needed: u64) -> u64
+        requires at { at ≤ length self.now.values }
+        requires other { length other.now.values ≡ length self.now.values }
+        ensures { (i : ℕ) → i < 64 → at + i < length self.now.values
+            → bit_of result i ≡ (bit_of needed i && compare_so op (value_at self.now.values (at + i)) (value_at other.now.values (at + i))) }
+    {
+        if needed == 0 {
+            0
+        } else {
+            needed & self.compared_block(op, other, at)
+        }
+    }
+
+    /// `out` becomes the needed rows whose values compare so.
+    fn compare_rows(&self, op: CmpOp, other: &Column, need: &Mask, out: &mut Mask)
+        requires other { length other.now.values ≡ length self.now.values }
+        requires need { len need.now ≡ length self.now.values }
+        requires out { len out.old ≡ length self.now.values }
+        ensures shape { SameShape out.new out.old }
+        ensures rows { (i : ℕ) → row_at out.new i ≡ (row_at need.now i && compare_so op (value_at self.now.values i) (value_at other.now.values i)) }
+    {
+        for q in 0..self.len().div_ceil(64) {
+            let found = self.chosen_of_block(op, other, 64 * q, need.bits(64 * q, 64));
+            out.put_bits(64 * q, 64, found);
+        }
+    }
+
+    /// Those where the values of both columns compare so, and the others where neither is null.
+    pub(crate) fn split_by_column(
+        &self,
+        op: CmpOp,
+        other: &Column,
+        need: &Mask,
+        trues: &mut Mask,
+        falses: &mut Mask,
+        meter: &mut Meter,
+    )
+        requires other { length other.now.values ≡ length self.now.values }
+        requires need { len need.now ≡ length self.now.values }
+        requires trues { len trues.old ≡ length self.now.values }
+        requires falses { len falses.old ≡ length self.now.values }
+        ensures shape { SameShape trues.new trues.old }
+        ensures other_shape { SameShape falses.new falses.old }
+        ensures trues { (i : ℕ) → row_at trues.new i ≡ (row_at need.now i && compare_so op (value_at self.now.values i) (value_at other.now.values i)) }
+        ensures falses { (i : ℕ) → row_at falses.new i ≡ ((needed_known need.now self.now.values i && is_some (value_at other.now.values i)) && not (row_at trues.new i)) }
+        ensures units { meter.new ≡ raised meter.old (units_of_columns self.now other.now need.now) }
+    {
+        falses.become_intersection(need, self.nonnull());
+        falses.and_in(other.nonnull());
+        meter.add(units_of_rows(falses));
+        self.compare_rows(op, other, falses, trues);
+        falses.andnot_in(trues);
+    }
+}

@@ -1,0 +1,77 @@
+//! Values read from codes.
+
+ghost use Rattle.std.specs.Prelude.{drop, length, slice_index, take, ℕ, ◌+◌, ◌<◌, ◌≡◌, ◌≤◌};
+ghost use Rattle.bw_mask.specs.Masks.{bit_of};
+ghost use Rattle.bw_code.specs.Columns.{count};
+ghost use Rattle.bw_column.specs.Codes.{AreRowCodes, IsRowCode, value_from, values_from};
+ghost use Rattle.bw_column.specs.Values.{IsNullOrInteger, value_at};
+
+use crate::bits::has_bit;
+use crate::column::Column;
+use bw_code::{CodeColumn, Encoding, PlainColumn};
+use bw_mask::Mask;
+
+/// The value of a row, by its code and by whether it is there.
+pub(crate) fn value(encoding: &Encoding, code: u64, there: bool) -> Option<i64>
+    requires { IsRowCode encoding.now code there }
+    ensures is { result ≡ value_from encoding.now code there }
+    ensures integer { IsNullOrInteger result }
+{
+    if there {
+        Some(encoding.decode(code))
+    } else {
+        None
+    }
+}
+
+/// Fills `out` with the values of the codes, of which those are there whose bit is set.
+fn decode_all(encoding: &Encoding, codes: &[u64], present: u64, out: &mut [Option<i64>])
+    requires few { length out.old ≤ 64 }
+    requires codes { length codes.now ≡ length out.old }
+    requires each { (k : ℕ) → k < length out.old → IsRowCode encoding.now (slice_index codes.now k) (bit_of present k) }
+    ensures { (k : ℕ) → k < length out.old → value_at out.new k ≡ value_from encoding.now (slice_index codes.now k) (bit_of present k) }
+{
+    for i in 0..out.len() {
+        out[i] = value(encoding, codes[i], has_bit(present, i));
+    }
+}
+
+/// Fills `out` with the values of at most 64 rows from row `at` on.
+fn read_block(
+    encoding: &Encoding,
+    codes: &PlainColumn,
+    nonnull: &Mask,
+    at: usize,
+    out: &mut [Option<i64>],
+)
+    requires rows { AreRowCodes encoding.now codes.now nonnull.now }
+    requires few { length out.old ≤ 64 }
+    requires there { at + length out.old ≤ count codes.now }
+    ensures { (k : ℕ) → k < length out.old → value_at out.new k ≡ value_at (values_from encoding.now codes.now nonnull.now) (at + k) }
+{
+    let mut list = [0; 64];
+    let block = &mut list[..out.len()];
+    codes.read(at, block);
+    decode_all(encoding, block, nonnull.bits(at, 64), out);
+}
+
+impl Column {
+    /// Fills `out` with the values from row `at` on. Takes no memory.
+    #[tactic(auto, using(crate::proofs::Lists::made_len))]
+    pub fn read(&self, at: usize, out: &mut [Option<i64>])
+        requires { at + length out.old ≤ length self.now.values }
+        ensures { out.new ≡ take (length out.old) (drop at self.now.values) }
+    {
+        for q in 0..out.len().div_ceil(64) {
+            let end = (64 * q + 64).min(out.len());
+            let block = &mut out[64 * q..end];
+            read_block(
+                &self.encoding,
+                &self.codes,
+                &self.nonnull,
+                at + 64 * q,
+                block,
+            );
+        }
+    }
+}
