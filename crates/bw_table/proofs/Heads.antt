@@ -1,0 +1,93 @@
+-- The headers of a table tell how its columns are kept.
+use Rattle.std.proofs.Common.{List, [], ◌∷◌, ap, arith, get_or, length, map, refl, subst, sym, ℕ, ◌<◌, ◌∙◌, ◌≡◌}
+use Rattle.std.proofs.lemmas.List.{get_or-map, length-map, same_lists}
+use Rattle.bw_mask.specs.Masks.{MaskRows}
+use Rattle.bw_code.specs.Encodings.{kind_of}
+use Rattle.bw_code.specs.declared.encoding.Encoding.{Encoding}
+use Rattle.bw_code.specs.declared.kind.Layout.{Layout}
+use Rattle.bw_column.specs.Columns.{ColumnView}
+use Rattle.bw_table.specs.Changes.{AreRebuilt, choice_of, chosen_kind, chosen_layout}
+use Rattle.bw_table.specs.Sets.{AreEmpty}
+use Rattle.bw_table.specs.Slots.{AreColumns, SlotsView}
+use Rattle.bw_table.specs.Tables.{AreChosen, AreFirst, AreHeadersOf, slots_in}
+use Rattle.bw_table.specs.declared.choice.Choice.{Choice}
+use Rattle.bw_table.specs.declared.header.Header.{Header}
+use Rattle.bw_table.proofs.Across.{no_column, view_of}
+
+abbrev laid : SlotsView → List Layout → SlotsView
+laid slots ls = record slots { layouts = ls }
+
+module _ {N : Type 0} where
+  -- a list with an element has a first
+  first_of : (headers : List (Header N)) (k : ℕ) → k < length headers → Header N
+  first_of [] k l = absurd (omega (arith, l))
+  first_of (header ∷ headers) k l = header
+
+  -- headers are told by what they are at each place
+  told : {B : Type 0} (f : Header N → B) (headers : List (Header N)) (xs : List B) → length headers ≡ length xs → ((k : ℕ) (h : Header N) (d : B) → k < length headers → f (get_or headers k h) ≡ get_or xs k d) → map f headers ≡ xs
+  told f headers xs count each =
+      same_lists (map f headers) xs (length-map headers f ∙ count) (λ k d l.
+      let low : k < length headers = omega (arith, l, length-map headers f) in
+      let h = first_of headers k low in
+      get_or-map f headers k h d low ∙ each k h d low)
+
+  pub layout_at : (headers : List (Header N)) (slots : SlotsView) → AreHeadersOf headers slots → (k : ℕ) (h : Header N) (d : Layout) → k < length headers → (get_or headers k h).layout ≡ get_or slots.layouts k d
+  layout_at headers slots are k h d l = sym (get_or-map (λ (header : Header N). header.layout) headers k h d l) ∙ ap (λ xs. get_or xs k d) are.layouts_are
+
+  kind_at : (headers : List (Header N)) (slots : SlotsView) → AreHeadersOf headers slots → (k : ℕ) (h : Header N) (e : Encoding) → k < length headers → k < length slots.encodings → (get_or headers k h).kind ≡ kind_of (get_or slots.encodings k e)
+  kind_at headers slots are k h e l inside = sym (get_or-map (λ (header : Header N). header.kind) headers k h (kind_of e) l) ∙ ap (λ xs. get_or xs k (kind_of e)) are.kinds_are ∙ get_or-map kind_of slots.encodings k e (kind_of e) inside
+
+  layouts_count : (headers : List (Header N)) (slots : SlotsView) → AreHeadersOf headers slots → length headers ≡ length slots.layouts
+  layouts_count headers slots are = sym (length-map headers (λ (header : Header N). header.layout)) ∙ ap length are.layouts_are
+
+  pub kinds_count : (headers : List (Header N)) (slots : SlotsView) → AreHeadersOf headers slots → length headers ≡ length slots.encodings
+  kinds_count headers slots are = sym (length-map headers (λ (header : Header N). header.kind)) ∙ ap length are.kinds_are ∙ length-map slots.encodings kind_of
+
+  -- headers with what is chosen, of slots that were rebuilt so
+  pub headers_rebuilt : (choices : List (ℕ × Choice)) (headers chosen : List (Header N)) (old new : SlotsView) (e : Encoding) → AreHeadersOf headers old → AreChosen choices headers chosen → AreRebuilt choices old new → AreHeadersOf chosen new
+  headers_rebuilt choices headers chosen old new e are by rebuilt =
+      let some = layouts_count headers old are in
+      let few = kinds_count headers old are in
+      record {
+        layouts_are = told (λ (header : Header N). header.layout) chosen new.layouts (omega (arith, by.count, some, rebuilt.layouts_count)) (λ k h d l.
+            let low : k < length headers = omega (arith, l, by.count) in
+            ap (λ (header : Header N). header.layout) (by.each k h low) ∙ ap (chosen_layout (choice_of choices k)) (layout_at headers old are k h d low) ∙ sym (rebuilt.layouts_are k d (omega (arith, low, some))));
+        kinds_are = told (λ (header : Header N). header.kind) chosen (map kind_of new.encodings) (omega (arith, by.count, few, rebuilt.encodings_count, length-map new.encodings kind_of)) (λ k h d l.
+            let low : k < length headers = omega (arith, l, by.count) in
+            let inside : k < length old.encodings = omega (arith, low, few) in
+            ap (λ (header : Header N). header.kind) (by.each k h low) ∙ ap (chosen_kind (choice_of choices k)) (kind_at headers old are k h e low inside) ∙ sym (rebuilt.encodings_are k e inside).kind ∙ sym (get_or-map kind_of new.encodings k e d (omega (arith, inside, rebuilt.encodings_count))));
+      }
+
+  pub nothing_chosen : (headers : List (Header N)) → AreChosen [] headers headers
+  nothing_chosen headers = record { count = refl; each = λ k h l. refl }
+
+  -- columns without values
+  module _ (headers : List (Header N)) (columns : List ColumnView) (live : MaskRows) (none : live.rows ≡ []) (are : AreEmpty headers columns) where
+    pub empty_columns : AreColumns columns live
+    empty_columns = record {
+      rows = λ k d l. ap length (are.each k (first_of headers k (omega (arith, l, are.count))) d (omega (arith, l, are.count))).values ∙ sym (ap length none);
+      few = omega (arith, ap length none);
+    }
+
+    pub empty_headers : AreHeadersOf headers (view_of columns live)
+    empty_headers = record {
+      layouts_are = told (λ (header : Header N). header.layout) headers (map (λ c. c.layout) columns) (sym (length-map columns (λ (c : ColumnView). c.layout) ∙ are.count)) (λ k h d l. sym (get_or-map (λ (c : ColumnView). c.layout) columns k no_column d (omega (arith, l, are.count)) ∙ (are.each k h no_column l).layout));
+      kinds_are = told (λ (header : Header N). header.kind) headers (map kind_of (map (λ c. c.encoding) columns)) (sym (length-map (map (λ c. c.encoding) columns) kind_of ∙ length-map columns (λ (c : ColumnView). c.encoding) ∙ are.count)) (λ k h d l.
+          let inside : k < length columns = omega (arith, l, are.count) in
+          sym (get_or-map kind_of (map (λ (c : ColumnView). c.encoding) columns) k no_column.encoding d (omega (arith, inside, length-map columns (λ (c : ColumnView). c.encoding))) ∙ ap kind_of (get_or-map (λ (c : ColumnView). c.encoding) columns k no_column no_column.encoding inside) ∙ (are.each k h no_column l).kind));
+    }
+
+    pub empty_first : AreFirst headers (map (λ c. c.encoding) columns)
+    empty_first = record {
+      count = length-map columns (λ (c : ColumnView). c.encoding) ∙ are.count;
+      each = λ k e l. rw (get_or-map (λ (c : ColumnView). c.encoding) columns k no_column e (omega (arith, l, are.count))) (are.each k (first_of headers k l) no_column l).fits;
+    }
+
+  -- the slots of a table, by its headers
+  pub slots_back : (headers : List (Header N)) (slots : SlotsView) → AreHeadersOf headers slots → slots_in (record { headers = headers; slots = slots.slots; encodings = slots.encodings }) ≡ slots
+  slots_back headers slots are = ap (laid slots) are.layouts_are
+
+  pub rebuilt_in : (choices : List (ℕ × Choice)) (headers chosen : List (Header N)) (old new : SlotsView) → AreHeadersOf headers old → AreHeadersOf chosen new → AreRebuilt choices old new → AreRebuilt choices (slots_in (record { headers = headers; slots = old.slots; encodings = old.encodings })) (slots_in (record { headers = chosen; slots = new.slots; encodings = new.encodings }))
+  rebuilt_in choices headers chosen old new are are_new rebuilt =
+      subst (λ (x : SlotsView). AreRebuilt choices x (slots_in (record { headers = chosen; slots = new.slots; encodings = new.encodings }))) (sym (slots_back headers old are))
+      (subst (λ (y : SlotsView). AreRebuilt choices old y) (sym (slots_back chosen new are_new)) rebuilt)

@@ -1,0 +1,9 @@
+pub mod Across
+pub mod Flat
+pub mod Heads
+pub mod Inserted
+pub mod SameKinds
+pub mod Places
+pub mod Readied
+pub mod Updated
+pub mod Written

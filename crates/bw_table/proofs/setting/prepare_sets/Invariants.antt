@@ -1,0 +1,12 @@
+use Rattle.std.proofs.Common.{◌≡◌, vec_len}
+use Rattle.bw_table.specs.Halves.{AllKept}
+use Rattle.bw_table.specs.Sets.{AreReadyFor}
+use Rattle.bw_table.proofs.setting.prepare_sets.Given as goal
+
+-- the sets so far are ready
+abbrev pub invariant-loop-set : goal.invariant-loop-set
+invariant-loop-set l = record {
+  kept : AllKept l.columns.items l.fn.columns.items;
+  count : vec_len l.changes ≡ l.set-index;
+  ready : AreReadyFor l.columns.items l.found l.sets l.changes.items;
+}

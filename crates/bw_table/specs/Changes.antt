@@ -1,0 +1,122 @@
+-- What INSERT, UPDATE, DELETE and REBUILD make of the slots of a table, and of the encodings of its columns.
+use Rattle.std.specs.Prelude.{Bool, List, None, Option, Some, [], false, if◌then◌else◌, length, map, nat_le, not, slice_index_or, true, ℕ, ℤ, ◌&&◌, ◌++◌, ◌+◌, ◌<◌, ◌==◌, ◌≡◌}
+use Rattle.std.specs.List.{filter, range_with_len}
+use Rattle.std.specs.Map.{lookup}
+use Rattle.bw_mask.specs.Masks.{MaskRows, len, row_at}
+use Rattle.bw_code.specs.Encodings.{IsFit, kind_of}
+use Rattle.bw_code.specs.declared.encoding.Encoding.{Encoding}
+use Rattle.bw_code.specs.declared.kind.Kind.{Kind}
+use Rattle.bw_code.specs.declared.kind.Layout.{Layout}
+use Rattle.bw_column.specs.Lists.{made}
+use Rattle.bw_column.specs.Preparing.{IsEncodingFor}
+use Rattle.bw_column.specs.Values.{IsNullOrInteger, known, value_at}
+use Rattle.bw_table.specs.Slots.{Slot, SlotsView, column_of, live_slot, live_slots, slot_at, slot_column, slot_limit}
+use Rattle.bw_table.specs.declared.choice.Choice.{Choice}
+use Rattle.bw_table.specs.declared.setting.SetTo.{SetTo}
+use Rattle.bw_table.specs.declared.setting.SetTo.TheVariants.{Column, Value}
+
+-- each column is encoded as its values and its column of the rows ask
+abbrev pub AreEncodingsFor : List Slot → List Encoding → List (List (Option ℤ)) → List Encoding → Type 0
+AreEncodingsFor slots own rows encodings = (k : ℕ) (d e : Encoding) → k < length own → IsEncodingFor (slot_column slots k) (slice_index_or own k d) (column_of rows k) (slice_index_or encodings k e)
+
+-- the rows stand last, in live slots
+pub record AreAppended (old : SlotsView) (rows : List (List (Option ℤ))) (new : SlotsView) : Type 0 where
+  pub slots_are : new.slots ≡ old.slots ++ map live_slot rows
+  pub layouts_are : new.layouts ≡ old.layouts
+  pub width : length new.encodings ≡ length old.encodings
+  pub encodings_are : AreEncodingsFor old.slots old.encodings rows new.encodings
+
+-- what a column is to be built anew by: of several choices for it, the first
+abbrev pub choice_of : List (ℕ × Choice) → ℕ → Option Choice
+choice_of choices k = lookup (λ column. column == k) choices
+
+abbrev pub chosen_layout : Option Choice → Layout → Layout
+chosen_layout None own = own
+chosen_layout (Some choice) own = choice.layout
+
+abbrev pub kind_or : Option Kind → Kind → Kind
+kind_or None own = own
+kind_or (Some kind) own = kind
+
+-- a choice that names no kind leaves it
+abbrev pub chosen_kind : Option Choice → Kind → Kind
+chosen_kind None own = own
+chosen_kind (Some choice) own = kind_or choice.kind own
+
+-- column k by the encoding that fits its values, of the kind that is chosen
+pub record IsBuiltAnew (choice : Option Choice) (values : List (Option ℤ)) (own e : Encoding) : Type 0 where
+  pub kind : kind_of e ≡ chosen_kind choice (kind_of own)
+  pub fits : IsFit (known values) e
+
+-- the live slots alone, and each column built anew, as the choices say
+pub record AreRebuilt (choices : List (ℕ × Choice)) (old new : SlotsView) : Type 0 where
+  pub slots_are : new.slots ≡ live_slots old.slots
+  pub layouts_count : length new.layouts ≡ length old.layouts
+  pub encodings_count : length new.encodings ≡ length old.encodings
+  pub layouts_are : (k : ℕ) (l : Layout) → k < length old.layouts → slice_index_or new.layouts k l ≡ chosen_layout (choice_of choices k) (slice_index_or old.layouts k l)
+  pub encodings_are : (k : ℕ) (e : Encoding) → k < length old.encodings → IsBuiltAnew (choice_of choices k) (slot_column new.slots k) (slice_index_or old.encodings k e) (slice_index_or new.encodings k e)
+
+-- there is no room for the rows, whatever becomes of the dead slots
+abbrev pub IsFull : SlotsView → List (List (Option ℤ)) → Type 0
+IsFull old rows = slot_limit < length (live_slots old.slots) + length rows
+
+abbrev pub Inserts : Bool → SlotsView → List (List (Option ℤ)) → SlotsView → Type 0
+Inserts true old rows new = AreAppended old rows new
+Inserts false old rows new = (compact : SlotsView) × AreRebuilt [] old compact × AreAppended compact rows new
+
+-- the rows stand last; where there are not enough slots for them, the dead ones were dropped first
+abbrev pub AreInserted : SlotsView → List (List (Option ℤ)) → SlotsView → Type 0
+AreInserted old rows new = Inserts (nat_le (length old.slots + length rows) slot_limit) old rows new
+
+-- the slots, of which the found ones are dead
+abbrev pub slots_without : MaskRows → List Slot → List Slot
+slots_without found slots = made (length slots) (λ i. record { row = (slot_at slots i).row; live = (slot_at slots i).live && not (row_at found i) })
+
+-- the places that a mask has in, in order
+abbrev pub places_below : MaskRows → ℕ → List ℕ
+places_below mask n = filter (row_at mask) (range_with_len 0 n)
+
+abbrev pub places : MaskRows → List ℕ
+places mask = places_below mask (len mask)
+
+-- what a column is set to in a row
+abbrev pub value_for : SetTo → List (Option ℤ) → Option ℤ
+value_for (Value x) row = x
+value_for (Column k) row = value_at row k
+
+-- a column may be set to a value of its type, or to a column of the table
+abbrev pub IsSetTo : ℕ → SetTo → Type 0
+IsSetTo columns (Value x) = IsNullOrInteger x
+IsSetTo columns (Column k) = k < columns
+
+-- what column k is set to, if it is
+abbrev pub set_of : List (ℕ × SetTo) → ℕ → Option SetTo
+set_of sets k = lookup (λ column. column == k) sets
+
+-- value k of a row, where the column is set, and where it isn't
+abbrev pub new_value : Option SetTo → List (Option ℤ) → ℕ → Option ℤ
+new_value None row k = value_at row k
+new_value (Some to) row k = value_for to row
+
+-- the row with its columns set, each to what the row as it was says
+abbrev pub row_with : List (ℕ × SetTo) → List (Option ℤ) → List (Option ℤ)
+row_with sets row = made (length row) (λ k. new_value (set_of sets k) row k)
+
+-- the slots, of which the found ones have their columns set
+abbrev pub slots_with : MaskRows → List (ℕ × SetTo) → List Slot → List Slot
+slots_with found sets slots = made (length slots) (λ i. record { row = if row_at found i then row_with sets (slot_at slots i).row else (slot_at slots i).row; live = (slot_at slots i).live })
+
+-- a column that is set is encoded as its values and those that it takes ask, and any other as it was
+abbrev pub IsEncodingWith : List (List (Option ℤ)) → Option SetTo → List (Option ℤ) → Encoding → Encoding → Type 0
+IsEncodingWith rows None old own encoding = encoding ≡ own
+IsEncodingWith rows (Some to) old own encoding = IsEncodingFor old own (map (value_for to) rows) encoding
+
+abbrev pub AreEncodingsWith : MaskRows → List (ℕ × SetTo) → List Slot → List Encoding → List Encoding → Type 0
+AreEncodingsWith found sets slots own encodings = (k : ℕ) (d e : Encoding) → k < length own → IsEncodingWith (map (λ i. (slot_at slots i).row) (places found)) (set_of sets k) (slot_column slots k) (slice_index_or own k d) (slice_index_or encodings k e)
+
+-- columns are set in the found slots, all at once
+pub record AreUpdated (found : MaskRows) (sets : List (ℕ × SetTo)) (old new : SlotsView) : Type 0 where
+  pub slots_are : new.slots ≡ slots_with found sets old.slots
+  pub layouts_are : new.layouts ≡ old.layouts
+  pub width : length new.encodings ≡ length old.encodings
+  pub encodings_are : AreEncodingsWith found sets old.slots old.encodings new.encodings

@@ -1,0 +1,6 @@
+pub mod Changes
+pub mod Halves
+pub mod Rows
+pub mod Sets
+pub mod Slots
+pub mod Tables

@@ -1,0 +1,64 @@
+-- Columns that are set in the rows of a mask, in two halves, and columns built anew from such rows.
+use Rattle.std.specs.Prelude.{List, None, Option, Some, [], false, length, map, slice_index_or, ℕ, ℤ, ◌<◌, ◌≡◌}
+use Rattle.bw_mask.specs.Masks.{MaskRows}
+use Rattle.bw_code.specs.Encodings.{IsFit, kind_of}
+use Rattle.bw_column.specs.Columns.{ColumnView, Keeps}
+use Rattle.bw_column.specs.Places.{overwritten}
+use Rattle.bw_column.specs.Preparing.{IsEncodingFor, IsPreparedFor}
+use Rattle.bw_column.specs.Values.{known}
+use Rattle.bw_table.specs.Changes.{choice_of, chosen_kind, chosen_layout, places, set_of, value_for}
+use Rattle.bw_table.specs.Slots.{row_of}
+use Rattle.bw_table.specs.declared.appending.Change.{Change}
+use Rattle.bw_table.specs.declared.choice.Choice.{Choice}
+use Rattle.bw_table.specs.declared.header.Header.{Header}
+use Rattle.bw_table.specs.declared.setting.SetTo.{SetTo}
+use Rattle.bw_table.specs.declared.setting.SetTo.TheVariants.{Column}
+
+-- what a column is set to in the rows of a mask, in order
+abbrev pub gathered : List ColumnView → MaskRows → SetTo → List (Option ℤ)
+gathered columns mask to = map (λ i. value_for to (row_of columns i)) (places mask)
+
+-- the change has the values of the set, and is prepared for its column as it stands
+pub record IsReadyFor (columns : List ColumnView) (found : MaskRows) (set : ℕ × SetTo) (change : Change) : Type 0 where
+  pub values : change.values.items ≡ gathered columns found set.1
+  pub ready : (c : ColumnView) → IsPreparedFor (slice_index_or columns set.0 c) change.values.items false change.prepared
+
+abbrev pub AreReadyFor : List ColumnView → MaskRows → List (ℕ × SetTo) → List Change → Type 0
+AreReadyFor columns found sets changes = (j : ℕ) (s : ℕ × SetTo) (d : Change) → j < length changes → IsReadyFor columns found (slice_index_or sets j s) (slice_index_or changes j d)
+
+-- the values stand in the found rows
+pub record IsWritten (new old : ColumnView) (found : MaskRows) (values : List (Option ℤ)) : Type 0 where
+  pub values_are : new.values ≡ overwritten found values old.values
+  pub layout : new.layout ≡ old.layout
+  pub encoding : IsEncodingFor old.values old.encoding values new.encoding
+
+-- a column that is set has its values, and any other stays as it is
+abbrev pub IsSet : List ColumnView → MaskRows → Option SetTo → ColumnView → ColumnView → Type 0
+IsSet columns found None new old = Keeps new old
+IsSet columns found (Some to) new old = IsWritten new old found (gathered columns found to)
+
+pub record AllSet (found : MaskRows) (sets : List (ℕ × SetTo)) (new old : List ColumnView) : Type 0 where
+  pub count : length new ≡ length old
+  pub each : (k : ℕ) (d : ColumnView) → IsSet old found (set_of sets k) (slice_index_or new k d) (slice_index_or old k d)
+
+-- column k built anew from its values in the rows of a mask, as the choices say
+pub record IsBuilt (mask : MaskRows) (choices : List (ℕ × Choice)) (columns : List ColumnView) (k : ℕ) (new old : ColumnView) : Type 0 where
+  pub values : new.values ≡ gathered columns mask (Column k)
+  pub layout : new.layout ≡ chosen_layout (choice_of choices k) old.layout
+  pub fits : IsFit (known (gathered columns mask (Column k))) new.encoding
+  pub kind : kind_of new.encoding ≡ chosen_kind (choice_of choices k) (kind_of old.encoding)
+
+pub record AllBuilt (mask : MaskRows) (choices : List (ℕ × Choice)) (new old : List ColumnView) : Type 0 where
+  pub count : length new ≡ length old
+  pub each : (k : ℕ) (d : ColumnView) → k < length old → IsBuilt mask choices old k (slice_index_or new k d) (slice_index_or old k d)
+
+-- a column without values, as its header says
+pub record IsEmptyAs {N : Type 0} (header : Header N) (column : ColumnView) : Type 0 where
+  pub values : column.values ≡ []
+  pub layout : column.layout ≡ header.layout
+  pub kind : kind_of column.encoding ≡ header.kind
+  pub fits : IsFit [] column.encoding
+
+pub record AreEmpty {N : Type 0} (headers : List (Header N)) (columns : List ColumnView) : Type 0 where
+  pub count : length columns ≡ length headers
+  pub each : (k : ℕ) (h : Header N) (d : ColumnView) → k < length headers → IsEmptyAs (slice_index_or headers k h) (slice_index_or columns k d)

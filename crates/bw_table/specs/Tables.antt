@@ -1,0 +1,39 @@
+-- A table: its headers, its slots, and the encoding of each column.
+use Rattle.std.specs.Prelude.{List, Option, [], length, map, slice_index_or, ℕ, ◌<◌, ◌≡◌}
+use Rattle.bw_code.specs.Encodings.{IsFit, kind_of}
+use Rattle.bw_code.specs.declared.encoding.Encoding.{Encoding}
+use Rattle.bw_code.specs.declared.kind.Layout.{Layout}
+use Rattle.bw_table.specs.Changes.{choice_of, chosen_kind, chosen_layout}
+use Rattle.bw_table.specs.Slots.{Slot, SlotsView}
+use Rattle.bw_table.specs.declared.choice.Choice.{Choice}
+use Rattle.bw_table.specs.declared.header.Header.{Header}
+
+pub record TableView (N : Type 0) : Type 0 where
+  pub headers : List (Header N)
+  pub slots : List Slot
+  pub encodings : List Encoding
+
+abbrev pub layouts : {N : Type 0} → List (Header N) → List Layout
+layouts headers = map (λ header. header.layout) headers
+
+-- the slots of a table, with the layout and the encoding of each column
+abbrev pub slots_in : {N : Type 0} → TableView N → SlotsView
+slots_in table = record { slots = table.slots; layouts = layouts table.headers; encodings = table.encodings }
+
+-- the headers tell the layout and the kind of each column
+pub record AreHeadersOf {N : Type 0} (headers : List (Header N)) (slots : SlotsView) : Type 0 where
+  pub layouts_are : layouts headers ≡ slots.layouts
+  pub kinds_are : map (λ header. header.kind) headers ≡ map kind_of slots.encodings
+
+-- as many encodings as headers, each as for no values
+pub record AreFirst {N : Type 0} (headers : List (Header N)) (encodings : List Encoding) : Type 0 where
+  pub count : length encodings ≡ length headers
+  pub each : (k : ℕ) (e : Encoding) → k < length headers → IsFit [] (slice_index_or encodings k e)
+
+-- a header with what is chosen for its column
+abbrev pub header_by : {N : Type 0} → Option Choice → Header N → Header N
+header_by choice header = record header { layout = chosen_layout choice header.layout; kind = chosen_kind choice header.kind }
+
+pub record AreChosen {N : Type 0} (choices : List (ℕ × Choice)) (old new : List (Header N)) : Type 0 where
+  pub count : length new ≡ length old
+  pub each : (k : ℕ) (d : Header N) → k < length old → slice_index_or new k d ≡ header_by (choice_of choices k) (slice_index_or old k d)

@@ -1,0 +1,55 @@
+//! What a column is built anew by.
+
+ghost use Rattle.std.specs.Prelude.{◌≡◌};
+ghost use Rattle.bw_table.specs.Changes.{choice_of, chosen_kind, chosen_layout, kind_or};
+
+use bw_code::{Kind, Layout};
+
+/// The layout that a column is to have, and its kind where it is to have another.
+#[derive(Clone, Copy, Debug, PartialEq, Eq)]
+pub struct Choice {
+    pub layout: Layout,
+    pub kind: Option<Kind>,
+}
+
+/// The choice for a column: of several, the first.
+pub(crate) fn choice_of(choices: &[(usize, Choice)], k: usize) -> Option<Choice>
+    ensures { result ≡ choice_of choices.now k }
+{
+    for entry in choices {
+        let (column, choice) = *entry;
+        if column == k {
+            return Some(choice);
+        }
+    }
+    None
+}
+
+/// The layout that is chosen, or the column's own.
+pub(crate) fn chosen_layout(choice: Option<Choice>, own: Layout) -> Layout
+    ensures { result ≡ chosen_layout choice own }
+{
+    match choice {
+        Some(choice) => choice.layout,
+        None => own,
+    }
+}
+
+/// The kind that is chosen, or the column's own.
+pub(crate) fn chosen_kind(choice: Option<Choice>, own: Kind) -> Kind
+    ensures { result ≡ chosen_kind choice own }
+{
+    match choice {
+        Some(choice) => kind_or(choice.kind, own),
+        None => own,
+    }
+}
+
+fn kind_or(kind: Option<Kind>, own: Kind) -> Kind
+    ensures { result ≡ kind_or kind own }
+{
+    match kind {
+        Some(kind) => kind,
+        None => own,
+    }
+}

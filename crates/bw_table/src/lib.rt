@@ -1,0 +1,19 @@
+//! Tables: columns side by side, of which some slots are live.
+#![tactic(auto)]
+
+mod appending;
+mod choice;
+mod fault;
+mod header;
+mod rebuilding;
+mod rows;
+mod setting;
+mod slots;
+mod table;
+
+pub use choice::Choice;
+pub use fault::TableFault;
+pub use header::Header;
+pub use rows::Rows;
+pub use setting::SetTo;
+pub use table::Table;

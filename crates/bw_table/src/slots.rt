@@ -1,0 +1,188 @@
+//! The slots of a table, kept by columns.
+
+ghost use Rattle.std.specs.Prelude.{All, Err, IfOk, MatchResult, OnErr, OnOk, [], length, map, slice_index_or, ℕ, ◌+◌, ◌<◌, ◌^◌, ◌≡◌, ◌≢◌, ◌≤◌};
+ghost use Rattle.std.specs.List.{AllPairs};
+ghost use Rattle.bw_mask.specs.Masks.{len, row_at};
+ghost use Rattle.bw_code.specs.Encodings.{kind_of};
+ghost use Rattle.bw_code.specs.declared.encoding.Encoding.{Encoding};
+ghost use Rattle.bw_code.specs.declared.kind.Layout.{Layout};
+ghost use Rattle.bw_column.specs.Values.{IsNullOrInteger};
+ghost use Rattle.bw_table.specs.Changes.{AreAppended, AreInserted, AreRebuilt, AreUpdated, IsFull, IsSetTo, slots_without};
+ghost use Rattle.bw_table.specs.Slots.{SlotsView, live_slots, slot_at, slot_column, slot_limit};
+ghost use Rattle.bw_table.specs.declared.fault.TableFault.TheVariants.{Full};
+
+use crate::appending::{apply, prepare, push_live};
+use crate::choice::Choice;
+use crate::fault::TableFault;
+use crate::rebuilding::build_anew;
+use crate::rows::Rows;
+use crate::setting::{SetTo, apply_sets, prepare_sets};
+use bw_column::Column;
+use bw_mask::Mask;
+use std::alloc::{AllocError, Global};
+use std::marker::Model;
+
+/// How many slots there may be.
+const SLOT_LIMIT: usize = 16_777_216;
+
+/// Columns side by side, and the slots that are live. A contract sees the list of the slots.
+#[derive(Drop)]
+pub(crate) struct Slots {
+    pub(crate) columns: Vec<Column>,
+    pub(crate) live: Mask,
+}
+
+impl Model for Slots {
+    ghost use Rattle.std.specs.Prelude.{map};
+    ghost use Rattle.bw_table.specs.Slots.{AreColumns, SlotsView, slots_of};
+
+    ghost Value = { SlotsView };
+
+    ghost view = { λ s. record { slots = slots_of s.columns.items s.live; layouts = map (λ column. column.layout) s.columns.items; encodings = map (λ column. column.encoding) s.columns.items } };
+
+    ghost invariant = { λ s. AreColumns s.columns.items s.live };
+}
+
+impl Slots {
+    /// How many slots there are.
+    #[tactic(auto, using(crate::proofs::Across::slots_count))]
+    pub(crate) fn len(&self) -> usize
+        ensures count { result ≡ length self.now.slots }
+        ensures few { result ≤ slot_limit }
+    {
+        self.live.len()
+    }
+
+    /// How many slots are live.
+    #[tactic(auto, using(crate::proofs::Updated::live_count))]
+    pub(crate) fn live_count(&self) -> usize
+        ensures count { result ≡ length (live_slots self.now.slots) }
+        ensures few { result ≤ slot_limit }
+    {
+        self.live.count()
+    }
+
+    /// Adds live slots with these rows at the end. Where memory is wanting, nothing changes.
+    fn append(&mut self, alloc: Global, rows: &Rows<'_>) -> Result<(), AllocError>
+        requires widths { All (λ row. length row ≡ length self.old.encodings) rows.now }
+        requires integers { All (λ row. All IsNullOrInteger row) rows.now }
+        requires few { length self.old.slots + length rows.now ≤ 2 ^ 24 }
+        ensures appended { OnOk result (AreAppended self.old rows.now self.new) }
+        ensures layouts { self.new.layouts ≡ self.old.layouts }
+        ensures kinds { map kind_of self.new.encodings ≡ map kind_of self.old.encodings }
+        ensures unchanged { OnErr result (self.new ≡ self.old) }
+    {
+        let changes = prepare(&mut self.columns, alloc, rows)?;
+        self.live.reserve(rows.len())?;
+        apply(&mut self.columns, changes);
+        push_live(&mut self.live, rows.len());
+        Ok(())
+    }
+
+    /// The live slots alone, each column built anew as the choices say.
+    pub(crate) fn rebuilt(
+        &self,
+        alloc: Global,
+        choices: &[(usize, Choice)],
+    ) -> Result<Slots, AllocError>
+        ensures { IfOk result (AreRebuilt choices.now self.now) }
+    {
+        let columns = build_anew(&self.columns, alloc, &self.live, choices)?;
+        let live = Mask::filled(alloc, self.live.count(), true)?;
+        Ok(Slots { columns, live })
+    }
+
+    /// Drops the dead slots, and adds live slots with these rows at the end. Where memory is wanting, nothing changes.
+    #[tactic(auto, using(crate::proofs::SameKinds::rebuilt_kinds, crate::proofs::SameKinds::rebuilt_layouts))]
+    fn append_compact(&mut self, alloc: Global, rows: &Rows<'_>) -> Result<(), AllocError>
+        requires widths { All (λ row. length row ≡ length self.old.encodings) rows.now }
+        requires integers { All (λ row. All IsNullOrInteger row) rows.now }
+        requires few { length (live_slots self.old.slots) + length rows.now ≤ 2 ^ 24 }
+        ensures appended { OnOk result ((compact : SlotsView) × AreRebuilt [] self.old compact × AreAppended compact rows.now self.new) }
+        ensures layouts { self.new.layouts ≡ self.old.layouts }
+        ensures kinds { map kind_of self.new.encodings ≡ map kind_of self.old.encodings }
+        ensures unchanged { OnErr result (self.new ≡ self.old) }
+    {
+        let mut compact = self.rebuilt(alloc, &[])?;
+        compact.append(alloc, rows)?;
+        *self = compact;
+        Ok(())
+    }
+
+    /// Adds live slots with these rows at the end. Where there are not enough slots, the dead ones are dropped first.
+    /// Refused where the live slots and the rows are too many, or memory is wanting; nothing changes then.
+    #[tactic(auto, using(crate::proofs::Inserted::fewer_live, crate::proofs::Inserted::inserted_behind, crate::proofs::Inserted::inserted_compact))]
+    pub(crate) fn insert(&mut self, alloc: Global, rows: &Rows<'_>) -> Result<(), TableFault>
+        requires widths { All (λ row. length row ≡ length self.old.encodings) rows.now }
+        requires integers { All (λ row. All IsNullOrInteger row) rows.now }
+        ensures inserted { OnOk result (AreInserted self.old rows.now self.new) }
+        ensures full { IsFull self.old rows.now → result ≡ Err Full }
+        ensures room { (IsFull self.old rows.now → ⊥) → result ≢ Err Full }
+        ensures layouts { self.new.layouts ≡ self.old.layouts }
+        ensures kinds { map kind_of self.new.encodings ≡ map kind_of self.old.encodings }
+        ensures unchanged { OnErr result (self.new ≡ self.old) }
+    {
+        if rows.len() <= SLOT_LIMIT - self.len() {
+            self.append(alloc, rows)?;
+            return Ok(());
+        }
+        if rows.len() > SLOT_LIMIT - self.live_count() {
+            return Err(TableFault::Full);
+        }
+        self.append_compact(alloc, rows)?;
+        Ok(())
+    }
+
+    /// Sets columns in the found slots, all at once: a column that is set to another takes what that had before.
+    /// Where memory is wanting, nothing changes.
+    pub(crate) fn update(
+        &mut self,
+        alloc: Global,
+        found: &Mask,
+        sets: &[(usize, SetTo)],
+    ) -> Result<(), AllocError>
+        requires found { len found.now ≡ length self.old.slots }
+        requires named { All (λ set. set.0 < length self.old.encodings) sets.now }
+        requires apart { AllPairs (λ set other. set.0 ≢ other.0) sets.now }
+        requires values { All (λ set. IsSetTo (length self.old.encodings) set.1) sets.now }
+        ensures updated { OnOk result (AreUpdated found.now sets.now self.old self.new) }
+        ensures layouts { self.new.layouts ≡ self.old.layouts }
+        ensures kinds { map kind_of self.new.encodings ≡ map kind_of self.old.encodings }
+        ensures unchanged { OnErr result (self.new ≡ self.old) }
+    {
+        let changes = prepare_sets(&mut self.columns, alloc, found, sets)?;
+        apply_sets(&mut self.columns, found, sets, changes);
+        Ok(())
+    }
+
+    /// Makes the found slots dead. Takes no memory.
+    #[tactic(auto, using(bw_column::proofs::Lists::made_len))]
+    pub(crate) fn delete(&mut self, found: &Mask)
+        requires { len found.now ≡ length self.old.slots }
+        ensures slots { self.new.slots ≡ slots_without found.now self.old.slots }
+        ensures layouts { self.new.layouts ≡ self.old.layouts }
+        ensures encodings { self.new.encodings ≡ self.old.encodings }
+    {
+        self.live.andnot_in(found);
+    }
+
+    /// The slots that are live.
+    #[tactic(auto, using(crate::proofs::Across::slots_count, crate::proofs::Across::live_rows))]
+    pub(crate) fn live(&self) -> &Mask
+        ensures len { len result.now ≡ length self.now.slots }
+        ensures rows { (i : ℕ) → i < length self.now.slots → row_at result.now i ≡ (slot_at self.now.slots i).live }
+        ensures few { len result.now ≤ 2 ^ 24 }
+    {
+        &self.live
+    }
+
+    /// Column k, dead slots included.
+    pub(crate) fn column(&self, k: usize) -> &Column
+        requires { k < length self.now.encodings }
+        ensures values { result.now.values ≡ slot_column self.now.slots k }
+        ensures layout { (d : Layout) → result.now.layout ≡ slice_index_or self.now.layouts k d }
+        ensures encoding { (d : Encoding) → result.now.encoding ≡ slice_index_or self.now.encodings k d }
+    {
+        &self.columns[k]
+    }
+}

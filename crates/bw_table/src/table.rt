@@ -1,0 +1,185 @@
+//! A table of slots.
+
+ghost use Rattle.std.specs.Prelude.{All, Err, IfOk, OnErr, OnOk, [], length, slice_index_or, ℕ, ◌<◌, ◌^◌, ◌≡◌, ◌≢◌, ◌≤◌};
+ghost use Rattle.std.specs.List.{AllPairs};
+ghost use Rattle.bw_mask.specs.Masks.{len, row_at};
+ghost use Rattle.bw_code.specs.declared.encoding.Encoding.{Encoding};
+ghost use Rattle.bw_column.specs.Values.{IsNullOrInteger, value_at};
+ghost use Rattle.bw_table.specs.Changes.{AreInserted, AreRebuilt, AreUpdated, IsFull, IsSetTo, slots_without};
+ghost use Rattle.bw_table.specs.Sets.{AreEmpty};
+ghost use Rattle.bw_table.specs.Slots.{live_slots, slot_at, slot_column, slot_limit};
+ghost use Rattle.bw_table.specs.Tables.{AreChosen, AreFirst, slots_in};
+ghost use Rattle.bw_table.specs.declared.fault.TableFault.TheVariants.{Full};
+
+use crate::choice::Choice;
+use crate::fault::TableFault;
+use crate::header::{Header, choose_all};
+use crate::rows::Rows;
+use crate::setting::SetTo;
+use crate::slots::Slots;
+use bw_column::Column;
+use bw_mask::Mask;
+use std::alloc::{AllocError, Global};
+use std::marker::Model;
+
+/// A table: its columns, and slots of which some are live. Its rows are those of the live slots, in order. A name of a
+/// column is whatever the layer above takes for one.
+#[derive(Drop)]
+pub struct Table<N> {
+    headers: Vec<Header<N>>,
+    slots: Slots,
+}
+
+impl<N> Model for Table<N> {
+    ghost use Rattle.bw_table.specs.Tables.{AreHeadersOf, TableView};
+
+    ghost Value = { TableView N };
+
+    ghost view = { λ t. record { headers = t.headers.items; slots = t.slots.slots; encodings = t.slots.encodings } };
+
+    ghost invariant = { λ t. AreHeadersOf t.headers.items t.slots };
+}
+
+impl<N: Drop> Table<N> {
+    /// A table of these columns, without slots.
+    pub fn create(alloc: Global, headers: Vec<Header<N>>) -> Result<Table<N>, AllocError>
+        ensures headers { IfOk result (λ t. t.headers ≡ headers.items) }
+        ensures slots { IfOk result (λ t. t.slots ≡ []) }
+        ensures encodings { IfOk result (λ t. AreFirst t.headers t.encodings) }
+    {
+        let columns = empty_columns(alloc, &headers)?;
+        let slots = Slots {
+            columns,
+            live: Mask::filled(alloc, 0, false)?,
+        };
+        Ok(Table { headers, slots })
+    }
+
+    /// The columns, in order.
+    pub fn headers(&self) -> &[Header<N>]
+        ensures { result.now ≡ self.now.headers }
+    {
+        self.headers.as_slice()
+    }
+
+    /// How many slots there are, dead ones included.
+    pub fn slot_count(&self) -> usize
+        ensures count { result ≡ length self.now.slots }
+        ensures few { result ≤ slot_limit }
+    {
+        self.slots.len()
+    }
+
+    /// How many rows there are.
+    pub fn row_count(&self) -> usize
+        ensures count { result ≡ length (live_slots self.now.slots) }
+        ensures few { result ≤ slot_limit }
+    {
+        self.slots.live_count()
+    }
+
+    /// The slots that are live.
+    pub fn live(&self) -> &Mask
+        ensures len { len result.now ≡ length self.now.slots }
+        ensures rows { (i : ℕ) → i < length self.now.slots → row_at result.now i ≡ (slot_at self.now.slots i).live }
+    {
+        self.slots.live()
+    }
+
+    /// Column k: a value for each slot, dead ones included.
+    #[tactic(auto, using(crate::proofs::Heads::kinds_count))]
+    pub fn column(&self, k: usize) -> &Column
+        requires { k < length self.now.headers }
+        ensures values { result.now.values ≡ slot_column self.now.slots k }
+        ensures layout { (d : Header N) → result.now.layout ≡ (slice_index_or self.now.headers k d).layout }
+        ensures encoding { (d : Encoding) → result.now.encoding ≡ slice_index_or self.now.encodings k d }
+    {
+        self.slots.column(k)
+    }
+
+    /// The value of a slot in a column.
+    #[tactic(auto, using(crate::proofs::Across::column_at, crate::proofs::Heads::kinds_count))]
+    pub fn fetch(&self, slot: usize, column: usize) -> Option<i64>
+        requires slot { slot < length self.now.slots }
+        requires column { column < length self.now.headers }
+        ensures { result ≡ value_at (slot_at self.now.slots slot).row column }
+    {
+        self.slots.column(column).get(slot)
+    }
+
+    /// Adds live slots with these rows at the end. Where there are not enough slots, the dead ones are dropped first.
+    /// Refused where the live slots and the rows are more than 16,777,216, or memory is wanting; nothing changes then.
+    pub fn insert(&mut self, alloc: Global, rows: &Rows<'_>) -> Result<(), TableFault>
+        requires widths { All (λ row. length row ≡ length self.old.headers) rows.now }
+        requires integers { All (λ row. All IsNullOrInteger row) rows.now }
+        ensures headers { self.new.headers ≡ self.old.headers }
+        ensures inserted { OnOk result (AreInserted (slots_in self.old) rows.now (slots_in self.new)) }
+        ensures full { IsFull (slots_in self.old) rows.now → result ≡ Err Full }
+        ensures room { (IsFull (slots_in self.old) rows.now → ⊥) → result ≢ Err Full }
+        ensures unchanged { OnErr result (self.new ≡ self.old) }
+    {
+        self.slots.insert(alloc, rows)
+    }
+
+    /// Sets columns in the found slots, all at once: a column that is set to another takes what that had before.
+    /// Where memory is wanting, nothing changes.
+    pub fn update(
+        &mut self,
+        alloc: Global,
+        found: &Mask,
+        sets: &[(usize, SetTo)],
+    ) -> Result<(), AllocError>
+        requires found { len found.now ≡ length self.old.slots }
+        requires named { All (λ set. set.0 < length self.old.headers) sets.now }
+        requires apart { AllPairs (λ set other. set.0 ≢ other.0) sets.now }
+        requires values { All (λ set. IsSetTo (length self.old.headers) set.1) sets.now }
+        ensures headers { self.new.headers ≡ self.old.headers }
+        ensures updated { OnOk result (AreUpdated found.now sets.now (slots_in self.old) (slots_in self.new)) }
+        ensures unchanged { OnErr result (self.new ≡ self.old) }
+    {
+        self.slots.update(alloc, found, sets)
+    }
+
+    /// Makes the found slots dead. Takes no memory.
+    pub fn delete(&mut self, found: &Mask)
+        requires { len found.now ≡ length self.old.slots }
+        ensures headers { self.new.headers ≡ self.old.headers }
+        ensures slots { self.new.slots ≡ slots_without found.now self.old.slots }
+        ensures encodings { self.new.encodings ≡ self.old.encodings }
+    {
+        self.slots.delete(found);
+    }
+
+    /// Drops the dead slots and builds each column anew, in the layout and of the kind that are chosen for it. Where
+    /// memory is wanting, nothing changes.
+    pub fn rebuild(&mut self, alloc: Global, choices: &[(usize, Choice)]) -> Result<(), AllocError>
+        ensures headers { OnOk result (AreChosen choices.now self.old.headers self.new.headers) }
+        ensures rebuilt { OnOk result (AreRebuilt choices.now (slots_in self.old) (slots_in self.new)) }
+        ensures unchanged { OnErr result (self.new ≡ self.old) }
+    {
+        self.slots = self.slots.rebuilt(alloc, choices)?;
+        choose_all(&mut self.headers, choices);
+        Ok(())
+    }
+
+    /// Drops the dead slots and builds each column anew. Where memory is wanting, nothing changes.
+    pub fn compact(&mut self, alloc: Global) -> Result<(), AllocError>
+        ensures headers { self.new.headers ≡ self.old.headers }
+        ensures rebuilt { OnOk result (AreRebuilt [] (slots_in self.old) (slots_in self.new)) }
+        ensures unchanged { OnErr result (self.new ≡ self.old) }
+    {
+        self.slots = self.slots.rebuilt(alloc, &[])?;
+        Ok(())
+    }
+}
+
+/// A column without values for each header.
+fn empty_columns<N>(alloc: Global, headers: &Vec<Header<N>>) -> Result<Vec<Column>, AllocError>
+    ensures { IfOk result (λ columns. AreEmpty headers.now.items columns.items) }
+{
+    let mut columns = Vec::with_capacity(alloc, headers.len())?;
+    for header in headers {
+        columns.push(Column::build(alloc, &[], header.layout, header.kind)?)?;
+    }
+    Ok(columns)
+}

@@ -1,0 +1,172 @@
+//! Tables of columns called 0, 1, 2 and so on, changed and read. Where memory is wanting, a test fails.
+
+ghost use Rattle.std.specs.Prelude.{All, length, ◌<◌, ◌≡◌};
+ghost use Rattle.bw_column.specs.Values.{IsNullOrInteger};
+ghost use Rattle.bw_mask.specs.Masks.{len};
+ghost use Rattle.bw_table.specs.Changes.{IsSetTo};
+
+use bw_code::{Encoding, Kind, Layout};
+use bw_mask::Mask;
+use bw_table::{Header, Rows, SetTo, Table};
+use std::process::Abort;
+
+/// A value or null.
+pub(crate) type Cell = Option<i32>;
+
+/// What a column is set to.
+#[derive(Clone, Copy)]
+pub(crate) enum To {
+    Value(Cell),
+    Column(usize),
+}
+
+/// A table without slots, of columns in these layouts and of these kinds.
+pub(crate) fn table_of<R: Abort + AllocGlobal>(rt: &R, columns: &[(Layout, Kind)]) -> Table<usize> {
+    let mut headers = Vec::new(rt.alloc());
+    for (layout, kind) in columns {
+        let header = Header {
+            name: headers.len(),
+            layout: *layout,
+            kind: *kind,
+        };
+        headers.push(header).expect(rt, "memory");
+    }
+    Table::create(rt.alloc(), headers).expect(rt, "memory")
+}
+
+/// The value, as a column takes it.
+pub(crate) fn wide(cell: Cell) -> Option<i64>
+    ensures { IsNullOrInteger result }
+{
+    match cell {
+        Some(x) => Some(x as i64),
+        None => None,
+    }
+}
+
+#[tactic(auto, using(crate::proofs::Flat::one_more))]
+fn wide_cells<R: Abort + AllocGlobal>(rt: &R, cells: &[Cell]) -> Vec<Option<i64>>
+    ensures { All IsNullOrInteger result.items }
+{
+    let mut wide_cells = Vec::new(rt.alloc());
+    for i in 0..cells.len() {
+        wide_cells.push(wide(cells[i])).expect(rt, "memory");
+    }
+    wide_cells
+}
+
+/// Inserts the rows that lie one behind the other in the cells.
+#[tactic(auto, using(crate::proofs::Flat::are_whole, crate::proofs::Flat::are_wide, crate::proofs::Flat::are_integers))]
+pub(crate) fn insert<R: Abort + AllocGlobal>(rt: &R, table: &mut Table<usize>, cells: &[Cell]) {
+    let width = table.headers().len();
+    let cells = wide_cells(rt, cells);
+    assert!(rt; width > 0);
+    assert!(rt; cells.len() / width * width == cells.len());
+    let rows = Rows::new(width, &cells);
+    assert_eq!(rt; rows.len(), cells.len() / width);
+    assert_eq!(rt; table.insert(rt.alloc(), &rows), Ok(()));
+}
+
+/// The slots of a table that are the live ones picked by the bits of a word, counted round.
+pub(crate) fn picked<R: Abort + AllocGlobal>(rt: &R, table: &Table<usize>, word: u64) -> Mask
+    ensures { len result ≡ length table.now.slots }
+{
+    let mut found = Mask::filled(rt.alloc(), table.slot_count(), false).expect(rt, "memory");
+    let mut row: usize = 0;
+    for i in 0..table.slot_count() {
+        if table.live().get(i) {
+            found.set(i, word >> (row % 64) & 1 == 1);
+            row += 1;
+        }
+    }
+    found
+}
+
+/// What a column is set to, as a table of so many columns takes it.
+fn set_to(columns: usize, to: To) -> SetTo
+    requires { 0 < columns }
+    ensures { IsSetTo columns result }
+{
+    match to {
+        To::Value(cell) => SetTo::Value(wide(cell)),
+        To::Column(k) => SetTo::Column(k % columns),
+    }
+}
+
+/// Sets a column in the picked rows.
+pub(crate) fn set_one<R: Abort + AllocGlobal>(
+    rt: &R,
+    table: &mut Table<usize>,
+    word: u64,
+    set: (usize, To),
+) {
+    let columns = table.headers().len();
+    assert!(rt; set.0 < columns);
+    let found = picked(rt, table, word);
+    let sets = [(set.0, set_to(columns, set.1))];
+    assert_eq!(rt; table.update(rt.alloc(), &found, &sets), Ok(()));
+}
+
+/// Sets two columns in the picked rows.
+pub(crate) fn set_two<R: Abort + AllocGlobal>(
+    rt: &R,
+    table: &mut Table<usize>,
+    word: u64,
+    set: (usize, To),
+    other: (usize, To),
+) {
+    let columns = table.headers().len();
+    assert!(rt; set.0 < columns);
+    assert!(rt; other.0 < columns);
+    assert!(rt; set.0 != other.0);
+    let found = picked(rt, table, word);
+    let sets = [
+        (set.0, set_to(columns, set.1)),
+        (other.0, set_to(columns, other.1)),
+    ];
+    assert_eq!(rt; table.update(rt.alloc(), &found, &sets), Ok(()));
+}
+
+/// Deletes the picked rows.
+pub(crate) fn delete<R: Abort + AllocGlobal>(rt: &R, table: &mut Table<usize>, word: u64) {
+    let found = picked(rt, table, word);
+    table.delete(&found);
+}
+
+/// The rows of a table, one behind the other.
+pub(crate) fn rows_of<R: Abort + AllocGlobal>(rt: &R, table: &Table<usize>) -> Vec<Option<i64>> {
+    let mut cells = Vec::new(rt.alloc());
+    for slot in 0..table.slot_count() {
+        if table.live().get(slot) {
+            for column in 0..table.headers().len() {
+                cells.push(table.fetch(slot, column)).expect(rt, "memory");
+            }
+        }
+    }
+    cells
+}
+
+/// Checks that a table has these rows, which lie one behind the other.
+pub(crate) fn check_rows<R: Abort + AllocGlobal>(rt: &R, table: &Table<usize>, cells: &[Cell]) {
+    let wanted = wide_cells(rt, cells);
+    assert_eq!(rt; rows_of(rt, table).as_slice(), wanted.as_slice());
+}
+
+/// An offset's base and width, where there is such a column and it has one.
+pub(crate) fn span_of(table: &Table<usize>, column: usize) -> Option<(i64, u32)> {
+    if column >= table.headers().len() {
+        return None;
+    }
+    match table.column(column).encoding() {
+        Encoding::Offset(offset) => Some((offset.base, offset.width)),
+        Encoding::Dictionary(_) => None,
+    }
+}
+
+/// A column's name, layout and kind by its header.
+pub(crate) fn header_of(table: &Table<usize>, column: usize) -> Option<(usize, Layout, Kind)> {
+    match table.headers().get(column) {
+        Some(header) => Some((header.name, header.layout, header.kind)),
+        None => None,
+    }
+}
