@@ -19,7 +19,7 @@ with_front : {A : Type 0} (b : Bool) (x : A) (l m : List A) → (if b then x ∷
 with_front true x l m = refl
 with_front false x l m = refl
 
-take_none : {A : Type 0} (xs : List A) → take 0 xs ≡ []
+pub take_none : {A : Type 0} (xs : List A) → take 0 xs ≡ []
 take_none [] = refl
 take_none (x ∷ xs) = refl
 
@@ -39,7 +39,7 @@ where-filter test p (x ∷ xs) d same =
     ∙ ap (λ l. if p x then x ∷ l else l) (where-filter (λ i. test (suc i)) p xs d (λ i h. same (suc i) (omega (arith, h))))
 
 -- what a condition's plan finds is what the condition finds
-finds_by_plan : (headers : List Header) (condition : Option ConditionTree) (plan : Option Plan) → plan ≡ option_map (planned headers) condition → (row : Row) → is_found_by plan row ≡ is_found headers condition row
+pub finds_by_plan : (headers : List Header) (condition : Option ConditionTree) (plan : Option Plan) → plan ≡ option_map (planned headers) condition → (row : Row) → is_found_by plan row ≡ is_found headers condition row
 finds_by_plan headers None plan is row = ap (λ p. is_found_by p row) is
 finds_by_plan headers (Some condition) plan is row = ap (λ p. is_found_by p row) is ∙ ap (λ t. is_value t True) (keeps_truth headers row condition)
 

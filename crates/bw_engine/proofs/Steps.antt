@@ -4,10 +4,11 @@ use Rattle.std.specs.Map.{lookup, set_value}
 use Rattle.std.specs.Str.{bytes_eq}
 use Rattle.std.proofs.lemmas.Bool.{true≢false}
 use Rattle.bw_sql.specs.Tree.{StatementTree}
-use Rattle.bw_model.specs.Refusals.{Tests, over}
+use Rattle.bw_model.specs.Refusals.{Tests, first_that_holds, over}
 use Rattle.bw_model.specs.Step.{Step, carried_out, refused_or, with_table}
 use Rattle.bw_model.specs.Store.{Store, Table, table_of}
 use Rattle.bw_model.specs.declared.refusal.Refusal.{Refusal}
+use Rattle.bw_model.specs.declared.refusal.Refusal.TheVariants.{NoSuchTable}
 use Rattle.bw_model.specs.declared.reply.Reply.{Reply}
 use Rattle.bw_model.specs.declared.reply.Reply.TheVariants.{Refused}
 use Rattle.bw_plan.specs.Checks.{MayRefuse}
@@ -52,6 +53,15 @@ steps store after statement (Err e) h stays =
       | inl p ↦ inl (record { accepted = p.0; says = ap (λ x. Refused x) p.1; stays = stays })
       | inr p ↦ inr (ap (λ s. (Refused e, s)) stays ∙ ap (λ o. refused_or o store (carried_out store statement)) (sym p))
     ]
+
+-- where a statement asks for nothing but its table
+pub over_none : (o : Option Table) → is_some o ≡ false → first_that_holds (over o (λ table. [])) ≡ Some NoSuchTable
+over_none None e = refl
+over_none (Some table) e = absurd (true≢false e)
+
+pub over_any : (o : Option Table) → is_some o ≡ true → first_that_holds (over o (λ table. [])) ≡ None
+over_any None e = absurd (true≢false (sym e))
+over_any (Some table) e = refl
 
 -- a refusal over a table that is there
 pub over_some : (o : Option Table) (table : Table) (tests : Table → Tests) (e : Refusal) → o ≡ Some table → MayRefuse (tests table) e → MayRefuse (over o tests) e

@@ -24,7 +24,7 @@ const COLUMN_LIMIT: usize = 64;
 pub const TABLE_LIMIT: usize = 64;
 
 /// Adds a table without rows, as the last one.
-pub fn create_table(
+pub(crate) fn create_table(
     alloc: Global,
     tables: &mut IndexMap<Name, Table>,
     statement: CreateTable,

@@ -5,9 +5,12 @@ ghost use Rattle.bw_model.specs.Step.{Step};
 ghost use Rattle.bw_sql.specs.Tree.{statement_of};
 ghost use Rattle.bw_engine.specs.Outcomes.{reply_of};
 
+use crate::changes::{delete, rebuild, update};
 use crate::create::{TABLE_LIMIT, create_table};
+use crate::drop::drop_table;
 use crate::file_answer::FileAnswer;
 use crate::insert::insert;
+use crate::listing::list_tables;
 use crate::select::select;
 use crate::table::Table;
 use bw_model::{Refusal, Reply};
@@ -45,7 +48,14 @@ impl Engine {
         ensures { result ≡ None }
     {
         match statement {
-            Statement::CreateTable(_) | Statement::Insert(_) | Statement::Select(_) => None,
+            Statement::CreateTable(_)
+            | Statement::DropTable(_)
+            | Statement::ListTables
+            | Statement::Insert(_)
+            | Statement::Update(_)
+            | Statement::Delete(_)
+            | Statement::Rebuild(_)
+            | Statement::Select(_) => None,
         }
     }
 
@@ -60,7 +70,12 @@ impl Engine {
                 &mut self.tables,
                 create,
             )),
+            Statement::DropTable(name) => replied(drop_table(&mut self.tables, &name)),
+            Statement::ListTables => replied(list_tables(self.alloc, &self.tables)),
             Statement::Insert(rows) => replied(insert(self.alloc, &mut self.tables, rows)),
+            Statement::Update(change) => replied(update(self.alloc, &mut self.tables, change)),
+            Statement::Delete(change) => replied(delete(self.alloc, &mut self.tables, change)),
+            Statement::Rebuild(change) => replied(rebuild(self.alloc, &mut self.tables, change)),
             Statement::Select(query) => replied(select(self.alloc, &self.tables, query)),
         }
     }

@@ -17,7 +17,7 @@ use indexmap::IndexMap;
 use std::alloc::Global;
 
 /// Puts rows last in a table. A column that isn't listed gets NULL.
-pub fn insert(
+pub(crate) fn insert(
     alloc: Global,
     tables: &mut IndexMap<Name, Table>,
     statement: Insert,

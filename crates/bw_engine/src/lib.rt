@@ -1,10 +1,13 @@
-//! The engine: tables in memory, and the statements that make, fill and read them.
+//! The engine: tables in memory, and the statements that make, fill, change, read and drop them.
 #![tactic(auto)]
 
+mod changes;
 mod create;
+mod drop;
 mod engine;
 mod file_answer;
 mod insert;
+mod listing;
 mod select;
 mod table;
 

@@ -26,7 +26,7 @@ use indexmap::IndexMap;
 use std::alloc::{AllocError, Global};
 
 /// Answers the found rows in the order in which they were inserted.
-pub fn select(
+pub(crate) fn select(
     alloc: Global,
     tables: &IndexMap<Name, Table>,
     statement: Select,
@@ -61,7 +61,7 @@ fn answer_of(
 }
 
 /// The rows at which the condition is true. Without a condition there is no mask, and every row is found.
-fn found_rows(
+pub(crate) fn found_rows(
     alloc: Global,
     table: &Table,
     condition: &Option<RowCondition>,
@@ -137,7 +137,7 @@ fn found_cells(
 }
 
 /// Whether row i is found.
-fn is_found(found: &Option<Mask>, i: usize) -> bool
+pub(crate) fn is_found(found: &Option<Mask>, i: usize) -> bool
     requires { IfSome found.now (λ mask. i < len mask) }
     ensures { result ≡ is_in found.now i }
 {

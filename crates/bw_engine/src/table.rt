@@ -1,6 +1,6 @@
 //! A table in memory.
 
-ghost use Rattle.std.specs.Prelude.{◌≡◌, ◌+◌, ◌*◌, ◌/◌, ◌<◌, ◌≤◌, ◌++◌, [], length, OnOk, OnErr};
+ghost use Rattle.std.specs.Prelude.{◌≡◌, ◌+◌, ◌*◌, ◌/◌, ◌<◌, ◌≤◌, ◌++◌, [], All, length, OnOk, OnErr};
 ghost use Rattle.bw_model.specs.Answers.{AreWholeLines, lines_of};
 ghost use Rattle.bw_model.specs.Store.{row_limit};
 
@@ -35,7 +35,7 @@ impl Model for Table {
 
 impl Table {
     /// A table without rows.
-    pub fn new(alloc: Global, headers: Headers) -> Table
+    pub(crate) fn new(alloc: Global, headers: Headers) -> Table
         ensures { result ≡ record { headers = headers; rows = [] } }
     {
         Table {
@@ -45,7 +45,7 @@ impl Table {
     }
 
     /// The columns, in order.
-    pub fn headers(&self) -> &Headers
+    pub(crate) fn headers(&self) -> &Headers
         ensures value { result.now ≡ self.now.headers }
         ensures some { 0 < length self.now.headers }
     {
@@ -53,7 +53,7 @@ impl Table {
     }
 
     /// How many rows there are.
-    pub fn row_count(&self) -> usize
+    pub(crate) fn row_count(&self) -> usize
         ensures value { result ≡ length self.now.rows }
         ensures bound { result ≤ row_limit }
     {
@@ -61,22 +61,40 @@ impl Table {
     }
 
     /// How many rows more there may be.
-    pub fn room(&self) -> usize
+    pub(crate) fn room(&self) -> usize
         ensures { result + length self.now.rows ≡ row_limit }
     {
         ROW_LIMIT - self.row_count()
     }
 
     /// The rows, in order.
-    pub fn rows(&self) -> Rows<'_>
+    pub(crate) fn rows(&self) -> Rows<'_>
         ensures value { result ≡ self.now.rows }
         ensures few { length self.now.rows ≤ row_limit }
+        ensures wide { All (λ row. length row ≡ length self.now.headers) self.now.rows }
     {
         Rows::new(self.headers.as_slice().len(), self.cells.as_slice())
     }
 
+    /// Puts the rows of these cells in place of all rows.
+    pub(crate) fn replace_rows(&mut self, cells: Vec<Option<i32>>)
+        requires whole { AreWholeLines (length self.old.headers) cells.items }
+        requires few { length (lines_of (length self.old.headers) cells.items) ≤ row_limit }
+        ensures { self.new ≡ record { headers = self.old.headers; rows = lines_of (length self.old.headers) cells.items } }
+    {
+        self.cells = cells;
+    }
+
+    /// Puts these columns in place of the columns.
+    pub(crate) fn replace_headers(&mut self, headers: Headers)
+        requires { length headers ≡ length self.old.headers }
+        ensures { self.new ≡ record { headers = headers; rows = self.old.rows } }
+    {
+        self.headers = headers;
+    }
+
     /// Puts the rows of these cells last.
-    pub fn append(&mut self, cells: &[Option<i32>]) -> Result<(), AllocError>
+    pub(crate) fn append(&mut self, cells: &[Option<i32>]) -> Result<(), AllocError>
         requires whole { AreWholeLines (length self.old.headers) cells.now }
         requires room { length self.old.rows + length (lines_of (length self.old.headers) cells.now) ≤ row_limit }
         ensures ok { OnOk result (self.new ≡ record { headers = self.old.headers; rows = self.old.rows ++ lines_of (length self.old.headers) cells.now }) }

@@ -5,21 +5,22 @@ use Rattle.std.specs.Str.{bytes_eq}
 use Rattle.std.proofs.lemmas.Bool.{ltb-false, not-false, true≢false}
 use Rattle.std.proofs.lemmas.List.{length-map}
 use Rattle.std.proofs.lemmas.List.Elements.{All-append, All-cons, All-head, All-map, All-nil, All-push, All-tail}
-use Rattle.bw_sql.specs.Tree.{StatementTree, create_table, insert, select}
+use Rattle.bw_sql.specs.Tree.{StatementTree, ConditionTree, create_table, delete, drop_table, insert, list_tables, rebuild, select, update}
+use Rattle.bw_sql.specs.declared.tree.LayoutChoice.{LayoutChoice}
+use Rattle.bw_sql.specs.declared.tree.SetClause.{SetClause}
 use Rattle.bw_sql.specs.declared.tree.ColumnDefinition.{ColumnDefinition}
+use Rattle.bw_model.specs.Changes.{with_choices, with_updates, without_found}
 use Rattle.bw_model.specs.Insert.{row_for, target_columns, with_rows}
-use Rattle.bw_model.specs.Refusals.{first_that_holds, insert_tests, is_in_range, over, tests_of}
-use Rattle.bw_model.specs.Step.{Step, carried_out, refused_or, with_table}
+use Rattle.bw_model.specs.Refusals.{chosen_columns, delete_tests, first_that_holds, insert_tests, is_in_range, over, rebuild_tests, tests_of, update_tests}
+use Rattle.bw_model.specs.Step.{Step, carried_out, refused_or, with_table, without_table}
 use Rattle.bw_model.specs.Store.{Header, Row, Store, Table, are_distinct, header_of, row_limit, table_of, value_at, value_from}
 use Rattle.bw_model.specs.WellFormed.{IsRow, IsStore, IsTable}
 use Rattle.bw_model.specs.declared.refusal.Refusal.{Refusal}
 use Rattle.bw_model.specs.declared.reply.Reply.{Reply}
+use Rattle.bw_model.proofs.Changed.{chosen_table, everywhere, table_left, updated_table}
+use Rattle.bw_model.proofs.Dropped.{All-without, distinct_without, few_without}
 use Rattle.bw_model.proofs.Names.{are_distinct-push, bytes_eq-comm, headers_from, map-push}
 use Rattle.bw_model.proofs.Passing.{Passes, none_holds, passes, two}
-
-pub everywhere : {A : Type 0} (P : A → Type 0) (xs : List A) → ((x : A) → P x) → All P xs
-everywhere P [] each = All-nil P
-everywhere P (x ∷ xs) each = All-cons P x xs (each x) (everywhere P xs each)
 
 -- the values of a row that is in range
 
@@ -141,6 +142,15 @@ made columns name store are pass =
       });
     }
 
+-- a table taken out
+
+taken_out : (store : Store) (name : List ℕ) → IsStore store → IsStore (without_table store name)
+taken_out store name are = record {
+  distinct = distinct_without name store are.distinct;
+  few = omega (arith, are.few, few_without name store);
+  tables = All-without (λ entry. IsTable entry.1) name store are.tables;
+}
+
 -- each statement
 
 inserts : (o : Option Table) (store : Store) (name : List ℕ) (listed : Option (List (List ℕ))) (rows : List Row) → IsStore store → table_of store name ≡ o → first_that_holds (over o (λ table. insert_tests (target_columns table.headers listed) rows table)) ≡ None → IsStore (with_table store name (with_rows listed rows))
@@ -148,9 +158,29 @@ inserts None store name listed rows are there none = cc
 inserts (Some table) store name listed rows are there none =
     changed store name (with_rows listed rows) table there (grown table listed rows (table_in store name table there are.tables) none) are
 
+updates : (o : Option Table) (store : Store) (name : List ℕ) (sets : List SetClause) (condition : Option ConditionTree) → IsStore store → table_of store name ≡ o → first_that_holds (over o (λ table. update_tests sets condition table)) ≡ None → IsStore (with_table store name (with_updates sets condition))
+updates None store name sets condition are there none = cc
+updates (Some table) store name sets condition are there none =
+    changed store name (with_updates sets condition) table there (updated_table table sets condition (table_in store name table there are.tables) none) are
+
+deletes : (o : Option Table) (store : Store) (name : List ℕ) (condition : Option ConditionTree) → IsStore store → table_of store name ≡ o → first_that_holds (over o (λ table. delete_tests condition table)) ≡ None → IsStore (with_table store name (without_found condition))
+deletes None store name condition are there none = cc
+deletes (Some table) store name condition are there none =
+    changed store name (without_found condition) table there (table_left table condition (table_in store name table there are.tables)) are
+
+rebuilds : (o : Option Table) (store : Store) (name : List ℕ) (choices : List LayoutChoice) → IsStore store → table_of store name ≡ o → first_that_holds (over o (λ table. rebuild_tests (chosen_columns choices) table)) ≡ None → IsStore (with_table store name (with_choices choices))
+rebuilds None store name choices are there none = cc
+rebuilds (Some table) store name choices are there none =
+    changed store name (with_choices choices) table there (chosen_table table choices (table_in store name table there are.tables)) are
+
 carried : (store : Store) (statement : StatementTree) → IsStore store → first_that_holds (tests_of store statement) ≡ None → IsStore (carried_out store statement).1
 carried store (create_table name columns) are none = made columns name store are (passes (map (λ c. c.name) columns) name store none)
+carried store (drop_table name) are none = taken_out store name are
+carried store list_tables are none = are
 carried store (insert name listed rows) are none = inserts (table_of store name) store name listed rows are refl none
+carried store (update name sets condition) are none = updates (table_of store name) store name sets condition are refl none
+carried store (delete name condition) are none = deletes (table_of store name) store name condition are refl none
+carried store (rebuild name choices) are none = rebuilds (table_of store name) store name choices are refl none
 carried store (select items name condition) are none = are
 
 after_first : (first : Option Refusal) (store : Store) (statement : StatementTree) → IsStore store → first_that_holds (tests_of store statement) ≡ first → IsStore (refused_or first store (carried_out store statement)).1

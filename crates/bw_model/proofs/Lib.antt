@@ -1,11 +1,14 @@
 pub mod Answered
 pub mod CellTexts
+pub mod Changed
 pub mod Commas
 pub mod ConditionLaws
 pub mod Cuts
+pub mod Dropped
 pub mod HeadingTexts
 pub mod Kept
 pub mod Lines
+pub mod Listed
 pub mod NameTexts
 pub mod Names
 pub mod Naming

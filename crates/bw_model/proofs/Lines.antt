@@ -83,6 +83,16 @@ All-map f w [] each = All-nil (λ row. length row ≡ w)
 All-map f w (row ∷ rows) each = All-cons (λ r. length r ≡ w) (f row) (map f rows) (each row) (All-map f w rows each)
 
 -- one line more
+module _ {A C : Type 0} (f : A → List C) where
+  pushed : (rows : List A) (row : A) → joined (map f (rows ++ row ∷ [])) ≡ joined (map f rows) ++ f row
+  pushed [] row = append-nil (f row)
+  pushed (first ∷ rows) row = ap (λ l. f first ++ l) (pushed rows row) ∙ sym (append_assoc (f first) (joined (map f rows)) (f row))
+
+  pub joined_next : (rows : List A) (i : ℕ) (row : A) → i < length rows → row ≡ get_or rows i row → joined (map f (take (i + 1) rows)) ≡ joined (map f (take i rows)) ++ f row
+  joined_next rows i row within at =
+      ap (λ l. joined (map f l)) (take_more rows i row within ∙ ap (λ r. take i rows ++ r ∷ []) (sym at)) ∙ pushed (take i rows) row
+
+-- one line more, of what is seen of a row
 module _ {A B C : Type 0} (f : B → List C) (v : A → B) where
   joined-push : (rows : List A) (row : A) → joined (map f (map v (rows ++ row ∷ []))) ≡ joined (map f (map v rows)) ++ f (v row)
   joined-push [] row = append-nil (f (v row))

@@ -1,19 +1,22 @@
 -- A step keeps the names of a store names.
-use Rattle.std.proofs.Common.{◌≡◌, inl, inr, ℕ, Bool, true, false, List, [], ◌∷◌, map, Option, None, Some, if◌then◌else◌, sym, ap, subst}
+use Rattle.std.proofs.Common.{◌≡◌, inl, inr, ℕ, Bool, true, false, List, [], ◌∷◌, map, Option, None, Some, if◌then◌else◌, refl, sym, ap, subst}
 use Rattle.std.specs.List.{All}
 use Rattle.std.specs.Str.{bytes_eq}
 use Rattle.std.proofs.lemmas.List.Elements.{All-cons, All-head, All-nil, All-push, All-tail}
 use Rattle.bw_sql.specs.Names.{IsName}
-use Rattle.bw_sql.specs.Tree.{StatementTree, create_table, insert, select}
+use Rattle.bw_sql.specs.Tree.{StatementTree, create_table, delete, drop_table, insert, list_tables, rebuild, select, update}
+use Rattle.bw_sql.specs.declared.tree.LayoutChoice.{LayoutChoice}
 use Rattle.bw_sql.specs.declared.tree.ColumnDefinition.{ColumnDefinition}
+use Rattle.bw_model.specs.Changes.{chosen_header, with_choices, with_updates, without_found}
 use Rattle.bw_model.specs.Insert.{with_rows}
 use Rattle.bw_sql.specs.Brought.{names_brought}
 use Rattle.bw_model.specs.Named.{AreNamed, HaveNames}
 use Rattle.bw_model.specs.Refusals.{first_that_holds, tests_of}
 use Rattle.bw_model.specs.Step.{Step, carried_out, refused_or, with_table}
-use Rattle.bw_model.specs.Store.{Row, Store, Table, header_of, table_of}
+use Rattle.bw_model.specs.Store.{Header, Store, Table, header_of, names, table_of, word_or}
 use Rattle.bw_model.specs.declared.refusal.Refusal.{Refusal}
 use Rattle.bw_model.specs.declared.reply.Reply.{Reply}
+use Rattle.bw_model.proofs.Dropped.{All-without}
 
 abbrev IsNamed : List ℕ × Table → Type 0
 IsNamed entry = IsName entry.0 × HaveNames entry.1.headers
@@ -32,23 +35,54 @@ named_columns (column ∷ columns) all =
     All-cons (λ header. IsName header.name) (header_of column) (map header_of columns) (All-head IsName column.name (map (λ c. c.name) columns) all)
     (named_columns columns (All-tail IsName column.name (map (λ c. c.name) columns) all))
 
--- rows are put into the table of an entry, or into one behind it
-put_in : (b : Bool) (entry : List ℕ × Table) (store changed : Store) (listed : Option (List (List ℕ))) (rows : List Row) → IsNamed entry → AreNamed store → AreNamed changed
-    → AreNamed (if b then (entry.0, with_rows listed rows entry.1) ∷ store else entry ∷ changed)
-put_in true entry store changed listed rows this others deeper = All-cons IsNamed (entry.0, with_rows listed rows entry.1) store this others
-put_in false entry store changed listed rows this others deeper = All-cons IsNamed entry changed this deeper
+-- a change of a table that keeps its columns' names
+abbrev KeepsNames : (Table → Table) → Type 0
+KeepsNames change = (table : Table) → HaveNames table.headers → HaveNames (change table).headers
 
-with_named : (store : Store) (name : List ℕ) (listed : Option (List (List ℕ))) (rows : List Row) → AreNamed store → AreNamed (with_table store name (with_rows listed rows))
-with_named [] name listed rows named = named
-with_named (entry ∷ store) name listed rows named =
-    let others = All-tail IsNamed entry store named in
-    put_in (bytes_eq name entry.0) entry store (with_table store name (with_rows listed rows)) listed rows (All-head IsNamed entry store named) others (with_named store name listed rows others)
+module _ (change : Table → Table) (keeps : KeepsNames change) where
+  -- the table of an entry is changed, or one behind it
+  put_in : (b : Bool) (entry : List ℕ × Table) (store changed : Store) → IsNamed entry → AreNamed store → AreNamed changed
+      → AreNamed (if b then (entry.0, change entry.1) ∷ store else entry ∷ changed)
+  put_in true entry store changed this others deeper = All-cons IsNamed (entry.0, change entry.1) store (this.0, keeps entry.1 this.1) others
+  put_in false entry store changed this others deeper = All-cons IsNamed entry changed this deeper
+
+  with_named : (store : Store) (name : List ℕ) → AreNamed store → AreNamed (with_table store name change)
+  with_named [] name named = named
+  with_named (entry ∷ store) name named =
+      let others = All-tail IsNamed entry store named in
+      put_in (bytes_eq name entry.0) entry store (with_table store name change) (All-head IsNamed entry store named) others (with_named store name others)
+
+-- a choice keeps the column's name
+chosen_name : (choices : List LayoutChoice) (header : Header) → (chosen_header choices header).name ≡ header.name
+chosen_name [] header = refl
+chosen_name (choice ∷ choices) header = by (bytes_eq header.name choice.column) (chosen_name choices header)
+  where
+    by : (b : Bool) → (chosen_header choices header).name ≡ header.name
+        → (if b then record { name = header.name; layout = choice.layout; kind = word_or choice.kind header.kind } else chosen_header choices header).name ≡ header.name
+    by true deeper = refl
+    by false deeper = deeper
+
+pub chosen_names : (choices : List LayoutChoice) (headers : List Header) → names (map (chosen_header choices) headers) ≡ names headers
+chosen_names choices [] = refl
+chosen_names choices (header ∷ headers) = (λ j. chosen_name choices header j ∷ chosen_names choices headers j)
+
+chosen_named : (choices : List LayoutChoice) (headers : List Header) → HaveNames headers → HaveNames (map (chosen_header choices) headers)
+chosen_named choices [] named = All-nil (λ header. IsName header.name)
+chosen_named choices (header ∷ headers) named =
+    All-cons (λ h. IsName h.name) (chosen_header choices header) (map (chosen_header choices) headers)
+    (subst IsName (sym (chosen_name choices header)) (All-head (λ h. IsName h.name) header headers named))
+    (chosen_named choices headers (All-tail (λ h. IsName h.name) header headers named))
 
 carried : (store : Store) (statement : StatementTree) → AreNamed store → All IsName (names_brought statement) → AreNamed (carried_out store statement).1
 carried store (create_table name columns) named brought =
     All-push IsNamed store (name, record { headers = map header_of columns; rows = [] }) named
     (All-head IsName name (map (λ c. c.name) columns) brought, named_columns columns (All-tail IsName name (map (λ c. c.name) columns) brought))
-carried store (insert name listed rows) named brought = with_named store name listed rows named
+carried store (drop_table name) named brought = All-without IsNamed name store named
+carried store list_tables named brought = named
+carried store (insert name listed rows) named brought = with_named (with_rows listed rows) (λ table kept. kept) store name named
+carried store (update name sets condition) named brought = with_named (with_updates sets condition) (λ table kept. kept) store name named
+carried store (delete name condition) named brought = with_named (without_found condition) (λ table kept. kept) store name named
+carried store (rebuild name choices) named brought = with_named (with_choices choices) (λ table kept. chosen_named choices table.headers kept) store name named
 carried store (select items name condition) named brought = named
 
 after_first : (first : Option Refusal) (store : Store) (statement : StatementTree) → AreNamed store → All IsName (names_brought statement) → AreNamed (refused_or first store (carried_out store statement)).1

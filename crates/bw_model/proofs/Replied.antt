@@ -1,5 +1,5 @@
 -- Each reply of a step is one that its text tells.
-use Rattle.std.proofs.Common.{◌≡◌, inl, inr, ℕ, ℤ, pos, negsuc, ◌+◌, ◌<◌, ◌^◌, Bool, true, false, not, is_some, IsTrue, FitsSigned, List, [], ◌∷◌, get_or, length, map, filter, Option, None, Some, if◌then◌else◌, zero, suc, refl, sym, ap, subst, arith}
+use Rattle.std.proofs.Common.{◌≡◌, inl, inr, ℕ, ℤ, pos, negsuc, ◌+◌, ◌<◌, ◌≤◌, ◌^◌, Bool, true, false, not, is_some, FitsSigned, List, [], ◌∷◌, get_or, length, map, filter, Option, None, Some, if◌then◌else◌, refl, sym, ap, subst, arith}
 use Rattle.std.specs.Int.{w128}
 use Rattle.std.specs.List.{All, list_any}
 use Rattle.std.specs.Str.{bytes_eq}
@@ -8,23 +8,27 @@ use Rattle.std.proofs.lemmas.List.Elements.{All-cons, All-filter, All-get_or, Al
 use Rattle.std.proofs.lemmas.List.Quantifiers.{position-Some}
 use Rattle.std.proofs.lemmas.Slice.Eq.{bytes_eq-Decides}
 use Rattle.bw_sql.specs.Names.{IsName}
-use Rattle.bw_sql.specs.Tree.{ConditionTree, ItemsTree, StatementTree, all_columns, columns, create_table, insert, select}
+use Rattle.bw_sql.specs.Tree.{ConditionTree, ItemsTree, StatementTree, all_columns, columns, create_table, delete, drop_table, insert, list_tables, rebuild, select, update}
 use Rattle.bw_sql.specs.declared.tree.LayoutWord.TheVariants.{V}
 use Rattle.bw_sql.specs.declared.tree.KindWord.TheVariants.{Offset}
-use Rattle.bw_model.specs.Condition.{is_found}
+use Rattle.bw_model.specs.Condition.{found_rows, is_found}
 use Rattle.bw_model.specs.Insert.{target_columns}
+use Rattle.bw_model.specs.Listing.{listing, table_line}
 use Rattle.bw_model.specs.Named.{AreNamed, HaveNames}
-use Rattle.bw_model.specs.Refusals.{Tests, first_that_holds, insert_tests, is_in_range, is_missing, over, select_tests, tests_of}
+use Rattle.bw_model.specs.Refusals.{Tests, chosen_columns, delete_tests, first_that_holds, insert_tests, is_in_range, is_missing, over, rebuild_tests, select_tests, tests_of, update_tests}
 use Rattle.bw_model.specs.Select.{answer, line_of, shown, shown_columns}
 use Rattle.bw_model.specs.Step.{Step, carried_out, refused_or, table_or_none}
-use Rattle.bw_model.specs.Store.{Header, Row, Store, Table, Value, place_of, row_limit, table_of, value_at, value_from}
+use Rattle.bw_model.specs.Store.{Header, Row, Store, Table, Value, place_of, row_limit, table_of, value_from}
 use Rattle.bw_model.specs.Told.{IsCell, IsHeading, IsRefusal, IsReply}
 use Rattle.bw_model.specs.WellFormed.{IsRow, IsStore, IsTable}
-use Rattle.bw_model.specs.declared.answer.Heading.TheVariants.{Column}
+use Rattle.bw_model.specs.declared.answer.Cell.TheVariants.{Name, Number}
+use Rattle.bw_model.specs.declared.answer.Heading.TheVariants.{Column, Columns}
+use Rattle.bw_model.specs.declared.answer.Heading.TheVariants.{Table as Table', Rows as Rows'}
 use Rattle.bw_model.specs.declared.refusal.Refusal.{Refusal}
 use Rattle.bw_model.specs.declared.reply.Reply.{Reply}
 use Rattle.bw_model.specs.declared.reply.Reply.TheVariants.{Rows}
-use Rattle.bw_model.proofs.Kept.{everywhere, table_in}
+use Rattle.bw_model.proofs.Changed.{everywhere, few_found, place_fits}
+use Rattle.bw_model.proofs.Kept.{table_in}
 use Rattle.bw_model.proofs.Naming.{named_in}
 use Rattle.bw_model.proofs.Passing.{neither, none_holds, two}
 
@@ -48,8 +52,14 @@ plain_over (Some table) tests each = each table
 
 plain_tests : (store : Store) (statement : StatementTree) → ArePlain (tests_of store statement)
 plain_tests store (create_table name definitions) = (tt, (tt, (tt, tt)))
+plain_tests store (drop_table name) = plain_over (table_of store name) (λ table. []) (λ table. tt)
+plain_tests store list_tables = tt
 plain_tests store (insert name listed rows) =
     plain_over (table_of store name) (λ table. insert_tests (target_columns table.headers listed) rows table) (λ table. (tt, (tt, (tt, (tt, (tt, tt))))))
+plain_tests store (update name sets condition) =
+    plain_over (table_of store name) (λ table. update_tests sets condition table) (λ table. (tt, (tt, (tt, (tt, (tt, (tt, tt)))))))
+plain_tests store (delete name condition) = plain_over (table_of store name) (λ table. delete_tests condition table) (λ table. (tt, (tt, tt)))
+plain_tests store (rebuild name choices) = plain_over (table_of store name) (λ table. rebuild_tests (chosen_columns choices) table) (λ table. (tt, (tt, tt)))
 plain_tests store (select items name condition) =
     plain_over (table_of store name) (λ table. select_tests (shown_columns table.headers items) condition table) (λ table. (tt, (tt, (tt, tt))))
 
@@ -62,18 +72,6 @@ integer_fits (negsuc n) e = let few = leb-true n 2147483647 (two _ _ e).0 in ome
 cell_fits : (value : Value) → is_in_range value ≡ true → IsCell (shown value)
 cell_fits None e = tt
 cell_fits (Some n) e = integer_fits n e
-
-abbrev AreIntegers : Row → Type 0
-AreIntegers row = All (λ value. IsTrue (is_in_range value)) row
-
-value_fits : (row : Row) (place : ℕ) → AreIntegers row → is_in_range (value_at row place) ≡ true
-value_fits [] place all = refl
-value_fits (value ∷ row) zero all = All-head (λ v. IsTrue (is_in_range v)) value row all
-value_fits (value ∷ row) (suc place) all = value_fits row place (All-tail (λ v. IsTrue (is_in_range v)) value row all)
-
-place_fits : (row : Row) (place : Option ℕ) → AreIntegers row → is_in_range (value_from row place) ≡ true
-place_fits row None all = refl
-place_fits row (Some place) all = value_fits row place all
 
 line_fits : (headers : List Header) (list : List (List ℕ)) (row : Row) → IsRow headers row → All IsCell (line_of headers list row)
 line_fits headers list row is =
@@ -126,9 +124,42 @@ counts (Some table) listed rows none =
     let p = none_holds (insert_tests (target_columns table.headers listed) rows table) none in
     let few = ltb-false row_limit (length table.rows + length rows) p.1.1.1.1.0 in omega (arith, few)
 
+-- a list of tables
+few_fits : (n : ℕ) → n ≤ row_limit → FitsSigned w128 (pos n)
+few_fits n few = omega (arith, few)
+
+lines_told : (store : Store) → All (λ entry. IsTable entry.1) store → AreNamed store → All (All IsCell) (map table_line store)
+lines_told [] are named = All-nil (All IsCell)
+lines_told (entry ∷ store) are named =
+    let table = All-head (λ e. IsTable e.1) entry store are in
+    let name = All-head (λ e. IsName e.0 × HaveNames e.1.headers) entry store named in
+    let columns = few_fits (length entry.1.headers) (omega (arith, table.headers.few)) in
+    let rows = few_fits (length entry.1.rows) table.few in
+    All-cons (All IsCell) (table_line entry) (map table_line store)
+    (All-cons IsCell (Name entry.0) (Number (pos (length entry.1.headers)) ∷ Number (pos (length entry.1.rows)) ∷ []) name.0
+    (All-cons IsCell (Number (pos (length entry.1.headers))) (Number (pos (length entry.1.rows)) ∷ []) columns
+    (All-cons IsCell (Number (pos (length entry.1.rows))) [] rows (All-nil IsCell))))
+    (lines_told store (All-tail (λ e. IsTable e.1) entry store are) (All-tail (λ e. IsName e.0 × HaveNames e.1.headers) entry store named))
+
+lists : (store : Store) → All (λ entry. IsTable entry.1) store → AreNamed store → IsReply (Rows (listing store))
+lists store are named = (
+  All-cons IsHeading Table' (Columns ∷ Rows' ∷ []) tt (All-cons IsHeading Columns (Rows' ∷ []) tt (All-cons IsHeading Rows' [] tt (All-nil IsHeading))),
+  lines_told store are named,
+)
+
+-- how many rows are found
+found_fits : (there : Option Table) (condition : Option ConditionTree) → ((table : Table) → there ≡ Some table → IsTable table) → length (found_rows (table_or_none there) condition) < 2 ^ 64
+found_fits None condition is = omega arith
+found_fits (Some table) condition is = let t = is table refl in omega (arith, few_found table condition, t.few)
+
 carries_out : (store : Store) (statement : StatementTree) → IsStore store → AreNamed store → first_that_holds (tests_of store statement) ≡ None → IsReply (carried_out store statement).0
 carries_out store (create_table name definitions) are named none = tt
+carries_out store (drop_table name) are named none = tt
+carries_out store list_tables are named none = lists store are.tables named
 carries_out store (insert name listed rows) are named none = counts (table_of store name) listed rows none
+carries_out store (update name sets condition) are named none = found_fits (table_of store name) condition (λ table there. table_in store name table there are.tables)
+carries_out store (delete name condition) are named none = found_fits (table_of store name) condition (λ table there. table_in store name table there are.tables)
+carries_out store (rebuild name choices) are named none = tt
 carries_out store (select items name condition) are named none =
     selects (table_of store name) items condition (λ table there. (table_in store name table there are.tables, named_in store name table there named)) none
 

@@ -5,11 +5,15 @@ use Rattle.std.specs.Str.{bytes_eq}
 use Rattle.std.proofs.lemmas.Bool.{ltb-false, true≢false}
 use Rattle.std.proofs.lemmas.List.{set-get_or}
 use Rattle.std.proofs.lemmas.List.Quantifiers.{position-Some}
-use Rattle.bw_sql.specs.Tree.{StatementTree, create_table, insert}
+use Rattle.bw_sql.specs.Tree.{ConditionTree, StatementTree, create_table, delete, insert, rebuild, update}
+use Rattle.bw_sql.specs.declared.tree.LayoutChoice.{LayoutChoice}
+use Rattle.bw_sql.specs.declared.tree.SetClause.{SetClause}
 use Rattle.bw_sql.specs.declared.tree.ColumnDefinition.{ColumnDefinition}
+use Rattle.bw_model.specs.Changes.{with_choices, with_updates, without_found}
+use Rattle.bw_model.specs.Condition.{found_rows}
 use Rattle.bw_model.specs.Insert.{target_columns, with_rows}
-use Rattle.bw_model.specs.Refusals.{Tests, create_tests, first_that_holds, insert_tests, over, tests_of}
-use Rattle.bw_model.specs.Step.{carried_out, outcome_of, refused_or, with_table}
+use Rattle.bw_model.specs.Refusals.{Tests, chosen_columns, create_tests, delete_tests, first_that_holds, insert_tests, over, rebuild_tests, tests_of, update_tests}
+use Rattle.bw_model.specs.Step.{carried_out, outcome_of, refused_or, table_or_none, with_table}
 use Rattle.bw_model.specs.Store.{Header, Row, Store, Table, header_of, names, table_of}
 use Rattle.bw_model.specs.declared.refusal.Refusal.{Refusal}
 use Rattle.bw_model.specs.declared.refusal.Refusal.TheVariants.{NoSuchTable}
@@ -80,25 +84,68 @@ module _ (name : List ℕ) where
       let n = position_or_len (λ x. bytes_eq name x.0) store in
       absent_past store (ltb-false n (length store) (none_if (ltb n (length store)) n e))
 
--- rows put into the table at its place
-module _ (store : Store) (name : List ℕ) (listed : Option (List (List ℕ))) (rows : List Row) where
-  by_first : (first : Option Refusal) (i : ℕ) (entry : List ℕ × Table) (new : Table) (reply : Reply) → first_that_holds (tests_of store (insert name listed rows)) ≡ first → Found name (with_rows listed rows) store i entry → set store i entry ≡ store
-      → MatchOption first ((reply ≡ Count (length rows)) × (new ≡ with_rows listed rows entry.1)) (λ refusal. (reply ≡ Refused refusal) × (new ≡ entry.1))
-      → ◌≡◌ {A = Reply × Store} (reply, set store i (entry.0, new)) (outcome_of store (insert name listed rows))
+-- a statement over a table that is changed at its place
+module _ (store : Store) (name : List ℕ) (statement : StatementTree) (tests : Table → Tests) (says : Table → Reply) (change : Table → Table)
+    (tested : tests_of store statement ≡ over (table_of store name) tests)
+    (carries : ◌≡◌ {A = Reply × Store} (carried_out store statement) (says (table_or_none (table_of store name)), with_table store name change)) where
+  by_first : (first : Option Refusal) (i : ℕ) (entry : List ℕ × Table) (new : Table) (reply : Reply) → first_that_holds (tests_of store statement) ≡ first → Found name change store i entry → set store i entry ≡ store
+      → MatchOption first ((reply ≡ says entry.1) × (new ≡ change entry.1)) (λ refusal. (reply ≡ Refused refusal) × (new ≡ entry.1))
+      → ◌≡◌ {A = Reply × Store} (reply, set store i (entry.0, new)) (outcome_of store statement)
   by_first None i entry new reply is at same h =
-      (λ j. (h.0 j, set store i (entry.0, h.1 j))) ∙ ap (λ s. (Count (length rows), s)) at.changed ∙ sym (outcome_is store (insert name listed rows) None is)
+      (λ j. (h.0 j, set store i (entry.0, h.1 j))) ∙ (λ j. (says (table_or_none (sym at.there j)), at.changed j)) ∙ sym carries ∙ sym (outcome_is store statement None is)
   by_first (Some refusal) i entry new reply is at same h =
-      (λ j. (h.0 j, set store i (entry.0, h.1 j))) ∙ ap (λ s. (Refused refusal, s)) same ∙ sym (outcome_is store (insert name listed rows) (Some refusal) is)
+      (λ j. (h.0 j, set store i (entry.0, h.1 j))) ∙ ap (λ s. (Refused refusal, s)) same ∙ sym (outcome_is store statement (Some refusal) is)
+
+  pub changed_at : {E : Type 0} (i : ℕ) (d : List ℕ × Table) (new : Table) (r : Result Reply E) → position (λ e. bytes_eq name e.0) store ≡ Some i → d ≡ get_or store i d
+      → IfOk r (λ reply. MatchOption (first_that_holds (tests (get_or store i d).1)) ((reply ≡ says (get_or store i d).1) × (new ≡ change (get_or store i d).1)) (λ refusal. (reply ≡ Refused refusal) × (new ≡ (get_or store i d).1)))
+      → IfOk r (λ reply. ◌≡◌ {A = Reply × Store} (reply, set store i ((get_or store i d).0, new)) (outcome_of store statement))
+  changed_at i d new (Err e) place at h = tt
+  changed_at i d new (Ok reply) place at h =
+      let entry = get_or store i d in
+      let there = found name change store i entry place (ap (get_or store i) at) in
+      by_first (first_that_holds (tests entry.1)) i entry new reply
+      (ap first_that_holds tested ∙ ap (λ o. first_that_holds (over o tests)) there.there) there (set-get_or store i d) h
+
+  pub no_table : table_of store name ≡ None → ◌≡◌ {A = Reply × Store} (Refused NoSuchTable, store) (outcome_of store statement)
+  no_table none = sym (outcome_is store statement (Some NoSuchTable) (ap first_that_holds tested ∙ ap (λ o. first_that_holds (over o tests)) none))
+
+-- each such statement
+
+module _ (store : Store) (name : List ℕ) (listed : Option (List (List ℕ))) (rows : List Row) where
+  abbrev Inserts : Table → Tests
+  Inserts table = insert_tests (target_columns table.headers listed) rows table
 
   pub inserted : {E : Type 0} (i : ℕ) (d : List ℕ × Table) (new : Table) (r : Result Reply E) → position (λ e. bytes_eq name e.0) store ≡ Some i → d ≡ get_or store i d
       → IfOk r (λ reply. MatchOption (first_that_holds (insert_tests (target_columns (get_or store i d).1.headers listed) rows (get_or store i d).1)) ((reply ≡ Count (length rows)) × (new ≡ with_rows listed rows (get_or store i d).1)) (λ refusal. (reply ≡ Refused refusal) × (new ≡ (get_or store i d).1)))
       → IfOk r (λ reply. ◌≡◌ {A = Reply × Store} (reply, set store i ((get_or store i d).0, new)) (outcome_of store (insert name listed rows)))
-  inserted i d new (Err e) place at h = tt
-  inserted i d new (Ok reply) place at h =
-      let entry = get_or store i d in
-      let there = found name (with_rows listed rows) store i entry place (ap (get_or store i) at) in
-      by_first (first_that_holds (insert_tests (target_columns entry.1.headers listed) rows entry.1)) i entry new reply
-      (ap (λ o. first_that_holds (over o (λ table. insert_tests (target_columns table.headers listed) rows table))) there.there) there (set-get_or store i d) h
+  inserted = changed_at store name (insert name listed rows) Inserts (λ table. Count (length rows)) (with_rows listed rows) refl refl
 
-  pub no_table : table_of store name ≡ None → ◌≡◌ {A = Reply × Store} (Refused NoSuchTable, store) (outcome_of store (insert name listed rows))
-  no_table none = sym (outcome_is store (insert name listed rows) (Some NoSuchTable) (ap (λ o. first_that_holds (over o (λ table. insert_tests (target_columns table.headers listed) rows table))) none))
+  pub not_inserted : table_of store name ≡ None → ◌≡◌ {A = Reply × Store} (Refused NoSuchTable, store) (outcome_of store (insert name listed rows))
+  not_inserted = no_table store name (insert name listed rows) Inserts (λ table. Count (length rows)) (with_rows listed rows) refl refl
+
+module _ (store : Store) (name : List ℕ) (sets : List SetClause) (condition : Option ConditionTree) where
+  pub updated : {E : Type 0} (i : ℕ) (d : List ℕ × Table) (new : Table) (r : Result Reply E) → position (λ e. bytes_eq name e.0) store ≡ Some i → d ≡ get_or store i d
+      → IfOk r (λ reply. MatchOption (first_that_holds (update_tests sets condition (get_or store i d).1)) ((reply ≡ Count (length (found_rows (get_or store i d).1 condition))) × (new ≡ with_updates sets condition (get_or store i d).1)) (λ refusal. (reply ≡ Refused refusal) × (new ≡ (get_or store i d).1)))
+      → IfOk r (λ reply. ◌≡◌ {A = Reply × Store} (reply, set store i ((get_or store i d).0, new)) (outcome_of store (update name sets condition)))
+  updated = changed_at store name (update name sets condition) (update_tests sets condition) (λ table. Count (length (found_rows table condition))) (with_updates sets condition) refl refl
+
+  pub not_updated : table_of store name ≡ None → ◌≡◌ {A = Reply × Store} (Refused NoSuchTable, store) (outcome_of store (update name sets condition))
+  not_updated = no_table store name (update name sets condition) (update_tests sets condition) (λ table. Count (length (found_rows table condition))) (with_updates sets condition) refl refl
+
+module _ (store : Store) (name : List ℕ) (condition : Option ConditionTree) where
+  pub deleted : {E : Type 0} (i : ℕ) (d : List ℕ × Table) (new : Table) (r : Result Reply E) → position (λ e. bytes_eq name e.0) store ≡ Some i → d ≡ get_or store i d
+      → IfOk r (λ reply. MatchOption (first_that_holds (delete_tests condition (get_or store i d).1)) ((reply ≡ Count (length (found_rows (get_or store i d).1 condition))) × (new ≡ without_found condition (get_or store i d).1)) (λ refusal. (reply ≡ Refused refusal) × (new ≡ (get_or store i d).1)))
+      → IfOk r (λ reply. ◌≡◌ {A = Reply × Store} (reply, set store i ((get_or store i d).0, new)) (outcome_of store (delete name condition)))
+  deleted = changed_at store name (delete name condition) (delete_tests condition) (λ table. Count (length (found_rows table condition))) (without_found condition) refl refl
+
+  pub not_deleted : table_of store name ≡ None → ◌≡◌ {A = Reply × Store} (Refused NoSuchTable, store) (outcome_of store (delete name condition))
+  not_deleted = no_table store name (delete name condition) (delete_tests condition) (λ table. Count (length (found_rows table condition))) (without_found condition) refl refl
+
+module _ (store : Store) (name : List ℕ) (choices : List LayoutChoice) where
+  pub rebuilt : {E : Type 0} (i : ℕ) (d : List ℕ × Table) (new : Table) (r : Result Reply E) → position (λ e. bytes_eq name e.0) store ≡ Some i → d ≡ get_or store i d
+      → IfOk r (λ reply. MatchOption (first_that_holds (rebuild_tests (chosen_columns choices) (get_or store i d).1)) ((reply ≡ Done) × (new ≡ with_choices choices (get_or store i d).1)) (λ refusal. (reply ≡ Refused refusal) × (new ≡ (get_or store i d).1)))
+      → IfOk r (λ reply. ◌≡◌ {A = Reply × Store} (reply, set store i ((get_or store i d).0, new)) (outcome_of store (rebuild name choices)))
+  rebuilt = changed_at store name (rebuild name choices) (rebuild_tests (chosen_columns choices)) (λ table. Done) (with_choices choices) refl refl
+
+  pub not_rebuilt : table_of store name ≡ None → ◌≡◌ {A = Reply × Store} (Refused NoSuchTable, store) (outcome_of store (rebuild name choices))
+  not_rebuilt = no_table store name (rebuild name choices) (rebuild_tests (chosen_columns choices)) (λ table. Done) (with_choices choices) refl refl

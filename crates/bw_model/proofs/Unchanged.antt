@@ -1,6 +1,6 @@
 -- A refusal changes nothing.
 use Rattle.std.proofs.Common.{◌≡◌, ◌∙◌, inl, inr, ap, Option, None, Some}
-use Rattle.bw_sql.specs.Tree.{StatementTree, create_table, insert, select}
+use Rattle.bw_sql.specs.Tree.{StatementTree, create_table, delete, drop_table, insert, list_tables, rebuild, select, update}
 use Rattle.bw_model.specs.Refusals.{first_that_holds, tests_of}
 use Rattle.bw_model.specs.Step.{Step, carried_out, refused_or}
 use Rattle.bw_model.specs.Store.{Store}
@@ -10,7 +10,12 @@ use Rattle.bw_model.specs.declared.reply.Reply.TheVariants.{Refused}
 
 never_refuses : (store : Store) (statement : StatementTree) (refusal : Refusal) → Refused refusal ≡ (carried_out store statement).0 → ⊥
 never_refuses store (create_table name columns) refusal e = cc
+never_refuses store (drop_table name) refusal e = cc
+never_refuses store list_tables refusal e = cc
 never_refuses store (insert name listed rows) refusal e = cc
+never_refuses store (update name sets condition) refusal e = cc
+never_refuses store (delete name condition) refusal e = cc
+never_refuses store (rebuild name choices) refusal e = cc
 never_refuses store (select items name condition) refusal e = cc
 
 by_first : (first : Option Refusal) (store after : Store) (statement : StatementTree) (refusal : Refusal) → ◌≡◌ {A = Reply × Store} (Refused refusal, after) (refused_or first store (carried_out store statement)) → after ≡ store

@@ -1,6 +1,8 @@
 pub mod Answers
+pub mod Changes
 pub mod Condition
 pub mod Insert
+pub mod Listing
 pub mod Named
 pub mod Refusals
 pub mod ReplyText

@@ -1,12 +1,14 @@
 -- Why a statement is refused: for each statement the refusals in their order, and the first that holds (SQL-92, the syntax rules
--- of table definition, insert statement and query specification, and limits of this product's own).
+-- of table definition, drop table statement, insert statement, searched update and delete statements and query specification, and limits of this product's own).
 use Rattle.std.specs.Prelude.{ℕ, ◌+◌, ◌==◌, Bool, true, false, ◌||◌, ◌&&◌, not, nat_le, nat_lt, int_le, pos, negsuc, List, [], ◌∷◌, Option, Some, None, is_some, length, map, if◌then◌else◌}
 use Rattle.std.specs.List.{list_all, list_any}
 use Rattle.bw_lex.specs.declared.fault.SqlFault.{SqlFault}
 use Rattle.bw_lex.specs.declared.fault.SqlFault.TheVariants as fault
-use Rattle.bw_sql.specs.Tree.{ConditionTree, ConditionTrees, StatementTree, among, between, comparison, create_table, each_of, insert, more, negated, none, null, select, some_of, tested}
+use Rattle.bw_sql.specs.Tree.{ConditionTree, ConditionTrees, StatementTree, among, between, comparison, create_table, delete, drop_table, each_of, insert, list_tables, more, negated, none, null, rebuild, select, some_of, tested, update}
+use Rattle.bw_sql.specs.declared.tree.LayoutChoice.{LayoutChoice}
 use Rattle.bw_sql.specs.declared.tree.Operand.{Operand}
 use Rattle.bw_sql.specs.declared.tree.Operand.TheVariants.{Column, Constant}
+use Rattle.bw_sql.specs.declared.tree.SetClause.{SetClause}
 use Rattle.bw_model.specs.Insert.{target_columns}
 use Rattle.bw_model.specs.Select.{shown_columns}
 use Rattle.bw_model.specs.Store.{Header, Row, Store, Table, Value, are_distinct, column_limit, place_of, row_limit, table_limit, table_of}
@@ -105,6 +107,41 @@ insert_tests columns rows table =
     ∷ (refusal.TableFull, nat_lt row_limit (length table.rows + length rows))
     ∷ []
 
+-- whether a column may be set to this; a column's values are INTEGER
+abbrev pub may_be_set : Operand → Bool
+may_be_set (Column name) = true
+may_be_set (Constant value) = is_in_range value
+
+-- the columns on the left sides
+abbrev pub set_columns : List SetClause → List (List ℕ)
+set_columns sets = map (λ set. set.column) sets
+
+abbrev pub update_tests : List SetClause → Option ConditionTree → Table → Tests
+update_tests sets condition table =
+    (refusal.NoSuchColumn, list_any (is_missing table.headers) (set_columns sets))
+    ∷ (refusal.NoSuchColumn, list_any (λ set. operand_is_missing table.headers set.source) sets)
+    ∷ (refusal.NoSuchColumn, condition_misses table.headers condition)
+    ∷ (refusal.ColumnNamedTwice, not (are_distinct (set_columns sets)))
+    ∷ (refusal.OverLimit, lists_too_long condition)
+    ∷ (refusal.OutOfRange, not (list_all (λ set. may_be_set set.source) sets))
+    ∷ []
+
+abbrev pub delete_tests : Option ConditionTree → Table → Tests
+delete_tests condition table =
+    (refusal.NoSuchColumn, condition_misses table.headers condition)
+    ∷ (refusal.OverLimit, lists_too_long condition)
+    ∷ []
+
+-- the columns that are to be laid anew
+abbrev pub chosen_columns : List LayoutChoice → List (List ℕ)
+chosen_columns choices = map (λ choice. choice.column) choices
+
+abbrev pub rebuild_tests : List (List ℕ) → Table → Tests
+rebuild_tests columns table =
+    (refusal.NoSuchColumn, list_any (is_missing table.headers) columns)
+    ∷ (refusal.ColumnNamedTwice, not (are_distinct columns))
+    ∷ []
+
 abbrev pub select_tests : List (List ℕ) → Option ConditionTree → Table → Tests
 select_tests columns condition table =
     (refusal.NoSuchColumn, list_any (is_missing table.headers) columns)
@@ -115,5 +152,10 @@ select_tests columns condition table =
 -- a statement's tests
 abbrev pub tests_of : Store → StatementTree → Tests
 tests_of store (create_table name columns) = create_tests (map (λ c. c.name) columns) name store
+tests_of store (drop_table name) = over (table_of store name) (λ table. [])
+tests_of store list_tables = []
 tests_of store (insert name listed rows) = over (table_of store name) (λ table. insert_tests (target_columns table.headers listed) rows table)
+tests_of store (update name sets condition) = over (table_of store name) (λ table. update_tests sets condition table)
+tests_of store (delete name condition) = over (table_of store name) (λ table. delete_tests condition table)
+tests_of store (rebuild name choices) = over (table_of store name) (λ table. rebuild_tests (chosen_columns choices) table)
 tests_of store (select items name condition) = over (table_of store name) (λ table. select_tests (shown_columns table.headers items) condition table)

@@ -1,8 +1,12 @@
 -- What a statement does: the reply and the store after it (SQL-92, the general rules of the statements).
 use Rattle.std.specs.Prelude.{◌≡◌, ◌⊎◌, ℕ, List, [], ◌∷◌, ◌++◌, Option, Some, None, length, map, if◌then◌else◌}
+use Rattle.std.specs.Map.{remove_entry}
 use Rattle.std.specs.Str.{bytes_eq}
-use Rattle.bw_sql.specs.Tree.{StatementTree, create_table, insert, select}
+use Rattle.bw_sql.specs.Tree.{StatementTree, create_table, delete, drop_table, insert, list_tables, rebuild, select, update}
+use Rattle.bw_model.specs.Changes.{with_choices, with_updates, without_found}
+use Rattle.bw_model.specs.Condition.{found_rows}
 use Rattle.bw_model.specs.Insert.{with_rows}
+use Rattle.bw_model.specs.Listing.{listing}
 use Rattle.bw_model.specs.Refusals.{first_that_holds, tests_of}
 use Rattle.bw_model.specs.Select.{answer}
 use Rattle.bw_model.specs.Store.{Store, Table, header_of, table_of}
@@ -21,10 +25,19 @@ abbrev pub with_table : Store → List ℕ → (Table → Table) → Store
 with_table [] name change = []
 with_table (entry ∷ store) name change = if bytes_eq name entry.0 then (entry.0, change entry.1) ∷ store else entry ∷ with_table store name change
 
+-- the store without the table of this name; the others keep their order
+abbrev pub without_table : Store → List ℕ → Store
+without_table store name = remove_entry (bytes_eq name) store
+
 -- the reply and the store after a statement that isn't refused
 abbrev pub carried_out : Store → StatementTree → Reply × Store
 carried_out store (create_table name columns) = (Done, store ++ (name, record { headers = map header_of columns; rows = [] }) ∷ [])
+carried_out store (drop_table name) = (Done, without_table store name)
+carried_out store list_tables = (Rows (listing store), store)
 carried_out store (insert name listed rows) = (Count (length rows), with_table store name (with_rows listed rows))
+carried_out store (update name sets condition) = (Count (length (found_rows (table_or_none (table_of store name)) condition)), with_table store name (with_updates sets condition))
+carried_out store (delete name condition) = (Count (length (found_rows (table_or_none (table_of store name)) condition)), with_table store name (without_found condition))
+carried_out store (rebuild name choices) = (Done, with_table store name (with_choices choices))
 carried_out store (select items name condition) = (Rows (answer (table_or_none (table_of store name)) items condition), store)
 
 -- a refusal changes nothing

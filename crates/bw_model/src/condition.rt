@@ -35,7 +35,7 @@ fn compared(op: CompareOp, left: Value, right: Value) -> TruthValue
     }
 }
 
-fn value_of(headers: &[Header], row: &Row, operand: &Operand) -> Value
+pub(crate) fn value_of(headers: &[Header], row: &Row, operand: &Operand) -> Value
     ensures { result ≡ value_of headers.now row.now operand.now }
 {
     match operand {
@@ -113,7 +113,7 @@ pub fn truth_at(headers: &[Header], row: &Row, condition: &Condition) -> TruthVa
 }
 
 /// Every row is found where there is no condition.
-fn is_found(headers: &[Header], condition: &Option<Condition>, row: &Row) -> bool
+pub(crate) fn is_found(headers: &[Header], condition: &Option<Condition>, row: &Row) -> bool
     ensures { result ≡ is_found headers.now (option_map condition_of condition.now) row.now }
 {
     match condition {

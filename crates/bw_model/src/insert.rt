@@ -9,7 +9,7 @@ use bw_sql::{Name, NameList, Value, ValueRows};
 use std::alloc::{AllocError, Global};
 
 /// The columns that the values are for: where none is listed, all of them in order.
-pub fn target_columns(
+pub(crate) fn target_columns(
     alloc: Global,
     headers: &[Header],
     listed: &Option<NameList>,
@@ -23,7 +23,7 @@ pub fn target_columns(
 }
 
 /// The same names.
-pub fn copied(alloc: Global, names: &[Name]) -> Result<Vec<Name>, AllocError>
+pub(crate) fn copied(alloc: Global, names: &[Name]) -> Result<Vec<Name>, AllocError>
     ensures { IfOk result (λ list. list.items ≡ names.now) }
 {
     let mut list = Vec::new(alloc);
@@ -56,7 +56,7 @@ fn place_among(list: &[Name], name: &Name) -> Option<usize>
 }
 
 /// The rows of these values, in order.
-pub fn rows_for(
+pub(crate) fn rows_for(
     alloc: Global,
     headers: &[Header],
     list: &[Name],
@@ -72,7 +72,7 @@ pub fn rows_for(
 }
 
 /// The rows of a VALUES list.
-pub fn rows_of(alloc: Global, rows: &ValueRows) -> Result<Vec<Row>, AllocError>
+pub(crate) fn rows_of(alloc: Global, rows: &ValueRows) -> Result<Vec<Row>, AllocError>
     ensures { IfOk result (λ list. list.items ≡ rows.now) }
 {
     let mut list = Vec::new(alloc);

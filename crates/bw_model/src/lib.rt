@@ -2,10 +2,12 @@
 #![tactic(auto)]
 
 mod answer;
+mod changes;
 mod condition;
 mod condition_laws;
 mod insert;
 mod laws;
+mod listing;
 mod refusal;
 mod refusals;
 mod reply;

@@ -2,13 +2,13 @@
 
 ghost use Rattle.std.specs.Prelude.{◌≡◌, ◌==◌, ◌||◌, length, nat_le, nat_lt, option_map};
 ghost use Rattle.std.specs.List.{list_all, list_any};
-ghost use Rattle.bw_model.specs.Refusals.{condition_misses, create_tests, first_that_holds, has_long_list, insert_tests, is_in_range, is_missing, lists_too_long, names_missing, operand_is_missing, select_tests};
+ghost use Rattle.bw_model.specs.Refusals.{condition_misses, create_tests, first_that_holds, has_long_list, delete_tests, insert_tests, is_in_range, is_missing, lists_too_long, may_be_set, names_missing, operand_is_missing, rebuild_tests, select_tests, set_columns, update_tests};
 ghost use Rattle.bw_model.specs.Store.{column_limit, table_limit};
 ghost use Rattle.bw_sql.specs.Tree.{condition_of};
 
 use crate::refusal::Refusal;
 use crate::store::{Header, Row, Table, are_distinct, place_of, table_of};
-use bw_sql::{Condition, Name, Operand, Value};
+use bw_sql::{Condition, Name, Operand, SetClause, Value};
 
 /// The most columns that a table has.
 const COLUMN_LIMIT: usize = 64;
@@ -26,7 +26,7 @@ const ENTRY_LIMIT: usize = 1_000;
 type Test = (Refusal, bool);
 
 /// The first refusal that holds.
-pub fn first_that_holds(tests: &[Test]) -> Option<Refusal>
+pub(crate) fn first_that_holds(tests: &[Test]) -> Option<Refusal>
     ensures { result ≡ first_that_holds tests.now }
 {
     match tests {
@@ -127,7 +127,7 @@ fn is_in_range(value: &Value) -> bool
 }
 
 /// The tests of CREATE TABLE.
-pub fn create_tests(columns: &[Name], name: &Name, tables: &[(Name, Table)]) -> [Test; 3]
+pub(crate) fn create_tests(columns: &[Name], name: &Name, tables: &[(Name, Table)]) -> [Test; 3]
     ensures { result ≡ create_tests columns.now name.now tables.now }
 {
     [
@@ -148,7 +148,7 @@ fn is_over_limit(columns: usize, tables: usize) -> bool
 }
 
 /// The tests of INSERT over a table.
-pub fn insert_tests(columns: &[Name], rows: &[Row], table: &Table) -> [Test; 5]
+pub(crate) fn insert_tests(columns: &[Name], rows: &[Row], table: &Table) -> [Test; 5]
     ensures { result ≡ insert_tests columns.now rows.now table.now }
 {
     let width = columns.len();
@@ -162,8 +162,78 @@ pub fn insert_tests(columns: &[Name], rows: &[Row], table: &Table) -> [Test; 5]
     ]
 }
 
+/// The tests of UPDATE over a table, of which these are the columns that it sets.
+pub(crate) fn update_tests(
+    columns: &[Name],
+    sets: &[SetClause],
+    condition: &Option<Condition>,
+    table: &Table,
+) -> [Test; 6]
+    requires { columns.now ≡ set_columns sets.now }
+    ensures { result ≡ update_tests sets.now (option_map condition_of condition.now) table.now }
+{
+    let headers = table.headers();
+    [
+        (Refusal::NoSuchColumn, misses_any(headers, columns)),
+        (Refusal::NoSuchColumn, misses_source(headers, sets)),
+        (Refusal::NoSuchColumn, condition_misses(headers, condition)),
+        (Refusal::ColumnNamedTwice, !are_distinct(columns)),
+        (Refusal::OverLimit, lists_too_long(condition)),
+        (Refusal::OutOfRange, !may_all_be_set(sets)),
+    ]
+}
+
+/// Whether a right side is a column that isn't there.
+fn misses_source(headers: &[Header], sets: &[SetClause]) -> bool
+    ensures { result ≡ list_any (λ set. operand_is_missing headers.now set.source) sets.now }
+{
+    sets.iter()
+        .any(|set| operand_is_missing(headers, &set.source))
+}
+
+fn may_all_be_set(sets: &[SetClause]) -> bool
+    ensures { result ≡ list_all (λ set. may_be_set set.source) sets.now }
+{
+    sets.iter().all(|set| may_be_set(&set.source))
+}
+
+/// Whether a column may be set to this: a literal has to be an INTEGER, as a column's values are.
+fn may_be_set(source: &Operand) -> bool
+    ensures { result ≡ may_be_set source.now }
+{
+    match source {
+        Operand::Column(_) => true,
+        Operand::Constant(value) => is_in_range(value),
+    }
+}
+
+/// The tests of DELETE over a table.
+pub(crate) fn delete_tests(condition: &Option<Condition>, table: &Table) -> [Test; 2]
+    ensures { result ≡ delete_tests (option_map condition_of condition.now) table.now }
+{
+    let headers = table.headers();
+    [
+        (Refusal::NoSuchColumn, condition_misses(headers, condition)),
+        (Refusal::OverLimit, lists_too_long(condition)),
+    ]
+}
+
+/// The tests of REBUILD over a table, of which these columns are to be laid anew.
+pub(crate) fn rebuild_tests(columns: &[Name], table: &Table) -> [Test; 2]
+    ensures { result ≡ rebuild_tests columns.now table.now }
+{
+    [
+        (Refusal::NoSuchColumn, misses_any(table.headers(), columns)),
+        (Refusal::ColumnNamedTwice, !are_distinct(columns)),
+    ]
+}
+
 /// The tests of SELECT over a table.
-pub fn select_tests(columns: &[Name], condition: &Option<Condition>, table: &Table) -> [Test; 3]
+pub(crate) fn select_tests(
+    columns: &[Name],
+    condition: &Option<Condition>,
+    table: &Table,
+) -> [Test; 3]
     ensures { result ≡ select_tests columns.now (option_map condition_of condition.now) table.now }
 {
     [

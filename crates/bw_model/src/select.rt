@@ -15,7 +15,7 @@ use bw_sql::{Condition, Name, SelectItems, Value};
 use std::alloc::{AllocError, Global};
 
 /// The columns that are shown: `*` is all columns in order.
-pub fn shown_columns(
+pub(crate) fn shown_columns(
     alloc: Global,
     headers: &[Header],
     items: &SelectItems,

@@ -11,13 +11,18 @@ ghost use Rattle.bw_model.specs.declared.reply.Reply.TheVariants.{Count, Refused
 ghost use Rattle.bw_sql.specs.Tree.{statement_of};
 ghost use Rattle.bw_sql.specs.declared.tree.Statement.TheVariants as statements;
 
+use crate::changes::{delete_rows, rebuild_columns, update_rows};
 use crate::insert::{rows_for, rows_of, target_columns};
+use crate::listing::listing_of;
 use crate::refusal::Refusal;
 use crate::refusals::{create_tests, first_that_holds, insert_tests, select_tests};
 use crate::reply::Reply;
 use crate::select::{answer_of, shown_columns};
 use crate::store::{Header, Row, Store, Table, names, place_of_table, table_of};
-use bw_sql::{ColumnDefinition, CreateTable, Insert, Name, NameList, Select, Statement};
+use bw_sql::{
+    ColumnDefinition, CreateTable, Delete, Insert, Name, NameList, Rebuild, Select, Statement,
+    Update,
+};
 use std::alloc::{AllocError, Global};
 
 /// The reply to a statement over this store, which is left as the statement leaves it. Without
@@ -28,7 +33,12 @@ pub fn step(alloc: Global, store: &mut Store, statement: &Statement) -> Result<R
 {
     match statement {
         Statement::CreateTable(create) => create_table(alloc, &mut store.tables, create),
+        Statement::DropTable(name) => Ok(drop_table(&mut store.tables, name)),
+        Statement::ListTables => Ok(Reply::Rows(listing_of(alloc, &store.tables)?)),
         Statement::Insert(rows) => insert(alloc, &mut store.tables, rows),
+        Statement::Update(change) => update(alloc, &mut store.tables, change),
+        Statement::Delete(change) => delete(alloc, &mut store.tables, change),
+        Statement::Rebuild(change) => rebuild(alloc, &mut store.tables, change),
         Statement::Select(query) => select(alloc, &store.tables, query),
     }
 }
@@ -62,6 +72,18 @@ fn headers_of(alloc: Global, columns: &[ColumnDefinition]) -> Result<Vec<Header>
     Ok(headers)
 }
 
+fn drop_table(tables: &mut Vec<(Name, Table)>, name: &Name) -> Reply
+    ensures { ◌≡◌ {A = AnyReply × AnyStore} (result, tables.new.items) (outcome_of tables.old.items (statement_of (statements.DropTable name.now))) }
+{
+    match place_of_table(tables, name) {
+        Some(place) => {
+            tables.remove(place);
+            Reply::Done
+        }
+        None => Reply::Refused(Refusal::NoSuchTable),
+    }
+}
+
 fn insert(alloc: Global, tables: &mut [(Name, Table)], insert: &Insert) -> Result<Reply, AllocError>
     ensures outcome { IfOk result (λ reply. ◌≡◌ {A = AnyReply × AnyStore} (reply, tables.new) (outcome_of tables.old (statement_of (statements.Insert insert.now)))) }
     ensures unchanged { OnErr result (tables.new ≡ tables.old) }
@@ -92,6 +114,40 @@ fn insert_rows(
     let new = rows_for(alloc, table.headers(), &columns, rows)?;
     table.append(new)?;
     Ok(Reply::Count(rows.len() as u64))
+}
+
+fn update(alloc: Global, tables: &mut [(Name, Table)], update: &Update) -> Result<Reply, AllocError>
+    ensures outcome { IfOk result (λ reply. ◌≡◌ {A = AnyReply × AnyStore} (reply, tables.new) (outcome_of tables.old (statement_of (statements.Update update.now)))) }
+    ensures unchanged { OnErr result (tables.new ≡ tables.old) }
+{
+    let Some(place) = place_of_table(tables, &update.table) else {
+        return Ok(Reply::Refused(Refusal::NoSuchTable));
+    };
+    update_rows(alloc, &mut tables[place].1, &update.sets, &update.condition)
+}
+
+fn delete(alloc: Global, tables: &mut [(Name, Table)], delete: &Delete) -> Result<Reply, AllocError>
+    ensures outcome { IfOk result (λ reply. ◌≡◌ {A = AnyReply × AnyStore} (reply, tables.new) (outcome_of tables.old (statement_of (statements.Delete delete.now)))) }
+    ensures unchanged { OnErr result (tables.new ≡ tables.old) }
+{
+    let Some(place) = place_of_table(tables, &delete.table) else {
+        return Ok(Reply::Refused(Refusal::NoSuchTable));
+    };
+    delete_rows(alloc, &mut tables[place].1, &delete.condition)
+}
+
+fn rebuild(
+    alloc: Global,
+    tables: &mut [(Name, Table)],
+    rebuild: &Rebuild,
+) -> Result<Reply, AllocError>
+    ensures outcome { IfOk result (λ reply. ◌≡◌ {A = AnyReply × AnyStore} (reply, tables.new) (outcome_of tables.old (statement_of (statements.Rebuild rebuild.now)))) }
+    ensures unchanged { OnErr result (tables.new ≡ tables.old) }
+{
+    let Some(place) = place_of_table(tables, &rebuild.table) else {
+        return Ok(Reply::Refused(Refusal::NoSuchTable));
+    };
+    rebuild_columns(alloc, &mut tables[place].1, &rebuild.choices)
 }
 
 fn select(alloc: Global, tables: &[(Name, Table)], query: &Select) -> Result<Reply, AllocError>

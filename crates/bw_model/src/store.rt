@@ -32,6 +32,13 @@ impl Row {
         Row { values }
     }
 
+    /// A second row of the same values.
+    pub fn try_clone(&self, alloc: Global) -> Result<Row, AllocError>
+        ensures { IfOk result (λ row. row ≡ self.now) }
+    {
+        Ok(Row::new(Vec::from_slice(alloc, self.values())?))
+    }
+
     /// The values.
     pub fn values(&self) -> &[Value]
         ensures { result.now ≡ self.now }
@@ -66,6 +73,36 @@ impl Header {
             layout: definition.layout.unwrap_or(LayoutWord::V),
             kind: definition.kind.unwrap_or(KindWord::Offset),
         })
+    }
+
+    /// A column of the same name with this layout and this kind.
+    pub fn with_words(
+        &self,
+        alloc: Global,
+        layout: LayoutWord,
+        kind: KindWord,
+    ) -> Result<Header, AllocError>
+        ensures { IfOk result (λ header. header ≡ record { name = self.now.name; layout = layout; kind = kind }) }
+    {
+        Ok(Header {
+            name: self.name.try_clone(alloc)?,
+            layout,
+            kind,
+        })
+    }
+
+    /// How it lies in memory.
+    pub fn layout(&self) -> LayoutWord
+        ensures { result ≡ self.now.layout }
+    {
+        self.layout
+    }
+
+    /// How its values become codes.
+    pub fn kind(&self) -> KindWord
+        ensures { result ≡ self.now.kind }
+    {
+        self.kind
     }
 
     /// Its name.
@@ -121,6 +158,21 @@ impl Table {
         self.rows.as_slice()
     }
 
+    /// Puts these rows in place of all rows.
+    pub fn replace_rows(&mut self, rows: Vec<Row>)
+        ensures { self.new ≡ record { headers = self.old.headers; rows = rows.items } }
+    {
+        self.rows = rows;
+    }
+
+    /// Puts these columns in place of all columns.
+    pub fn replace_headers(&mut self, headers: Vec<Header>)
+        requires { 0 < length headers.items }
+        ensures { self.new ≡ record { headers = headers.items; rows = self.old.rows } }
+    {
+        self.headers = headers;
+    }
+
     /// Puts these rows last.
     pub fn append(&mut self, mut rows: Vec<Row>) -> Result<(), AllocError>
         ensures ok { OnOk result (self.new ≡ record { headers = self.old.headers; rows = self.old.rows ++ rows.items }) }
@@ -156,7 +208,7 @@ impl Store {
 }
 
 /// The names of the columns.
-pub fn names(alloc: Global, headers: &[Header]) -> Result<Vec<Name>, AllocError>
+pub(crate) fn names(alloc: Global, headers: &[Header]) -> Result<Vec<Name>, AllocError>
     ensures { IfOk result (λ list. list.items ≡ names headers.now) }
 {
     let mut list = Vec::new(alloc);
@@ -174,7 +226,7 @@ fn is_among(name: &Name, list: &[Name]) -> bool
 }
 
 /// Whether no name stands twice in the list.
-pub fn are_distinct(names: &[Name]) -> bool
+pub(crate) fn are_distinct(names: &[Name]) -> bool
     ensures { result ≡ are_distinct names.now }
 {
     match names {
@@ -184,7 +236,7 @@ pub fn are_distinct(names: &[Name]) -> bool
 }
 
 /// The table of this name.
-pub fn table_of<'a>(tables: &'a [(Name, Table)], name: &Name) -> Option<&'a Table>
+pub(crate) fn table_of<'a>(tables: &'a [(Name, Table)], name: &Name) -> Option<&'a Table>
     ensures { option_copied result ≡ table_of tables.now name.now }
 {
     for (other, table) in tables {
@@ -196,28 +248,28 @@ pub fn table_of<'a>(tables: &'a [(Name, Table)], name: &Name) -> Option<&'a Tabl
 }
 
 /// The place of the table of this name.
-pub fn place_of_table(tables: &[(Name, Table)], name: &Name) -> Option<usize>
+pub(crate) fn place_of_table(tables: &[(Name, Table)], name: &Name) -> Option<usize>
     ensures { result ≡ position (λ entry. bytes_eq name.now entry.0) tables.now }
 {
     tables.iter().position(|(other, _)| name == other)
 }
 
 /// The place of the column of this name.
-pub fn place_of(headers: &[Header], name: &Name) -> Option<usize>
+pub(crate) fn place_of(headers: &[Header], name: &Name) -> Option<usize>
     ensures { result ≡ place_of headers.now name.now }
 {
     headers.iter().position(|header| name == header.name())
 }
 
 /// The value at this place of a row, or NULL where there is none.
-pub fn value_at(row: &[Value], place: usize) -> Value
+pub(crate) fn value_at(row: &[Value], place: usize) -> Value
     ensures { result ≡ value_at row.now place }
 {
     row.get(place).copied().unwrap_or(None)
 }
 
 /// The value at this place, or NULL where there is no place.
-pub fn value_from(row: &[Value], place: Option<usize>) -> Value
+pub(crate) fn value_from(row: &[Value], place: Option<usize>) -> Value
     ensures { result ≡ value_from row.now place }
 {
     match place {

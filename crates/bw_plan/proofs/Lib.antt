@@ -3,6 +3,7 @@ pub mod Names
 pub mod Places
 pub mod PlanLaws
 pub mod RowLemmas
+pub mod SetLaws
 pub mod Tests
 pub mod TruthWords
 pub mod UnsetRows

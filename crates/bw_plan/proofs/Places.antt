@@ -28,7 +28,7 @@ one_plus n = omega arith
 length-front : {A : Type 0} (i : ℕ) (l : List A) → i < length l → length (take i l) ≡ i
 length-front i l within = omega (arith, length-take i l)
 
-get_or-mapped : {A B : Type 0} (f : A → B) (xs : List A) (i : ℕ) (d : A) (e : B) → i < length xs → get_or (map f xs) i e ≡ f (get_or xs i d)
+pub get_or-mapped : {A B : Type 0} (f : A → B) (xs : List A) (i : ℕ) (d : A) (e : B) → i < length xs → get_or (map f xs) i e ≡ f (get_or xs i d)
 get_or-mapped f [] i d e within = absurd (omega arith)
 get_or-mapped f (x ∷ xs) zero d e within = refl
 get_or-mapped f (x ∷ xs) (suc i) d e within = get_or-mapped f xs i d e (omega arith)

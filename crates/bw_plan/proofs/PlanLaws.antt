@@ -25,7 +25,7 @@ by_place : (row : Row) (place : Option ℕ) → value_by (source_at place) row �
 by_place row None = refl
 by_place row (Some place) = refl
 
-source_keeps : (headers : List Header) (row : Row) (x : Operand) → value_by (source_of headers x) row ≡ value_of headers row x
+pub source_keeps : (headers : List Header) (row : Row) (x : Operand) → value_by (source_of headers x) row ≡ value_of headers row x
 source_keeps headers row (Column name) = by_place row (place_of headers name)
 source_keeps headers row (Constant value) = refl
 

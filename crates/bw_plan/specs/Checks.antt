@@ -2,7 +2,8 @@
 use Rattle.std.specs.Prelude.{◌≡◌, ◌⊎◌, ◌==◌, ℕ, List, [], ◌∷◌, Option, Some, None, Result, MatchResult, length, nat_lt, not}
 use Rattle.std.specs.List.{list_all, list_any}
 use Rattle.bw_sql.specs.Tree.{ConditionTree}
-use Rattle.bw_model.specs.Refusals.{Tests, condition_misses, first_that_holds, is_in_range, is_missing, lists_too_long}
+use Rattle.bw_sql.specs.declared.tree.SetClause.{SetClause}
+use Rattle.bw_model.specs.Refusals.{Tests, condition_misses, first_that_holds, is_in_range, is_missing, lists_too_long, may_be_set, operand_is_missing, set_columns}
 use Rattle.bw_model.specs.Store.{Header, Row, are_distinct}
 use Rattle.bw_model.specs.declared.refusal.Refusal.{Refusal}
 use Rattle.bw_model.specs.declared.refusal.Refusal.TheVariants as refusal
@@ -24,6 +25,17 @@ shown_tests headers columns = (refusal.NoSuchColumn, list_any (is_missing header
 
 abbrev pub condition_tests : List Header → Option ConditionTree → Tests
 condition_tests headers condition = (refusal.NoSuchColumn, condition_misses headers condition) ∷ (refusal.OverLimit, lists_too_long condition) ∷ []
+
+-- of an UPDATE of a table of these columns
+abbrev pub set_tests : List Header → List SetClause → Option ConditionTree → Tests
+set_tests headers sets condition =
+    (refusal.NoSuchColumn, list_any (is_missing headers) (set_columns sets))
+    ∷ (refusal.NoSuchColumn, list_any (λ set. operand_is_missing headers set.source) sets)
+    ∷ (refusal.NoSuchColumn, condition_misses headers condition)
+    ∷ (refusal.ColumnNamedTwice, not (are_distinct (set_columns sets)))
+    ∷ (refusal.OverLimit, lists_too_long condition)
+    ∷ (refusal.OutOfRange, not (list_all (λ set. may_be_set set.source) sets))
+    ∷ []
 
 abbrev pub listed_tests : List Header → List (List ℕ) → Tests
 listed_tests headers columns =

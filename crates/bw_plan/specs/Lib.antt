@@ -3,4 +3,5 @@ pub mod Blocks
 pub mod Checks
 pub mod Flat
 pub mod Plans
+pub mod Sets
 pub mod Words

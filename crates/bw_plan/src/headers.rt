@@ -1,12 +1,14 @@
 //! The columns of a table.
 
-ghost use Rattle.std.specs.Prelude.{◌≡◌};
+ghost use Rattle.std.specs.Prelude.{◌≡◌, IfOk, map};
+ghost use Rattle.bw_model.specs.Changes.{chosen_header};
 ghost use Rattle.bw_model.specs.Store.{AreHeaders, header_of, place_of, word_or};
 ghost use Rattle.bw_plan.specs.Words.{word_of_layout, word_of_kind};
 ghost use Rattle.bw_sql.specs.declared.tree.LayoutWord.TheVariants.{V};
 ghost use Rattle.bw_sql.specs.declared.tree.KindWord.TheVariants.{Offset};
 
-use bw_sql::{ColumnDefinition, KindWord, LayoutWord, Name};
+use bw_sql::{ColumnDefinition, KindWord, LayoutChoice, LayoutWord, Name};
+use std::alloc::{AllocError, Global};
 use std::marker::Model;
 
 /// How a column lies in memory.
@@ -56,6 +58,18 @@ impl Header {
         }
     }
 
+    /// The column as it is chosen to lie. Its kind stays where none is said.
+    pub fn chosen(&self, alloc: Global, choices: &[LayoutChoice]) -> Result<Header, AllocError>
+        ensures { IfOk result (λ header. header ≡ chosen_header choices.now self.now) }
+    {
+        let (layout, kind) = chosen_words(&self.name, (self.layout, self.kind), choices);
+        Ok(Header {
+            name: self.name.try_clone(alloc)?,
+            layout,
+            kind,
+        })
+    }
+
     /// Its name.
     pub fn name(&self) -> &Name
         ensures { result.now ≡ self.now.name }
@@ -86,6 +100,22 @@ fn kind_of(word: Option<KindWord>) -> Kind
     }
 }
 
+/// How a column of this name is chosen to lie that lies so.
+fn chosen_words(name: &Name, words: (Layout, Kind), choices: &[LayoutChoice]) -> (Layout, Kind)
+    ensures { record { name = name.now; layout = word_of_layout result.0; kind = word_of_kind result.1 } ≡ chosen_header choices.now (record { name = name.now; layout = word_of_layout words.0; kind = word_of_kind words.1 }) }
+{
+    for choice in choices {
+        if name == &choice.column {
+            let kind = match choice.kind {
+                Some(word) => kind_of(Some(word)),
+                None => words.1,
+            };
+            return (layout_of(Some(choice.layout)), kind);
+        }
+    }
+    words
+}
+
 /// The columns of a table: 1 to 64, each with a name of its own.
 #[derive(Debug, Drop)]
 pub struct Headers {
@@ -112,6 +142,13 @@ impl Headers {
         Headers { headers }
     }
 
+    /// The columns as they are chosen to lie.
+    pub fn chosen(&self, alloc: Global, choices: &[LayoutChoice]) -> Result<Headers, AllocError>
+        ensures { IfOk result (λ headers. headers ≡ map (chosen_header choices.now) self.now) }
+    {
+        Ok(Headers::new(chosen_headers(alloc, self.as_slice(), choices)?))
+    }
+
     /// The columns, in order.
     pub fn as_slice(&self) -> &[Header]
         ensures value { result.now ≡ self.now }
@@ -119,6 +156,20 @@ impl Headers {
     {
         self.headers.as_slice()
     }
+}
+
+fn chosen_headers(
+    alloc: Global,
+    headers: &[Header],
+    choices: &[LayoutChoice],
+) -> Result<Vec<Header>, AllocError>
+    ensures { IfOk result (λ chosen. chosen.items ≡ map (chosen_header choices.now) headers.now) }
+{
+    let mut chosen = Vec::with_capacity(alloc, headers.len())?;
+    for header in headers {
+        chosen.push(header.chosen(alloc, choices)?)?;
+    }
+    Ok(chosen)
 }
 
 /// The place of the column of this name.

@@ -122,7 +122,7 @@ fn are_integers(values: &[Value]) -> bool
     values.iter().all(is_integer)
 }
 
-fn is_integer(value: &Value) -> bool
+pub(crate) fn is_integer(value: &Value) -> bool
     ensures { result ≡ is_in_range value.now }
 {
     match value {
@@ -164,7 +164,7 @@ fn narrowed(alloc: Global, values: &[Value]) -> Result<Vec<Option<i32>>, AllocEr
 }
 
 /// The same value as an INTEGER.
-fn integer(value: Value) -> Option<i32>
+pub(crate) fn integer(value: Value) -> Option<i32>
     requires { is_in_range value ≡ true }
     ensures { result ≡ value }
 {

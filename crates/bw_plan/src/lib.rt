@@ -2,6 +2,7 @@
 #![tactic(auto)]
 
 mod block;
+mod changes;
 mod condition_word;
 mod evaluate;
 mod headers;
@@ -14,6 +15,10 @@ mod truth_word;
 mod used_places;
 mod values;
 
+pub use changes::{
+    PlacedChoice, PlacedSet, SetTo, UpdatePlan, resolve_delete, resolve_rebuild, resolve_update,
+    updated_value,
+};
 pub use evaluate::evaluate_rows;
 pub use headers::{Header, Headers, Kind, Layout, place_in};
 pub use insertion::resolve_insert;

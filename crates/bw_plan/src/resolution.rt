@@ -2,7 +2,7 @@
 
 ghost use Rattle.std.specs.Prelude.{◌≡◌, IfOk, List, option_map};
 ghost use Rattle.bw_model.specs.Condition.{truth_at, truth_of_word};
-ghost use Rattle.bw_model.specs.Refusals.{has_long_list, names_missing, operand_is_missing};
+ghost use Rattle.bw_model.specs.Refusals.{condition_misses, has_long_list, lists_too_long, names_missing, operand_is_missing};
 ghost use Rattle.bw_model.specs.Store.{Header as AnyHeader, Row};
 ghost use Rattle.bw_plan.specs.Checks.{Decides, condition_tests};
 ghost use Rattle.bw_plan.specs.Plans.{plan_of, planned, source_of, truth_by};
@@ -38,6 +38,26 @@ pub(crate) fn check_condition(
     Ok(())
 }
 
+/// Whether a condition names a column that isn't there, where there is a condition.
+pub(crate) fn misses(headers: &[Header], condition: &Option<Condition>) -> bool
+    ensures { result ≡ condition_misses headers.now (option_map condition_of condition.now) }
+{
+    match condition {
+        Some(condition) => names_missing(headers, condition),
+        None => false,
+    }
+}
+
+/// Whether an IN list of a condition is too long, where there is a condition.
+pub(crate) fn has_long_lists(condition: &Option<Condition>) -> bool
+    ensures { result ≡ lists_too_long (option_map condition_of condition.now) }
+{
+    match condition {
+        Some(condition) => has_long_list(condition),
+        None => false,
+    }
+}
+
 /// Whether the condition names a column that isn't there.
 fn names_missing(headers: &[Header], condition: &Condition) -> bool
     ensures { result ≡ names_missing headers.now (condition_of condition.now) }
@@ -61,7 +81,7 @@ fn names_missing(headers: &[Header], condition: &Condition) -> bool
     }
 }
 
-fn is_missing(headers: &[Header], operand: &Operand) -> bool
+pub(crate) fn is_missing(headers: &[Header], operand: &Operand) -> bool
     ensures { result ≡ operand_is_missing headers.now operand.now }
 {
     match operand {
@@ -141,7 +161,7 @@ pub(crate) fn placed(
 }
 
 /// Where an operand's values come from. A column that isn't there is always NULL.
-fn source(headers: &[Header], operand: &Operand) -> Source
+pub(crate) fn source(headers: &[Header], operand: &Operand) -> Source
     ensures { result ≡ source_of headers.now operand.now }
 {
     match operand {

@@ -71,7 +71,7 @@ fn lacks_shown(headers: &[Header], items: &SelectItems) -> bool
 }
 
 /// The condition over places, where there is one.
-fn plan_if_any(
+pub(crate) fn plan_if_any(
     alloc: Global,
     headers: &Headers,
     condition: &Option<Condition>,

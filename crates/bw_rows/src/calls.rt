@@ -138,6 +138,11 @@ fn an_engine_executes(rt: HostRuntime) {
             Reply::Count(2)
         )
     );
+    let tables = statement_in(&rt, "TABLES");
+    match engine.execute(tables, FileAnswer::NotAsked) {
+        Reply::Rows(answer) => assert_eq!(rt; answer.line_count(), 1),
+        _ => panic!(&rt; "no rows"),
+    }
     let select = statement_in(&rt, "SELECT a FROM t");
     match engine.execute(select, FileAnswer::NotAsked) {
         Reply::Rows(answer) => assert_eq!(rt; answer.line_count(), 2),

@@ -5,7 +5,7 @@
 #[cfg(test)]
 mod calls;
 #[cfg(test)]
-mod codes;
+mod changes;
 #[cfg(test)]
 mod conditions;
 #[cfg(test)]
@@ -14,10 +14,6 @@ mod harness;
 mod large;
 #[cfg(test)]
 mod limits;
-#[cfg(test)]
-mod masks;
-#[cfg(test)]
-mod plain_codes;
 #[cfg(test)]
 mod program_ends;
 #[cfg(test)]
@@ -29,4 +25,4 @@ mod splitting;
 #[cfg(test)]
 mod streams;
 #[cfg(test)]
-mod units;
+mod tables;

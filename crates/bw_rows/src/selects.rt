@@ -44,7 +44,7 @@ fn columns_by_name_and_all(rt: HostRuntime) {
             "CREATE TABLE t (a INT, b INTEGER USING H DICTIONARY); INSERT INTO t (b) VALUES (5), (6); \
          SELECT b, a, b FROM t WHERE b != 5; SELECT * FROM t WHERE a = 1; INSERT INTO t VALUES (1); \
          UPDATE t SET a = 1;",
-            "ok\nok 2\nB,A,B\n6,NULL,6\nrows 1\nA,B\nrows 0\nerror 25: wrong number of values\nerror 10: syntax error\n",
+            "ok\nok 2\nB,A,B\n6,NULL,6\nrows 1\nA,B\nrows 0\nerror 25: wrong number of values\nok 2\n",
         )],
     );
 }

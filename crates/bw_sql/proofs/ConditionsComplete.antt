@@ -12,7 +12,7 @@ use Rattle.bw_sql.specs.Grammar.{ListOf, LiteralPart, number, plus, minus, Value
 use Rattle.bw_sql.specs.Reading.{Read, after_and, after_or, among_at, bounds_at, condition_by, factor_by, is_at, null_at, operand_at, parts_at, predicate_at, primary_at, range_at, tail_at, term_by, test_by, tested_at, truth_at, with_first}
 use Rattle.bw_sql.proofs.ListsComplete.{parts_at-last, parts_at-more, value_reads, value_shorter, values_read, values_shorter}
 
-operand_shorter : {ts rest : List Terminal} {x : Operand} → OperandPart ts x rest → length rest < length ts
+pub operand_shorter : {ts rest : List Terminal} {x : Operand} → OperandPart ts x rest → length rest < length ts
 operand_shorter (constant {v} {ts} {rest} d) = value_shorter ts rest v d
 operand_shorter column_name = omega arith
 
@@ -71,7 +71,7 @@ literal_operand ts rest z (number {n} h) v d = rw (value_reads ts rest v d) refl
 literal_operand ts rest z (plus {n} h) v d = rw (value_reads ts rest v d) refl
 literal_operand ts rest z (minus {n} h) v d = rw (value_reads ts rest v d) refl
 
-operand_reads : {ts rest : List Terminal} {x : Operand} → OperandPart ts x rest → operand_at ts ≡ Some (x, rest)
+pub operand_reads : {ts rest : List Terminal} {x : Operand} → OperandPart ts x rest → operand_at ts ≡ Some (x, rest)
 unfolding operand_at
 operand_reads (constant {v} {ts} {rest} null_value) = rw (value_reads ts rest v null_value) refl
 operand_reads (constant {v} {ts} {rest} (literal_value {z} d)) = literal_operand ts rest z d v (literal_value d)

@@ -12,7 +12,7 @@ use Rattle.bw_sql.specs.Grammar.{all_of, any_of, ListOf, ValuePart, OperandPart,
 use Rattle.bw_sql.specs.Reading.{Read, after_and, after_close, after_null, after_open, after_or, among_at, bounds_at, closed, condition_at, condition_by, factor_by, is_at, null_at, operand_at, parts_at, predicate_at, primary_at, range_at, tail_at, term_by, test_by, tested_at, truth_at, value_at, values_at}
 use Rattle.bw_sql.proofs.ListsSound.{IsSound, after_and-is, after_close-is, after_null-is, after_open-is, after_or-is, answers_once, bound, mapped, moved, separated_sound, value_sound, values_sound}
 
-operand_sound : IsSound OperandPart operand_at
+pub operand_sound : IsSound OperandPart operand_at
 unfolding operand_at
 operand_sound (t.Name name ∷ ts) x rest h = moved OperandPart (t.Name name ∷ ts) (Column name) x ts rest column_name h
 operand_sound ts x rest h = mapped Constant OperandPart ts (value_at ts) x rest h (λ v reads. constant (value_sound ts v rest reads))

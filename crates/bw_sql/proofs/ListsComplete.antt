@@ -99,19 +99,19 @@ unfolding rows_at
 rows_read d stops n h = list_reads RowPart (row_at n) Anything n (λ _. tt) (λ ts rest x e _ j. row_reads n ts rest x e j) row_shorter d tt stops n h h
 
 -- neither USING nor a kind is next
-record EndsColumn (rest : List Terminal) : Type 0 where
-  no_using : using_at rest ≡ Some (None, rest)
-  no_kind_word : kind_at rest ≡ (None, rest)
+pub record EndsColumn (rest : List Terminal) : Type 0 where
+  pub no_using : using_at rest ≡ Some (None, rest)
+  pub no_kind_word : kind_at rest ≡ (None, rest)
 
-comma_ends : (mid : List Terminal) → EndsColumn (t.Symbol s.Comma ∷ mid)
+pub comma_ends : (mid : List Terminal) → EndsColumn (t.Symbol s.Comma ∷ mid)
 unfolding using_at kind_at
 comma_ends mid = record { no_using = refl; no_kind_word = refl }
 
-close_ends : (mid : List Terminal) → EndsColumn (t.Symbol s.Close ∷ mid)
+pub close_ends : (mid : List Terminal) → EndsColumn (t.Symbol s.Close ∷ mid)
 unfolding using_at kind_at
 close_ends mid = record { no_using = refl; no_kind_word = refl }
 
-kind_reads : (ts rest : List Terminal) (d : Option KindWord) → KindPart ts d rest → EndsColumn rest → kind_at ts ≡ (d, rest)
+pub kind_reads : (ts rest : List Terminal) (d : Option KindWord) → KindPart ts d rest → EndsColumn rest → kind_at ts ≡ (d, rest)
 unfolding kind_at
 kind_reads ts rest d no_kind ends = ends.no_kind_word
 kind_reads ts rest d (kind {word}) ends = rw (kind_of-spelling word) refl
@@ -144,7 +144,7 @@ using_shorter : (ts us : List Terminal) (l : Option LayoutWord) → UsingPart ts
 using_shorter ts us l no_layout = omega arith
 using_shorter ts us l using_layout = omega arith
 
-kind_shorter : (ts us : List Terminal) (d : Option KindWord) → KindPart ts d us → length us ≤ length ts
+pub kind_shorter : (ts us : List Terminal) (d : Option KindWord) → KindPart ts d us → length us ≤ length ts
 kind_shorter ts us d no_kind = omega arith
 kind_shorter ts us d kind = omega arith
 

@@ -3,14 +3,15 @@ use Rattle.std.proofs.Common.{◌≡◌, ◌∙◌, ℕ, ℤ, ◌<◌, ◌≤◌
 use Rattle.std.proofs.lemmas.Bool.{leb-true, ltb-true}
 use Rattle.bw_lex.specs.declared.token.Symbol.TheVariants as s
 use Rattle.bw_sql.specs.declared.keyword.Keyword.TheVariants as k
+use Rattle.bw_sql.specs.declared.terminal.StatementWord.{StatementWord}
 use Rattle.bw_sql.specs.declared.terminal.Terminal.{Terminal}
 use Rattle.bw_sql.specs.declared.terminal.Terminal.TheVariants as t
 use Rattle.bw_sql.specs.declared.tree.LayoutWord.{LayoutWord}
 use Rattle.bw_sql.specs.declared.tree.KindWord.{KindWord}
-use Rattle.bw_sql.specs.Words.{kind_of, layout_of}
+use Rattle.bw_sql.specs.Words.{kind_of, layout_of, statement_spelling, statement_word_of}
 use Rattle.bw_sql.specs.Grammar.{ListOf, last, next, NamePart, name, LiteralPart, number, plus, minus, ValuePart, null_value, literal_value, RowPart, row, TypePart, integer, int, UsingPart, no_layout, using_layout, KindPart, no_kind, kind, ColumnPart, column}
-use Rattle.bw_sql.specs.Reading.{Read, after_and, after_close, after_comma, after_null, after_or, after_from, after_into, after_open, after_table, after_type, after_values, closed, column_at, columns_at, go_on, kind_at, kind_taken, layout_at, literal_at, map_first, more_at, name_at, names_at, negative, number_at, parts_at, positive, row_at, rows_at, using_at, value_at, values_at, with_first, with_rest, ◌>>=◌}
-use Rattle.bw_sql.proofs.WordLemmas.{kind_of-is, layout_of-is}
+use Rattle.bw_sql.specs.Reading.{Read, after_and, after_close, after_comma, after_null, after_or, after_from, after_into, after_open, after_table, after_type, after_values, closed, column_at, columns_at, go_on, kind_at, kind_taken, layout_at, literal_at, map_first, more_at, name_at, names_at, negative, number_at, parts_at, positive, row_at, rows_at, statement_word_at, using_at, value_at, values_at, with_first, with_rest, ◌>>=◌}
+use Rattle.bw_sql.proofs.WordLemmas.{kind_of-is, layout_of-is, statement_word_of-is}
 
 -- a reader answers only what stands in the relation
 abbrev pub IsSound : {A : Type 0} → (List Terminal → A → List Terminal → Type 0) → (List Terminal → Read A) → Type 0
@@ -243,3 +244,10 @@ columns_sound n = parts_sound ColumnPart column_at column_sound n
 
 pub name_is : (ts : List Terminal) (word : List ℕ) (rest : List Terminal) → NamePart ts word rest → ts ≡ t.Name word ∷ rest
 name_is ts word rest name = refl
+
+pub statement_word_is : (ts : List Terminal) (word : StatementWord) (rest : List Terminal) → statement_word_at ts ≡ Some (word, rest) → ts ≡ t.Name (statement_spelling word) ∷ rest
+unfolding statement_word_at
+statement_word_is (t.Name spelled ∷ ts) word rest h =
+    let r = rested (statement_word_of spelled) ts word rest h in
+    ap (λ l. t.Name l ∷ ts) (statement_word_of-is spelled word r.0) ∙ ap (λ l. t.Name (statement_spelling word) ∷ l) r.1
+statement_word_is _ word rest h = cc

@@ -7,16 +7,9 @@ use Rattle.bw_sql.specs.declared.terminal.Terminal.TheVariants as t
 use Rattle.bw_sql.specs.Tree.{ConditionTree, ItemsTree, all_columns, columns, StatementTree, create_table, insert, select}
 use Rattle.bw_sql.specs.Grammar.{ListOf, NamePart, RowPart, ColumnPart, ItemsPart, star, some_columns, ConditionPart, Spells, creates, inserts, inserts_into, selects, selects_where}
 use Rattle.bw_sql.specs.Reading.{after_close, after_from, after_into, after_open, after_table, after_values, column_list_at, columns_at, condition_at, create_at, ended, filter_at, insert_at, items_at, name_at, names_at, rows_at, select_at, statement_at, whole_at}
+use Rattle.bw_sql.proofs.ChangesSound.{IsStatement, delete_sound, drop_sound, spelled, update_sound, worded_sound}
 use Rattle.bw_sql.proofs.ConditionsSound.{condition_sound}
 use Rattle.bw_sql.proofs.ListsSound.{IsSound, after_from-is, closes, after_into-is, after_open-is, after_table-is, after_values-is, answers_once, bound, columns_sound, mapped, moved, name_is, name_sound, names_sound, rows_sound}
-
--- a statement so far, and what is left behind it
-abbrev IsStatement : List Terminal → StatementTree → List Terminal → Type 0
-IsStatement ts tree rest = rest ≡ [] → Spells ts tree
-
--- a spelling under equal names
-spelled : (word : Terminal) (ts us : List Terminal) (x y : StatementTree) → ts ≡ us → x ≡ y → Spells (word ∷ us) x → Spells (word ∷ ts) y
-spelled word ts us x y e f d = rw (e, ← f) d
 
 create_sound : (n : ℕ) (ts : List Terminal) → (tree : StatementTree) (rest : List Terminal) → create_at n ts ≡ Some (tree, rest) → IsStatement (t.Keyword k.Create ∷ ts) tree rest
 unfolding create_at
@@ -81,9 +74,12 @@ select_sound n ts tree rest h nothing =
 statement_sound : (n : ℕ) (ts : List Terminal) (tree : StatementTree) (rest : List Terminal) → statement_at n ts ≡ Some (tree, rest) → IsStatement ts tree rest
 unfolding statement_at
 statement_sound n (t.Keyword k.Create ∷ ts) tree rest h = create_sound n ts tree rest h
+statement_sound n (t.Keyword k.Drop ∷ ts) tree rest h = drop_sound ts tree rest h
 statement_sound n (t.Keyword k.Insert ∷ ts) tree rest h = insert_sound n ts tree rest h
+statement_sound n (t.Keyword k.Update ∷ ts) tree rest h = update_sound n ts tree rest h
+statement_sound n (t.Keyword k.Delete ∷ ts) tree rest h = delete_sound n ts tree rest h
 statement_sound n (t.Keyword k.Select ∷ ts) tree rest h = select_sound n ts tree rest h
-statement_sound n _ tree rest h = cc
+statement_sound n ts tree rest h = worded_sound n ts tree rest h
 
 all_ended : (tree : StatementTree) (rest : List Terminal) (y : StatementTree) → ended tree rest ≡ Some y → (rest ≡ []) × (tree ≡ y)
 all_ended tree [] y h = (refl, cc)

@@ -5,7 +5,7 @@ use Rattle.std.specs.Char.{to_ascii_uppercase}
 use Rattle.std.specs.List.{All}
 use Rattle.std.proofs.lemmas.List.Elements.{All-cons, All-nil}
 use Rattle.std.proofs.Math.Seq.{drop-append_seam, take-append_seam}
-use Rattle.bw_sql.specs.Grammar.{ColumnPart, KindPart, ListOf, Spells, TypePart, UsingPart, column, creates, inserts, inserts_into, int, integer, kind, last, next, no_kind, no_layout, selects, selects_where, using_layout}
+use Rattle.bw_sql.specs.Grammar.{ColumnPart, KindPart, ListOf, Spells, TypePart, UsingPart, column, creates, deletes, deletes_where, drops, inserts, inserts_into, int, integer, kind, last, lists_tables, next, no_kind, no_layout, rebuilds, rebuilds_columns, selects, selects_where, updates, updates_where, using_layout}
 use Rattle.bw_sql.specs.Names.{IsName, keyword_of}
 use Rattle.bw_lex.specs.Spellings.{IsWord}
 use Rattle.bw_sql.specs.Statements.{Says}
@@ -84,8 +84,16 @@ columns_named (next {x = definition} {xs = definitions} one more) seen =
 
 spelled_names : (terminals : List Terminal) (statement : StatementTree) → Spells terminals statement → Each IsSeen terminals → All IsName (names_brought statement)
 spelled_names terminals statement (creates {table} {definitions} many) seen = All-cons IsName table (map (λ c. c.name) definitions) seen.1.1.0 (columns_named many seen.1.1.1.1)
+spelled_names terminals statement drops seen = All-nil IsName
+spelled_names terminals statement lists_tables seen = All-nil IsName
 spelled_names terminals statement (inserts rows) seen = All-nil IsName
 spelled_names terminals statement (inserts_into names rows) seen = All-nil IsName
+spelled_names terminals statement (updates sets) seen = All-nil IsName
+spelled_names terminals statement (updates_where sets condition) seen = All-nil IsName
+spelled_names terminals statement deletes seen = All-nil IsName
+spelled_names terminals statement (deletes_where condition) seen = All-nil IsName
+spelled_names terminals statement rebuilds seen = All-nil IsName
+spelled_names terminals statement (rebuilds_columns choices) seen = All-nil IsName
 spelled_names terminals statement (selects items) seen = All-nil IsName
 spelled_names terminals statement (selects_where items condition) seen = All-nil IsName
 

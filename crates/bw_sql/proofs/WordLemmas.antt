@@ -1,12 +1,14 @@
--- Words for layouts and kinds.
+-- Words for layouts, kinds and statements.
 use Rattle.std.proofs.Common.{◌≡◌, ℕ, Bool, true, false, cond, List, codes, Option, Some, None, refl, ap, ◌∙◌}
 use Rattle.std.specs.Str.{bytes_eq}
 use Rattle.std.specs.Cmp.Lexicographic.{bytes_decides}
+use Rattle.bw_sql.specs.declared.terminal.StatementWord.{StatementWord}
+use Rattle.bw_sql.specs.declared.terminal.StatementWord.TheVariants.{Rebuild, Tables}
 use Rattle.bw_sql.specs.declared.tree.LayoutWord.{LayoutWord}
 use Rattle.bw_sql.specs.declared.tree.LayoutWord.TheVariants.{P, V, H, S}
 use Rattle.bw_sql.specs.declared.tree.KindWord.{KindWord}
 use Rattle.bw_sql.specs.declared.tree.KindWord.TheVariants.{Offset, Dictionary}
-use Rattle.bw_sql.specs.Words.{kind_of, kind_spelling, layout_of, layout_spelling}
+use Rattle.bw_sql.specs.Words.{kind_of, kind_spelling, layout_of, layout_spelling, statement_spelling, statement_word_of}
 
 -- either the first is chosen, or the others are
 module _ {A : Type 0} (spelling : A → List ℕ) (word : List ℕ) (y : A) where
@@ -33,6 +35,13 @@ kind_of-is word d h =
     (chosen_word kind_spelling word d (bytes_eq word (codes "DICTIONARY")) Dictionary None (is word (codes "DICTIONARY")) (λ e. cc))
     h
 
+pub statement_word_of-is : (word : List ℕ) (w : StatementWord) → statement_word_of word ≡ Some w → word ≡ statement_spelling w
+unfolding statement_word_of
+statement_word_of-is word w h =
+    chosen_word statement_spelling word w (bytes_eq word (codes "TABLES")) Tables _ (is word (codes "TABLES"))
+    (chosen_word statement_spelling word w (bytes_eq word (codes "REBUILD")) Rebuild None (is word (codes "REBUILD")) (λ e. cc))
+    h
+
 pub layout_of-spelling : (l : LayoutWord) → layout_of (layout_spelling l) ≡ Some l
 unfolding layout_of
 layout_of-spelling P = refl
@@ -44,3 +53,8 @@ pub kind_of-spelling : (d : KindWord) → kind_of (kind_spelling d) ≡ Some d
 unfolding kind_of
 kind_of-spelling Offset = refl
 kind_of-spelling Dictionary = refl
+
+pub statement_word_of-spelling : (w : StatementWord) → statement_word_of (statement_spelling w) ≡ Some w
+unfolding statement_word_of
+statement_word_of-spelling Tables = refl
+statement_word_of-spelling Rebuild = refl

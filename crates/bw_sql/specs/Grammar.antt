@@ -1,8 +1,9 @@
--- The grammar (SQL-92: table definition, insert statement, query specification, search condition and predicates): which
+-- The grammar (SQL-92: table definition, drop table statement, insert statement, searched update and delete statements, query specification, search condition and predicates): which
 -- terminals spell a statement. Each relation reads: these terminals begin with a spelling of the value, and
 -- the rest follows it.
-use Rattle.std.specs.Prelude.{ℕ, ℤ, ◌<◌, ◌≤◌, ◌^◌, pos, neg_ℤ, List, [], ◌∷◌, Option, Some, None}
+use Rattle.std.specs.Prelude.{ℕ, ℤ, ◌<◌, ◌≤◌, ◌^◌, pos, neg_ℤ, List, [], ◌∷◌, codes, Option, Some, None}
 use Rattle.bw_lex.specs.declared.token.CompareOp.{CompareOp}
+use Rattle.bw_lex.specs.declared.token.CompareOp.TheVariants.{Eq}
 use Rattle.bw_lex.specs.declared.token.Symbol.TheVariants as s
 use Rattle.bw_sql.specs.declared.keyword.Keyword.TheVariants as k
 use Rattle.bw_sql.specs.declared.terminal.Terminal.{Terminal}
@@ -14,8 +15,10 @@ use Rattle.bw_sql.specs.declared.tree.Operand.TheVariants.{Column, Constant}
 use Rattle.bw_sql.specs.declared.tree.TruthWord.{TruthWord}
 use Rattle.bw_sql.specs.declared.tree.TruthWord.TheVariants.{True, False, Unknown}
 use Rattle.bw_sql.specs.declared.tree.ColumnDefinition.{ColumnDefinition}
+use Rattle.bw_sql.specs.declared.tree.LayoutChoice.{LayoutChoice}
+use Rattle.bw_sql.specs.declared.tree.SetClause.{SetClause}
 use Rattle.bw_sql.specs.Words.{kind_spelling, layout_spelling}
-use Rattle.bw_sql.specs.Tree.{ConditionTree, among, between, comparison, each_of, negated, null, some_of, tested, trees_of, ItemsTree, all_columns, columns, StatementTree, create_table, insert, select}
+use Rattle.bw_sql.specs.Tree.{ConditionTree, among, between, comparison, each_of, negated, null, some_of, tested, trees_of, ItemsTree, all_columns, columns, StatementTree, create_table, delete, drop_table, insert, list_tables, rebuild, select, update}
 
 -- one {, one}
 pub data ListOf {A : Type 0} (One : List Terminal → A → List Terminal → Type 0) : List Terminal → List A → List Terminal → Type 0 where
@@ -69,6 +72,16 @@ pub data ItemsPart : List Terminal → ItemsTree → List Terminal → Type 0 wh
 pub data OperandPart : List Terminal → Operand → List Terminal → Type 0 where
   constant : {v : Option ℤ} {ts rest : List Terminal} → ValuePart ts v rest → OperandPart ts (Constant v) rest
   column_name : {word : List ℕ} {rest : List Terminal} → OperandPart (t.Name word ∷ rest) (Column word) rest
+
+-- name = source, where source = value | name
+pub data SetPart : List Terminal → SetClause → List Terminal → Type 0 where
+  set : {word : List ℕ} {x : Operand} {ts rest : List Terminal} → OperandPart ts x rest →
+      SetPart (t.Name word ∷ t.Symbol (s.Compare Eq) ∷ ts) (record { column = word; source = x }) rest
+
+-- choice = name USING layout [kind]
+pub data ChoicePart : List Terminal → LayoutChoice → List Terminal → Type 0 where
+  choice : {word : List ℕ} {l : LayoutWord} {d : Option KindWord} {ts rest : List Terminal} → KindPart ts d rest →
+      ChoicePart (t.Name word ∷ t.Keyword k.Using ∷ t.Name (layout_spelling l) ∷ ts) (record { column = word; layout = l; kind = d }) rest
 
 -- operand AND operand
 pub data BoundsPart : List Terminal → Operand → Operand → List Terminal → Type 0 where
@@ -143,6 +156,10 @@ pub data Spells : List Terminal → StatementTree → Type 0 where
   creates : {table : List ℕ} {definitions : List ColumnDefinition} {ts : List Terminal} →
       ListOf ColumnPart ts definitions (t.Symbol s.Close ∷ []) →
       Spells (t.Keyword k.Create ∷ t.Keyword k.Table ∷ t.Name table ∷ t.Symbol s.Open ∷ ts) (create_table table definitions)
+  -- DROP TABLE name
+  drops : {table : List ℕ} → Spells (t.Keyword k.Drop ∷ t.Keyword k.Table ∷ t.Name table ∷ []) (drop_table table)
+  -- TABLES
+  lists_tables : Spells (t.Name (codes "TABLES") ∷ []) list_tables
   -- INSERT INTO name VALUES tuple {, tuple}
   inserts : {table : List ℕ} {rows : List (List (Option ℤ))} {ts : List Terminal} →
       ListOf RowPart ts rows [] →
@@ -151,6 +168,26 @@ pub data Spells : List Terminal → StatementTree → Type 0 where
   inserts_into : {table : List ℕ} {names : List (List ℕ)} {rows : List (List (Option ℤ))} {ts us : List Terminal} →
       ListOf NamePart ts names (t.Symbol s.Close ∷ t.Keyword k.Values ∷ us) → ListOf RowPart us rows [] →
       Spells (t.Keyword k.Insert ∷ t.Keyword k.Into ∷ t.Name table ∷ t.Symbol s.Open ∷ ts) (insert table (Some names) rows)
+  -- UPDATE name SET name = source {, name = source}
+  updates : {table : List ℕ} {sets : List SetClause} {ts : List Terminal} →
+      ListOf SetPart ts sets [] →
+      Spells (t.Keyword k.Update ∷ t.Name table ∷ t.Keyword k.Set ∷ ts) (update table sets None)
+  -- UPDATE name SET name = source {, name = source} WHERE cond
+  updates_where : {table : List ℕ} {sets : List SetClause} {c : ConditionTree} {ts us : List Terminal} →
+      ListOf SetPart ts sets (t.Keyword k.Where ∷ us) → ConditionPart us c [] →
+      Spells (t.Keyword k.Update ∷ t.Name table ∷ t.Keyword k.Set ∷ ts) (update table sets (Some c))
+  -- DELETE FROM name
+  deletes : {table : List ℕ} → Spells (t.Keyword k.Delete ∷ t.Keyword k.From ∷ t.Name table ∷ []) (delete table None)
+  -- DELETE FROM name WHERE cond
+  deletes_where : {table : List ℕ} {c : ConditionTree} {us : List Terminal} →
+      ConditionPart us c [] →
+      Spells (t.Keyword k.Delete ∷ t.Keyword k.From ∷ t.Name table ∷ t.Keyword k.Where ∷ us) (delete table (Some c))
+  -- REBUILD name
+  rebuilds : {table : List ℕ} → Spells (t.Name (codes "REBUILD") ∷ t.Name table ∷ []) (rebuild table [])
+  -- REBUILD name ( choice {, choice} )
+  rebuilds_columns : {table : List ℕ} {choices : List LayoutChoice} {ts : List Terminal} →
+      ListOf ChoicePart ts choices (t.Symbol s.Close ∷ []) →
+      Spells (t.Name (codes "REBUILD") ∷ t.Name table ∷ t.Symbol s.Open ∷ ts) (rebuild table choices)
   -- SELECT items FROM name
   selects : {table : List ℕ} {items : ItemsTree} {ts : List Terminal} →
       ItemsPart ts items (t.Keyword k.From ∷ t.Name table ∷ []) →

@@ -3,8 +3,11 @@ use Rattle.std.specs.Prelude.{◌≡◌, ℕ, ℤ, ◌^◌, ◌<◌, zero, suc, 
 use Rattle.std.specs.Option.{option_and_then}
 use Rattle.bw_lex.specs.declared.fault.SqlFault.{SqlFault}
 use Rattle.bw_lex.specs.declared.fault.SqlFault.TheVariants as faults
+use Rattle.bw_lex.specs.declared.token.CompareOp.TheVariants.{Eq}
 use Rattle.bw_lex.specs.declared.token.Symbol.TheVariants as s
 use Rattle.bw_sql.specs.declared.keyword.Keyword.TheVariants as k
+use Rattle.bw_sql.specs.declared.terminal.StatementWord.{StatementWord}
+use Rattle.bw_sql.specs.declared.terminal.StatementWord.TheVariants.{Rebuild, Tables}
 use Rattle.bw_sql.specs.declared.terminal.Terminal.{Terminal}
 use Rattle.bw_sql.specs.declared.terminal.Terminal.TheVariants as t
 use Rattle.bw_sql.specs.declared.tree.LayoutWord.{LayoutWord}
@@ -15,8 +18,10 @@ use Rattle.bw_sql.specs.declared.tree.TruthWord.{TruthWord}
 use Rattle.bw_sql.specs.declared.tree.TruthWord.TheVariants.{True, False, Unknown}
 use Rattle.bw_sql.specs.Grammar.{all_of, any_of}
 use Rattle.bw_sql.specs.declared.tree.ColumnDefinition.{ColumnDefinition}
-use Rattle.bw_sql.specs.Words.{kind_of, layout_of}
-use Rattle.bw_sql.specs.Tree.{ConditionTree, among, between, comparison, negated, null, tested, ItemsTree, all_columns, columns, StatementTree, create_table, insert, select}
+use Rattle.bw_sql.specs.declared.tree.LayoutChoice.{LayoutChoice}
+use Rattle.bw_sql.specs.declared.tree.SetClause.{SetClause}
+use Rattle.bw_sql.specs.Words.{kind_of, layout_of, statement_word_of}
+use Rattle.bw_sql.specs.Tree.{ConditionTree, among, between, comparison, negated, null, tested, ItemsTree, all_columns, columns, StatementTree, create_table, delete, drop_table, insert, list_tables, rebuild, select, update}
 
 -- what is read, and the terminals after it; none is a syntax error
 abbrev pub Read : Type 0 → Type 0
@@ -93,6 +98,18 @@ after_or _ = None
 abbrev pub after_null : List Terminal → Option (List Terminal)
 after_null (t.Keyword k.Null ∷ ts) = Some ts
 after_null _ = None
+
+abbrev pub after_set : List Terminal → Option (List Terminal)
+after_set (t.Keyword k.Set ∷ ts) = Some ts
+after_set _ = None
+
+abbrev pub after_using : List Terminal → Option (List Terminal)
+after_using (t.Keyword k.Using ∷ ts) = Some ts
+after_using _ = None
+
+abbrev pub after_equals : List Terminal → Option (List Terminal)
+after_equals (t.Symbol (s.Compare Eq) ∷ ts) = Some ts
+after_equals _ = None
 
 abbrev pub after_type : List Terminal → Option (List Terminal)
 after_type (t.Keyword k.Integer ∷ ts) = Some ts
@@ -203,6 +220,10 @@ create_at n ts =
     after_table ts >>= λ us. name_at us >>= λ name. after_open name.1 >>= λ vs. columns_at n vs >>= λ definitions.
     closed (create_table name.0 definitions.0) (after_close definitions.1)
 
+-- what follows DROP
+unfoldable pub drop_at : List Terminal → Read StatementTree
+drop_at ts = after_table ts >>= λ us. map_first drop_table (name_at us)
+
 unfoldable pub column_list_at : ℕ → List Terminal → Read (Option (List (List ℕ)))
 column_list_at n (t.Symbol s.Open ∷ ts) = names_at n ts >>= λ names. closed (Some names.0) (after_close names.1)
 column_list_at n ts = Some (None, ts)
@@ -296,11 +317,62 @@ select_at n ts =
     items_at n ts >>= λ items. after_from items.1 >>= λ us. name_at us >>= λ table. filter_at n table.1 >>= λ filter.
     Some (select items.0 table.0 filter.0, filter.1)
 
+abbrev pub set_to : List ℕ → Operand → SetClause
+set_to column source = record { column = column; source = source }
+
+unfoldable pub set_at : List Terminal → Read SetClause
+set_at ts = name_at ts >>= λ name. after_equals name.1 >>= λ us. map_first (set_to name.0) (operand_at us)
+
+unfoldable pub sets_at : ℕ → List Terminal → Read (List SetClause)
+sets_at n ts = parts_at after_comma set_at n ts
+
+-- what follows UPDATE
+unfoldable pub update_at : ℕ → List Terminal → Read StatementTree
+update_at n ts =
+    name_at ts >>= λ table. after_set table.1 >>= λ us. sets_at n us >>= λ sets. filter_at n sets.1 >>= λ filter.
+    Some (update table.0 sets.0 filter.0, filter.1)
+
+-- what follows DELETE
+unfoldable pub delete_at : ℕ → List Terminal → Read StatementTree
+delete_at n ts = after_from ts >>= λ us. name_at us >>= λ table. map_first (delete table.0) (filter_at n table.1)
+
+abbrev pub chosen : List ℕ → LayoutWord → Option KindWord × List Terminal → Read LayoutChoice
+chosen column layout kind = Some (record { column = column; layout = layout; kind = kind.0 }, kind.1)
+
+unfoldable pub choice_at : List Terminal → Read LayoutChoice
+choice_at ts = name_at ts >>= λ name. after_using name.1 >>= λ us. layout_at us >>= λ layout. chosen name.0 layout.0 (kind_at layout.1)
+
+unfoldable pub choices_at : ℕ → List Terminal → Read (List LayoutChoice)
+choices_at n ts = parts_at after_comma choice_at n ts
+
+unfoldable pub choice_list_at : ℕ → List Terminal → Read (List LayoutChoice)
+choice_list_at n (t.Symbol s.Open ∷ ts) = choices_at n ts >>= λ choices. closed choices.0 (after_close choices.1)
+choice_list_at n ts = Some ([], ts)
+
+-- what follows REBUILD
+unfoldable pub rebuild_at : ℕ → List Terminal → Read StatementTree
+rebuild_at n ts = name_at ts >>= λ table. map_first (rebuild table.0) (choice_list_at n table.1)
+
+unfoldable pub statement_word_at : List Terminal → Read StatementWord
+statement_word_at (t.Name word ∷ ts) = with_rest (statement_word_of word) ts
+statement_word_at _ = None
+
+-- what follows a name that begins a statement
+abbrev pub behind_word : ℕ → StatementWord → List Terminal → Read StatementTree
+behind_word n Tables ts = Some (list_tables, ts)
+behind_word n Rebuild ts = rebuild_at n ts
+
+unfoldable pub worded_at : ℕ → List Terminal → Read StatementTree
+worded_at n ts = statement_word_at ts >>= λ word. behind_word n word.0 word.1
+
 unfoldable pub statement_at : ℕ → List Terminal → Read StatementTree
 statement_at n (t.Keyword k.Create ∷ ts) = create_at n ts
+statement_at n (t.Keyword k.Drop ∷ ts) = drop_at ts
 statement_at n (t.Keyword k.Insert ∷ ts) = insert_at n ts
+statement_at n (t.Keyword k.Update ∷ ts) = update_at n ts
+statement_at n (t.Keyword k.Delete ∷ ts) = delete_at n ts
 statement_at n (t.Keyword k.Select ∷ ts) = select_at n ts
-statement_at n _ = None
+statement_at n ts = worded_at n ts
 
 -- nothing is left
 abbrev pub ended : {A : Type 0} → A → List Terminal → Option A

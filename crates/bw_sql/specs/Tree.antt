@@ -1,4 +1,4 @@
--- Statements as the language has them (SQL-92: table definition, insert statement, query specification,
+-- Statements as the language has them (SQL-92: table definition, drop table statement, insert statement, searched update and delete statements, query specification,
 -- search condition and predicates), without where they lie in memory. A name is its bytes, a value a number or none.
 use Rattle.std.specs.Prelude.{ℕ, ℤ, List, [], ◌∷◌, map, Option, option_map}
 use Rattle.std.specs.Global.{Vec}
@@ -9,6 +9,8 @@ use Rattle.bw_sql.specs.declared.tree.Condition.TheOpen.{Condition-F}
 use Rattle.bw_sql.specs.declared.tree.Condition.TheFolds.{fold-Condition}
 use Rattle.bw_sql.specs.declared.tree.TruthWord.{TruthWord}
 use Rattle.bw_sql.specs.declared.tree.ColumnDefinition.{ColumnDefinition}
+use Rattle.bw_sql.specs.declared.tree.LayoutChoice.{LayoutChoice}
+use Rattle.bw_sql.specs.declared.tree.SetClause.{SetClause}
 use Rattle.bw_sql.specs.declared.tree.SelectItems.{SelectItems}
 use Rattle.bw_sql.specs.declared.tree.SelectItems.TheVariants as items
 use Rattle.bw_sql.specs.declared.tree.Statement.{Statement}
@@ -39,7 +41,12 @@ pub data ItemsTree : Type 0 where
 
 pub data StatementTree : Type 0 where
   create_table : (table : List ℕ) → List ColumnDefinition → StatementTree
+  drop_table : (table : List ℕ) → StatementTree
+  list_tables : StatementTree
   insert : (table : List ℕ) → (columns : Option (List (List ℕ))) → (rows : List (List (Option ℤ))) → StatementTree
+  update : (table : List ℕ) → List SetClause → Option ConditionTree → StatementTree
+  delete : (table : List ℕ) → Option ConditionTree → StatementTree
+  rebuild : (table : List ℕ) → List LayoutChoice → StatementTree
   select : ItemsTree → (table : List ℕ) → Option ConditionTree → StatementTree
 
 -- one level of a Rust condition, with trees in the places of its parts
@@ -68,5 +75,10 @@ items_of (items.Columns names) = columns names
 -- the statement that a Rust value holds
 abbrev pub statement_of : Statement → StatementTree
 statement_of (statements.CreateTable s) = create_table s.table s.columns.items
+statement_of (statements.DropTable table) = drop_table table
+statement_of statements.ListTables = list_tables
 statement_of (statements.Insert s) = insert s.table s.columns s.rows
+statement_of (statements.Update s) = update s.table s.sets.items (option_map condition_of s.condition)
+statement_of (statements.Delete s) = delete s.table (option_map condition_of s.condition)
+statement_of (statements.Rebuild s) = rebuild s.table s.choices.items
 statement_of (statements.Select s) = select (items_of s.items) s.table (option_map condition_of s.condition)

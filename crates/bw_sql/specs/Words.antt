@@ -1,6 +1,8 @@
--- Words that are names, and stand for a layout or a kind where the grammar has one.
+-- Words that are names, and stand for a layout, a kind or a statement where the grammar has one.
 use Rattle.std.specs.Prelude.{ℕ, List, codes, Option, Some, None, if◌then◌else◌}
 use Rattle.std.specs.Str.{bytes_eq}
+use Rattle.bw_sql.specs.declared.terminal.StatementWord.{StatementWord}
+use Rattle.bw_sql.specs.declared.terminal.StatementWord.TheVariants.{Rebuild, Tables}
 use Rattle.bw_sql.specs.declared.tree.LayoutWord.{LayoutWord}
 use Rattle.bw_sql.specs.declared.tree.LayoutWord.TheVariants.{P, V, H, S}
 use Rattle.bw_sql.specs.declared.tree.KindWord.{KindWord}
@@ -18,6 +20,11 @@ abbrev pub kind_spelling : KindWord → List ℕ
 kind_spelling Offset = codes "OFFSET"
 kind_spelling Dictionary = codes "DICTIONARY"
 
+-- how a name is spelled that begins a statement
+abbrev pub statement_spelling : StatementWord → List ℕ
+statement_spelling Tables = codes "TABLES"
+statement_spelling Rebuild = codes "REBUILD"
+
 unfoldable pub layout_of : List ℕ → Option LayoutWord
 layout_of word =
     if bytes_eq word (codes "P") then Some P
@@ -27,3 +34,6 @@ layout_of word =
 
 unfoldable pub kind_of : List ℕ → Option KindWord
 kind_of word = if bytes_eq word (codes "OFFSET") then Some Offset else (if bytes_eq word (codes "DICTIONARY") then Some Dictionary else None)
+
+unfoldable pub statement_word_of : List ℕ → Option StatementWord
+statement_word_of word = if bytes_eq word (codes "TABLES") then Some Tables else (if bytes_eq word (codes "REBUILD") then Some Rebuild else None)

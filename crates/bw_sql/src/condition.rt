@@ -175,7 +175,7 @@ impl<'a> Parser<'a> {
 
     // operand = value | name
     #[tactic(auto, unfolding(crate::specs::Reading::operand_at, crate::specs::Reading::value_at, crate::specs::Reading::literal_at, crate::specs::Reading::number_at))]
-    fn operand(&mut self) -> Result<Operand, SqlFault>
+    pub(crate) fn operand(&mut self) -> Result<Operand, SqlFault>
         ensures shorter { OnOk result (length self.new.rest.now < length self.old.rest.now) }
         ensures read { Gives (λ operand. operand) result self.new.rest.now (reading.operand_at self.old.rest.now) }
     {

@@ -2,6 +2,7 @@
 //! from the lexical layer and are passed on.
 #![tactic(auto)]
 
+mod changes;
 mod condition;
 mod keyword;
 mod limits;
@@ -23,6 +24,6 @@ pub use name_list::NameList;
 pub use rows::ValueRows;
 pub use statement_text::{LONGEST_STATEMENT, names_are_names, one_statement, statement};
 pub use tree::{
-    ColumnDefinition, Condition, CreateTable, Insert, KindWord, LayoutWord, Operand, Select,
-    SelectItems, Statement, TruthWord, Value,
+    ColumnDefinition, Condition, CreateTable, Delete, Insert, KindWord, LayoutChoice, LayoutWord,
+    Operand, Rebuild, Select, SelectItems, SetClause, Statement, TruthWord, Update, Value,
 };

@@ -237,7 +237,7 @@ impl<'a> Parser<'a> {
 
     // layout = P | V | H | S
     #[tactic(auto, unfolding(crate::specs::Reading::layout_at))]
-    fn layout(&mut self) -> Result<LayoutWord, SqlFault>
+    pub(crate) fn layout(&mut self) -> Result<LayoutWord, SqlFault>
         ensures shorter { OnOk result (length self.new.rest.now < length self.old.rest.now) }
         ensures read { Gives (λ layout. layout) result self.new.rest.now (reading.layout_at self.old.rest.now) }
     {
@@ -268,7 +268,7 @@ impl<'a> Parser<'a> {
 
     // [kind], where kind = OFFSET | DICTIONARY
     #[tactic(auto, unfolding(crate::specs::Reading::kind_at))]
-    fn kind(&mut self) -> Option<KindWord>
+    pub(crate) fn kind(&mut self) -> Option<KindWord>
         ensures no_longer { length self.new.rest.now ≤ length self.old.rest.now }
         ensures read { (result, self.new.rest.now) ≡ reading.kind_at self.old.rest.now }
     {
@@ -381,7 +381,7 @@ impl<'a> Parser<'a> {
 
     // [WHERE cond]
     #[tactic(auto, unfolding(crate::specs::Reading::filter_at, crate::specs::Reading::condition_at))]
-    fn filter(&mut self) -> Result<Option<Condition>, SqlFault>
+    pub(crate) fn filter(&mut self) -> Result<Option<Condition>, SqlFault>
         ensures no_longer { OnOk result (length self.new.rest.now ≤ length self.old.rest.now) }
         ensures read { (n : ℕ) → length self.old.rest.now < n
             → Gives (option_map condition_of) result self.new.rest.now (reading.filter_at n self.old.rest.now) }
@@ -420,12 +420,18 @@ impl<'a> Parser<'a> {
     {
         if self.eat_word(Keyword::Create) {
             self.create_table()
+        } else if self.eat_word(Keyword::Drop) {
+            self.drop_table()
         } else if self.eat_word(Keyword::Insert) {
             self.insert()
+        } else if self.eat_word(Keyword::Update) {
+            self.update()
+        } else if self.eat_word(Keyword::Delete) {
+            self.delete()
         } else if self.eat_word(Keyword::Select) {
             self.select()
         } else {
-            Err(SqlFault::Syntax)
+            self.worded_statement()
         }
     }
 }

@@ -3,7 +3,7 @@
 ghost use Rattle.std.specs.Prelude.{◌≡◌, IfOk, map};
 ghost use Rattle.std.specs.Char.{to_ascii_uppercase};
 ghost use Rattle.bw_sql.specs.Names.{IsName};
-ghost use Rattle.bw_sql.specs.Words.{kind_of, layout_of};
+ghost use Rattle.bw_sql.specs.Words.{kind_of, layout_of, statement_word_of};
 
 use crate::keyword::{Keyword, spells};
 use crate::name::Name;
@@ -11,6 +11,13 @@ use crate::tree::{KindWord, LayoutWord};
 use bw_lex::Symbol;
 use std::alloc::{AllocError, Global};
 use std::marker::Model;
+
+/// A name that begins a statement where one may begin.
+#[derive(Clone, Copy, Debug, PartialEq, Eq)]
+pub(crate) enum StatementWord {
+    Tables,
+    Rebuild,
+}
 
 /// A word that is a name, in any case. A contract sees the name.
 #[derive(Debug, Drop)]
@@ -53,6 +60,13 @@ impl<'a> NameWord<'a> {
         layout_word(self.bytes)
     }
 
+    /// The statement that it begins.
+    pub(crate) fn statement(&self) -> Option<StatementWord>
+        ensures { result ≡ statement_word_of self.now }
+    {
+        statement_word(self.bytes)
+    }
+
     /// The kind that it spells.
     pub(crate) fn kind(&self) -> Option<KindWord>
         ensures { result ≡ kind_of self.now }
@@ -86,6 +100,19 @@ fn kind_word(word: &[u8]) -> Option<KindWord>
         Some(KindWord::Offset)
     } else if spells(word, b"DICTIONARY") {
         Some(KindWord::Dictionary)
+    } else {
+        None
+    }
+}
+
+#[tactic(auto, unfolding(crate::specs::Words::statement_word_of))]
+fn statement_word(word: &[u8]) -> Option<StatementWord>
+    ensures { result ≡ statement_word_of (map to_ascii_uppercase word.now) }
+{
+    if spells(word, b"TABLES") {
+        Some(StatementWord::Tables)
+    } else if spells(word, b"REBUILD") {
+        Some(StatementWord::Rebuild)
     } else {
         None
     }

@@ -12,8 +12,15 @@ pub type Value = Option<i64>;
 #[derive(Debug, Drop)]
 pub enum Statement {
     CreateTable(CreateTable),
+    /// `DROP TABLE table`.
+    DropTable(Name),
+    /// `TABLES`.
+    ListTables,
     Insert(Insert),
+    Update(Update),
+    Delete(Delete),
     Select(Select),
+    Rebuild(Rebuild),
 }
 
 /// `CREATE TABLE table (columns)`.
@@ -53,6 +60,44 @@ pub struct Insert {
     pub table: Name,
     pub columns: Option<NameList>,
     pub rows: ValueRows,
+}
+
+/// `UPDATE table SET sets [WHERE condition]`.
+#[derive(Debug, Drop)]
+pub struct Update {
+    pub table: Name,
+    pub sets: Vec<SetClause>,
+    pub condition: Option<Condition>,
+}
+
+/// `column = source`. A source that is a column is read from the row as it was.
+#[derive(Debug, Drop)]
+pub struct SetClause {
+    pub column: Name,
+    pub source: Operand,
+}
+
+/// `DELETE FROM table [WHERE condition]`.
+#[derive(Debug, Drop)]
+pub struct Delete {
+    pub table: Name,
+    pub condition: Option<Condition>,
+}
+
+/// `REBUILD table [(choices)]`.
+#[derive(Debug, Drop)]
+pub struct Rebuild {
+    pub table: Name,
+    /// None without a list.
+    pub choices: Vec<LayoutChoice>,
+}
+
+/// `column USING layout [kind]`. Without a kind the column keeps its own.
+#[derive(Debug, Drop)]
+pub struct LayoutChoice {
+    pub column: Name,
+    pub layout: LayoutWord,
+    pub kind: Option<KindWord>,
 }
 
 /// `SELECT items FROM table [WHERE condition]`.
@@ -96,7 +141,7 @@ pub enum TruthWord {
     Unknown,
 }
 
-/// What a predicate looks at.
+/// What a predicate looks at, or a column is set to.
 #[derive(Debug, Drop)]
 pub enum Operand {
     Column(Name),

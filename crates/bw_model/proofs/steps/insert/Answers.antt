@@ -1,10 +1,10 @@
 use Rattle.std.proofs.Common.{sym}
-use Rattle.bw_model.proofs.Stores.{absent, inserted, no_table}
+use Rattle.bw_model.proofs.Stores.{absent, inserted, not_inserted}
 use Rattle.bw_model.proofs.steps.insert.Goals as goal
 
 pub returns-in_default-clause-outcome : goal.returns-in_default-clause-outcome
 returns-in_default-clause-outcome c =
-    no_table c.args.tables.now c.args.insert.now.table c.args.insert.now.columns c.args.insert.now.rows
+    not_inserted c.args.tables.now c.args.insert.now.table c.args.insert.now.columns c.args.insert.now.rows
     (absent c.args.insert.now.table c.args.tables.now (sym c.in_default.ensures))
 
 pub returns-clause-outcome : goal.returns-clause-outcome

@@ -1,0 +1,22 @@
+//! DROP TABLE.
+
+ghost use Rattle.std.specs.Prelude.{◌≡◌, OnErr};
+ghost use Rattle.bw_sql.specs.Tree.{drop_table};
+ghost use Rattle.bw_engine.specs.Outcomes.{CarriesOut};
+
+use crate::table::Table;
+use bw_model::{Refusal, Reply};
+use bw_sql::Name;
+use indexmap::IndexMap;
+
+/// Takes a table out. The others keep their order.
+pub(crate) fn drop_table(tables: &mut IndexMap<Name, Table>, table: &Name) -> Result<Reply, Refusal>
+    ensures reply { CarriesOut tables.old.entries (drop_table table.now) result tables.new.entries }
+    ensures refused { OnErr result (tables.new.entries ≡ tables.old.entries) }
+{
+    if tables.shift_remove(table).is_some() {
+        Ok(Reply::Done)
+    } else {
+        Err(Refusal::NoSuchTable)
+    }
+}

@@ -1,0 +1,209 @@
+//! What UPDATE, DELETE and REBUILD make of a table.
+
+ghost use Rattle.std.specs.Prelude.{◌≡◌, IfOk, MatchOption, OnErr, filter, length, map, not, option_map};
+ghost use Rattle.bw_model.specs.Changes.{chosen_header, source_for, updated_if_found, updated_row, with_choices, with_updates, without_found};
+ghost use Rattle.bw_model.specs.Condition.{found_rows, is_found, value_of};
+ghost use Rattle.bw_model.specs.Refusals.{chosen_columns, delete_tests, first_that_holds, rebuild_tests, set_columns, update_tests};
+ghost use Rattle.bw_model.specs.declared.reply.Reply.TheVariants.{Count, Done, Refused};
+ghost use Rattle.bw_sql.specs.Tree.{condition_of};
+ghost use Rattle.bw_sql.specs.declared.tree.Operand.TheVariants.{Column};
+
+use crate::condition::{found_rows, is_found, value_of};
+use crate::refusals::{delete_tests, first_that_holds, rebuild_tests, update_tests};
+use crate::reply::Reply;
+use crate::store::{Header, Row, Table, place_of, value_from};
+use bw_sql::{Condition, LayoutChoice, Name, Operand, SetClause, Value};
+use std::alloc::{AllocError, Global};
+
+/// Updates the found rows of this table, each in its place.
+pub(crate) fn update_rows(
+    alloc: Global,
+    table: &mut Table,
+    sets: &[SetClause],
+    condition: &Option<Condition>,
+) -> Result<Reply, AllocError>
+    ensures outcome { IfOk result (λ reply. MatchOption (first_that_holds (update_tests sets.now (option_map condition_of condition.now) table.old))
+        ((reply ≡ Count (length (found_rows table.old (option_map condition_of condition.now)))) × (table.new ≡ with_updates sets.now (option_map condition_of condition.now) table.old))
+        (λ refusal. (reply ≡ Refused refusal) × (table.new ≡ table.old))) }
+    ensures unchanged { OnErr result (table.new ≡ table.old) }
+{
+    let columns = set_columns(alloc, sets)?;
+    if let Some(refusal) = first_that_holds(&update_tests(&columns, sets, condition, table)) {
+        return Ok(Reply::Refused(refusal));
+    }
+    let count = found_rows(alloc, table, condition)?.len();
+    let rows = rows_updated(alloc, table, sets, condition)?;
+    table.replace_rows(rows);
+    Ok(Reply::Count(count as u64))
+}
+
+/// The columns on the left sides.
+fn set_columns(alloc: Global, sets: &[SetClause]) -> Result<Vec<Name>, AllocError>
+    ensures { IfOk result (λ columns. columns.items ≡ set_columns sets.now) }
+{
+    let mut columns = Vec::new(alloc);
+    for set in sets {
+        columns.push(set.column.try_clone(alloc)?)?;
+    }
+    Ok(columns)
+}
+
+/// The rows, each that is found updated.
+fn rows_updated(
+    alloc: Global,
+    table: &Table,
+    sets: &[SetClause],
+    condition: &Option<Condition>,
+) -> Result<Vec<Row>, AllocError>
+    ensures { IfOk result (λ rows. rows.items ≡ map (updated_if_found table.now.headers sets.now (option_map condition_of condition.now)) table.now.rows) }
+{
+    let mut rows = Vec::new(alloc);
+    for row in table.rows() {
+        rows.push(updated_if_found(alloc, table.headers(), sets, condition, row)?)?;
+    }
+    Ok(rows)
+}
+
+fn updated_if_found(
+    alloc: Global,
+    headers: &[Header],
+    sets: &[SetClause],
+    condition: &Option<Condition>,
+    row: &Row,
+) -> Result<Row, AllocError>
+    ensures { IfOk result (λ new. new ≡ updated_if_found headers.now sets.now (option_map condition_of condition.now) row.now) }
+{
+    if is_found(headers, condition, row) {
+        Ok(Row::new(updated_row(alloc, headers, sets, row)?))
+    } else {
+        row.try_clone(alloc)
+    }
+}
+
+/// The row with its columns set, all of them from the row as it was.
+fn updated_row(
+    alloc: Global,
+    headers: &[Header],
+    sets: &[SetClause],
+    row: &Row,
+) -> Result<Vec<Value>, AllocError>
+    ensures { IfOk result (λ new. new.items ≡ updated_row headers.now sets.now row.now) }
+{
+    let mut new = Vec::new(alloc);
+    for header in headers {
+        new.push(updated_value(headers, sets, row, header.name()))?;
+    }
+    Ok(new)
+}
+
+/// The value of a column of the updated row. A column that isn't set keeps its own.
+fn updated_value(headers: &[Header], sets: &[SetClause], row: &Row, name: &Name) -> Value
+    ensures { result ≡ value_of headers.now row.now (source_for sets.now name.now) }
+{
+    for set in sets {
+        if name == &set.column {
+            return value_of(headers, row, &set.source);
+        }
+    }
+    value_from(row.values(), place_of(headers, name))
+}
+
+/// Takes the found rows out of this table.
+pub(crate) fn delete_rows(
+    alloc: Global,
+    table: &mut Table,
+    condition: &Option<Condition>,
+) -> Result<Reply, AllocError>
+    ensures outcome { IfOk result (λ reply. MatchOption (first_that_holds (delete_tests (option_map condition_of condition.now) table.old))
+        ((reply ≡ Count (length (found_rows table.old (option_map condition_of condition.now)))) × (table.new ≡ without_found (option_map condition_of condition.now) table.old))
+        (λ refusal. (reply ≡ Refused refusal) × (table.new ≡ table.old))) }
+    ensures unchanged { OnErr result (table.new ≡ table.old) }
+{
+    if let Some(refusal) = first_that_holds(&delete_tests(condition, table)) {
+        return Ok(Reply::Refused(refusal));
+    }
+    let count = found_rows(alloc, table, condition)?.len();
+    let rows = rows_left(alloc, table, condition)?;
+    table.replace_rows(rows);
+    Ok(Reply::Count(count as u64))
+}
+
+/// The rows at which the condition isn't true.
+fn rows_left(
+    alloc: Global,
+    table: &Table,
+    condition: &Option<Condition>,
+) -> Result<Vec<Row>, AllocError>
+    ensures { IfOk result (λ rows. rows.items ≡ filter (λ row. not (is_found table.now.headers (option_map condition_of condition.now) row)) table.now.rows) }
+{
+    let mut rows = Vec::new(alloc);
+    for row in table.rows() {
+        if !is_found(table.headers(), condition, row) {
+            rows.push(row.try_clone(alloc)?)?;
+        }
+    }
+    Ok(rows)
+}
+
+/// Lays columns of this table anew.
+pub(crate) fn rebuild_columns(
+    alloc: Global,
+    table: &mut Table,
+    choices: &[LayoutChoice],
+) -> Result<Reply, AllocError>
+    ensures outcome { IfOk result (λ reply. MatchOption (first_that_holds (rebuild_tests (chosen_columns choices.now) table.old))
+        ((reply ≡ Done) × (table.new ≡ with_choices choices.now table.old))
+        (λ refusal. (reply ≡ Refused refusal) × (table.new ≡ table.old))) }
+    ensures unchanged { OnErr result (table.new ≡ table.old) }
+{
+    let columns = chosen_columns(alloc, choices)?;
+    if let Some(refusal) = first_that_holds(&rebuild_tests(&columns, table)) {
+        return Ok(Reply::Refused(refusal));
+    }
+    let headers = headers_chosen(alloc, table.headers(), choices)?;
+    table.replace_headers(headers);
+    Ok(Reply::Done)
+}
+
+/// The columns that are to be laid anew.
+fn chosen_columns(alloc: Global, choices: &[LayoutChoice]) -> Result<Vec<Name>, AllocError>
+    ensures { IfOk result (λ columns. columns.items ≡ chosen_columns choices.now) }
+{
+    let mut columns = Vec::new(alloc);
+    for choice in choices {
+        columns.push(choice.column.try_clone(alloc)?)?;
+    }
+    Ok(columns)
+}
+
+/// The columns as they are chosen to lie.
+fn headers_chosen(
+    alloc: Global,
+    headers: &[Header],
+    choices: &[LayoutChoice],
+) -> Result<Vec<Header>, AllocError>
+    ensures { IfOk result (λ chosen. chosen.items ≡ map (chosen_header choices.now) headers.now) }
+{
+    let mut chosen = Vec::new(alloc);
+    for header in headers {
+        chosen.push(chosen_header(alloc, header, choices)?)?;
+    }
+    Ok(chosen)
+}
+
+/// The column as it is chosen to lie. Its kind stays where none is said.
+fn chosen_header(
+    alloc: Global,
+    header: &Header,
+    choices: &[LayoutChoice],
+) -> Result<Header, AllocError>
+    ensures { IfOk result (λ chosen. chosen ≡ chosen_header choices.now header.now) }
+{
+    for choice in choices {
+        if header.name() == &choice.column {
+            let kind = choice.kind.unwrap_or(header.kind());
+            return header.with_words(alloc, choice.layout, kind);
+        }
+    }
+    header.with_words(alloc, header.layout(), header.kind())
+}
