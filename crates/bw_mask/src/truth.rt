@@ -147,6 +147,22 @@ impl Truth {
         (self.t.take(), self.f.take())
     }
 
+    /// The same truth at each needed row, and unknown at every other. Takes no memory.
+    #[tactic(auto, using(crate::proofs::Pairs::truths_len, crate::proofs::Pairs::truths_at))]
+    pub fn set_all(&mut self, value: TruthValue, need: &Mask)
+        requires { len need.now ≡ length self.old }
+        ensures len { length self.new ≡ length self.old }
+        ensures rows { (i : ℕ) → truth_at self.new i ≡ (if row_at need.now i then value else Unknown) }
+    {
+        self.t.become_intersection(need, need);
+        self.f.become_difference(need, need);
+        match value {
+            TruthValue::True => {}
+            TruthValue::False => swap(&mut self.t, &mut self.f),
+            TruthValue::Unknown => self.t.andnot_in(need),
+        }
+    }
+
     /// NOT at each row.
     #[tactic(auto, using(crate::proofs::Pairs::truths_len, crate::proofs::Pairs::truths_at, crate::proofs::Pairs::from_not))]
     pub fn not_in(&mut self)
@@ -191,5 +207,14 @@ impl Truth {
         if negated {
             swap(&mut self.f, &mut self.t);
         }
+    }
+
+    /// Each row that is not true becomes unknown. Takes no memory.
+    #[tactic(auto, using(crate::proofs::Pairs::truths_len, crate::proofs::Pairs::truths_at))]
+    pub fn forget_falses(&mut self)
+        ensures len { length self.new ≡ length self.old }
+        ensures rows { (i : ℕ) → truth_at self.new i ≡ or_of (truth_at self.old i) Unknown }
+    {
+        self.f.become_difference(&self.t, &self.t);
     }
 }

@@ -61,6 +61,14 @@ impl ValueRows {
     {
         self.values.as_slice()
     }
+
+    /// The values of all rows, one row after the other, taken over.
+    pub fn into_values(self) -> Vec<Value>
+        ensures { result.items ≡ joined self }
+    {
+        let ValueRows { values, widths: _ } = self;
+        values
+    }
 }
 
 fn are_all(widths: &[usize], width: usize) -> bool
