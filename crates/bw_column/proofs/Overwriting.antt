@@ -8,7 +8,8 @@ use Rattle.bw_column.specs.Values.{value_at}
 use Rattle.bw_column.proofs.Lists.{made_is}
 use Rattle.bw_column.proofs.Ranks.{rank_below, rank_set, rank_skip}
 
-below_len : (places : MaskRows) (i : ℕ) → row_at places i ≡ true → i < len places
+-- a row that is in is one of the rows
+pub below_len : (places : MaskRows) (i : ℕ) → row_at places i ≡ true → i < len places
 below_len places i h =
     elim (cases_lt i (len places)) [
       | inl l ↦ l

@@ -3,6 +3,7 @@ use Rattle.std.proofs.Common.{◌≡◌, ℕ, suc, ℤ, ◌+◌, ◌-◌, ◌<�
 use Rattle.std.specs.List.{All, range_with_len}
 use Rattle.std.proofs.lemmas.Bool.{cases_lt}
 use Rattle.std.proofs.lemmas.List.{get_or_append_left, get_or-append_right, get_or-map, length-map, length-replicate, get_or-replicate, same_lists, get_or_default}
+use Rattle.std.proofs.lemmas.List.Elements.{All-from_get_or, All-map}
 use Rattle.std.proofs.lemmas.List.FromFn.{get_or-map-range_with_len}
 use Rattle.bw_mask.specs.Masks.{MaskRows, len, row_at}
 use Rattle.bw_column.specs.Columns.{ColumnView}
@@ -208,3 +209,12 @@ column_at slots k i l =
     let m = length-map slots (λ (slot : Slot). slot.row) in
     get_or-map (λ (row : List (Option ℤ)). value_at row k) (map (λ (slot : Slot). slot.row) slots) i [] None (omega (arith, l, m))
     ∙ ap (λ (row : List (Option ℤ)). value_at row k) (get_or-map (λ (slot : Slot). slot.row) slots i (live_slot []) [] l)
+
+-- each slot has a value for each column
+pub slots_wide : (columns : List ColumnView) (live : MaskRows) → All (λ slot. length slot.row ≡ length (map (λ column. column.encoding) columns)) (slots_of columns live)
+slots_wide columns live =
+    All-map (λ (slot : Slot). length slot.row ≡ n) (slot_of columns live) (range_with_len 0 (len live))
+    (All-from_get_or (λ i. length (slot_of columns live i).row ≡ n) (range_with_len 0 (len live)) 0 (λ j h. length-map columns (λ (column : ColumnView). value_at column.values (get_or (range_with_len 0 (len live)) j 0)) ∙ sym (length-map columns (λ (column : ColumnView). column.encoding))))
+  where
+    n : ℕ
+    n = length (map (λ (column : ColumnView). column.encoding) columns)

@@ -34,7 +34,7 @@ module _ {N : Type 0} where
   pub layout_at : (headers : List (Header N)) (slots : SlotsView) → AreHeadersOf headers slots → (k : ℕ) (h : Header N) (d : Layout) → k < length headers → (get_or headers k h).layout ≡ get_or slots.layouts k d
   layout_at headers slots are k h d l = sym (get_or-map (λ (header : Header N). header.layout) headers k h d l) ∙ ap (λ xs. get_or xs k d) are.layouts_are
 
-  kind_at : (headers : List (Header N)) (slots : SlotsView) → AreHeadersOf headers slots → (k : ℕ) (h : Header N) (e : Encoding) → k < length headers → k < length slots.encodings → (get_or headers k h).kind ≡ kind_of (get_or slots.encodings k e)
+  pub kind_at : (headers : List (Header N)) (slots : SlotsView) → AreHeadersOf headers slots → (k : ℕ) (h : Header N) (e : Encoding) → k < length headers → k < length slots.encodings → (get_or headers k h).kind ≡ kind_of (get_or slots.encodings k e)
   kind_at headers slots are k h e l inside = sym (get_or-map (λ (header : Header N). header.kind) headers k h (kind_of e) l) ∙ ap (λ xs. get_or xs k (kind_of e)) are.kinds_are ∙ get_or-map kind_of slots.encodings k e (kind_of e) inside
 
   layouts_count : (headers : List (Header N)) (slots : SlotsView) → AreHeadersOf headers slots → length headers ≡ length slots.layouts

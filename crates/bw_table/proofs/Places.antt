@@ -1,11 +1,11 @@
 -- The places that a mask has in, and the values that stand there.
-use Rattle.std.proofs.Common.{◌≡◌, ℕ, suc, zero, ℤ, ◌+◌, ◌<◌, ◌≤◌, true, false, Bool, Option, None, List, [], ◌∷◌, ◌++◌, length, get_or, map, refl, sym, ap, subst, ◌∙◌, inl, inr, arith, add-one, count_by, length-append, if◌then◌else◌}
+use Rattle.std.proofs.Common.{◌≡◌, ℕ, suc, zero, ℤ, ◌+◌, ◌-◌, ◌<◌, ◌≤◌, true, false, Bool, Option, None, Some, List, [], ◌∷◌, ◌++◌, length, get_or, map, refl, sym, ap, subst, ◌∙◌, inl, inr, arith, add-one, count_by, length-append, if◌then◌else◌}
 use Rattle.std.specs.List.{All, filter, range_with_len}
 use Rattle.std.proofs.lemmas.Bool.{cases_Bool, cases_lt}
 use Rattle.std.proofs.lemmas.List.{append-nil, get_or_append_left, get_or_push, get_or-map, length_push, map-append, map-id, take_all}
 use Rattle.std.proofs.lemmas.List.Elements.{All-filter, All-head, All-tail, filter-append, filter_passes}
 use Rattle.std.proofs.lemmas.List.FromFn.{get_or-range_with_len, length-range_with_len, map-range_with_len_more}
-use Rattle.bw_mask.specs.Masks.{MaskRows, len, row_at}
+use Rattle.bw_mask.specs.Masks.{IsNext, MaskRows, len, row_at}
 use Rattle.bw_column.specs.Places.{put_at, rank}
 use Rattle.bw_column.proofs.Ranks.{rank_set, rank_unset}
 use Rattle.bw_column.specs.Values.{value_at}
@@ -55,6 +55,25 @@ module _ (mask : MaskRows) where
 
   pub gathered_out : (f : ℕ → Option ℤ) (n : ℕ) → row_at mask n ≡ false → map f (places_below mask (n + 1)) ≡ map f (places_below mask n)
   gathered_out f n e = ap (map f) (place_out n e)
+
+  places_over : (a d : ℕ) → ((j : ℕ) → a ≤ j → j < a + d → row_at mask j ≡ false) → places_below mask (a + d) ≡ places_below mask a
+  places_over a zero out = let e : a + zero ≡ a = omega arith in ap (places_below mask) e
+  places_over a (suc d) out =
+      let e : a + suc d ≡ a + d + 1 = omega arith in
+      ap (places_below mask) e ∙ place_out (a + d) (out (a + d) (omega arith) (omega arith)) ∙ places_over a d (λ j l h. out j l (omega arith))
+
+  places_between : (a b : ℕ) → a ≤ b → ((j : ℕ) → a ≤ j → j < b → row_at mask j ≡ false) → places_below mask b ≡ places_below mask a
+  places_between a b l out =
+      let e : a + (b - a) ≡ b = omega arith in
+      ap (places_below mask) (sym e) ∙ places_over a (b - a) (λ j low high. out j low (omega (arith, e)))
+
+  -- the next row that is in comes last among the places below the one behind it
+  pub gathered_next : (f : ℕ → Option ℤ) (at next : ℕ) → IsNext (row_at mask) at (Some next) → map f (places_below mask (next + 1)) ≡ map f (places_below mask at) ++ f next ∷ []
+  gathered_next f at next is = gathered_in f next is.1 ∙ ap (λ ps. map f ps ++ f next ∷ []) (places_between at next is.0 is.2)
+
+  -- where no row is in from here on, no place is left
+  pub gathered_all : (f : ℕ → Option ℤ) (at : ℕ) → at ≤ len mask → IsNext (row_at mask) at None → map f (places_below mask at) ≡ map f (places mask)
+  gathered_all f at l out = ap (map f) (sym (places_between at (len mask) l (λ j low high. out j low)))
 
   count_below : (n : ℕ) → n ≤ len mask → length (places_below mask n) ≡ rank mask n
   count_below zero h = refl

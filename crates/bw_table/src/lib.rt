@@ -16,4 +16,5 @@ pub use fault::TableFault;
 pub use header::Header;
 pub use rows::Rows;
 pub use setting::SetTo;
+pub use slots::Slots;
 pub use table::Table;

@@ -35,6 +35,7 @@ fn value_for(columns: &Vec<Column>, to: SetTo, i: usize) -> Option<i64>
 }
 
 /// What a column is set to in the rows of a mask, in order.
+#[tactic(auto, using(bw_column::proofs::Overwriting::below_len, crate::proofs::Places::gathered_all))]
 pub(crate) fn gather(
     columns: &Vec<Column>,
     alloc: Global,
@@ -43,15 +44,16 @@ pub(crate) fn gather(
 ) -> Result<Vec<Option<i64>>, AllocError>
     requires to { IsSetTo (vec_len columns.now) to }
     requires long { All (λ column. length column.values ≡ len mask.now) columns.now.items }
+    requires bound { len mask.now ≤ 2 ^ 24 }
     ensures values { IfOk result (λ values. values.items ≡ gathered columns.now.items mask.now to) }
     ensures integers { IfOk result (λ values. All IsNullOrInteger values.items) }
     ensures few { IfOk result (λ values. vec_len values ≤ len mask.now) }
 {
     let mut values = Vec::with_capacity(alloc, mask.count())?;
-    for i in 0..mask.len() {
-        if mask.get(i) {
-            values.push(value_for(columns, to, i))?;
-        }
+    let mut at = 0;
+    while let Some(row) = mask.next_from(at) {
+        values.push(value_for(columns, to, row))?;
+        at = row + 1;
     }
     Ok(values)
 }

@@ -25,9 +25,9 @@ use std::marker::Model;
 /// How many slots there may be.
 const SLOT_LIMIT: usize = 16_777_216;
 
-/// Columns side by side, and the slots that are live. A contract sees the list of the slots.
+/// The slots of a table: columns side by side, and which slots are live. A contract sees the list of the slots.
 #[derive(Drop)]
-pub(crate) struct Slots {
+pub struct Slots {
     pub(crate) columns: Vec<Column>,
     pub(crate) live: Mask,
 }
@@ -46,16 +46,25 @@ impl Model for Slots {
 impl Slots {
     /// How many slots there are.
     #[tactic(auto, using(crate::proofs::Across::slots_count))]
-    pub(crate) fn len(&self) -> usize
+    pub fn len(&self) -> usize
         ensures count { result ≡ length self.now.slots }
         ensures few { result ≤ slot_limit }
     {
         self.live.len()
     }
 
+    /// How many columns there are: each slot has a value for each.
+    #[tactic(auto, using(crate::proofs::Across::slots_wide))]
+    pub fn width(&self) -> usize
+        ensures count { result ≡ length self.now.encodings }
+        ensures wide { All (λ slot. length slot.row ≡ length self.now.encodings) self.now.slots }
+    {
+        self.columns.len()
+    }
+
     /// How many slots are live.
     #[tactic(auto, using(crate::proofs::Updated::live_count))]
-    pub(crate) fn live_count(&self) -> usize
+    pub fn live_count(&self) -> usize
         ensures count { result ≡ length (live_slots self.now.slots) }
         ensures few { result ≤ slot_limit }
     {
@@ -167,8 +176,9 @@ impl Slots {
     }
 
     /// The slots that are live.
-    #[tactic(auto, using(crate::proofs::Across::slots_count, crate::proofs::Across::live_rows))]
-    pub(crate) fn live(&self) -> &Mask
+    #[tactic(auto, using(crate::proofs::Across::slots_count, crate::proofs::Across::live_rows, crate::proofs::Across::slots_wide))]
+    pub fn live(&self) -> &Mask
+        ensures wide { All (λ slot. length slot.row ≡ length self.now.encodings) self.now.slots }
         ensures len { len result.now ≡ length self.now.slots }
         ensures rows { (i : ℕ) → i < length self.now.slots → row_at result.now i ≡ (slot_at self.now.slots i).live }
         ensures few { len result.now ≤ 2 ^ 24 }
@@ -177,7 +187,7 @@ impl Slots {
     }
 
     /// Column k, dead slots included.
-    pub(crate) fn column(&self, k: usize) -> &Column
+    pub fn column(&self, k: usize) -> &Column
         requires { k < length self.now.encodings }
         ensures values { result.now.values ≡ slot_column self.now.slots k }
         ensures layout { (d : Layout) → result.now.layout ≡ slice_index_or self.now.layouts k d }

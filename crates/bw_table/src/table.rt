@@ -3,6 +3,7 @@
 ghost use Rattle.std.specs.Prelude.{All, Err, IfOk, OnErr, OnOk, [], length, slice_index_or, ℕ, ◌<◌, ◌^◌, ◌≡◌, ◌≢◌, ◌≤◌};
 ghost use Rattle.std.specs.List.{AllPairs};
 ghost use Rattle.bw_mask.specs.Masks.{len, row_at};
+ghost use Rattle.bw_code.specs.Encodings.{kind_of};
 ghost use Rattle.bw_code.specs.declared.encoding.Encoding.{Encoding};
 ghost use Rattle.bw_column.specs.Values.{IsNullOrInteger, value_at};
 ghost use Rattle.bw_table.specs.Changes.{AreInserted, AreRebuilt, AreUpdated, IsFull, IsSetTo, slots_without};
@@ -78,8 +79,18 @@ impl<N: Drop> Table<N> {
         self.slots.live_count()
     }
 
-    /// The slots that are live.
+    /// The slots, without what the columns are called.
+    #[tactic(auto, using(crate::proofs::Heads::slots_back))]
+    pub fn slots(&self) -> &Slots
+        ensures { result.now ≡ slots_in self.now }
+    {
+        &self.slots
+    }
+
+    /// The slots that are live. Each slot, dead or live, has a value for each column.
+    #[tactic(auto, using(crate::proofs::Heads::kinds_count))]
     pub fn live(&self) -> &Mask
+        ensures wide { All (λ slot. length slot.row ≡ length self.now.headers) self.now.slots }
         ensures len { len result.now ≡ length self.now.slots }
         ensures rows { (i : ℕ) → i < length self.now.slots → row_at result.now i ≡ (slot_at self.now.slots i).live }
     {
@@ -92,6 +103,7 @@ impl<N: Drop> Table<N> {
         requires { k < length self.now.headers }
         ensures values { result.now.values ≡ slot_column self.now.slots k }
         ensures layout { (d : Header N) → result.now.layout ≡ (slice_index_or self.now.headers k d).layout }
+        ensures kind { (d : Header N) → kind_of result.now.encoding ≡ (slice_index_or self.now.headers k d).kind }
         ensures encoding { (d : Encoding) → result.now.encoding ≡ slice_index_or self.now.encodings k d }
     {
         self.slots.column(k)
