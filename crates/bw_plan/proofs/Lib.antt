@@ -1,10 +1,13 @@
+pub mod Comparing
+pub mod Counting
+pub mod Headings
 pub mod Lines
+pub mod Listing
 pub mod Names
+pub mod Operanding
 pub mod Places
 pub mod PlanLaws
-pub mod RowLemmas
 pub mod SetLaws
+pub mod Shrinking
+pub mod Spending
 pub mod Tests
-pub mod TruthWords
-pub mod UnsetRows
-pub mod WordLemmas

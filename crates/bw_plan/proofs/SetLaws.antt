@@ -1,23 +1,29 @@
--- What sets by places make of a row is what the sets by names make of it.
-use Rattle.std.proofs.Common.{◌≡◌, ◌∙◌, ℕ, ◌+◌, ◌<◌, ◌==◌, Bool, true, false, ◌||◌, List, [], ◌∷◌, get_or, if◌then◌else◌, length, map, Option, None, Some, zero, suc, refl, sym, ap, subst, arith}
-use Rattle.std.specs.List.{list_any, range_with_len}
+-- Columns by their names and by their places, and the sets of an UPDATE.
+use Rattle.std.proofs.Common.{◌≡◌, ◌≢◌, ◌∙◌, ℕ, ℤ, ◌<◌, ◌==◌, Bool, true, false, List, [], ◌∷◌, get_or, int_le, length, map, negsuc, not, pos, Option, None, Some, zero, suc, refl, sym, ap, arith}
+use Rattle.std.specs.List.{All, AllPairs, list_all, list_any}
 use Rattle.std.specs.Str.{bytes_eq}
 use Rattle.std.proofs.lemmas.Bool.{eq-eqb, eqb-true, true≢false}
+use Rattle.std.proofs.lemmas.Int.{ints}
 use Rattle.std.proofs.lemmas.List.{length-map}
+use Rattle.std.proofs.lemmas.List.Elements.{All-cons, All-nil}
+use Rattle.std.proofs.lemmas.List.Kept.{AllPairs-cons}
 use Rattle.std.proofs.lemmas.List.Quantifiers.{position-Some}
 use Rattle.std.proofs.lemmas.Slice.Eq.{bytes_eq-Decides}
+use Rattle.bw_column.specs.Values.{IsInteger}
+use Rattle.bw_sql.specs.declared.tree.Operand.{Operand}
+use Rattle.bw_sql.specs.declared.tree.Operand.TheVariants as operand
 use Rattle.bw_sql.specs.declared.tree.SetClause.{SetClause}
-use Rattle.bw_model.specs.Changes.{source_for, updated_row}
-use Rattle.bw_model.specs.Condition.{value_of}
-use Rattle.bw_model.specs.Store.{AreHeaders, Header, Row, names, place_of}
-use Rattle.bw_model.proofs.Passing.{neither}
-use Rattle.bw_plan.specs.Plans.{source_at, source_of, value_by}
-use Rattle.bw_plan.specs.Sets.{AreSetsFor, row_by, source_by, source_to}
-use Rattle.bw_plan.specs.declared.changes.PlacedSet.{PlacedSet}
+use Rattle.bw_table.specs.Changes.{IsSetTo}
+use Rattle.bw_table.specs.declared.setting.SetTo.{SetTo}
+use Rattle.bw_table.specs.declared.setting.SetTo.TheVariants as to
+use Rattle.bw_model.specs.Refusals.{is_in_range, may_be_set, set_columns}
+use Rattle.bw_model.specs.Store.{AreHeaders, Header, Value, are_distinct, names, place_of}
+use Rattle.bw_model.proofs.Passing.{neither, two}
+use Rattle.bw_plan.specs.Plans.{source_at, source_of}
+use Rattle.bw_plan.specs.Sets.{AreSetsFor, AreSettable, source_to}
 use Rattle.bw_plan.specs.declared.plan.Source.{Source}
-use Rattle.bw_plan.specs.declared.plan.Source.TheVariants.{Place}
+use Rattle.bw_plan.specs.declared.plan.Source.TheVariants.{Constant, Place}
 use Rattle.bw_plan.proofs.Places.{get_or-mapped, place_at, place_of-names}
-use Rattle.bw_plan.proofs.PlanLaws.{source_keeps}
 
 -- what passes nowhere doesn't pass at a place
 pub none_at : {A B : Type 0} (p : B → Bool) (f : A → B) (xs : List A) (i : ℕ) (x : A) → list_any p (map f xs) ≡ false → i < length xs → x ≡ get_or xs i x → p (f x) ≡ false
@@ -29,20 +35,8 @@ abbrev rest_of : {A : Type 0} → List A → List A
 rest_of [] = []
 rest_of (x ∷ xs) = xs
 
--- a list over places is a list over what stands there
-mapped_range : {A B : Type 0} (f : ℕ → B) (g : A → B) (xs : List A) (a n : ℕ) → n ≡ length xs → ((i : ℕ) (x : A) → i < length xs → x ≡ get_or xs i x → f (a + i) ≡ g x) → map f (range_with_len a n) ≡ map g xs
-mapped_range f g [] a n e each = ap (λ m. map f (range_with_len a m)) e
-mapped_range f g (x ∷ xs) a n e each =
-    let here : a ≡ a + 0 = omega arith in
-    ap (λ m. map f (range_with_len a m)) e
-    ∙ ap (λ y. y ∷ map f (range_with_len (a + 1) (length xs))) (ap f here ∙ each 0 x (omega arith) refl)
-    ∙ ap (λ l. g x ∷ l) (mapped_range f g xs (a + 1) (length xs) refl (λ i y within at. ap f (next a i) ∙ each (suc i) y (omega arith) at))
-  where
-    next : (a i : ℕ) → (a + 1) + i ≡ a + suc i
-    next a i = omega arith
-
 module _ (headers : List Header) (valid : AreHeaders headers) (k : ℕ) (header : Header) (within : k < length headers) (at : header ≡ get_or headers k header) where
-  here : place_of headers header.name ≡ Some k
+  pub here : place_of headers header.name ≡ Some k
   here =
       let inside : k < length (names headers) = omega (arith, length-map headers (λ h. h.name)) in
       ap (place_of headers) (ap (λ h. h.name) at ∙ sym (get_or-mapped (λ h. h.name) headers k header [] within))
@@ -62,32 +56,90 @@ module _ (headers : List Header) (valid : AreHeaders headers) (k : ℕ) (header 
         let same = (bytes_eq-Decides column (get_or headers k header).name).0 found.1 in
         (bytes_eq-Decides header.name column).1 (ap (λ h. h.name) at ∙ sym same)
 
-    both_ways : (b c : Bool) → (b ≡ true → c ≡ true) → (c ≡ true → b ≡ true) → b ≡ c
-    both_ways true c f g = sym (f refl)
-    both_ways false true f g = g refl
-    both_ways false false f g = refl
+    alike : (b c : Bool) → (b ≡ true → c ≡ true) → (c ≡ true → b ≡ true) → b ≡ c
+    alike true c f g = sym (f refl)
+    alike false true f g = g refl
+    alike false false f g = refl
 
-    same_test : (place == k) ≡ bytes_eq header.name column
-    same_test = both_ways (place == k) (bytes_eq header.name column) this_place this_column
+    pub same_test : (place == k) ≡ bytes_eq header.name column
+    same_test = alike (place == k) (bytes_eq header.name column) this_place this_column
 
-  by_sets : (sets : List SetClause) (placed : List PlacedSet) → AreSetsFor headers sets placed → source_by placed k ≡ source_of headers (source_for sets header.name)
-  by_sets [] [] e = sym (ap source_at here)
-  by_sets [] (p ∷ placed) e = absurd (omega (arith, ap length e))
-  by_sets (s ∷ sets) [] e = absurd (omega (arith, ap length e))
-  by_sets (s ∷ sets) (p ∷ placed) e =
-      let first : ◌≡◌ {A = Option ℕ × Source} (Some p.place, source_to p.to) (place_of headers s.column, source_of headers s.source) = ap (λ l. get_or l 0 (None, Place 0)) e in
-      ap (λ b. if b then source_to p.to else source_by placed k) (same_test s.column p.place (ap (λ q. q.0) first))
-      ∙ chosen (bytes_eq header.name s.column) (ap (λ q. q.1) first) (by_sets sets placed (ap rest_of e))
+-- an INTEGER is one that a column may hold
+pub integer_in : (x : ℤ) → is_in_range (Some x) ≡ true → IsInteger x
+integer_in x e = let p = two (int_le (negsuc 2147483647) x) (int_le x (pos 2147483647)) e in omega (arith, ints, p.0, p.1)
+
+-- The sets of an UPDATE that is not refused.
+
+pub place_inside : (headers : List Header) (name : List ℕ) (k : ℕ) → place_of headers name ≡ Some k → k < length headers
+place_inside [] name k e = absurd cc
+place_inside (h ∷ headers) name k e = (position-Some (λ x. bytes_eq name x.name) (h ∷ headers) k h e).0
+
+-- two names at one place are one name
+one_name : (headers : List Header) (a b : List ℕ) (k : ℕ) → place_of headers a ≡ Some k → place_of headers b ≡ Some k → bytes_eq a b ≡ true
+one_name [] a b k e f = absurd cc
+one_name (h ∷ headers) a b k e f =
+    let p = (position-Some (λ x. bytes_eq a x.name) (h ∷ headers) k h e).1 in
+    let q = (position-Some (λ x. bytes_eq b x.name) (h ∷ headers) k h f).1 in
+    (bytes_eq-Decides a b).1 ((bytes_eq-Decides a (get_or (h ∷ headers) k h).name).0 p ∙ sym ((bytes_eq-Decides b (get_or (h ∷ headers) k h).name).0 q))
+
+module _ (headers : List Header) where
+  by_place : (name : List ℕ) (o : Option ℕ) (set : SetTo) → place_of headers name ≡ o → source_to set ≡ source_at o → IsSetTo (length headers) set
+  by_place name None (to.Value None) at e = tt
+  by_place name None (to.Value (Some x)) at e = absurd cc
+  by_place name None (to.Column k) at e = absurd cc
+  by_place name (Some j) (to.Value v) at e = absurd cc
+  by_place name (Some j) (to.Column k) at e =
+      let same : j ≡ k = cc in place_inside headers name k (at ∙ ap (λ n. Some n) same)
+
+  by_constant : (set : SetTo) (v : Value) → source_to set ≡ Constant v → is_in_range v ≡ true → IsSetTo (length headers) set
+  by_constant (to.Value None) v e may = tt
+  by_constant (to.Value (Some x)) v e may =
+      let same : ◌≡◌ {A = Value} (Some x) v = cc in integer_in x (ap is_in_range same ∙ may)
+  by_constant (to.Column k) v e may = absurd cc
+
+  value_set : (set : SetTo) (source : Operand) → source_to set ≡ source_of headers source → may_be_set source ≡ true → IsSetTo (length headers) set
+  value_set set (operand.Column name) e may = by_place name (place_of headers name) set refl e
+  value_set set (operand.Constant v) e may = by_constant set v e may
+
+  first_set : (s : SetClause) (p : ℕ × SetTo) (sets : List SetClause) (placed : List (ℕ × SetTo)) → AreSetsFor headers (s ∷ sets) (p ∷ placed)
+      → ◌≡◌ {A = Option ℕ × Source} (Some p.0, source_to p.1) (place_of headers s.column, source_of headers s.source)
+  first_set s p sets placed e = ap (λ l. get_or l 0 (None, Place 0)) e
+
+  named : (sets : List SetClause) (placed : List (ℕ × SetTo)) → AreSetsFor headers sets placed → All (λ set. set.0 < length headers) placed
+  named sets [] e = All-nil (λ set. set.0 < length headers)
+  named [] (p ∷ placed) e = absurd (omega (arith, ap length e))
+  named (s ∷ sets) (p ∷ placed) e =
+      All-cons (λ set. set.0 < length headers) p placed (place_inside headers s.column p.0 (sym (ap (λ q. q.0) (first_set s p sets placed e)))) (named sets placed (ap rest_of e))
+
+  valued : (sets : List SetClause) (placed : List (ℕ × SetTo)) → AreSetsFor headers sets placed → list_all (λ set. may_be_set set.source) sets ≡ true → All (λ set. IsSetTo (length headers) set.1) placed
+  valued sets [] e may = All-nil (λ set. IsSetTo (length headers) set.1)
+  valued [] (p ∷ placed) e may = absurd (omega (arith, ap length e))
+  valued (s ∷ sets) (p ∷ placed) e may =
+      let both = two (may_be_set s.source) (list_all (λ set. may_be_set set.source) sets) may in
+      All-cons (λ set. IsSetTo (length headers) set.1) p placed (value_set p.1 s.source (ap (λ q. q.1) (first_set s p sets placed e)) both.0) (valued sets placed (ap rest_of e) both.1)
+
+  apart_from : (name : List ℕ) (k : ℕ) (sets : List SetClause) (placed : List (ℕ × SetTo)) → AreSetsFor headers sets placed → place_of headers name ≡ Some k
+      → list_any (bytes_eq name) (set_columns sets) ≡ false → All (λ other. k ≢ other.0) placed
+  apart_from name k sets [] e at none = All-nil (λ other. k ≢ other.0)
+  apart_from name k [] (p ∷ placed) e at none = absurd (omega (arith, ap length e))
+  apart_from name k (s ∷ sets) (p ∷ placed) e at none =
+      let both = neither (bytes_eq name s.column) (list_any (bytes_eq name) (set_columns sets)) none in
+      All-cons (λ other. k ≢ other.0) p placed
+      (λ same. true≢false (sym (one_name headers name s.column k at (sym (ap (λ q. q.0) (first_set s p sets placed e)) ∙ ap (λ n. Some n) (sym same))) ∙ both.0))
+      (apart_from name k sets placed (ap rest_of e) at both.1)
+
+  set_apart : (sets : List SetClause) (placed : List (ℕ × SetTo)) → AreSetsFor headers sets placed → are_distinct (set_columns sets) ≡ true → AllPairs (λ set other. set.0 ≢ other.0) placed
+  set_apart sets [] e distinct = λ i j d l m. absurd (omega (arith, m))
+  set_apart [] (p ∷ placed) e distinct = absurd (omega (arith, ap length e))
+  set_apart (s ∷ sets) (p ∷ placed) e distinct =
+      let both = two (not (list_any (bytes_eq s.column) (set_columns sets))) (are_distinct (set_columns sets)) distinct in
+      AllPairs-cons (λ (set : ℕ × SetTo) (other : ℕ × SetTo). set.0 ≢ other.0) p placed
+      (apart_from s.column p.0 sets placed (ap rest_of e) (sym (ap (λ q. q.0) (first_set s p sets placed e))) (not_true (list_any (bytes_eq s.column) (set_columns sets)) both.0))
+      (set_apart sets placed (ap rest_of e) both.1)
     where
-      chosen : (b : Bool) → source_to p.to ≡ source_of headers s.source → source_by placed k ≡ source_of headers (source_for sets header.name)
-          → (if b then source_to p.to else source_by placed k) ≡ source_of headers (if b then s.source else source_for sets header.name)
-      chosen true this others = this
-      chosen false this others = others
+      not_true : (b : Bool) → not b ≡ true → b ≡ false
+      not_true true h = sym h
+      not_true false h = refl
 
-pub row_by_sets : (headers : List Header) (sets : List SetClause) (placed : List PlacedSet) (row : Row) → AreHeaders headers → length row ≡ length headers → AreSetsFor headers sets placed → row_by placed row ≡ updated_row headers sets row
-row_by_sets headers sets placed row valid wide are =
-    mapped_range (λ place. value_by (source_by placed place) row) (λ header. value_of headers row (source_for sets header.name)) headers 0 (length row) wide
-    (λ i header within at. ap (λ p. value_by (source_by placed p) row) (plain i) ∙ ap (λ source. value_by source row) (by_sets headers valid i header within at sets placed are) ∙ source_keeps headers row (source_for sets header.name))
-  where
-    plain : (i : ℕ) → 0 + i ≡ i
-    plain i = omega arith
+  pub settable : (sets : List SetClause) (placed : List (ℕ × SetTo)) → AreSetsFor headers sets placed → are_distinct (set_columns sets) ≡ true → list_all (λ set. may_be_set set.source) sets ≡ true → AreSettable (length headers) placed
+  settable sets placed e distinct may = record { named = named sets placed e; apart = set_apart sets placed e distinct; values = valued sets placed e may }

@@ -1,7 +1,7 @@
-pub mod BitRows
-pub mod Blocks
 pub mod Checks
-pub mod Flat
+pub mod Columns
+pub mod Costs
+pub mod Operands
 pub mod Plans
 pub mod Sets
 pub mod Words

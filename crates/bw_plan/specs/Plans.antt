@@ -1,8 +1,6 @@
 -- Conditions whose columns are places in a row, and what they say of it (SQL-92, search condition and predicates).
-use Rattle.std.specs.Prelude.{◌≡◌, ℕ, List, [], ◌∷◌, Option, Some, None, get_or, length, is_none, if◌then◌else◌}
-use Rattle.bw_mask.specs.Masks.{MaskRows, row_at}
+use Rattle.std.specs.Prelude.{ℕ, List, [], ◌∷◌, Option, Some, None, is_none}
 use Rattle.bw_mask.specs.Truth.{and_of, is_of, not_of, or_of, truth_of_bool}
-use Rattle.bw_mask.specs.Truths as truths
 use Rattle.bw_mask.specs.declared.truth_value.TruthValue.{TruthValue}
 use Rattle.bw_mask.specs.declared.truth_value.TruthValue.TheVariants.{Unknown}
 use Rattle.bw_mask.specs.declared.truth_value.TruthValue.TheVariants as value
@@ -105,13 +103,3 @@ plan_step (RowCondition-F.Test test) = predicate_of test
 
 abbrev pub plan_of : RowCondition → Plan
 plan_of = fold-RowCondition Plan plan_step
-
--- a truth at each needed row, and unknown at the others
-abbrev pub IsTruthAt : (ℕ → TruthValue) → MaskRows → List TruthValue → Type 0
-IsTruthAt truth need found = (length found ≡ length need.rows) × ((i : ℕ) → truths.truth_at found i ≡ (if row_at need i then truth i else Unknown))
-
-abbrev pub AreTruthsBy : Plan → List Row → MaskRows → List TruthValue → Type 0
-AreTruthsBy plan rows need found = IsTruthAt (λ i. truth_by plan (get_or rows i [])) need found
-
-abbrev pub truth_if_needed : Plan → List Row → MaskRows → ℕ → TruthValue
-truth_if_needed plan rows need i = if row_at need i then truth_by plan (get_or rows i []) else Unknown

@@ -3,10 +3,10 @@ use Rattle.bw_sql.specs.declared.tree.LayoutWord.{LayoutWord}
 use Rattle.bw_sql.specs.declared.tree.LayoutWord.TheVariants as layout
 use Rattle.bw_sql.specs.declared.tree.KindWord.{KindWord}
 use Rattle.bw_sql.specs.declared.tree.KindWord.TheVariants as kind
-use Rattle.bw_plan.specs.declared.headers.Layout.{Layout}
-use Rattle.bw_plan.specs.declared.headers.Layout.TheVariants.{P, V, H, S}
-use Rattle.bw_plan.specs.declared.headers.Kind.{Kind}
-use Rattle.bw_plan.specs.declared.headers.Kind.TheVariants.{Offset, Dictionary}
+use Rattle.bw_code.specs.declared.kind.Layout.{Layout}
+use Rattle.bw_code.specs.declared.kind.Layout.TheVariants.{P, V, H, S}
+use Rattle.bw_code.specs.declared.kind.Kind.{Kind}
+use Rattle.bw_code.specs.declared.kind.Kind.TheVariants.{Offset, Dictionary}
 
 abbrev pub word_of_layout : Layout → LayoutWord
 word_of_layout P = layout.P

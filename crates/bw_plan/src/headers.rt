@@ -1,85 +1,95 @@
-//! The columns of a table.
+//! The columns of a table, by their names and by the words of their definitions.
 
-ghost use Rattle.std.specs.Prelude.{◌≡◌, IfOk, map};
-ghost use Rattle.bw_model.specs.Changes.{chosen_header};
-ghost use Rattle.bw_model.specs.Store.{AreHeaders, header_of, place_of, word_or};
+ghost use Rattle.std.specs.Prelude.{◌≡◌, ◌<◌, get_or, length, position};
+ghost use Rattle.std.specs.Str.{bytes_eq};
+ghost use Rattle.bw_model.specs.Store.{AreHeaders, Header as AnyHeader, header_of, place_of, word_or};
+ghost use Rattle.bw_plan.specs.Columns.{columns_of, words_of};
 ghost use Rattle.bw_plan.specs.Words.{word_of_layout, word_of_kind};
 ghost use Rattle.bw_sql.specs.declared.tree.LayoutWord.TheVariants.{V};
 ghost use Rattle.bw_sql.specs.declared.tree.KindWord.TheVariants.{Offset};
 
-use bw_sql::{ColumnDefinition, KindWord, LayoutChoice, LayoutWord, Name};
-use std::alloc::{AllocError, Global};
+use bw_code::{Kind, Layout};
+use bw_sql::{ColumnDefinition, KindWord, LayoutWord, Name};
+use bw_table::Header;
 use std::marker::Model;
 
-/// How a column lies in memory.
-#[derive(Clone, Copy, Debug, PartialEq, Eq)]
-pub enum Layout {
-    P,
-    V,
-    H,
-    S,
+/// The columns of a table, lent by it: 1 to 64, each with a name of its own. A contract sees each with the words that
+/// spell its layout and its kind.
+#[derive(Drop)]
+pub struct Headers<'a> {
+    headers: &'a [Header<Name>],
 }
 
-/// How a column's values become codes.
-#[derive(Clone, Copy, Debug, PartialEq, Eq)]
-pub enum Kind {
-    Offset,
-    Dictionary,
+impl<'a> Model for Headers<'a> {
+    ghost use Rattle.std.specs.Prelude.{List};
+    ghost use Rattle.bw_model.specs.Store.{AreHeaders, Header};
+    ghost use Rattle.bw_plan.specs.Columns.{columns_of};
+
+    ghost Value = { List Header };
+
+    ghost view = { λ h. columns_of h.headers.now };
+
+    ghost invariant = { λ h. AreHeaders (columns_of h.headers.now) };
 }
 
-/// A column of a table. Its layout and its kind have no effect yet.
-#[derive(Debug, Drop)]
-pub struct Header {
-    name: Name,
-    layout: Layout,
-    kind: Kind,
-}
-
-impl Model for Header {
-    ghost use Rattle.bw_model.specs.Store.{Header};
-
-    ghost Value = { Header };
-
-    ghost use Rattle.bw_plan.specs.Words.{word_of_layout, word_of_kind};
-
-    ghost view = { λ h. record { name = h.name; layout = word_of_layout h.layout; kind = word_of_kind h.kind } };
-}
-
-impl Header {
-    /// The column that a definition makes.
-    pub fn new(definition: ColumnDefinition) -> Header
-        ensures { result ≡ header_of definition }
+impl<'a> Headers<'a> {
+    /// These columns.
+    pub fn new(headers: &'a [Header<Name>]) -> Headers<'a>
+        requires { AreHeaders (columns_of headers.now) }
+        ensures { result ≡ columns_of headers.entry.now }
     {
-        let ColumnDefinition { name, layout, kind } = definition;
-        Header {
-            name,
-            layout: layout_of(layout),
-            kind: kind_of(kind),
+        Headers { headers }
+    }
+
+    /// How many columns there are.
+    #[tactic(auto, using(crate::proofs::Headings::columns_count))]
+    pub fn len(&self) -> usize
+        ensures count { result ≡ length self.now }
+        ensures valid { AreHeaders self.now }
+    {
+        self.headers.len()
+    }
+
+    /// The name of column i.
+    #[tactic(auto, using(crate::proofs::Headings::columns_count, crate::proofs::Headings::name_at))]
+    pub fn name(&self, i: usize) -> &'a Name
+        requires { i < length self.now }
+        ensures { (d : AnyHeader) → result.now ≡ (get_or self.now i d).name }
+    {
+        match self.headers.get(i) {
+            Some(header) => &header.name,
+            None => unreachable!(),
         }
     }
 
-    /// The column as it is chosen to lie. Its kind stays where none is said.
-    pub fn chosen(&self, alloc: Global, choices: &[LayoutChoice]) -> Result<Header, AllocError>
-        ensures { IfOk result (λ header. header ≡ chosen_header choices.now self.now) }
+    /// The place of the column of this name.
+    pub fn place(&self, name: &Name) -> Option<usize>
+        ensures { result ≡ place_of self.now name.now }
     {
-        let (layout, kind) = chosen_words(&self.name, (self.layout, self.kind), choices);
-        Ok(Header {
-            name: self.name.try_clone(alloc)?,
-            layout,
-            kind,
-        })
+        place_among(self.headers, name)
     }
+}
 
-    /// Its name.
-    pub fn name(&self) -> &Name
-        ensures { result.now ≡ self.now.name }
-    {
-        &self.name
+fn place_among(headers: &[Header<Name>], name: &Name) -> Option<usize>
+    ensures { result ≡ position (λ header. bytes_eq name.now header.name) headers.now }
+{
+    headers.iter().position(|header| name == &header.name)
+}
+
+/// The column that a definition makes: in layout V and of kind OFFSET where it doesn't say.
+pub fn header_for(definition: ColumnDefinition) -> Header<Name>
+    ensures { words_of result ≡ header_of definition }
+{
+    let ColumnDefinition { name, layout, kind } = definition;
+    Header {
+        name,
+        layout: layout_or_default(layout),
+        kind: kind_or_default(kind),
     }
 }
 
 /// The layout that is spelled, else V.
-fn layout_of(word: Option<LayoutWord>) -> Layout
+fn layout_or_default(word: Option<LayoutWord>) -> Layout
     ensures { word_of_layout result ≡ word_or word V }
 {
     match word {
@@ -91,90 +101,11 @@ fn layout_of(word: Option<LayoutWord>) -> Layout
 }
 
 /// The kind that is spelled, else OFFSET.
-fn kind_of(word: Option<KindWord>) -> Kind
+fn kind_or_default(word: Option<KindWord>) -> Kind
     ensures { word_of_kind result ≡ word_or word Offset }
 {
     match word {
         Some(KindWord::Dictionary) => Kind::Dictionary,
         Some(KindWord::Offset) | None => Kind::Offset,
     }
-}
-
-/// How a column of this name is chosen to lie that lies so.
-fn chosen_words(name: &Name, words: (Layout, Kind), choices: &[LayoutChoice]) -> (Layout, Kind)
-    ensures { record { name = name.now; layout = word_of_layout result.0; kind = word_of_kind result.1 } ≡ chosen_header choices.now (record { name = name.now; layout = word_of_layout words.0; kind = word_of_kind words.1 }) }
-{
-    for choice in choices {
-        if name == &choice.column {
-            let kind = match choice.kind {
-                Some(word) => kind_of(Some(word)),
-                None => words.1,
-            };
-            return (layout_of(Some(choice.layout)), kind);
-        }
-    }
-    words
-}
-
-/// The columns of a table: 1 to 64, each with a name of its own.
-#[derive(Debug, Drop)]
-pub struct Headers {
-    headers: Vec<Header>,
-}
-
-impl Model for Headers {
-    ghost use Rattle.std.specs.Prelude.{List};
-    ghost use Rattle.bw_model.specs.Store.{AreHeaders, Header};
-
-    ghost Value = { List Header };
-
-    ghost view = { λ h. h.headers.items };
-
-    ghost invariant = { λ h. AreHeaders h.headers.items };
-}
-
-impl Headers {
-    /// These columns.
-    pub fn new(headers: Vec<Header>) -> Headers
-        requires { AreHeaders headers.items }
-        ensures { result ≡ headers.items }
-    {
-        Headers { headers }
-    }
-
-    /// The columns as they are chosen to lie.
-    pub fn chosen(&self, alloc: Global, choices: &[LayoutChoice]) -> Result<Headers, AllocError>
-        ensures { IfOk result (λ headers. headers ≡ map (chosen_header choices.now) self.now) }
-    {
-        Ok(Headers::new(chosen_headers(alloc, self.as_slice(), choices)?))
-    }
-
-    /// The columns, in order.
-    pub fn as_slice(&self) -> &[Header]
-        ensures value { result.now ≡ self.now }
-        ensures valid { AreHeaders self.now }
-    {
-        self.headers.as_slice()
-    }
-}
-
-fn chosen_headers(
-    alloc: Global,
-    headers: &[Header],
-    choices: &[LayoutChoice],
-) -> Result<Vec<Header>, AllocError>
-    ensures { IfOk result (λ chosen. chosen.items ≡ map (chosen_header choices.now) headers.now) }
-{
-    let mut chosen = Vec::with_capacity(alloc, headers.len())?;
-    for header in headers {
-        chosen.push(header.chosen(alloc, choices)?)?;
-    }
-    Ok(chosen)
-}
-
-/// The place of the column of this name.
-pub fn place_in(headers: &[Header], name: &Name) -> Option<usize>
-    ensures { result ≡ place_of headers.now name.now }
-{
-    headers.iter().position(|header| name == header.name())
 }

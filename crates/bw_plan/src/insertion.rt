@@ -6,12 +6,11 @@ ghost use Rattle.std.specs.Str.{bytes_eq};
 ghost use Rattle.bw_model.specs.Answers.{AreWholeLines, lines_of};
 ghost use Rattle.bw_model.specs.Insert.{row_for, target_columns};
 ghost use Rattle.bw_model.specs.Refusals.{is_in_range, is_missing};
-ghost use Rattle.bw_model.specs.Store.{AreHeaders, are_distinct, names, value_from};
+ghost use Rattle.bw_model.specs.Store.{are_distinct, names, value_at, value_from};
 ghost use Rattle.bw_plan.specs.Checks.{Answers, Decides, listed_tests, value_tests};
 ghost use Rattle.bw_sql.specs.Rows.{joined};
 
-use crate::headers::{Header, Headers, place_in};
-use crate::rows::value_at;
+use crate::headers::Headers;
 use bw_model::Refusal;
 use bw_sql::{Name, NameList, Value, ValueRows};
 use std::alloc::{AllocError, Global};
@@ -20,50 +19,44 @@ use std::alloc::{AllocError, Global};
 /// in the place of its column, and NULL in the places of columns that aren't listed. It is refused,
 /// in this order, where a listed column isn't there, where one is listed twice, where a row has
 /// another number of values than there are columns, where a value is no INTEGER, and where there are
-/// more rows than the table has room for. All of this is found before any memory is asked for.
+/// more rows than the table has room for. All of this is found before any memory is asked for. Where no column is
+/// listed, the cells are the values as they lie, and take no memory.
 pub fn resolve_insert(
     alloc: Global,
-    headers: &Headers,
+    headers: &Headers<'_>,
     columns: &Option<NameList>,
-    rows: &ValueRows,
+    rows: ValueRows,
     room: usize,
-) -> Result<Vec<Option<i32>>, Refusal>
-    ensures { let targets = target_columns headers.now columns.now in Answers (listed_tests headers.now targets ++ value_tests (length targets) room rows.now) result (λ cells. cells.items ≡ joined (map (row_for headers.now targets) rows.now)) }
+) -> Result<Vec<Value>, Refusal>
+    ensures { let targets = target_columns headers.now columns.now in Answers (listed_tests headers.now targets ++ value_tests (length targets) room rows) result (λ cells. cells.items ≡ joined (map (row_for headers.now targets) rows)) }
 {
     match columns {
-        Some(names) => listed_cells(alloc, headers.as_slice(), names.as_slice(), rows, room),
-        None => whole_cells(alloc, headers.as_slice(), rows, room),
+        Some(names) => listed_cells(alloc, headers, names.as_slice(), rows, room),
+        None => whole_cells(headers, rows, room),
     }
 }
 
 /// The cells of rows that name all columns in order.
-fn whole_cells(
-    alloc: Global,
-    headers: &[Header],
-    rows: &ValueRows,
-    room: usize,
-) -> Result<Vec<Option<i32>>, Refusal>
-    requires { AreHeaders headers.now }
-    ensures { Answers (listed_tests headers.now (names headers.now) ++ value_tests (length (names headers.now)) room rows.now) result (λ cells. cells.items ≡ joined (map (row_for headers.now (names headers.now)) rows.now)) }
+fn whole_cells(headers: &Headers<'_>, rows: ValueRows, room: usize) -> Result<Vec<Value>, Refusal>
+    ensures { Answers (listed_tests headers.now (names headers.now) ++ value_tests (length (names headers.now)) room rows) result (λ cells. cells.items ≡ joined (map (row_for headers.now (names headers.now)) rows)) }
 {
-    check_rows(headers.len(), rows, room)?;
-    let cells = narrowed(alloc, rows.values())?;
-    Ok(cells)
+    check_rows(headers.len(), &rows, room)?;
+    Ok(rows.into_values())
 }
 
 /// The cells of rows that name some columns, in the order of the table's columns.
 fn listed_cells(
     alloc: Global,
-    headers: &[Header],
+    headers: &Headers<'_>,
     names: &[Name],
-    rows: &ValueRows,
+    rows: ValueRows,
     room: usize,
-) -> Result<Vec<Option<i32>>, Refusal>
+) -> Result<Vec<Value>, Refusal>
     requires { 0 < length names.now }
-    ensures { Answers (listed_tests headers.now names.now ++ value_tests (length names.now) room rows.now) result (λ cells. cells.items ≡ joined (map (row_for headers.now names.now) rows.now)) }
+    ensures { Answers (listed_tests headers.now names.now ++ value_tests (length names.now) room rows) result (λ cells. cells.items ≡ joined (map (row_for headers.now names.now) rows)) }
 {
     check_listed(headers, names)?;
-    check_rows(names.len(), rows, room)?;
+    check_rows(names.len(), &rows, room)?;
     let cells = placed_cells(alloc, headers, names, rows)?;
     Ok(cells)
 }
@@ -71,23 +64,21 @@ fn listed_cells(
 /// The cells of rows that have a value for each of these columns.
 fn placed_cells(
     alloc: Global,
-    headers: &[Header],
+    headers: &Headers<'_>,
     names: &[Name],
-    rows: &ValueRows,
-) -> Result<Vec<Option<i32>>, AllocError>
+    rows: ValueRows,
+) -> Result<Vec<Value>, AllocError>
     requires some { 0 < length names.now }
-    requires widths { All (λ row. length row ≡ length names.now) rows.now }
-    requires integers { list_all is_in_range (joined rows.now) ≡ true }
-    ensures { IfOk result (λ cells. cells.items ≡ joined (map (row_for headers.now names.now) rows.now)) }
+    requires widths { All (λ row. length row ≡ length names.now) rows }
+    ensures { IfOk result (λ cells. cells.items ≡ joined (map (row_for headers.now names.now) rows)) }
 {
-    let values = narrowed(alloc, rows.values())?;
     let sources = sources_of(alloc, headers, names)?;
-    let cells = spread(alloc, values.as_slice(), names.len(), sources.as_slice())?;
+    let cells = spread(alloc, rows.values(), names.len(), sources.as_slice())?;
     Ok(cells)
 }
 
 /// Refuses a list that names what is no column, or a column twice.
-fn check_listed(headers: &[Header], names: &[Name]) -> Result<(), Refusal>
+fn check_listed(headers: &Headers<'_>, names: &[Name]) -> Result<(), Refusal>
     ensures { Decides (listed_tests headers.now names.now) result (λ _. Unit {0}) }
 {
     if lacks_any(headers, names) {
@@ -132,10 +123,10 @@ pub(crate) fn is_integer(value: &Value) -> bool
 }
 
 /// Whether one of the names isn't that of a column.
-pub(crate) fn lacks_any(headers: &[Header], names: &[Name]) -> bool
+pub(crate) fn lacks_any(headers: &Headers<'_>, names: &[Name]) -> bool
     ensures { result ≡ list_any (is_missing headers.now) names.now }
 {
-    names.iter().any(|name| place_in(headers, name).is_none())
+    names.iter().any(|name| headers.place(name).is_none())
 }
 
 /// Whether a name stands twice. Among more names than columns one stands twice near the front, so
@@ -151,41 +142,19 @@ fn name_twice(names: &[Name]) -> bool
     false
 }
 
-/// The values, each as an INTEGER.
-fn narrowed(alloc: Global, values: &[Value]) -> Result<Vec<Option<i32>>, AllocError>
-    requires { list_all is_in_range values.now ≡ true }
-    ensures { IfOk result (λ cells. cells.items ≡ values.now) }
-{
-    let mut cells = Vec::with_capacity(alloc, values.len())?;
-    for value in values {
-        cells.push(integer(*value))?;
-    }
-    Ok(cells)
-}
-
-/// The same value as an INTEGER.
-pub(crate) fn integer(value: Value) -> Option<i32>
-    requires { is_in_range value ≡ true }
-    ensures { result ≡ value }
-{
-    match value {
-        Some(number) => i32::try_from(number).ok(),
-        None => None,
-    }
-}
-
 /// For each column the place in the list at which it is named.
 fn sources_of(
     alloc: Global,
-    headers: &[Header],
+    headers: &Headers<'_>,
     names: &[Name],
 ) -> Result<Vec<Option<usize>>, AllocError>
     ensures { IfOk result (λ sources. sources.items ≡ map (λ h. position (bytes_eq h.name) names.now) headers.now) }
 {
-    headers
-        .iter()
-        .map(|header| place_among(names, header.name()))
-        .collect(alloc)
+    let mut sources = Vec::with_capacity(alloc, headers.len())?;
+    for i in 0..headers.len() {
+        sources.push(place_among(names, headers.name(i)))?;
+    }
+    Ok(sources)
 }
 
 /// The place of this name in the list.
@@ -198,10 +167,10 @@ fn place_among(names: &[Name], name: &Name) -> Option<usize>
 /// Rows of this width, with their values in the places of their columns, and NULL in the others.
 fn spread(
     alloc: Global,
-    values: &[Option<i32>],
+    values: &[Value],
     width: usize,
     sources: &[Option<usize>],
-) -> Result<Vec<Option<i32>>, AllocError>
+) -> Result<Vec<Value>, AllocError>
     requires { AreWholeLines width values.now }
     ensures { IfOk result (λ cells. cells.items ≡ joined (map (λ row. map (value_from row) sources.now) (lines_of width values.now))) }
 {
@@ -217,11 +186,7 @@ fn spread(
 }
 
 /// Puts the values from these places of a row last.
-fn place(
-    cells: &mut Vec<Option<i32>>,
-    row: &[Option<i32>],
-    sources: &[Option<usize>],
-) -> Result<(), AllocError>
+fn place(cells: &mut Vec<Value>, row: &[Value], sources: &[Option<usize>]) -> Result<(), AllocError>
     ensures { OnOk result (cells.new.items ≡ cells.old.items ++ map (value_from row.now) sources.now) }
 {
     for source in sources {
@@ -231,11 +196,21 @@ fn place(
 }
 
 /// The value at this place, or NULL where there is none.
-fn value_from(row: &[Option<i32>], source: Option<usize>) -> Option<i32>
+fn value_from(row: &[Value], source: Option<usize>) -> Value
     ensures { result ≡ value_from row.now source }
 {
     match source {
         Some(place) => value_at(row, place),
+        None => None,
+    }
+}
+
+/// The value at this place of a row, or NULL past its end.
+fn value_at(row: &[Value], place: usize) -> Value
+    ensures { result ≡ value_at row.now place }
+{
+    match row.get(place) {
+        Some(value) => *value,
         None => None,
     }
 }

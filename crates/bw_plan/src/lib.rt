@@ -1,28 +1,23 @@
 //! Statements over the rows of a table: columns' names become places, and a condition the truth of each row.
 #![tactic(auto)]
 
-mod block;
 mod changes;
-mod condition_word;
-mod evaluate;
+mod comparison_truth;
+mod evaluation;
 mod headers;
 mod insertion;
+mod list_truth;
+mod operand;
 mod plan;
+mod predicate_truth;
+mod range_truth;
 mod resolution;
-mod rows;
 mod selection;
-mod truth_word;
-mod used_places;
-mod values;
 
-pub use changes::{
-    PlacedChoice, PlacedSet, SetTo, UpdatePlan, resolve_delete, resolve_rebuild, resolve_update,
-    updated_value,
-};
-pub use evaluate::evaluate_rows;
-pub use headers::{Header, Headers, Kind, Layout, place_in};
+pub use changes::{UpdatePlan, resolve_delete, resolve_rebuild, resolve_update};
+pub use evaluation::evaluate;
+pub use headers::{Headers, header_for};
 pub use insertion::resolve_insert;
 pub use plan::{Predicate, RowCondition, Source};
 pub use resolution::plans_keep_truth;
-pub use rows::{Rows, value_at};
 pub use selection::{SelectPlan, resolve_select};

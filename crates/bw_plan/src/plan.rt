@@ -1,7 +1,5 @@
 //! Conditions whose columns are places in a row.
 
-ghost use Rattle.std.specs.Prelude.{◌≡◌};
-
 use bw_mask::TruthValue;
 use bw_sql::{CompareOp, Value};
 
@@ -34,14 +32,4 @@ pub enum Source {
     /// This place of the row.
     Place(usize),
     Constant(Value),
-}
-
-/// The same value.
-pub(crate) fn widened(value: Option<i32>) -> Value
-    ensures { result ≡ value }
-{
-    match value {
-        Some(number) => Some(i64::from(number)),
-        None => None,
-    }
 }

@@ -8,7 +8,7 @@ ghost use Rattle.bw_plan.specs.Checks.{Decides, condition_tests};
 ghost use Rattle.bw_plan.specs.Plans.{plan_of, planned, source_of, truth_by};
 ghost use Rattle.bw_sql.specs.Tree.{ConditionTree, condition_of};
 
-use crate::headers::{Header, place_in};
+use crate::headers::Headers;
 use crate::plan::{Predicate, RowCondition, Source};
 use bw_mask::TruthValue;
 use bw_model::Refusal;
@@ -21,7 +21,7 @@ const ENTRY_LIMIT: usize = 1_000;
 /// Refuses a condition that names a column which isn't there, and else one with an IN list of more than
 /// 1,000 entries.
 pub(crate) fn check_condition(
-    headers: &[Header],
+    headers: &Headers<'_>,
     condition: &Option<Condition>,
 ) -> Result<(), Refusal>
     ensures { Decides (condition_tests headers.now (option_map condition_of condition.now)) result (λ _. Unit {0}) }
@@ -39,7 +39,7 @@ pub(crate) fn check_condition(
 }
 
 /// Whether a condition names a column that isn't there, where there is a condition.
-pub(crate) fn misses(headers: &[Header], condition: &Option<Condition>) -> bool
+pub(crate) fn misses(headers: &Headers<'_>, condition: &Option<Condition>) -> bool
     ensures { result ≡ condition_misses headers.now (option_map condition_of condition.now) }
 {
     match condition {
@@ -59,7 +59,7 @@ pub(crate) fn has_long_lists(condition: &Option<Condition>) -> bool
 }
 
 /// Whether the condition names a column that isn't there.
-fn names_missing(headers: &[Header], condition: &Condition) -> bool
+fn names_missing(headers: &Headers<'_>, condition: &Condition) -> bool
     ensures { result ≡ names_missing headers.now (condition_of condition.now) }
 {
     match condition {
@@ -81,11 +81,11 @@ fn names_missing(headers: &[Header], condition: &Condition) -> bool
     }
 }
 
-pub(crate) fn is_missing(headers: &[Header], operand: &Operand) -> bool
+pub(crate) fn is_missing(headers: &Headers<'_>, operand: &Operand) -> bool
     ensures { result ≡ operand_is_missing headers.now operand.now }
 {
     match operand {
-        Operand::Column(name) => place_in(headers, name).is_none(),
+        Operand::Column(name) => headers.place(name).is_none(),
         Operand::Constant(_) => false,
     }
 }
@@ -112,7 +112,7 @@ fn has_long_list(condition: &Condition) -> bool
 /// The condition with each column's name as its place among the columns. A column that isn't there is NULL.
 pub(crate) fn placed(
     alloc: Global,
-    headers: &[Header],
+    headers: &Headers<'_>,
     condition: &Condition,
 ) -> Result<RowCondition, AllocError>
     ensures { IfOk result (λ plan. plan_of plan ≡ planned headers.now (condition_of condition.now)) }
@@ -161,11 +161,11 @@ pub(crate) fn placed(
 }
 
 /// Where an operand's values come from. A column that isn't there is always NULL.
-pub(crate) fn source(headers: &[Header], operand: &Operand) -> Source
+pub(crate) fn source(headers: &Headers<'_>, operand: &Operand) -> Source
     ensures { result ≡ source_of headers.now operand.now }
 {
     match operand {
-        Operand::Column(name) => match place_in(headers, name) {
+        Operand::Column(name) => match headers.place(name) {
             Some(place) => Source::Place(place),
             None => Source::Constant(None),
         },

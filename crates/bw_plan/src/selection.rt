@@ -9,7 +9,7 @@ ghost use Rattle.bw_plan.specs.Checks.{Answers, Decides, condition_tests, shown_
 ghost use Rattle.bw_plan.specs.Plans.{plan_of, planned};
 ghost use Rattle.bw_sql.specs.Tree.{condition_of, items_of};
 
-use crate::headers::{Header, Headers, place_in};
+use crate::headers::Headers;
 use crate::insertion::lacks_any;
 use crate::plan::RowCondition;
 use crate::resolution::{check_condition, placed};
@@ -32,22 +32,23 @@ pub struct SelectPlan {
 /// memory is asked for.
 pub fn resolve_select(
     alloc: Global,
-    headers: &Headers,
+    headers: &Headers<'_>,
     items: &SelectItems,
     condition: &Option<Condition>,
 ) -> Result<SelectPlan, Refusal>
+    requires valid { AreHeaders headers.now }
     ensures some { 0 < length (shown_columns headers.now (items_of items.now)) }
     ensures plan { let columns = shown_columns headers.now (items_of items.now) in let found = option_map condition_of condition.now in Answers (shown_tests headers.now columns ++ condition_tests headers.now found) result (λ plan. (map (λ place. Some place) plan.places.items ≡ map (place_of headers.now) columns) × (option_map plan_of plan.condition ≡ option_map (planned headers.now) found)) }
 {
-    check_items(headers.as_slice(), items)?;
-    check_condition(headers.as_slice(), condition)?;
+    check_items(headers, items)?;
+    check_condition(headers, condition)?;
     let places = places_of(alloc, headers, items)?;
     let condition = plan_if_any(alloc, headers, condition)?;
     Ok(SelectPlan { places, condition })
 }
 
 /// Refuses columns to be shown that aren't there.
-fn check_items(headers: &[Header], items: &SelectItems) -> Result<(), Refusal>
+fn check_items(headers: &Headers<'_>, items: &SelectItems) -> Result<(), Refusal>
     requires { AreHeaders headers.now }
     ensures some { 0 < length (shown_columns headers.now (items_of items.now)) }
     ensures tests { Decides (shown_tests headers.now (shown_columns headers.now (items_of items.now))) result (λ _. Unit {0}) }
@@ -59,7 +60,7 @@ fn check_items(headers: &[Header], items: &SelectItems) -> Result<(), Refusal>
 }
 
 /// Whether a column that is to be shown isn't there.
-fn lacks_shown(headers: &[Header], items: &SelectItems) -> bool
+fn lacks_shown(headers: &Headers<'_>, items: &SelectItems) -> bool
     requires { AreHeaders headers.now }
     ensures some { 0 < length (shown_columns headers.now (items_of items.now)) }
     ensures lacks { result ≡ list_any (is_missing headers.now) (shown_columns headers.now (items_of items.now)) }
@@ -73,13 +74,13 @@ fn lacks_shown(headers: &[Header], items: &SelectItems) -> bool
 /// The condition over places, where there is one.
 pub(crate) fn plan_if_any(
     alloc: Global,
-    headers: &Headers,
+    headers: &Headers<'_>,
     condition: &Option<Condition>,
 ) -> Result<Option<RowCondition>, AllocError>
     ensures { IfOk result (λ plan. option_map plan_of plan ≡ option_map (planned headers.now) (option_map condition_of condition.now)) }
 {
     match condition {
-        Some(condition) => Ok(Some(placed(alloc, headers.as_slice(), condition)?)),
+        Some(condition) => Ok(Some(placed(alloc, headers, condition)?)),
         None => Ok(None),
     }
 }
@@ -87,21 +88,20 @@ pub(crate) fn plan_if_any(
 /// The places of the columns that are shown.
 fn places_of(
     alloc: Global,
-    headers: &Headers,
+    headers: &Headers<'_>,
     items: &SelectItems,
 ) -> Result<Vec<usize>, AllocError>
     requires { list_any (is_missing headers.now) (shown_columns headers.now (items_of items.now)) ≡ false }
     ensures { IfOk result (λ places. map (λ place. Some place) places.items ≡ map (place_of headers.now) (shown_columns headers.now (items_of items.now))) }
 {
     match items {
-        SelectItems::All => all_places(alloc, headers.as_slice()),
-        SelectItems::Columns(names) => places_of_names(alloc, headers.as_slice(), names.as_slice()),
+        SelectItems::All => all_places(alloc, headers),
+        SelectItems::Columns(names) => places_of_names(alloc, headers, names.as_slice()),
     }
 }
 
 /// The places of all columns.
-fn all_places(alloc: Global, headers: &[Header]) -> Result<Vec<usize>, AllocError>
-    requires { AreHeaders headers.now }
+fn all_places(alloc: Global, headers: &Headers<'_>) -> Result<Vec<usize>, AllocError>
     ensures { IfOk result (λ places. map (λ place. Some place) places.items ≡ map (place_of headers.now) (names headers.now)) }
 {
     let mut places = Vec::with_capacity(alloc, headers.len())?;
@@ -114,7 +114,7 @@ fn all_places(alloc: Global, headers: &[Header]) -> Result<Vec<usize>, AllocErro
 /// The places of these columns, each of which is there.
 fn places_of_names(
     alloc: Global,
-    headers: &[Header],
+    headers: &Headers<'_>,
     names: &[Name],
 ) -> Result<Vec<usize>, AllocError>
     requires { list_any (is_missing headers.now) names.now ≡ false }
@@ -122,7 +122,7 @@ fn places_of_names(
 {
     let mut places = Vec::with_capacity(alloc, names.len())?;
     for name in names {
-        let Some(place) = place_in(headers, name) else {
+        let Some(place) = headers.place(name) else {
             unreachable!()
         };
         places.push(place)?;

@@ -6,4 +6,4 @@ use Rattle.bw_plan.proofs.changes.placed_sets.Goals as goal
 
 pub unreachable-requires : goal.unreachable-requires
 unreachable-requires c =
-    true≢false (ap (λ o. not (is_some o)) c.in_default.ensures ∙ none_at (is_missing c.args.headers.now) (λ set. set.column) c.args.sets.now c.loop-set.set-index c.set-item.result c.requires.there c.loop-set-test.true c.set-item.is)
+    true≢false (ap (λ o. not (is_some o)) c.in_default.ensures ∙ none_at (is_missing c.args.headers.now) (λ set. set.column) c.args.sets.now c.loop-set.set-index c.set-item.result c.requires c.loop-set-test.true c.set-item.is)

@@ -9,18 +9,18 @@ use Rattle.bw_plan.proofs.insertion.placed_cells.Goals as goal
 pub spread-requires : goal.spread-requires
 spread-requires c =
     let names = c.args.names.now in
-    let rows = c.args.rows.now in
-    rw (c.as_slice.ensures.value, c.in_ok-values.ensures ∙ c.values.ensures)
+    let rows = c.args.rows in
+    rw c.values.ensures
     (whole_lines (length names) (length rows) (joined rows) c.requires.some
     (length-joined (length names) rows c.requires.widths))
 
 pub returns : goal.returns
 returns c =
     let names = c.args.names.now in
-    let rows = c.args.rows.now in
+    let rows = c.args.rows in
     let headers = c.args.headers.now in
-    let lines : lines_of (length names) c.as_slice.result.now ≡ rows =
-    ap (lines_of (length names)) (c.as_slice.ensures.value ∙ c.in_ok-values.ensures ∙ c.values.ensures) ∙ lines_of-joined (length names) rows c.requires.some c.requires.widths in
+    let lines : lines_of (length names) c.values.result.now ≡ rows =
+    ap (lines_of (length names)) c.values.ensures ∙ lines_of-joined (length names) rows c.requires.some c.requires.widths in
     c.in_ok-cells.ensures
-    ∙ ap (λ l. joined (map (λ row. map (value_from row) c.as_slice-2.result.now) l)) lines
-    ∙ (λ j. joined (map (λ row. row_by_sources headers names c.as_slice-2.result.now row (c.as_slice-2.ensures.value ∙ c.in_ok-sources.ensures) j) rows))
+    ∙ ap (λ l. joined (map (λ row. map (value_from row) c.as_slice.result.now) l)) lines
+    ∙ (λ j. joined (map (λ row. row_by_sources headers names c.as_slice.result.now row (c.as_slice.ensures.value ∙ c.in_ok-sources.ensures) j) rows))

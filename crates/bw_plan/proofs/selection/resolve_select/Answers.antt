@@ -14,7 +14,7 @@ returns-in_err-check_items-clause-plan c =
     let found = option_map condition_of c.args.condition.now in
     passed_on (shown_tests headers columns ++ condition_tests headers found) c.from_residual.result
     (λ plan. (map (λ place. Some place) plan.places.items ≡ map (place_of headers) columns) × (option_map plan_of plan.condition ≡ option_map (planned headers) found)) _
-    (decides_left (shown_tests headers columns) (condition_tests headers found) _ (rw c.as_slice.ensures.value at c.in_err-check_items.ensures.tests)) c.from_residual.ensures.1
+    (decides_left (shown_tests headers columns) (condition_tests headers found) _ c.in_err-check_items.ensures.tests) c.from_residual.ensures.1
 
 pub returns-in_err-check_condition-clause-plan : goal.returns-in_err-check_condition-clause-plan
 returns-in_err-check_condition-clause-plan c =
@@ -23,4 +23,4 @@ returns-in_err-check_condition-clause-plan c =
     let found = option_map condition_of c.args.condition.now in
     passed_on (shown_tests headers columns ++ condition_tests headers found) c.from_residual-in_err-check_condition.result
     (λ plan. (map (λ place. Some place) plan.places.items ≡ map (place_of headers) columns) × (option_map plan_of plan.condition ≡ option_map (planned headers) found)) _
-    (decides_right (shown_tests headers columns) (condition_tests headers found) _ (rw c.as_slice.ensures.value at c.in_ok-check_items.ensures.tests).0 (rw c.as_slice-2.ensures.value at c.in_err-check_condition.ensures)) c.from_residual-in_err-check_condition.ensures.1
+    (decides_right (shown_tests headers columns) (condition_tests headers found) _ c.in_ok-check_items.ensures.tests.0 c.in_err-check_condition.ensures) c.from_residual-in_err-check_condition.ensures.1
