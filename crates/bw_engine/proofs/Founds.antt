@@ -1,19 +1,15 @@
 -- Found rows, by their places and by the condition.
-use Rattle.std.proofs.Common.{◌≡◌, ◌∙◌, ℕ, ◌+◌, ◌<◌, Bool, true, false, if◌then◌else◌, List, [], ◌∷◌, ◌++◌, append-nil, append_assoc, filter, get_or, length, map, replicate, take, zero, suc, refl, sym, ap, arith, Option, Some, None}
+use Rattle.std.proofs.Common.{◌≡◌, ◌∙◌, ℕ, ◌+◌, ◌<◌, Bool, true, false, if◌then◌else◌, List, [], ◌∷◌, ◌++◌, append-nil, append_assoc, filter, get_or, length, map, take, zero, suc, refl, sym, ap, arith, Option, Some, None}
 use Rattle.std.specs.Prelude.{option_map}
-use Rattle.std.proofs.lemmas.List.{get_or-replicate, length-replicate}
-use Rattle.bw_mask.specs.Masks.{MaskRows, len, row_at}
 use Rattle.bw_mask.specs.Truth.{is_value}
-use Rattle.bw_mask.specs.Truths.{truth_at}
-use Rattle.bw_mask.specs.declared.truth_value.TruthValue.{TruthValue}
-use Rattle.bw_mask.specs.declared.truth_value.TruthValue.TheVariants.{True, Unknown}
+use Rattle.bw_mask.specs.declared.truth_value.TruthValue.TheVariants.{True}
 use Rattle.bw_sql.specs.Rows.{joined}
 use Rattle.bw_sql.specs.Tree.{ConditionTree}
-use Rattle.bw_model.specs.Condition.{found_rows, is_found}
-use Rattle.bw_model.specs.Store.{Header, Row, Table}
-use Rattle.bw_plan.specs.Plans.{AreTruthsBy, Plan, planned, truth_by}
+use Rattle.bw_model.specs.Condition.{is_found}
+use Rattle.bw_model.specs.Store.{Header, Row}
+use Rattle.bw_plan.specs.Plans.{Plan, planned}
 use Rattle.bw_plan.proofs.PlanLaws.{keeps_truth}
-use Rattle.bw_engine.specs.Found.{AreFoundBy, is_found_by, is_in, rows_where}
+use Rattle.bw_engine.specs.Found.{is_found_by, rows_where}
 
 with_front : {A : Type 0} (b : Bool) (x : A) (l m : List A) → (if b then x ∷ (l ++ m) else l ++ m) ≡ (if b then x ∷ l else l) ++ m
 with_front true x l m = refl
@@ -43,10 +39,6 @@ pub finds_by_plan : (headers : List Header) (condition : Option ConditionTree) (
 finds_by_plan headers None plan is row = ap (λ p. is_found_by p row) is
 finds_by_plan headers (Some condition) plan is row = ap (λ p. is_found_by p row) is ∙ ap (λ t. is_value t True) (keeps_truth headers row condition)
 
--- the rows that a condition's plan finds are those that the condition finds
-pub rows_found : (table : Table) (condition : Option ConditionTree) (plan : Option Plan) (found : Option MaskRows) → plan ≡ option_map (planned table.headers) condition → AreFoundBy table.rows plan found → rows_where (is_in found) table.rows ≡ found_rows table condition
-rows_found table condition plan found is are = where-filter (is_in found) (is_found table.headers condition) table.rows [] (λ i within. are.1 i within ∙ finds_by_plan table.headers condition plan is (get_or table.rows i []))
-
 joined-push : {A B : Type 0} (f : A → List B) (xs : List A) (x : A) → joined (map f (xs ++ x ∷ [])) ≡ joined (map f xs) ++ f x
 joined-push f [] x = append-nil (f x)
 joined-push f (y ∷ xs) x = ap (λ l. f y ++ l) (joined-push f xs x) ∙ sym (append_assoc (f y) (joined (map f xs)) (f x))
@@ -68,15 +60,3 @@ passed_next f test rows n d cells so_far within fails =
   where
     next : (n : ℕ) → n + 1 ≡ suc n
     next n = omega arith
-
-there : (b : Bool) (t u : TruthValue) → b ≡ true → (if b then t else u) ≡ t
-there true t u e = refl
-there false t u e = cc
-
--- the mask of the rows at which a condition is true
-pub true_mask : (plan : Plan) (rows : List Row) (all mask : MaskRows) (truths : List TruthValue) → all.rows ≡ replicate (length rows) true → AreTruthsBy plan rows all truths → len mask ≡ length truths → ((i : ℕ) → row_at mask i ≡ is_value (truth_at truths i) True)
-    → (len mask ≡ length rows) × ((i : ℕ) → i < length rows → row_at mask i ≡ is_value (truth_by plan (get_or rows i [])) True)
-true_mask plan rows all mask truths whole are lens each = (
-  lens ∙ are.0 ∙ ap length whole ∙ length-replicate (length rows) true,
-  λ i within. each i ∙ ap (λ t. is_value t True) (are.1 i ∙ there (row_at all i) _ Unknown (ap (λ l. get_or l i false) whole ∙ get_or-replicate (length rows) i true false within)),
-)

@@ -1,7 +1,14 @@
 mod Added
+pub mod Chosen
 pub mod Columns
+mod FoundLaws
 pub mod Founds
-pub mod Lines
-pub mod Pieces
+pub mod Inserted
+pub mod LiveLaws
+pub mod LiveRows
+pub mod Replies
+mod RunLaws
+mod SetRows
 pub mod Shows
 pub mod Steps
+pub mod Updated

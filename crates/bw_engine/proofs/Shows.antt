@@ -1,17 +1,22 @@
 -- What a SELECT shows, from the cells that lie flat.
-use Rattle.std.proofs.Common.{◌≡◌, ℕ, ◌<◌, List, Option, Some, length, map, sym, ap, ◌∙◌, arith}
-use Rattle.std.proofs.lemmas.List.{length-map}
+use Rattle.std.proofs.Common.{◌≡◌, ℕ, ◌+◌, ◌<◌, ◌≤◌, List, [], ◌∷◌, ◌++◌, Option, None, Some, get_or, length, map, sym, take, ap, ◌∙◌, arith}
+use Rattle.std.specs.List.{All}
+use Rattle.std.proofs.lemmas.List.Elements.{All-cons, All-nil}
+use Rattle.std.proofs.lemmas.List.{get_or-map, length-map, take_all, take_more}
 use Rattle.bw_sql.specs.Rows.{joined}
 use Rattle.bw_sql.specs.Tree.{ConditionTree, ItemsTree}
+use Rattle.bw_sql.specs.declared.tree.LayoutWord.TheVariants.{V}
+use Rattle.bw_sql.specs.declared.tree.KindWord.TheVariants.{Offset}
 use Rattle.bw_model.specs.Answers.{AreWholeLines, Shown, lines_of}
 use Rattle.bw_model.specs.Condition.{found_rows}
 use Rattle.bw_model.specs.Select.{answer, line_of, shown, shown_columns}
-use Rattle.bw_model.specs.Store.{Header, Row, Table, place_of, value_at}
+use Rattle.bw_model.specs.Store.{Header, Row, Table, names, place_of, value_at}
 use Rattle.bw_model.specs.declared.answer.Cell.{Cell}
 use Rattle.bw_model.specs.declared.answer.Heading.{Heading}
 use Rattle.bw_model.specs.declared.answer.Heading.TheVariants.{Column}
 use Rattle.bw_model.proofs.Lines.{All-map, lines_of-joined, shown_lines}
 use Rattle.bw_plan.proofs.Places.{line_by_places}
+use Rattle.bw_plan.proofs.SetLaws.{place_inside}
 
 module _ (headers : List Header) (list : List (List ℕ)) (places : List ℕ) (headings : List Heading) (cells : List Cell) (rows : List Row)
     (some : 0 < length list)
@@ -40,3 +45,33 @@ module _ (headers : List Header) (list : List (List ℕ)) (places : List ℕ) (h
 pub answer_is : (table : Table) (items : ItemsTree) (condition : Option ConditionTree) (shows : Shown)
     → shows.headings ≡ map (λ name. Column name) (shown_columns table.headers items) → shows.lines ≡ map (line_of table.headers (shown_columns table.headers items)) (found_rows table condition) → shows ≡ answer table items condition
 answer_is table items condition shows headings lines = λ j. record { headings = headings j; lines = lines j }
+
+-- the headings of all columns
+module _ (headers : List Header) (i : ℕ) (headings : List Heading) where
+  pub next_heading : (more : List Heading) (name : List ℕ) → i < length headers → headings ≡ take i (map (λ name. Column name) (names headers)) → ((d : Header) → name ≡ (get_or headers i d).name) → more ≡ headings ++ Column name ∷ []
+      → more ≡ take (i + 1) (map (λ name. Column name) (names headers))
+  next_heading more name within so_far is e =
+      let inside : i < length (names headers) = omega (arith, within, length-map headers (λ h. h.name)) in
+      let low : i < length (map (λ name. Column name) (names headers)) = omega (arith, inside, length-map (names headers) (λ name. Column name)) in
+      e ∙ ap (λ l. l ++ Column name ∷ []) so_far
+      ∙ ap (λ n. take i (map (λ name. Column name) (names headers)) ++ n ∷ []) (ap (λ n. Column n) (is some ∙ sym (get_or-map (λ (h : Header). h.name) headers i some [] within)) ∙ sym (get_or-map (λ name. Column name) (names headers) i [] (Column []) inside))
+      ∙ sym (take_more (map (λ name. Column name) (names headers)) i (Column []) low)
+    where
+      some : Header
+      some = record { name = []; layout = V; kind = Offset }
+
+  pub all_headings_are : length headers ≤ i → headings ≡ take i (map (λ name. Column name) (names headers)) → headings ≡ map (λ name. Column name) (names headers)
+  all_headings_are upto so_far = so_far ∙ take_all i (map (λ name. Column name) (names headers)) (omega (arith, upto, length-map (names headers) (λ name. Column name), length-map headers (λ h. h.name)))
+
+-- the places of columns are those of columns that are there
+pub places_inside : (headers : List Header) {n : ℕ} → length headers ≡ n → (list : List (List ℕ)) (places : List ℕ) → map (λ place. Some place) places ≡ map (place_of headers) list → All (λ place. place < n) places
+places_inside headers {n} count list [] e = All-nil (λ place. place < n)
+places_inside headers {n} count [] (p ∷ places) e = absurd (omega (arith, ap length e))
+places_inside headers {n} count (name ∷ list) (p ∷ places) e =
+    let here : place_of headers name ≡ Some p = sym (ap (λ l. get_or l 0 None) e) in
+    let within : p < n = omega (arith, place_inside headers name p here, count) in
+    All-cons (λ place. place < n) p places within (places_inside headers count list places (ap rest_of e))
+  where
+    rest_of : List (Option ℕ) → List (Option ℕ)
+    rest_of [] = []
+    rest_of (x ∷ xs) = xs

@@ -1,2 +1,4 @@
 pub mod Found
 pub mod Outcomes
+pub mod Runs
+pub mod Stores

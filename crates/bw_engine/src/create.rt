@@ -8,12 +8,15 @@ ghost use Rattle.bw_model.specs.Store.{are_distinct, column_limit, header_of, ta
 ghost use Rattle.bw_sql.specs.Tree.{statement_of};
 ghost use Rattle.bw_sql.specs.declared.tree.Statement.TheVariants as statements;
 ghost use Rattle.bw_engine.specs.Outcomes.{CarriesOut};
+ghost use Rattle.bw_engine.specs.Stores.{store_of, table_in};
+ghost use Rattle.bw_plan.specs.Columns.{columns_of};
 ghost use Rattle.bw_plan.specs.Checks.{Decides};
 
 use crate::table::Table;
 use bw_model::{Refusal, Reply};
-use bw_plan::{Header, Headers};
+use bw_plan::header_for;
 use bw_sql::{ColumnDefinition, CreateTable, Name};
+use bw_table::Header;
 use indexmap::{IndexMap, IndexSet};
 use std::alloc::{AllocError, Global};
 
@@ -29,13 +32,13 @@ pub(crate) fn create_table(
     tables: &mut IndexMap<Name, Table>,
     statement: CreateTable,
 ) -> Result<Reply, Refusal>
-    ensures reply { CarriesOut tables.old.entries (statement_of (statements.CreateTable statement)) result tables.new.entries }
+    ensures reply { CarriesOut (store_of tables.old.entries) (statement_of (statements.CreateTable statement)) result (store_of tables.new.entries) }
     ensures refused { OnErr result (tables.new.entries ≡ tables.old.entries) }
 {
     let CreateTable { table, columns } = statement;
     check(alloc, tables, &table, columns.as_slice())?;
-    let headers = headers_of(alloc, columns)?;
-    tables.insert(table, Table::new(alloc, headers))?;
+    let new = empty_table(alloc, columns)?;
+    tables.insert(table, new)?;
     Ok(Reply::Done)
 }
 
@@ -46,7 +49,7 @@ fn check(
     table: &Name,
     columns: &[ColumnDefinition],
 ) -> Result<(), Refusal>
-    ensures { Decides (create_tests (map (λ c. c.name) columns.now) table.now tables.now.entries) result (λ _. Unit {0}) }
+    ensures { Decides (create_tests (map (λ c. c.name) columns.now) table.now (store_of tables.now.entries)) result (λ _. Unit {0}) }
 {
     if tables.contains_key(table) {
         return Err(Refusal::TableExists);
@@ -109,22 +112,26 @@ fn twice_by_set(alloc: Global, columns: &[ColumnDefinition]) -> Result<bool, All
     Ok(false)
 }
 
-/// The columns that definitions make.
-fn headers_of(alloc: Global, columns: Vec<ColumnDefinition>) -> Result<Headers, AllocError>
+/// The table that definitions make, without rows.
+fn empty_table(alloc: Global, columns: Vec<ColumnDefinition>) -> Result<Table, AllocError>
     requires some { 0 < length columns.items }
     requires few { length columns.items ≤ 64 }
     requires distinct { IsTrue (are_distinct (map (λ c. c.name) columns.items)) }
-    ensures { IfOk result (λ headers. headers ≡ map header_of columns.items) }
+    ensures { IfOk result (λ table. table_in table ≡ record { headers = map header_of columns.items; rows = [] }) }
 {
-    Ok(Headers::new(each_header(alloc, columns)?))
+    let headers = headers_for(alloc, columns)?;
+    Table::create(alloc, headers)
 }
 
-fn each_header(alloc: Global, columns: Vec<ColumnDefinition>) -> Result<Vec<Header>, AllocError>
-    ensures { IfOk result (λ headers. headers.items ≡ map header_of columns.items) }
+fn headers_for(
+    alloc: Global,
+    columns: Vec<ColumnDefinition>,
+) -> Result<Vec<Header<Name>>, AllocError>
+    ensures { IfOk result (λ headers. columns_of headers.items ≡ map header_of columns.items) }
 {
     let mut headers = Vec::with_capacity(alloc, columns.len())?;
     for column in columns {
-        headers.push(Header::new(column))?;
+        headers.push(header_for(column))?;
     }
     Ok(headers)
 }

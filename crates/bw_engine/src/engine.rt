@@ -1,9 +1,12 @@
 //! The engine.
 
-ghost use Rattle.std.specs.Prelude.{◌≡◌, [], IfOk, None};
+ghost use Rattle.std.specs.Prelude.{◌≡◌, [], IfOk, None, OnErr};
 ghost use Rattle.bw_model.specs.Step.{Step};
 ghost use Rattle.bw_sql.specs.Tree.{statement_of};
-ghost use Rattle.bw_engine.specs.Outcomes.{reply_of};
+ghost use Rattle.bw_engine.specs.Outcomes.{CarriesOut, reply_of};
+ghost use Rattle.bw_engine.specs.Stores.{store_of};
+ghost use Rattle.bw_model.specs.declared.refusal.Refusal.{Refusal};
+ghost use Rattle.bw_model.specs.declared.reply.Reply.TheVariants.{Refused};
 
 use crate::changes::{delete, rebuild, update};
 use crate::create::{TABLE_LIMIT, create_table};
@@ -19,7 +22,8 @@ use indexmap::IndexMap;
 use std::alloc::{AllocError, Global};
 use std::marker::Model;
 
-/// Tables in memory, in the order in which they were made. A contract sees the store that they are.
+/// Tables in memory, in the order in which they were made. A contract sees each with its headers, its slots and the
+/// encodings of its columns; `store_of` is the store that they are.
 #[derive(Drop)]
 pub struct Engine {
     tables: IndexMap<Name, Table>,
@@ -27,9 +31,9 @@ pub struct Engine {
 }
 
 impl Model for Engine {
-    ghost use Rattle.bw_model.specs.Store.{Store};
+    ghost use Rattle.bw_engine.specs.Stores.{Stored};
 
-    ghost Value = { Store };
+    ghost Value = { Stored };
 
     ghost view = { λ e. e.tables.entries };
 }
@@ -59,25 +63,34 @@ impl Engine {
         }
     }
 
-    /// Carries out a statement, which changes nothing where it is refused. No statement reads a
-    /// file, so the file isn't looked at.
+    /// Carries out a statement. Where it is refused nothing changes, not even how a column is encoded. No statement
+    /// reads a file, so the file isn't looked at.
     pub fn execute(&mut self, statement: Statement, _file: FileAnswer<'_>) -> Reply
-        ensures { Step self.old (statement_of statement) result self.new }
+        ensures step { Step (store_of self.old) (statement_of statement) result (store_of self.new) }
+        ensures refused { (refusal : Refusal) → result ≡ Refused refusal → self.new ≡ self.old }
     {
-        match statement {
-            Statement::CreateTable(create) => replied(create_table(
-                self.alloc,
-                &mut self.tables,
-                create,
-            )),
-            Statement::DropTable(name) => replied(drop_table(&mut self.tables, &name)),
-            Statement::ListTables => replied(list_tables(self.alloc, &self.tables)),
-            Statement::Insert(rows) => replied(insert(self.alloc, &mut self.tables, rows)),
-            Statement::Update(change) => replied(update(self.alloc, &mut self.tables, change)),
-            Statement::Delete(change) => replied(delete(self.alloc, &mut self.tables, change)),
-            Statement::Rebuild(change) => replied(rebuild(self.alloc, &mut self.tables, change)),
-            Statement::Select(query) => replied(select(self.alloc, &self.tables, query)),
-        }
+        replied(carry_out(self.alloc, &mut self.tables, statement))
+    }
+}
+
+/// Carries out a statement, or refuses it.
+fn carry_out(
+    alloc: Global,
+    tables: &mut IndexMap<Name, Table>,
+    statement: Statement,
+) -> Result<Reply, Refusal>
+    ensures reply { CarriesOut (store_of tables.old.entries) (statement_of statement) result (store_of tables.new.entries) }
+    ensures refused { OnErr result (tables.new.entries ≡ tables.old.entries) }
+{
+    match statement {
+        Statement::CreateTable(create) => create_table(alloc, tables, create),
+        Statement::DropTable(name) => drop_table(tables, &name),
+        Statement::ListTables => list_tables(alloc, tables),
+        Statement::Insert(rows) => insert(alloc, tables, rows),
+        Statement::Update(change) => update(alloc, tables, change),
+        Statement::Delete(change) => delete(alloc, tables, change),
+        Statement::Rebuild(change) => rebuild(alloc, tables, change),
+        Statement::Select(query) => select(alloc, tables, query),
     }
 }
 

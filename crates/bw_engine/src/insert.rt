@@ -7,12 +7,15 @@ ghost use Rattle.bw_model.specs.declared.reply.Reply.TheVariants.{Count};
 ghost use Rattle.bw_sql.specs.Tree.{statement_of};
 ghost use Rattle.bw_sql.specs.declared.tree.Statement.TheVariants as statements;
 ghost use Rattle.bw_engine.specs.Outcomes.{CarriesOut};
+ghost use Rattle.bw_engine.specs.Stores.{store_of, table_in};
+ghost use Rattle.bw_plan.specs.Columns.{columns_of};
 ghost use Rattle.bw_plan.specs.Checks.{Answers};
 
 use crate::table::Table;
 use bw_model::{Refusal, Reply};
 use bw_plan::resolve_insert;
 use bw_sql::{Insert, Name, NameList, ValueRows};
+use bw_table::Rows;
 use indexmap::IndexMap;
 use std::alloc::Global;
 
@@ -22,7 +25,7 @@ pub(crate) fn insert(
     tables: &mut IndexMap<Name, Table>,
     statement: Insert,
 ) -> Result<Reply, Refusal>
-    ensures reply { CarriesOut tables.old.entries (statement_of (statements.Insert statement)) result tables.new.entries }
+    ensures reply { CarriesOut (store_of tables.old.entries) (statement_of (statements.Insert statement)) result (store_of tables.new.entries) }
     ensures refused { OnErr result (tables.new.entries ≡ tables.old.entries) }
 {
     let Insert {
@@ -31,7 +34,7 @@ pub(crate) fn insert(
         rows,
     } = statement;
     match tables.get_mut(&table) {
-        Some(table) => insert_rows(alloc, table, &columns, &rows),
+        Some(table) => insert_rows(alloc, table, &columns, rows),
         None => Err(Refusal::NoSuchTable),
     }
 }
@@ -41,12 +44,14 @@ fn insert_rows(
     alloc: Global,
     table: &mut Table,
     columns: &Option<NameList>,
-    rows: &ValueRows,
+    rows: ValueRows,
 ) -> Result<Reply, Refusal>
-    ensures reply { Answers (insert_tests (target_columns table.old.headers columns.now) rows.now table.old) result (λ reply. (reply ≡ Count (length rows.now)) × (table.new ≡ with_rows columns.now rows.now table.old)) }
+    ensures reply { Answers (insert_tests (target_columns (columns_of table.old.headers) columns.now) rows (table_in table.old)) result (λ reply. (reply ≡ Count (length rows)) × (table_in table.new ≡ with_rows columns.now rows (table_in table.old))) }
     ensures refused { OnErr result (table.new ≡ table.old) }
 {
-    let cells = resolve_insert(alloc, table.headers(), columns, rows, table.room())?;
-    table.append(cells.as_slice())?;
-    Ok(Reply::Count(rows.len() as u64))
+    let count = rows.len();
+    let cells = resolve_insert(alloc, &table.headers(), columns, rows, table.room())?;
+    let width = table.headers().len();
+    table.insert(alloc, &Rows::new(width, cells.as_slice()))?;
+    Ok(Reply::Count(count as u64))
 }

@@ -6,9 +6,11 @@ mod create;
 mod drop;
 mod engine;
 mod file_answer;
+mod found;
 mod insert;
 mod listing;
 mod select;
+mod shown;
 mod table;
 
 pub use bw_model::{Answer, Cell, Heading, Refusal, Reply};

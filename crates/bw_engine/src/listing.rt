@@ -5,6 +5,7 @@ ghost use Rattle.bw_model.specs.Listing.{listing, table_line};
 ghost use Rattle.bw_sql.specs.Rows.{joined};
 ghost use Rattle.bw_sql.specs.Tree.{list_tables};
 ghost use Rattle.bw_engine.specs.Outcomes.{CarriesOut};
+ghost use Rattle.bw_engine.specs.Stores.{store_of, table_in};
 
 use crate::table::Table;
 use bw_model::{Answer, Cell, Heading, Refusal, Reply};
@@ -14,13 +15,13 @@ use std::alloc::{AllocError, Global};
 
 /// Lists the tables in the order in which they were made, each with how many columns and rows it has.
 pub(crate) fn list_tables(alloc: Global, tables: &IndexMap<Name, Table>) -> Result<Reply, Refusal>
-    ensures { CarriesOut tables.now.entries list_tables result tables.now.entries }
+    ensures { CarriesOut (store_of tables.now.entries) list_tables result (store_of tables.now.entries) }
 {
     Ok(Reply::Rows(listing_of(alloc, tables)?))
 }
 
 fn listing_of(alloc: Global, tables: &IndexMap<Name, Table>) -> Result<Answer, AllocError>
-    ensures { IfOk result (λ shows. shows ≡ listing tables.now.entries) }
+    ensures { IfOk result (λ shows. shows ≡ listing (store_of tables.now.entries)) }
 {
     let headings = headings(alloc)?;
     let cells = table_cells(alloc, tables)?;
@@ -39,7 +40,7 @@ fn headings(alloc: Global) -> Result<Vec<Heading>, AllocError>
 
 /// The lines of the tables, one after the other.
 fn table_cells(alloc: Global, tables: &IndexMap<Name, Table>) -> Result<Vec<Cell>, AllocError>
-    ensures { IfOk result (λ cells. cells.items ≡ joined (map table_line tables.now.entries)) }
+    ensures { IfOk result (λ cells. cells.items ≡ joined (map table_line (store_of tables.now.entries))) }
 {
     let mut cells = Vec::with_capacity(alloc, tables.len().saturating_mul(3))?;
     for i in 0..tables.len() {
@@ -53,9 +54,9 @@ fn table_cells(alloc: Global, tables: &IndexMap<Name, Table>) -> Result<Vec<Cell
 
 /// Puts the line of a table last.
 fn show(cells: &mut Vec<Cell>, name: Name, table: &Table) -> Result<(), AllocError>
-    ensures { OnOk result (cells.new.items ≡ cells.old.items ++ table_line (name, table.now)) }
+    ensures { OnOk result (cells.new.items ≡ cells.old.items ++ table_line (name, table_in table.now)) }
 {
-    let columns = table.headers().as_slice().len();
+    let columns = table.headers().len();
     let rows = table.row_count();
     cells.push(Cell::Name(name))?;
     cells.push(Cell::Number(columns as i128))?;

@@ -1,105 +1,141 @@
 //! A table in memory.
 
-ghost use Rattle.std.specs.Prelude.{◌≡◌, ◌+◌, ◌*◌, ◌/◌, ◌<◌, ◌≤◌, ◌++◌, [], All, length, OnOk, OnErr};
-ghost use Rattle.bw_model.specs.Answers.{AreWholeLines, lines_of};
-ghost use Rattle.bw_model.specs.Store.{row_limit};
+ghost use Rattle.std.specs.Prelude.{◌≡◌, ◌+◌, ◌≤◌, ◌++◌, [], All, IfOk, OnErr, OnOk, length, map};
+ghost use Rattle.bw_column.specs.Values.{IsNullOrInteger};
+ghost use Rattle.bw_mask.specs.Masks.{len};
+ghost use Rattle.bw_model.specs.Store.{AreHeaders, row_limit};
+ghost use Rattle.bw_plan.specs.Columns.{columns_of};
+ghost use Rattle.bw_plan.specs.Sets.{AreSettable};
+ghost use Rattle.bw_table.specs.Changes.{slots_with, slots_without};
+ghost use Rattle.bw_table.specs.Tables.{AreChosen};
+ghost use Rattle.bw_engine.specs.Stores.{rows_in};
 
-use bw_plan::{Headers, Rows};
+use bw_mask::Mask;
+use bw_plan::Headers;
+use bw_sql::Name;
+use bw_table::{Choice, Header, Rows, SetTo, Table as SlotTable, TableFault};
 use std::alloc::{AllocError, Global};
 use std::marker::Model;
 
 /// The most rows that a table holds.
 const ROW_LIMIT: usize = 16_777_216;
 
-/// Columns, and rows of as many cells. The rows lie flat in one buffer, one after the other. A
-/// contract sees the columns and the list of the rows.
-#[derive(Debug, Drop)]
+/// A table of 1 to 64 columns, each with a name of its own. A contract sees its headers, its slots and the encodings of
+/// its columns.
+#[derive(Drop)]
 pub struct Table {
-    headers: Headers,
-    cells: Vec<Option<i32>>,
+    table: SlotTable<Name>,
 }
 
 impl Model for Table {
-    ghost use Rattle.std.specs.Prelude.{length};
-    ghost use Rattle.bw_model.specs.Answers.{lines_of};
-    ghost use Rattle.bw_model.specs.Store.{Table};
+    ghost use Rattle.std.specs.Prelude.{List, ℕ};
+    ghost use Rattle.bw_model.specs.Store.{AreHeaders};
+    ghost use Rattle.bw_plan.specs.Columns.{columns_of};
+    ghost use Rattle.bw_table.specs.Tables.{TableView};
 
-    ghost Value = { Table };
+    ghost Value = { TableView (List ℕ) };
 
-    ghost use Rattle.bw_plan.specs.Flat.{AreRows};
+    ghost view = { λ t. t.table };
 
-    ghost view = { λ t. record { headers = t.headers; rows = lines_of (length t.headers) t.cells.items } };
-
-    ghost invariant = { λ t. AreRows (length t.headers) t.cells.items };
+    ghost invariant = { λ t. AreHeaders (columns_of t.table.headers) };
 }
 
 impl Table {
-    /// A table without rows.
-    pub(crate) fn new(alloc: Global, headers: Headers) -> Table
-        ensures { result ≡ record { headers = headers; rows = [] } }
+    /// A table of these columns, without rows.
+    pub(crate) fn create(alloc: Global, headers: Vec<Header<Name>>) -> Result<Table, AllocError>
+        requires { AreHeaders (columns_of headers.items) }
+        ensures headers { IfOk result (λ t. t.headers ≡ headers.items) }
+        ensures slots { IfOk result (λ t. t.slots ≡ []) }
     {
-        Table {
-            headers,
-            cells: Vec::new(alloc),
-        }
+        Ok(Table {
+            table: SlotTable::create(alloc, headers)?,
+        })
     }
 
     /// The columns, in order.
-    pub(crate) fn headers(&self) -> &Headers
-        ensures value { result.now ≡ self.now.headers }
-        ensures some { 0 < length self.now.headers }
+    pub(crate) fn headers(&self) -> Headers<'_>
+        ensures value { result ≡ columns_of self.now.headers }
+        ensures valid { AreHeaders (columns_of self.now.headers) }
     {
-        &self.headers
+        Headers::new(self.table.headers())
+    }
+
+    /// The table, with what each column is called and how it is kept.
+    pub(crate) fn stored(&self) -> &SlotTable<Name>
+        ensures { result.now ≡ self.now }
+    {
+        &self.table
     }
 
     /// How many rows there are.
+    #[tactic(auto, using(crate::proofs::Inserted::row_count))]
     pub(crate) fn row_count(&self) -> usize
-        ensures value { result ≡ length self.now.rows }
+        ensures value { result ≡ length (rows_in self.now.slots) }
         ensures bound { result ≤ row_limit }
     {
-        self.cells.as_slice().len() / self.headers.as_slice().len()
+        self.table.row_count()
     }
 
     /// How many rows more there may be.
     pub(crate) fn room(&self) -> usize
-        ensures { result + length self.now.rows ≡ row_limit }
+        ensures { result + length (rows_in self.now.slots) ≡ row_limit }
     {
         ROW_LIMIT - self.row_count()
     }
 
-    /// The rows, in order.
-    pub(crate) fn rows(&self) -> Rows<'_>
-        ensures value { result ≡ self.now.rows }
-        ensures few { length self.now.rows ≤ row_limit }
-        ensures wide { All (λ row. length row ≡ length self.now.headers) self.now.rows }
+    /// Puts these rows last. Where memory is wanting, nothing changes.
+    #[tactic(auto, using(crate::proofs::Inserted::not_full))]
+    pub(crate) fn insert(&mut self, alloc: Global, rows: &Rows<'_>) -> Result<(), AllocError>
+        requires widths { All (λ row. length row ≡ length self.old.headers) rows.now }
+        requires integers { All (λ row. All IsNullOrInteger row) rows.now }
+        requires room { length (rows_in self.old.slots) + length rows.now ≤ row_limit }
+        ensures headers { self.new.headers ≡ self.old.headers }
+        ensures rows { OnOk result (rows_in self.new.slots ≡ rows_in self.old.slots ++ rows.now) }
+        ensures unchanged { OnErr result (self.new ≡ self.old) }
     {
-        Rows::new(self.headers.as_slice().len(), self.cells.as_slice())
+        match self.table.insert(alloc, rows) {
+            Ok(()) => Ok(()),
+            Err(TableFault::Memory) => Err(AllocError),
+            Err(TableFault::Full) => unreachable!(),
+        }
     }
 
-    /// Puts the rows of these cells in place of all rows.
-    pub(crate) fn replace_rows(&mut self, cells: Vec<Option<i32>>)
-        requires whole { AreWholeLines (length self.old.headers) cells.items }
-        requires few { length (lines_of (length self.old.headers) cells.items) ≤ row_limit }
-        ensures { self.new ≡ record { headers = self.old.headers; rows = lines_of (length self.old.headers) cells.items } }
+    /// Sets columns in the found slots, all at once: a column that is set to another takes what that had before. Where
+    /// memory is wanting, nothing changes.
+    pub(crate) fn update(
+        &mut self,
+        alloc: Global,
+        found: &Mask,
+        sets: &[(usize, SetTo)],
+    ) -> Result<(), AllocError>
+        requires found { len found.now ≡ length self.old.slots }
+        requires settable { AreSettable (length self.old.headers) sets.now }
+        ensures headers { self.new.headers ≡ self.old.headers }
+        ensures slots { OnOk result (self.new.slots ≡ slots_with found.now sets.now self.old.slots) }
+        ensures unchanged { OnErr result (self.new ≡ self.old) }
     {
-        self.cells = cells;
+        self.table.update(alloc, found, sets)
     }
 
-    /// Puts these columns in place of the columns.
-    pub(crate) fn replace_headers(&mut self, headers: Headers)
-        requires { length headers ≡ length self.old.headers }
-        ensures { self.new ≡ record { headers = headers; rows = self.old.rows } }
+    /// Takes the found slots out. Takes no memory.
+    pub(crate) fn delete(&mut self, found: &Mask)
+        requires { len found.now ≡ length self.old.slots }
+        ensures headers { self.new.headers ≡ self.old.headers }
+        ensures slots { self.new.slots ≡ slots_without found.now self.old.slots }
     {
-        self.headers = headers;
+        self.table.delete(found);
     }
 
-    /// Puts the rows of these cells last.
-    pub(crate) fn append(&mut self, cells: &[Option<i32>]) -> Result<(), AllocError>
-        requires whole { AreWholeLines (length self.old.headers) cells.now }
-        requires room { length self.old.rows + length (lines_of (length self.old.headers) cells.now) ≤ row_limit }
-        ensures ok { OnOk result (self.new ≡ record { headers = self.old.headers; rows = self.old.rows ++ lines_of (length self.old.headers) cells.now }) }
-        ensures err { OnErr result (self.new ≡ self.old) }
+    /// Lays columns anew, as they are chosen to lie. Where memory is wanting, nothing changes.
+    pub(crate) fn rebuild(
+        &mut self,
+        alloc: Global,
+        choices: &[(usize, Choice)],
+    ) -> Result<(), AllocError>
+        ensures headers { OnOk result (AreChosen choices.now self.old.headers self.new.headers) }
+        ensures rows { OnOk result (rows_in self.new.slots ≡ rows_in self.old.slots) }
+        ensures unchanged { OnErr result (self.new ≡ self.old) }
     {
-        self.cells.extend_from_slice(cells)
+        self.table.rebuild(alloc, choices)
     }
 }

@@ -2,6 +2,7 @@
 
 ghost use Rattle.std.specs.Prelude.{◌≡◌, All};
 ghost use Rattle.bw_lex.specs.Parts.{IsPartOf};
+ghost use Rattle.bw_engine.specs.Stores.{store_of};
 ghost use Rattle.bw_model.specs.ReplyText.{reply_text};
 ghost use Rattle.bw_shell.specs.Run.{HasRun, MayAnswer, RunsTo, is_dropped, last_end, stops};
 ghost use Rattle.bw_shell.specs.Writing.{Wrote};
@@ -85,7 +86,7 @@ fn answer_parts<W: Write>(
     on_error: OnError,
 ) -> RunEnd
     requires { All (IsPartOf script.text.now) script.parts.now }
-    ensures { HasRun on_error script.entry.end script.entry.text.now script.entry.parts.now engine.old (W.contents writer.old) (W.contents writer.new) result }
+    ensures { HasRun on_error script.entry.end script.entry.text.now script.entry.parts.now (store_of engine.old) (W.contents writer.old) (W.contents writer.new) result }
 {
     for part in script.parts {
         if is_dropped(script.end, part) {
@@ -135,7 +136,7 @@ fn stops(on_error: OnError, reply: &Reply) -> bool
 
 // The reply to a part of a script.
 fn reply_to(alloc: Global, engine: &mut Engine, text: &[u8], is_closed: bool) -> Reply
-    ensures { MayAnswer engine.old is_closed text.now result engine.new }
+    ensures { MayAnswer (store_of engine.old) is_closed text.now result (store_of engine.new) }
 {
     if text.len() > LONGEST_STATEMENT {
         return Reply::Refused(Refusal::StatementTooLong);

@@ -1,44 +1,19 @@
-use Rattle.std.proofs.Common.{◌≡◌, ◌∙◌, None, Some, ap, inr, length, option_map, sym}
-use Rattle.std.proofs.lemmas.Result.{on_err_weaker}
-use Rattle.std.specs.Map.{set_value}
-use Rattle.std.specs.Str.{bytes_eq}
-use Rattle.bw_sql.specs.Tree.{condition_of}
+use Rattle.std.proofs.Common.{sym}
 use Rattle.bw_model.specs.Changes.{with_choices}
-use Rattle.bw_engine.proofs.Pieces.{says_done}
-use Rattle.bw_model.specs.Refusals.{chosen_columns, first_that_holds, over, rebuild_tests}
-use Rattle.bw_model.specs.Step.{table_or_none, with_table}
-use Rattle.bw_model.specs.Store.{Store, Table, table_of}
-use Rattle.bw_model.specs.declared.reply.Reply.{Reply}
-use Rattle.bw_model.specs.declared.reply.Reply.TheVariants.{Done}
-use Rattle.bw_engine.proofs.Steps.{set_value-same, set_value-with_table, table_of-lookup}
-use Rattle.bw_plan.proofs.Tests.{answers_same}
+use Rattle.bw_model.specs.Refusals.{chosen_columns, rebuild_tests}
+use Rattle.bw_engine.proofs.Replies.{says_done}
+use Rattle.bw_engine.proofs.Steps.{changes_table, keeps_tables, no_table}
 use Rattle.bw_engine.proofs.changes.rebuild.Goals as goal
 
 pub returns-in-Some-clause-reply : goal.returns-in-Some-clause-reply
 returns-in-Some-clause-reply c =
-    let store = c.args.tables.now.entries in
-    let name = c.args.statement.table in
-    let table = c.in-Some.table.now in
-    let new = c.rebuild_columns.new.table in
-    let there : table_of store name ≡ Some table = table_of-lookup store name ∙ sym c.in-Some.ensures.value in
-    answers_same (rebuild_tests (chosen_columns c.args.statement.choices.items) table) (over (table_of store name) (λ t. rebuild_tests (chosen_columns c.args.statement.choices.items) t)) c.rebuild_columns.result
-    (λ reply. (reply ≡ says_done table) × (new ≡ with_choices c.args.statement.choices.items table)) (λ reply. ◌≡◌ {A = Reply × Store} (reply, (c.get_mut.follows.lender new).entries) (says_done (table_or_none (table_of store name)), with_table store name (with_choices c.args.statement.choices.items)))
-    (ap (λ o. first_that_holds (over o (λ t. rebuild_tests (chosen_columns c.args.statement.choices.items) t))) (sym there))
-    (λ reply none p. let after = (c.get_mut.follows.holds new).0 ∙ set_value-with_table store name table new (with_choices c.args.statement.choices.items) there p.1 in λ j. ((p.0 ∙ ap (λ o. says_done (table_or_none o)) (sym there)) j, after j))
-    (rw c.as_slice.ensures.value at c.rebuild_columns.ensures.reply)
+    let choices = c.args.statement.choices.items in
+    changes_table c.args.tables.now.entries c.args.statement.table c.in-Some.table.now (sym c.in-Some.ensures.value) c.rebuild_columns.new.table _ (c.get_mut.follows.holds c.rebuild_columns.new.table).0
+    (rebuild_tests (chosen_columns choices)) says_done (with_choices choices) c.rebuild_columns.result (rw c.as_slice.ensures.value at c.rebuild_columns.ensures.reply)
 
 pub returns-in-Some-clause-refused : goal.returns-in-Some-clause-refused
 returns-in-Some-clause-refused c =
-    let store = c.args.tables.now.entries in
-    let name = c.args.statement.table in
-    let there : table_of store name ≡ Some c.in-Some.table.now = table_of-lookup store name ∙ sym c.in-Some.ensures.value in
-    on_err_weaker c.rebuild_columns.result
-    (λ same. (c.get_mut.follows.holds c.rebuild_columns.new.table).0 ∙ ap (set_value (bytes_eq name) store) same ∙ set_value-same store name c.in-Some.table.now there)
-    c.rebuild_columns.ensures.refused
+    keeps_tables c.args.tables.now.entries c.args.statement.table c.in-Some.table.now (sym c.in-Some.ensures.value) c.rebuild_columns.new.table _ (c.get_mut.follows.holds c.rebuild_columns.new.table).0 c.rebuild_columns.result c.rebuild_columns.ensures.refused
 
 pub returns-clause-reply : goal.returns-clause-reply
-returns-clause-reply c =
-    let store = c.args.tables.now.entries in
-    let name = c.args.statement.table in
-    let absent : table_of store name ≡ None = table_of-lookup store name ∙ sym c.in-None.ensures.value in
-    inr (ap (λ o. first_that_holds (over o (λ t. rebuild_tests (chosen_columns c.args.statement.choices.items) t))) absent)
+returns-clause-reply c = no_table c.args.tables.now.entries c.args.statement.table (rebuild_tests (chosen_columns c.args.statement.choices.items)) (sym c.in-None.ensures.value)

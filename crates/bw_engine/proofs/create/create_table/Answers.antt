@@ -1,20 +1,22 @@
-use Rattle.std.proofs.Common.{◌∙◌, [], ◌∷◌, ◌++◌, ap, map, sym}
+use Rattle.std.proofs.Common.{◌∙◌, [], ◌∷◌, ◌++◌, ap, is_some, map, sym}
 use Rattle.indexmap.proofs.CallerLemmas.{insert_entry-new}
+use Rattle.std.specs.Map.{lookup}
 use Rattle.std.specs.Str.{bytes_eq}
-use Rattle.bw_model.specs.Store.{table_of}
 use Rattle.bw_model.specs.declared.reply.Reply.TheVariants.{Done}
 use Rattle.bw_model.proofs.Passing.{passes}
-use Rattle.bw_engine.proofs.Steps.{absent-none, table_of-lookup}
+use Rattle.bw_engine.specs.Stores.{store_of, table_in}
+use Rattle.bw_engine.proofs.Steps.{absent-none, found_in, some_map, stored_more}
 use Rattle.bw_engine.proofs.create.create_table.Goals as goal
 
 pub returns-clause-reply : goal.returns-clause-reply
 returns-clause-reply c =
-    let store = c.args.tables.now.entries in
+    let tables = c.args.tables.now.entries in
     let name = c.args.statement.table in
     let tested = rw c.as_slice.ensures.value at c.in_ok-check.ensures in
-    let absent = (passes (map (λ c. c.name) c.args.statement.columns.items) name store tested.0).absent in
+    let absent = sym (some_map table_in (lookup (bytes_eq name) tables)) ∙ ap is_some (sym (found_in tables name)) ∙ (passes (map (λ c. c.name) c.args.statement.columns.items) name (store_of tables) tested.0).absent in
     let after =
-    c.in_ok-insert.ensures.entries
-    ∙ insert_entry-new bytes_eq c.args.tables.now name c.new.result (sym (table_of-lookup store name) ∙ absent-none (table_of store name) absent)
-    ∙ ap (λ table. store ++ (name, table) ∷ []) (c.new.ensures ∙ ap (λ headers. record { headers = headers; rows = [] }) c.in_ok-headers.ensures) in
+    ap store_of (c.in_ok-insert.ensures.entries
+    ∙ insert_entry-new bytes_eq c.args.tables.now name c.in_ok-new.new (absent-none (lookup (bytes_eq name) tables) absent))
+    ∙ stored_more tables name c.in_ok-new.new
+    ∙ ap (λ table. store_of tables ++ (name, table) ∷ []) c.in_ok-new.ensures in
     (tested.0, ap (λ s. (Done, s)) after)

@@ -1,7 +1,8 @@
 use Rattle.std.proofs.Common.{drop}
+use Rattle.bw_engine.specs.Stores.{store_of}
 use Rattle.bw_shell.proofs.Sessions.{Ran}
 use Rattle.bw_shell.proofs.session.answer_parts.Given as goal
 
 abbrev pub invariant-loop-part : goal.invariant-loop-part
 invariant-loop-part g l =
-    Ran l.on_error l.script.end l.script.text.now l.script.parts.now l.fn.engine (g.W.Write.contents l.fn.writer) (g.W.Write.contents l.writer) (drop l.part-index l.script.parts.now) l.engine
+    Ran l.on_error l.script.end l.script.text.now l.script.parts.now (store_of l.fn.engine) (g.W.Write.contents l.fn.writer) (g.W.Write.contents l.writer) (drop l.part-index l.script.parts.now) (store_of l.engine)

@@ -1,0 +1,146 @@
+-- The lines of the places that pass, in parts, and from the columns.
+use Rattle.std.proofs.Common.{◌≡◌, ◌∙◌, ℕ, zero, suc, ◌+◌, ◌<◌, ◌&&◌, Bool, true, false, List, [], ◌∷◌, ◌++◌, append-nil, append_assoc, get_or, if◌then◌else◌, length, map, nat_lt, refl, sym, ap, arith}
+use Rattle.std.specs.List.{filter, range_with_len}
+use Rattle.std.proofs.lemmas.Bool.{lt-ltb}
+use Rattle.std.proofs.lemmas.List.{get_or-map, length-map, same_lists}
+use Rattle.bw_mask.specs.Masks.{MaskRows, bit_of, row_at}
+use Rattle.bw_mask.proofs.Bits.{bit_of_zero}
+use Rattle.bw_column.specs.Values as columns
+use Rattle.bw_table.specs.Slots.{Slot, slot_at}
+use Rattle.bw_sql.specs.Rows.{joined}
+use Rattle.bw_model.specs.Select.{shown}
+use Rattle.bw_model.specs.Store.{Row, Value, value_at}
+use Rattle.bw_model.specs.declared.answer.Cell.{Cell}
+use Rattle.bw_engine.specs.Found.{rows_where}
+use Rattle.bw_engine.specs.Runs.{AreRead, line_across, line_at, lines_from, slot_line}
+use Rattle.bw_engine.specs.Stores.{rows_of_slots}
+use Rattle.bw_engine.proofs.SetRows.{same_value}
+
+one_line : (b : Bool) (line : ℕ → List Cell) (a : ℕ) (rest : List ℕ) → joined (map line (if b then a ∷ rest else rest)) ≡ (if b then line a else []) ++ joined (map line rest)
+one_line true line a rest = refl
+one_line false line a rest = refl
+
+module _ (line : ℕ → List Cell) (passes : ℕ → Bool) where
+  -- the lines of n places, and those of the next
+  pub lines_join : (m n a k b : ℕ) → k ≡ m + n → b ≡ a + m → lines_from line passes a k ≡ lines_from line passes a m ++ lines_from line passes b n
+  lines_join zero n a k b e f =
+      let same : k ≡ n = omega (arith, e) in
+      let here : a ≡ b = omega (arith, f) in
+      (λ j. lines_from line passes (here j) (same j))
+  lines_join (suc m) n a k b e f =
+      let more : k ≡ suc (m + n) = omega (arith, e) in
+      ap (lines_from line passes a) more
+      ∙ one_line (passes a) line a (filter passes (range_with_len (a + 1) (m + n)))
+      ∙ ap (λ l. (if passes a then line a else []) ++ l) (lines_join m n (a + 1) (m + n) b refl (omega (arith, f)))
+      ∙ sym (append_assoc (if passes a then line a else []) (lines_from line passes (a + 1) m) (lines_from line passes b n))
+      ∙ ap (λ l. l ++ lines_from line passes b n) (sym (one_line (passes a) line a (filter passes (range_with_len (a + 1) m))))
+
+  pub lines_more : (a n b : ℕ) → b ≡ a + n → lines_from line passes a (n + 1) ≡ lines_from line passes a n ++ (if passes b then line b else [])
+  lines_more a n b f =
+      lines_join n 1 a (n + 1) b refl f
+      ∙ ap (λ l. lines_from line passes a n ++ l) (one_line (passes b) line b [] ∙ append-nil (if passes b then line b else []))
+
+  -- a place that passes puts its line last
+  pub lines_put : (n b : ℕ) (old cells new : List Cell) → b ≡ 0 + n → passes b ≡ true → cells ≡ old ++ lines_from line passes 0 n → new ≡ cells ++ line b → new ≡ old ++ lines_from line passes 0 (n + 1)
+  lines_put n b old cells new f e so_far more =
+      more
+      ∙ ap (λ l. l ++ line b) so_far
+      ∙ append_assoc old (lines_from line passes 0 n) (line b)
+      ∙ ap (λ p. old ++ (lines_from line passes 0 n ++ (if p then line b else []))) (sym e)
+      ∙ ap (λ l. old ++ l) (sym (lines_more 0 n b f))
+
+  pub lines_left : (n b : ℕ) (old cells : List Cell) → b ≡ 0 + n → passes b ≡ false → cells ≡ old ++ lines_from line passes 0 n → cells ≡ old ++ lines_from line passes 0 (n + 1)
+  lines_left n b old cells f e so_far =
+      so_far
+      ∙ ap (λ l. old ++ l) (sym (append-nil (lines_from line passes 0 n)))
+      ∙ ap (λ p. old ++ (lines_from line passes 0 n ++ (if p then line b else []))) (sym e)
+      ∙ ap (λ l. old ++ l) (sym (lines_more 0 n b f))
+
+  pub lines_none : (n a : ℕ) → ((i : ℕ) → i < n → passes (a + i) ≡ false) → lines_from line passes a n ≡ []
+  lines_none zero a none = refl
+  lines_none (suc n) a none =
+      let here : passes a ≡ false = ap passes (omega arith) ∙ none 0 (omega arith) in
+      one_line (passes a) line a (filter passes (range_with_len (a + 1) n))
+      ∙ ap (λ b. (if b then line a else []) ++ lines_from line passes (a + 1) n) here
+      ∙ lines_none n (a + 1) (λ i h. ap passes (next a i) ∙ none (suc i) (omega (arith, h)))
+    where
+      next : (a i : ℕ) → (a + 1) + i ≡ a + suc i
+      next a i = omega arith
+
+-- the same lines from another place on
+pub lines_same : (line other : ℕ → List Cell) (passes others : ℕ → Bool) (n a b : ℕ) → ((i : ℕ) → i < n → passes (a + i) ≡ others (b + i)) → ((i : ℕ) → i < n → others (b + i) ≡ true → line (a + i) ≡ other (b + i)) → lines_from line passes a n ≡ lines_from other others b n
+lines_same line other passes others zero a b tests lines = refl
+lines_same line other passes others (suc n) a b tests lines =
+    let here : passes a ≡ others b = ap passes (plain a) ∙ tests 0 (omega arith) ∙ ap others (sym (plain b)) in
+    let first : others b ≡ true → line a ≡ other b = λ e. ap line (plain a) ∙ lines 0 (omega arith) (ap others (sym (plain b)) ∙ e) ∙ ap other (sym (plain b)) in
+    one_line (passes a) line a (filter passes (range_with_len (a + 1) n))
+    ∙ ap (λ p. (if p then line a else []) ++ lines_from line passes (a + 1) n) here
+    ∙ ap (λ l. l ++ lines_from line passes (a + 1) n) (by (others b) first)
+    ∙ ap (λ l. (if others b then other b else []) ++ l) (lines_same line other passes others n (a + 1) (b + 1)
+    (λ i h. ap passes (next a i) ∙ tests (suc i) (omega (arith, h)) ∙ ap others (sym (next b i)))
+    (λ i h e. ap line (next a i) ∙ lines (suc i) (omega (arith, h)) (ap others (sym (next b i)) ∙ e) ∙ ap other (sym (next b i))))
+    ∙ sym (one_line (others b) other b (filter others (range_with_len (b + 1) n)))
+  where
+    plain : (a : ℕ) → a ≡ a + 0
+    plain a = omega arith
+
+    next : (a i : ℕ) → (a + 1) + i ≡ a + suc i
+    next a i = omega arith
+
+    by : (p : Bool) → (p ≡ true → line a ≡ other b) → (if p then line a else []) ≡ (if p then other b else [])
+    by true same = same refl
+    by false same = refl
+
+-- the lines of the slots that pass are those of their rows
+pub lines_where : (places : List ℕ) (passes : ℕ → Bool) (slots : List Slot) → lines_from (slot_line places slots) passes 0 (length slots) ≡ joined (map (line_at places) (rows_where passes (rows_of_slots slots)))
+lines_where places passes [] = refl
+lines_where places passes (slot ∷ slots) =
+    one_line (passes 0) (slot_line places (slot ∷ slots)) 0 (filter passes (range_with_len 1 (length slots)))
+    ∙ ap (λ l. (if passes 0 then line_at places slot.row else []) ++ l)
+    (lines_same (slot_line places (slot ∷ slots)) (slot_line places slots) passes (λ i. passes (suc i)) (length slots) 1 0
+    (λ i h. ap passes (next i)) (λ i h e. ap (slot_line places (slot ∷ slots)) (next i))
+    ∙ lines_where places (λ i. passes (suc i)) slots)
+    ∙ by (passes 0) (rows_where (λ i. passes (suc i)) (rows_of_slots slots))
+  where
+    next : (i : ℕ) → 1 + i ≡ suc (0 + i)
+    next i = omega arith
+
+    by : (p : Bool) (rows : List Row) → (if p then line_at places slot.row else []) ++ joined (map (line_at places) rows) ≡ joined (map (line_at places) (if p then slot.row ∷ rows else rows))
+    by true rows = refl
+    by false rows = refl
+
+-- a run of slots, by the word of those that are found
+module _ (slots : List Slot) (places : List ℕ) (found : MaskRows) (word at n : ℕ) (bits : (i : ℕ) → bit_of word i ≡ (nat_lt i n && row_at found (at + i))) where
+  bit_is : (i : ℕ) → i < n → bit_of word i ≡ row_at found (at + i)
+  bit_is i h = bits i ∙ ap (λ b. b && row_at found (at + i)) (lt-ltb i n h)
+
+  pub run_none : word ≡ 0 → lines_from (slot_line places slots) (row_at found) at n ≡ []
+  run_none e = lines_none (slot_line places slots) (row_at found) n at (λ i h. sym (bit_is i h) ∙ ap (λ w. bit_of w i) e ∙ bit_of_zero i)
+
+  pub run_fetched : lines_from (λ i. slot_line places slots (at + i)) (bit_of word) 0 n ≡ lines_from (slot_line places slots) (row_at found) at n
+  run_fetched =
+      lines_same (λ i. slot_line places slots (at + i)) (slot_line places slots) (bit_of word) (row_at found) n 0 at
+      (λ i h. ap (bit_of word) (plain i) ∙ bit_is i h)
+      (λ i h e. ap (λ k. slot_line places slots (at + k)) (plain i))
+    where
+      plain : (i : ℕ) → 0 + i ≡ i
+      plain i = omega arith
+
+  pub run_lines : (runs : List (List Value)) → AreRead slots places at n runs → lines_from (line_across runs) (bit_of word) 0 n ≡ lines_from (slot_line places slots) (row_at found) at n
+  run_lines runs are =
+      lines_same (line_across runs) (slot_line places slots) (bit_of word) (row_at found) n 0 at
+      (λ i h. ap (bit_of word) (plain i) ∙ bit_is i h)
+      (λ i h e. ap (line_across runs) (plain i) ∙ read_line i h)
+    where
+      plain : (i : ℕ) → 0 + i ≡ i
+      plain i = omega arith
+
+      read_line : (i : ℕ) → i < n → line_across runs i ≡ slot_line places slots (at + i)
+      read_line i h =
+          let row = (slot_at slots (at + i)).row in
+          let m = length-map runs (λ (values : List Value). shown (columns.value_at values i)) in
+          same_lists (line_across runs i) (slot_line places slots (at + i)) (m ∙ are.count ∙ sym (length-map places (λ (place : ℕ). shown (value_at row place)))) (λ k d l.
+          let low : k < length places = omega (arith, l, m, are.count) in
+          get_or-map (λ (values : List Value). shown (columns.value_at values i)) runs k [] d (omega (arith, low, are.count))
+          ∙ ap shown (are.values k i low h ∙ same_value row (get_or places k 0))
+          ∙ sym (get_or-map (λ (place : ℕ). shown (value_at row place)) places k 0 d low))
