@@ -189,12 +189,17 @@ fn a_value_without_a_code_encodes_the_column_anew(rt: HostRuntime) {
     );
     assert_eq!(rt; span_of(&column), Some((1, 20)));
     assert!(rt; column.layout() == Layout::V && column.kind() == Kind::Offset);
-    // A null has a code in any encoding.
+}
+
+#[test]
+fn a_null_has_a_code_in_any_encoding(rt: HostRuntime) {
+    let values = [Some(1), Some(1_000_000)];
+    let mut column = column_of(&rt, &values, Layout::V, Kind::Offset);
     append(&rt, &mut column, &[None, Some(2)]);
     assert_eq!(rt; span_of(&column), Some((1, 20)));
     assert_eq!(rt;
         all_of(&rt, &column).as_slice(),
-        [Some(1), Some(1_000_000), Some(3), None, Some(2)].as_slice()
+        [Some(1), Some(1_000_000), None, Some(2)].as_slice()
     );
 }
 
@@ -202,98 +207,121 @@ fn a_value_without_a_code_encodes_the_column_anew(rt: HostRuntime) {
 fn a_column_without_values(rt: HostRuntime) {
     let mut column = column_of(&rt, &[], Layout::P, Kind::Offset);
     assert_eq!(rt; (column.len(), span_of(&column)), (0, Some((0, 1))));
-    append(&rt, &mut column, &[Some(1)]);
-    assert_eq!(rt; span_of(&column), Some((0, 1)));
-    append(&rt, &mut column, &[Some(-1)]);
-    assert_eq!(rt; span_of(&column), Some((-1, 2)));
+    for (value, span) in [(1, (0, 1)), (-1, (-1, 2))] {
+        append(&rt, &mut column, &[Some(value)]);
+        assert_eq!(rt; span_of(&column), Some(span));
+    }
     assert_eq!(rt;
         all_of(&rt, &column).as_slice(),
         [Some(1), Some(-1)].as_slice()
     );
-    let mut words = column_of(&rt, &[], Layout::S, Kind::Dictionary);
-    append(&rt, &mut words, &[None, Some(7), None]);
-    overwrite(&rt, &mut words, 0b101, &[Some(9), Some(7)]);
+}
+
+#[test]
+fn a_dictionary_without_values(rt: HostRuntime) {
+    let mut column = column_of(&rt, &[], Layout::S, Kind::Dictionary);
+    append(&rt, &mut column, &[None, Some(7), None]);
+    overwrite(&rt, &mut column, 0b101, &[Some(9), Some(7)]);
     assert_eq!(rt;
-        all_of(&rt, &words).as_slice(),
+        all_of(&rt, &column).as_slice(),
         [Some(9), Some(7), Some(7)].as_slice()
     );
 }
 
+/// All rows of two runs.
+const ALL: u64 = 0xffff_ffff;
+
+/// A constant that two runs are below or not, at which rows it is asked, and what comes of it.
+const BELOW: [(i64, u64, Outcome); 3] = [
+    (128, ALL, (0xffff, 0xffff_0000, 32)),
+    (256, ALL, (ALL, 0, 0)),
+    (128, 0x1_8000, (0x8000, 0x1_0000, 2)),
+];
+
 #[test]
 fn a_column_and_a_constant(rt: HostRuntime) {
     let column = column_of(&rt, &two_runs(), Layout::P, Kind::Offset);
-    let all = 0xffff_ffff;
-    assert_eq!(rt;
-        compared(&rt, &column, CmpOp::Lt, 128, all),
-        (0xffff, 0xffff_0000, 32)
-    );
-    assert_eq!(rt; compared(&rt, &column, CmpOp::Lt, 256, all), (all, 0, 0));
-    assert_eq!(rt;
-        compared(&rt, &column, CmpOp::Lt, 128, 0x1_8000),
-        (0x8000, 0x1_0000, 2)
-    );
-    assert_eq!(rt;
-        between(&rt, &column, 3, 200, all),
-        (0xfff8, 0xffff_0007, 32)
-    );
-    assert_eq!(rt; between(&rt, &column, 200, 3, all), (0, all, 0));
-    let found = 1 << 3 | 1 << 26;
-    assert_eq!(rt;
-        listed(&rt, &column, &[3, 250], all),
-        (found, all ^ found, 63)
-    );
-    assert_eq!(rt;
-        listed(&rt, &column, &[3, 3], all),
-        (1 << 3, all ^ 1 << 3, 63)
-    );
-    assert_eq!(rt; listed(&rt, &column, &[], all), (0, all, 0));
+    for (constant, need, outcome) in BELOW {
+        assert_eq!(rt; compared(&rt, &column, CmpOp::Lt, constant, need), outcome);
+    }
 }
 
 #[test]
+fn a_column_and_a_range(rt: HostRuntime) {
+    let column = column_of(&rt, &two_runs(), Layout::P, Kind::Offset);
+    assert_eq!(rt;
+        between(&rt, &column, 3, 200, ALL),
+        (0xfff8, 0xffff_0007, 32)
+    );
+    assert_eq!(rt; between(&rt, &column, 200, 3, ALL), (0, ALL, 0));
+}
+
+#[test]
+fn a_column_and_a_list(rt: HostRuntime) {
+    let column = column_of(&rt, &two_runs(), Layout::P, Kind::Offset);
+    let (three, either) = (1 << 3, 1 << 3 | 1 << 26);
+    for (entries, found) in [([3, 250], either), ([3, 3], three)] {
+        assert_eq!(rt;
+            listed(&rt, &column, &entries, ALL),
+            (found, ALL ^ found, 63)
+        );
+    }
+    assert_eq!(rt; listed(&rt, &column, &[], ALL), (0, ALL, 0));
+}
+
+const WITH_A_NULL: [Option<i64>; 4] = [Some(1), None, Some(3), Some(5)];
+
+#[test]
 fn nulls_beside_a_constant(rt: HostRuntime) {
-    let values = [Some(1), None, Some(3), Some(5)];
     for kind in [Kind::Offset, Kind::Dictionary] {
-        let column = column_of(&rt, &values, Layout::H, kind);
-        assert_eq!(rt;
-            compared(&rt, &column, CmpOp::Ne, 3, 0b1111),
-            (0b1001, 0b0100, 3)
-        );
-        assert_eq!(rt;
-            compared(&rt, &column, CmpOp::Ne, 3, 0b0111),
-            (0b0001, 0b0100, 2)
-        );
+        let column = column_of(&rt, &WITH_A_NULL, Layout::H, kind);
+        for (need, outcome) in [(0b1111, (0b1001, 0b0100, 3)), (0b0111, (0b0001, 0b0100, 2))] {
+            assert_eq!(rt; compared(&rt, &column, CmpOp::Ne, 3, need), outcome);
+        }
         assert_eq!(rt; between(&rt, &column, 2, 3, 0b1111), (0b0100, 0b1001, 3));
+    }
+}
+
+#[test]
+fn nulls_beside_a_list(rt: HostRuntime) {
+    for kind in [Kind::Offset, Kind::Dictionary] {
+        let column = column_of(&rt, &WITH_A_NULL, Layout::H, kind);
         assert_eq!(rt; listed(&rt, &column, &[5, 1], 0b1111), (0b1001, 0b0100, 5));
         assert_eq!(rt; listed(&rt, &column, &[], 0b1111), (0, 0b1101, 0));
     }
 }
 
+/// 5, 4, 1, null: another column beside 5, -3, null, 7.
+fn dictionary<R: Abort + AllocGlobal>(rt: &R) -> Column {
+    let values = [Some(5), Some(4), Some(1), None];
+    column_of(rt, &values, Layout::P, Kind::Dictionary)
+}
+
 #[test]
 fn two_columns(rt: HostRuntime) {
-    let a = column_of(
-        &rt,
-        &[Some(5), Some(-3), None, Some(7)],
-        Layout::P,
-        Kind::Offset,
-    );
-    let b = column_of(
-        &rt,
-        &[Some(5), Some(4), Some(1), None],
-        Layout::P,
-        Kind::Dictionary,
-    );
-    assert_eq!(rt;
-        side_by_side(&rt, &a, CmpOp::Lt, &b, 0b1111),
-        (0b0010, 0b0001, 4)
-    );
-    assert_eq!(rt;
-        side_by_side(&rt, &b, CmpOp::Le, &a, 0b1110),
-        (0, 0b0010, 2)
-    );
-    assert_eq!(rt; side_by_side(&rt, &a, CmpOp::Eq, &b, 0b1100), (0, 0, 0));
-    assert_eq!(rt; compared(&rt, &b, CmpOp::Eq, 2, 0b1111).0, 0);
-    assert_eq!(rt; compared(&rt, &b, CmpOp::Gt, 6, 0b1111).0, 0);
-    assert_eq!(rt; compared(&rt, &b, CmpOp::Ne, 2, 0b1111), (0b0111, 0, 0));
+    let values = [Some(5), Some(-3), None, Some(7)];
+    let a = column_of(&rt, &values, Layout::P, Kind::Offset);
+    let b = dictionary(&rt);
+    for (op, need, outcome) in [
+        (CmpOp::Lt, 0b1111, (0b0010, 0b0001, 4)),
+        (CmpOp::Eq, 0b1100, (0, 0, 0)),
+    ] {
+        assert_eq!(rt; side_by_side(&rt, &a, op, &b, need), outcome);
+    }
+    let exchanged = side_by_side(&rt, &b, CmpOp::Le, &a, 0b1110);
+    assert_eq!(rt; exchanged, (0, 0b0010, 2));
+}
+
+#[test]
+fn constants_that_a_dictionary_lacks(rt: HostRuntime) {
+    let column = dictionary(&rt);
+    for (op, constant, trues) in [(CmpOp::Eq, 2, 0), (CmpOp::Gt, 6, 0), (CmpOp::Ne, 2, 0b0111)] {
+        let falses = 0b0111 ^ trues;
+        assert_eq!(rt;
+            compared(&rt, &column, op, constant, 0b1111),
+            (trues, falses, 0)
+        );
+    }
 }
 
 /// Every seventh value is null.
@@ -340,9 +368,15 @@ fn runs_of_values(rt: HostRuntime) {
 fn rows_of_a_column(rt: HostRuntime) {
     let column = column_of(&rt, &[Some(4), None, Some(7)], Layout::P, Kind::Offset);
     assert_eq!(rt; column.nonnull().words(), [0b101].as_slice());
-    assert!(rt; column.len() == 3 && column.encoding().width() == 2);
+    assert!(rt; column.len() == 3);
     assert_eq!(rt; (column.get(0), column.get(1)), (Some(4), None));
+}
+
+#[test]
+fn a_plane_of_a_column(rt: HostRuntime) {
+    let column = column_of(&rt, &[Some(4), None, Some(7)], Layout::P, Kind::Offset);
     let mut rows = rows_of(&rt, &column, 0b111);
+    assert!(rt; column.encoding().width() == 2);
     column.plane(1, &mut rows);
     assert_eq!(rt; rows.words(), [0b100].as_slice());
 }

@@ -66,16 +66,27 @@ fn a_compact_drops_dead_slots(rt: HostRuntime) {
     assert_eq!(rt; header_of(&table, 2), None);
 }
 
+/// A table of one column of kind DICTIONARY with three rows.
+fn three_rows<R: Abort + AllocGlobal>(rt: &R) -> Table<usize> {
+    let mut table = table_of(rt, &[DICTIONARY]);
+    insert(rt, &mut table, &[Some(7), None, Some(10)]);
+    table
+}
+
 #[test]
-fn a_rebuild_may_change_the_kind(rt: HostRuntime) {
-    let mut table = table_of(&rt, &[DICTIONARY]);
-    insert(&rt, &mut table, &[Some(7), None, Some(10)]);
-    assert_eq!(rt; span_of(&table, 0), None);
+fn a_rebuild_without_choices_keeps_the_kind(rt: HostRuntime) {
+    let mut table = three_rows(&rt);
     assert_eq!(rt; table.rebuild(rt.alloc(), &[]), Ok(()));
     assert_eq!(rt;
         header_of(&table, 0),
         Some((0, Layout::V, Kind::Dictionary))
     );
+    assert_eq!(rt; span_of(&table, 0), None);
+}
+
+#[test]
+fn a_rebuild_may_change_the_kind(rt: HostRuntime) {
+    let mut table = three_rows(&rt);
     let choice = Choice {
         layout: Layout::S,
         kind: Some(Kind::Offset),

@@ -10,3 +10,5 @@ mod examples;
 mod harness;
 #[cfg(test)]
 mod random;
+#[cfg(test)]
+mod units;
