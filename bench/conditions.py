@@ -9,22 +9,9 @@ without them is taken away. Build bitcol first, by `rt run` in crates/bitcol.
 """
 
 import random
-import subprocess
 import sys
-import time
 
-from common import MOST, built, data_file, insert, random_row, random_value, sqlite3, written
-
-ROWS_A_STATEMENT = 2_000
-ROUNDS = 3
-
-
-def inserts(rows):
-    generator = random.Random(rows)
-    yield "CREATE TABLE t (a INTEGER, b INTEGER);\n"
-    for start in range(0, rows, ROWS_A_STATEMENT):
-        count = min(ROWS_A_STATEMENT, rows - start)
-        yield insert(written(random_row(generator)) for _ in range(count))
+from common import MOST, filling, in_both, random_row, random_value, seconds
 
 
 def select(predicates):
@@ -34,32 +21,17 @@ def select(predicates):
     return "SELECT a FROM t WHERE " + " AND ".join(tests + [f"b > {MOST}"]) + ";\n"
 
 
-def seconds(command, script):
-    path = data_file("conditions.sql")
-    path.write_text(script)
-    best = None
-    for _ in range(ROUNDS):
-        with path.open("rb") as stdin:
-            start = time.perf_counter()
-            subprocess.run(command, stdin=stdin, stdout=subprocess.DEVNULL, check=True)
-            taken = time.perf_counter() - start
-        best = taken if best is None else min(best, taken)
-    return best
-
-
 def main():
     rows = int(sys.argv[1]) if len(sys.argv) > 1 else 1_000_000
-    fill = "".join(inserts(rows))
-    programs = {"bitcol": ([built("bitcol")], fill)}
-    if sqlite := sqlite3():
-        programs["sqlite3"] = ([sqlite, ":memory:"], "BEGIN;\n" + fill + "COMMIT;\n")
-    filled = {name: seconds(command, script) for name, (command, script) in programs.items()}
-    for predicates, selects in ((1, 20), (10, 5), (100, 1)):
+    generator = random.Random(rows)
+    programs = in_both("".join(filling("t", "ab", (random_row(generator) for _ in range(rows)))))
+    filled = {name: seconds(command, fill) for name, (command, fill) in programs.items()}
+    for predicates, selects in ((1, 200), (10, 20), (100, 2)):
         costs = {}
-        for name, (command, script) in programs.items():
-            taken = seconds(command, script + select(predicates) * selects) - filled[name]
+        for name, (command, fill) in programs.items():
+            taken = seconds(command, fill + select(predicates) * selects) - filled[name]
             costs[name] = taken / (rows * predicates * selects) * 1e9
-        beside = f", sqlite3 {costs['sqlite3']:6.2f} ns, {costs['bitcol'] / costs['sqlite3']:5.2f} of it" if sqlite else ""
+        beside = f", sqlite3 {costs['sqlite3']:6.2f} ns, {costs['bitcol'] / costs['sqlite3']:5.2f} of it" if "sqlite3" in costs else ""
         print(f"{predicates:4} predicates: bitcol {costs['bitcol']:6.2f} ns a row and predicate{beside}")
 
 
