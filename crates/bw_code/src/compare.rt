@@ -1,7 +1,7 @@
 //! Comparisons, and tests on codes.
 
 ghost use Rattle.std.specs.Prelude.{◌≡◌};
-ghost use Rattle.bw_code.specs.Tests.{code_compares, meets};
+ghost use Rattle.bw_code.specs.Tests.{code_compares, int_compares, meets};
 
 /// How two numbers compare.
 #[derive(Clone, Copy, Debug, PartialEq, Eq)]
@@ -32,6 +32,20 @@ impl CmpOp {
             CmpOp::Le => x <= y,
             CmpOp::Gt => x > y,
             CmpOp::Ge => x >= y,
+        }
+    }
+
+    /// Whether two integers compare so.
+    pub fn compares_integers(self, left: i64, right: i64) -> bool
+        ensures { result ≡ int_compares self left right }
+    {
+        match self {
+            CmpOp::Eq => left == right,
+            CmpOp::Ne => left != right,
+            CmpOp::Lt => left < right,
+            CmpOp::Le => left <= right,
+            CmpOp::Gt => left > right,
+            CmpOp::Ge => left >= right,
         }
     }
 }

@@ -3,7 +3,6 @@
 ghost use Rattle.std.specs.Prelude.{is_some, length, not, ℕ, ◌&&◌, ◌+◌, ◌<◌, ◌^◌, ◌≡◌, ◌≤◌};
 ghost use Rattle.bw_mask.specs.Masks.{SameShape, bit_of, len, row_at};
 ghost use Rattle.bw_code.specs.Meters.{raised};
-ghost use Rattle.bw_code.specs.Tests.{int_compares};
 ghost use Rattle.bw_code.specs.Units.{units_of_fetches};
 ghost use Rattle.bw_column.specs.Comparisons.{compare_so};
 ghost use Rattle.bw_column.specs.Costs.{needed_known, units_of_columns};
@@ -14,26 +13,12 @@ use crate::column::Column;
 use bw_code::{CmpOp, Meter};
 use bw_mask::Mask;
 
-/// Whether two integers compare so.
-fn integers_compare(op: CmpOp, x: i64, y: i64) -> bool
-    ensures { result ≡ int_compares op x y }
-{
-    match op {
-        CmpOp::Eq => x == y,
-        CmpOp::Ne => x != y,
-        CmpOp::Lt => x < y,
-        CmpOp::Le => x <= y,
-        CmpOp::Gt => x > y,
-        CmpOp::Ge => x >= y,
-    }
-}
-
 /// Whether two values compare so. A null does not.
 fn values_compare(op: CmpOp, left: Option<i64>, right: Option<i64>) -> bool
     ensures { result ≡ compare_so op left right }
 {
     match (left, right) {
-        (Some(x), Some(y)) => integers_compare(op, x, y),
+        (Some(x), Some(y)) => op.compares_integers(x, y),
         _ => false,
     }
 }

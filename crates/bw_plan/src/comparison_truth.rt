@@ -2,7 +2,6 @@
 
 ghost use Rattle.std.specs.Prelude.{length, ◌≡◌};
 ghost use Rattle.bw_code.specs.Meters.{raised};
-ghost use Rattle.bw_code.specs.Tests.{int_compares};
 ghost use Rattle.bw_column.specs.Comparisons.{AreTruthsAt};
 ghost use Rattle.bw_column.specs.Values.{value_at};
 ghost use Rattle.bw_mask.specs.Masks.{len, row_at};
@@ -44,20 +43,6 @@ fn exchanged(sign: CompareOp) -> CompareOp
     }
 }
 
-/// Whether two numbers compare so.
-fn numbers_compare(sign: CompareOp, left: i64, right: i64) -> bool
-    ensures { result ≡ int_compares (cmp_of sign) left right }
-{
-    match sign {
-        CompareOp::Eq => left == right,
-        CompareOp::Ne => left != right,
-        CompareOp::Lt => left < right,
-        CompareOp::Le => left <= right,
-        CompareOp::Gt => left > right,
-        CompareOp::Ge => left >= right,
-    }
-}
-
 /// What a comparison says of two values. It is unknown where one is NULL.
 pub(crate) fn compare_values(left: Value, sign: CompareOp, right: Value) -> TruthValue
     ensures { result ≡ compared sign left right }
@@ -65,7 +50,7 @@ pub(crate) fn compare_values(left: Value, sign: CompareOp, right: Value) -> Trut
     let (Some(left), Some(right)) = (left, right) else {
         return TruthValue::Unknown;
     };
-    TruthValue::of(numbers_compare(sign, left, right))
+    TruthValue::of(comparison(sign).compares_integers(left, right))
 }
 
 /// The truth becomes the same at each needed slot, and no unit is added to the meter.
