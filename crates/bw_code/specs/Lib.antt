@@ -1,6 +1,7 @@
 pub mod Ascending
 pub mod Columns
 pub mod Encodings
+pub mod Fittings
 pub mod Intervals
 pub mod Meters
 pub mod Sameness

@@ -1,13 +1,21 @@
 //! The least and the greatest of some values.
 
-ghost use Rattle.std.specs.Prelude.{◌<◌, length};
+ghost use Rattle.std.specs.Prelude.{◌++◌, ◌<◌, ◌∷◌, List, [], ℤ, length};
 ghost use Rattle.bw_code.specs.Encodings.{IsGreatest, IsLeast};
+ghost use Rattle.bw_code.specs.Fittings.{AreEnds};
 
 /// The least and the greatest of some values.
-pub(crate) fn ends(values: &[i64]) -> (i64, i64)
+#[derive(Clone, Copy, Debug, PartialEq, Eq)]
+pub struct Ends {
+    pub least: i64,
+    pub greatest: i64,
+}
+
+/// The least and the greatest of some values.
+fn ends_of_some(values: &[i64]) -> Ends
     requires { 0 < length values.now }
-    ensures least { IsLeast values.now result.0 }
-    ensures greatest { IsGreatest values.now result.1 }
+    ensures least { IsLeast values.now result.least }
+    ensures greatest { IsGreatest values.now result.greatest }
 {
     let mut least = values[0];
     let mut greatest = values[0];
@@ -15,5 +23,31 @@ pub(crate) fn ends(values: &[i64]) -> (i64, i64)
         least = least.min(*x);
         greatest = greatest.max(*x);
     }
-    (least, greatest)
+    Ends { least, greatest }
+}
+
+/// The ends of the values, if there are any.
+pub(crate) fn ends_of(values: &[i64]) -> Option<Ends>
+    ensures { AreEnds values.now result }
+{
+    if values.is_empty() {
+        return None;
+    }
+    Some(ends_of_some(values))
+}
+
+/// The ends of one value more than those of which the ends are known.
+pub(crate) fn ends_with(ends: Option<Ends>, x: i64) -> Option<Ends>
+    ensures { (values : List ℤ) → AreEnds values ends → AreEnds (values ++ x ∷ []) result }
+{
+    match ends {
+        None => Some(Ends {
+            least: x,
+            greatest: x,
+        }),
+        Some(Ends { least, greatest }) => Some(Ends {
+            least: least.min(x),
+            greatest: greatest.max(x),
+        }),
+    }
 }

@@ -6,6 +6,7 @@ mod compare;
 mod dictionary;
 mod encoding;
 mod ends;
+mod fitting;
 mod kind;
 mod lanes;
 mod laws;
@@ -21,6 +22,8 @@ pub use column::CodeColumn;
 pub use compare::{CmpOp, CodeTest};
 pub use dictionary::Dictionary;
 pub use encoding::{Encoding, fit};
+pub use ends::Ends;
+pub use fitting::Fitting;
 pub use kind::{Kind, Layout};
 pub use laws::{
     bits_of_numbers, codes_keep_order, codes_of_values, equal_encodings, fits_of_values,

@@ -1,11 +1,11 @@
 //! Encoding by the distance from a base: frame of reference (Goldstein, Ramakrishnan and Shaft, ICDE 1998).
 
-ghost use Rattle.std.specs.Prelude.{All, IsTrue, length, ◌↔◌, ◌≡◌, ◌≤◌, ◌^◌, ◌-◌, ◌+ℤ◌, pos, FitsSigned};
+ghost use Rattle.std.specs.Prelude.{All, IsTrue, List, length, ℤ, ◌↔◌, ◌≡◌, ◌≤◌, ◌^◌, ◌-◌, ◌+ℤ◌, pos, FitsSigned};
 ghost use Rattle.std.specs.Bool.{OnTrue};
 ghost use Rattle.std.specs.Int.{w64};
 
 use crate::compare::{CmpOp, CodeTest};
-use crate::ends::ends;
+use crate::ends::{Ends, ends_of};
 use crate::width::width_of;
 
 /// An encoding by the distance from a base. A value has a code from the base on up to base + 2^width - 1, which may
@@ -21,6 +21,7 @@ pub struct Offset {
 }
 
 impl Offset {
+    ghost use Rattle.bw_code.specs.Fittings.{AreEnds};
     ghost use Rattle.bw_code.specs.Encodings.{offset_code, offset_range, offset_test, test_above, test_below, AreCodes, IsOffsetFit, IsWithin};
 
     /// The test where all values are below the constant.
@@ -43,19 +44,26 @@ impl Offset {
         }
     }
 
+    /// The offset that spans the values which have these ends.
+    pub(crate) fn spanning(ends: Option<Ends>) -> Offset
+        ensures fits { (values : List ℤ) → AreEnds values ends → IsOffsetFit values result }
+        ensures coded { (values : List ℤ) → AreEnds values ends → All (IsWithin result) values }
+    {
+        let Some(Ends { least, greatest }) = ends else {
+            return Offset { base: 0, width: 1 };
+        };
+        Offset {
+            base: least,
+            width: width_of(greatest.abs_diff(least)),
+        }
+    }
+
     /// The offset that spans the values.
     pub(crate) fn of_values(values: &[i64]) -> Offset
         ensures fits { IsOffsetFit values.now result }
         ensures coded { All (IsWithin result) values.now }
     {
-        if values.is_empty() {
-            return Offset { base: 0, width: 1 };
-        }
-        let (least, greatest) = ends(values);
-        Offset {
-            base: least,
-            width: width_of(greatest.abs_diff(least)),
-        }
+        Offset::spanning(ends_of(values))
     }
 
     /// The greatest code.

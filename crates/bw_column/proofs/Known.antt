@@ -1,8 +1,8 @@
 -- The values that are not null.
-use Rattle.std.proofs.Common.{◌≡◌, ℕ, suc, zero, ℤ, ◌+◌, ◌<◌, List, [], ◌∷◌, ◌++◌, length, get_or, take, refl, ap, ◌∙◌, arith, length-append, Option, Some, None}
+use Rattle.std.proofs.Common.{append_assoc, drop, sym, ◌≡◌, ℕ, suc, zero, ℤ, ◌+◌, ◌<◌, List, [], ◌∷◌, ◌++◌, length, get_or, take, refl, ap, ◌∙◌, arith, length-append, Option, Some, None}
 use Rattle.std.specs.List.{All}
 use Rattle.std.specs.Option.{option_to_list}
-use Rattle.std.proofs.lemmas.List.{take_more, get_or_append_left, get_or-append_right}
+use Rattle.std.proofs.lemmas.List.{drop-drop, take-append-drop, take_more, get_or_append_left, get_or-append_right}
 use Rattle.std.proofs.lemmas.List.Elements.{filter_map-append, All-head, All-tail}
 use Rattle.bw_code.specs.Encodings.{HasCode}
 use Rattle.bw_code.specs.declared.encoding.Encoding.{Encoding}
@@ -34,3 +34,12 @@ both_coded e xs ys zs same h =
           let here : get_or (xs ++ ys) (length xs + k) d ≡ get_or ys k d = get_or-append_right xs ys (length xs) (length xs + k) d refl (omega arith) ∙ ap (λ (j : ℕ). get_or ys j d) (omega arith) in
           rw (← here) (all (length xs + k) d (omega (arith, length-append xs ys))),
     )
+
+-- what is known of a list goes over part by part
+pub known_over : (whole done : List ℤ) (xs : List (Option ℤ)) (at n : ℕ) → done ++ known (drop at xs) ≡ whole → (done ++ known (take n (drop at xs))) ++ known (drop (at + n) xs) ≡ whole
+known_over whole done xs at n is =
+    let rest = drop at xs in
+    append_assoc done (known (take n rest)) (known (drop (at + n) xs))
+    ∙ ap (λ ys. done ++ (known (take n rest) ++ known ys)) (sym (drop-drop n at xs))
+    ∙ ap (λ ys. done ++ ys) (sym (filter_map-append (λ value. value) (take n rest) (drop n rest)) ∙ ap known (take-append-drop n rest))
+    ∙ is

@@ -1,7 +1,8 @@
 -- A list that is made from a function of the place.
-use Rattle.std.proofs.Common.{◌≡◌, ◌≢◌, ℕ, ◌+◌, ◌-◌, ◌<◌, List, ◌++◌, length, get_or, set, inl, inr, sym, ap, ◌∙◌, arith, drop, length-append, length-drop, length-set, length-take, take, ◌≤◌}
+use Rattle.std.proofs.Common.{◌≡◌, ◌≢◌, ℕ, ◌+◌, ◌-◌, ◌<◌, List, ◌++◌, length, get_or, set, inl, inr, sym, ap, ◌∙◌, append_assoc, arith, drop, length-append, length-drop, length-set, length-take, take, ◌≤◌}
 use Rattle.std.proofs.lemmas.Bool.{cases_eq, cases_lt}
-use Rattle.std.proofs.lemmas.List.{get_or-append_right, get_or-drop, get_or-take, get_or_default, same_lists, get_or-set_same, get_or-set_other, get_or_append_left}
+use Rattle.std.proofs.Math.Seq.{take-append_seam}
+use Rattle.std.proofs.lemmas.List.{drop-drop, take-append-drop, get_or-append_right, get_or-drop, get_or-take, get_or_default, same_lists, get_or-set_same, get_or-set_other, get_or_append_left}
 use Rattle.std.proofs.lemmas.List.FromFn.{length-map-range_with_len, get_or-map-range_with_len, fill_by_all}
 use Rattle.bw_column.specs.Lists.{made}
 
@@ -43,3 +44,23 @@ pub part_at : {X : Type 0} (xs ys : List X) (at n k : ℕ) (d : X) → ys ≡ ta
 part_at xs ys at n k d is h =
     let long : length ys ≡ length (take n (drop at xs)) = ap length is in
     ap (λ zs. get_or zs k d) is ∙ get_or-take n (drop at xs) k d (omega (arith, long, length-take n (drop at xs))) ∙ get_or-drop at xs k d
+
+-- the front of a buffer, once a part of a list is written there
+pub front_is : {X : Type 0} (buffer out xs : List X) (at n : ℕ) → n ≤ length buffer → at + n ≤ length xs → out ≡ take (length (take n buffer)) (drop at xs) → take n (out ++ drop n buffer) ≡ take n (drop at xs)
+front_is buffer out xs at n fits inside is =
+    let count : length (take n buffer) ≡ n = omega (arith, length-take n buffer) in
+    let same : out ≡ take n (drop at xs) = is ∙ ap (λ k. take k (drop at xs)) count in
+    let long : length out ≡ n = ap length same ∙ omega (arith, length-take n (drop at xs), length-drop at xs) in
+    ap (λ k. take k (out ++ drop n buffer)) (sym long) ∙ take-append_seam out (drop n buffer) ∙ same
+
+-- a list behind others goes over to them part by part
+pub part_over : {X : Type 0} (whole done xs : List X) (at n : ℕ) → done ++ drop at xs ≡ whole → (done ++ take n (drop at xs)) ++ drop (at + n) xs ≡ whole
+part_over whole done xs at n is =
+    append_assoc done (take n (drop at xs)) (drop (at + n) xs)
+    ∙ ap (λ ys. done ++ (take n (drop at xs) ++ ys)) (sym (drop-drop n at xs))
+    ∙ ap (λ ys. done ++ ys) (take-append-drop n (drop at xs))
+    ∙ is
+
+-- no part of what is left is longer than the whole
+pub part_fits : {X : Type 0} (done rest old xs : List X) (n : ℕ) → done ++ rest ≡ old ++ xs → length done + length (take n rest) ≤ length old + length xs
+part_fits done rest old xs n is = omega (arith, length-take n rest, length-append done rest, ap length is, length-append old xs)

@@ -6,9 +6,10 @@ ghost use Rattle.bw_column.specs.Codes.{IsCoded, codes_for};
 ghost use Rattle.bw_column.specs.Columns.{Keeps};
 ghost use Rattle.bw_column.specs.Values.{IsNullOrInteger, known};
 
-use crate::codes::{encode_all, known_of, push_presence};
+use crate::codes::{encode_all, push_presence};
 use crate::column::Column;
-use bw_code::{CodeColumn, Encoding, Kind, Layout, PlainColumn, fit};
+use crate::telling::tell_known;
+use bw_code::{CodeColumn, Encoding, Fitting, Kind, Layout, PlainColumn};
 use bw_mask::Mask;
 use std::alloc::{AllocError, Global};
 
@@ -28,9 +29,23 @@ pub(crate) fn codes_of(
     Ok(codes)
 }
 
+/// The encoding of a kind that fits the values which are not null.
+fn encoding_of(alloc: Global, values: &[Option<i64>], kind: Kind) -> Result<Encoding, AllocError>
+    requires integers { All IsNullOrInteger values.now }
+    requires few { length values.now ≤ 2 ^ 24 }
+    ensures fits { IfOk result (IsFit (known values.now)) }
+    ensures kind { IfOk result (λ e. kind_of e ≡ kind) }
+    ensures coded { IfOk result (λ e. All (IsCoded e) values.now) }
+    ensures narrow { IfOk result (λ e. width e ≤ 32) }
+{
+    let mut fitting = Fitting::new(alloc, kind, values.len())?;
+    tell_known(&mut fitting, values)?;
+    fitting.encoding(alloc)
+}
+
 impl Column {
     /// A column without values, and room for so many.
-    fn with_room(
+    pub(crate) fn with_room(
         alloc: Global,
         layout: Layout,
         encoding: Encoding,
@@ -72,32 +87,42 @@ impl Column {
         push_presence(&mut self.nonnull, values);
     }
 
-    /// A column of these values by the encoding that fits them and some others, and room for so many values more.
-    pub(crate) fn fitted(
-        alloc: Global,
-        values: &[Option<i64>],
-        others: &[Option<i64>],
-        layout: Layout,
-        kind: Kind,
-        more: usize,
-    ) -> Result<Column, AllocError>
+    /// Adds at most 64 values at the end, within the room.
+    pub(crate) fn extend_block(&mut self, values: &[Option<i64>])
+        requires block { length values.now ≤ 64 }
+        requires coded { All (IsCoded self.old.encoding) values.now }
         requires integers { All IsNullOrInteger values.now }
-        requires other_integers { All IsNullOrInteger others.now }
-        requires some { length others.now ≤ 2 ^ 24 }
-        requires few { length values.now + more ≤ 2 ^ 24 }
-        ensures values { IfOk result (λ c. c.values ≡ values.now) }
-        ensures layout { IfOk result (λ c. c.layout ≡ layout) }
-        ensures fits { IfOk result (λ c. IsFit (known (values.now ++ others.now)) c.encoding) }
-        ensures kind { IfOk result (λ c. kind_of c.encoding ≡ kind) }
-        ensures coded { IfOk result (λ c. All (IsCoded c.encoding) others.now) }
-        ensures room { IfOk result (λ c. length values.now + more ≤ c.room) }
+        requires room { length self.old.values + length values.now ≤ self.old.room }
+        requires few { length self.old.values + length values.now ≤ 2 ^ 24 }
+        ensures values { self.new.values ≡ self.old.values ++ values.now }
+        ensures layout { self.new.layout ≡ self.old.layout }
+        ensures encoding { self.new.encoding ≡ self.old.encoding }
+        ensures room { self.old.room ≤ self.new.room }
     {
-        let list = known_of(alloc, values, others)?;
-        let encoding = fit(alloc, &list, kind)?;
-        let codes = codes_of(alloc, &encoding, values)?;
-        let mut column = Column::with_room(alloc, layout, encoding, values.len() + more)?;
-        column.extend(values, &codes);
-        Ok(column)
+        let mut list = [0; 64];
+        let codes = &mut list[..values.len()];
+        if !encode_all(&self.encoding, values, codes) {
+            unreachable!()
+        }
+        self.extend(values, codes);
+    }
+
+    /// Adds values at the end, within the room.
+    fn extend_values(&mut self, values: &[Option<i64>])
+        requires coded { All (IsCoded self.old.encoding) values.now }
+        requires integers { All IsNullOrInteger values.now }
+        requires room { length self.old.values + length values.now ≤ self.old.room }
+        requires few { length self.old.values + length values.now ≤ 2 ^ 24 }
+        ensures values { self.new.values ≡ self.old.values ++ values.now }
+        ensures layout { self.new.layout ≡ self.old.layout }
+        ensures encoding { self.new.encoding ≡ self.old.encoding }
+    {
+        let mut rest = values;
+        while !rest.is_empty() {
+            let (block, after) = rest.split_at(rest.len().min(64));
+            self.extend_block(block);
+            rest = after;
+        }
     }
 
     /// A column of these values. Its encoding is the one of its kind that fits those that are not null.
@@ -114,7 +139,10 @@ impl Column {
         ensures fits { IfOk result (λ c. IsFit (known values.now) c.encoding) }
         ensures kind { IfOk result (λ c. kind_of c.encoding ≡ kind) }
     {
-        Column::fitted(alloc, values, &[], layout, kind, 0)
+        let encoding = encoding_of(alloc, values, kind)?;
+        let mut column = Column::with_room(alloc, layout, encoding, values.len())?;
+        column.extend_values(values);
+        Ok(column)
     }
 
     /// Makes room for so many values more. The column stays as it is, also where memory is wanting.

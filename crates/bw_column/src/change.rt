@@ -1,7 +1,7 @@
 //! Values added to a column, and values put in place of others. What may want memory comes first.
 
-ghost use Rattle.std.specs.Prelude.{All, IfOk, count_by, true, false, length, ℕ, ◌++◌, ◌+◌, ◌<◌, ◌^◌, ◌≡◌, ◌≤◌};
-ghost use Rattle.bw_code.specs.Encodings.{IsFit, kind_of};
+ghost use Rattle.std.specs.Prelude.{All, IfOk, OnOk, count_by, true, false, length, ℕ, ◌++◌, ◌+◌, ◌<◌, ◌^◌, ◌≡◌, ◌≤◌};
+ghost use Rattle.bw_code.specs.Encodings.{IsFit, kind_of, width};
 ghost use Rattle.bw_mask.specs.Masks.{len};
 ghost use Rattle.bw_column.specs.Codes.{IsCoded, codes_for};
 ghost use Rattle.bw_column.specs.Columns.{Keeps};
@@ -12,6 +12,8 @@ ghost use Rattle.bw_column.specs.Values.{IsNullOrInteger, known};
 use crate::building::codes_of;
 use crate::codes::encode_all;
 use crate::column::Column;
+use crate::telling::tell_known;
+use bw_code::{Encoding, Fitting};
 use bw_mask::Mask;
 use std::alloc::{AllocError, Global};
 use std::marker::Model;
@@ -39,17 +41,44 @@ fn count_more(values: &[Option<i64>], grow: bool) -> usize
 }
 
 impl Column {
-    /// The values.
-    fn values(&self, alloc: Global) -> Result<Vec<Option<i64>>, AllocError>
-        ensures values { IfOk result (λ values. values.items ≡ self.now.values) }
-        ensures integers { IfOk result (λ values. All IsNullOrInteger values.items) }
+    /// The encoding of the column's kind that fits its values and these.
+    fn encoding_with(&self, alloc: Global, values: &[Option<i64>]) -> Result<Encoding, AllocError>
+        requires integers { All IsNullOrInteger values.now }
+        requires some { length values.now ≤ 2 ^ 24 }
+        ensures fits { IfOk result (IsFit (known (self.now.values ++ values.now))) }
+        ensures kind { IfOk result (λ e. kind_of e ≡ kind_of self.now.encoding) }
+        ensures own { IfOk result (λ e. All (IsCoded e) self.now.values) }
+        ensures coded { IfOk result (λ e. All (IsCoded e) values.now) }
+        ensures narrow { IfOk result (λ e. width e ≤ 32) }
     {
-        let mut values = Vec::from_elem(alloc, None, self.len())?;
-        self.read(0, &mut values);
-        Ok(values)
+        let mut fitting = Fitting::new(alloc, self.kind(), self.len() + values.len())?;
+        self.tell_own(&mut fitting)?;
+        tell_known(&mut fitting, values)?;
+        fitting.encoding(alloc)
     }
 
-    /// The column encoded anew, so that these values have codes, and room for so many values more.
+    /// Adds the values of another column at the end, within the room.
+    fn extend_from(&mut self, other: &Column)
+        requires coded { All (IsCoded self.old.encoding) other.now.values }
+        requires room { length self.old.values + length other.now.values ≤ self.old.room }
+        requires few { length self.old.values + length other.now.values ≤ 2 ^ 24 }
+        ensures values { self.new.values ≡ self.old.values ++ other.now.values }
+        ensures layout { self.new.layout ≡ self.old.layout }
+        ensures encoding { self.new.encoding ≡ self.old.encoding }
+        ensures room { self.old.room ≤ self.new.room }
+    {
+        let mut run = [None; 64];
+        let mut at = 0;
+        while at < other.len() {
+            let n = (other.len() - at).min(64);
+            other.read(at, &mut run[..n]);
+            self.extend_block(&run[..n]);
+            at += n;
+        }
+    }
+
+    /// The column encoded anew, so that these values have codes, and room for so many values more. For DICTIONARY the
+    /// values are listed on the way.
     fn anew(&self, alloc: Global, values: &[Option<i64>], more: usize) -> Result<Column, AllocError>
         requires integers { All IsNullOrInteger values.now }
         requires some { length values.now ≤ 2 ^ 24 }
@@ -61,8 +90,10 @@ impl Column {
         ensures coded { IfOk result (λ c. All (IsCoded c.encoding) values.now) }
         ensures room { IfOk result (λ c. length self.now.values + more ≤ c.room) }
     {
-        let old = self.values(alloc)?;
-        Column::fitted(alloc, &old, values, self.layout, self.kind(), more)
+        let encoding = self.encoding_with(alloc, values)?;
+        let mut column = Column::with_room(alloc, self.layout, encoding, self.len() + more)?;
+        column.extend_from(self);
+        Ok(column)
     }
 
     /// Makes ready to take the values, at the end where the column is to grow, and else in place of others. Where one

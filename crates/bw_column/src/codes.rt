@@ -1,15 +1,13 @@
-//! Many values at a time: their codes, which of them are there, and those that are not null.
+//! Many values at a time: their codes, and which of them are there.
 
 ghost use Rattle.std.specs.Bool.{OnTrue};
-ghost use Rattle.std.specs.Prelude.{All, IfOk, IfSome, IsSome, IsTrue, OnOk, is_some, length, map, option_to_list, vec_len, ◌++◌, ◌+◌, ◌<◌, ◌^◌, ◌↔◌, ◌≡◌, ◌≤◌};
+ghost use Rattle.std.specs.Prelude.{All, IfSome, IsSome, IsTrue, is_some, length, map, ◌++◌, ◌+◌, ◌^◌, ◌↔◌, ◌≡◌, ◌≤◌};
 ghost use Rattle.bw_mask.specs.Masks.{bit_of, len, rows_of};
 ghost use Rattle.bw_column.specs.Codes.{IsCoded, code_for, codes_for};
-ghost use Rattle.bw_column.specs.Values.{known};
 
 use crate::bits::set_bytes;
 use bw_code::Encoding;
 use bw_mask::Mask;
-use std::alloc::{AllocError, Global};
 
 /// The code of a value, if it has one.
 fn code(encoding: &Encoding, value: Option<i64>) -> Option<u64>
@@ -63,40 +61,4 @@ pub(crate) fn push_presence(mask: &mut Mask, values: &[Option<i64>])
     }
     let rest = &values[64 * blocks..];
     mask.push_bits(rest.len(), presence(rest));
-}
-
-/// Adds a value that is not null.
-fn push_if_known(list: &mut Vec<i64>, value: Option<i64>) -> Result<(), AllocError>
-    ensures { OnOk result (list.new.items ≡ list.old.items ++ option_to_list value) }
-{
-    if let Some(x) = value {
-        list.push(x)?;
-    }
-    Ok(())
-}
-
-/// Adds the values that are not null.
-#[tactic(auto, using(crate::proofs::Known::known_more))]
-fn push_known(list: &mut Vec<i64>, values: &[Option<i64>]) -> Result<(), AllocError>
-    ensures { OnOk result (list.new.items ≡ list.old.items ++ known values.now) }
-{
-    for value in values {
-        push_if_known(list, *value)?;
-    }
-    Ok(())
-}
-
-/// The values of both lists that are not null, one list behind the other.
-pub(crate) fn known_of(
-    alloc: Global,
-    values: &[Option<i64>],
-    more: &[Option<i64>],
-) -> Result<Vec<i64>, AllocError>
-    requires { length values.now + length more.now ≤ 2 ^ 32 }
-    ensures { IfOk result (λ list. list.items ≡ known (values.now ++ more.now)) }
-{
-    let mut list = Vec::with_capacity(alloc, values.len() + more.len())?;
-    push_known(&mut list, values)?;
-    push_known(&mut list, more)?;
-    Ok(list)
 }

@@ -11,6 +11,7 @@ mod compare_anew;
 mod pairs;
 mod reading;
 mod split;
+mod telling;
 
 pub use change::Prepared;
 pub use column::Column;

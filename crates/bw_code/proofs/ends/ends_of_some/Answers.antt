@@ -1,7 +1,7 @@
 use Rattle.std.proofs.Common.{arith}
 use Rattle.std.proofs.lemmas.Grind.{common_steps}
 use Rattle.bw_code.proofs.Least.{least_is, greatest_is}
-use Rattle.bw_code.proofs.ends.ends.Goals as goal
+use Rattle.bw_code.proofs.ends.ends_of_some.Goals as goal
 
 pub returns-clause-least : goal.returns-clause-least
 returns-clause-least c = least_is c.args.values.now c.requires _ (grind (arith, common_steps, c.loop-x.invariant.least))

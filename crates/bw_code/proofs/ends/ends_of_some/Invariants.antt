@@ -1,6 +1,6 @@
 use Rattle.std.proofs.Common.{◌≡◌, pos, take, get_or, fold}
 use Rattle.std.specs.Int.{int_min, int_max}
-use Rattle.bw_code.proofs.ends.ends.Given as goal
+use Rattle.bw_code.proofs.ends.ends_of_some.Given as goal
 
 abbrev pub invariant-loop-x : goal.invariant-loop-x
 invariant-loop-x l = record {
