@@ -8,19 +8,17 @@ use Rattle.bw_mask.proofs.Bits.{bit_of_zero}
 use Rattle.bw_column.specs.Values as columns
 use Rattle.bw_table.specs.Slots.{Slot, slot_at}
 use Rattle.bw_sql.specs.Rows.{joined}
-use Rattle.bw_model.specs.Select.{shown}
 use Rattle.bw_model.specs.Store.{Row, Value, value_at}
-use Rattle.bw_model.specs.declared.answer.Cell.{Cell}
 use Rattle.bw_engine.specs.Found.{rows_where}
 use Rattle.bw_engine.specs.Runs.{AreRead, line_across, line_at, lines_from, slot_line}
 use Rattle.bw_engine.specs.Stores.{rows_of_slots}
 use Rattle.bw_engine.proofs.SetRows.{same_value}
 
-one_line : (b : Bool) (line : ℕ → List Cell) (a : ℕ) (rest : List ℕ) → joined (map line (if b then a ∷ rest else rest)) ≡ (if b then line a else []) ++ joined (map line rest)
+one_line : (b : Bool) (line : ℕ → List Value) (a : ℕ) (rest : List ℕ) → joined (map line (if b then a ∷ rest else rest)) ≡ (if b then line a else []) ++ joined (map line rest)
 one_line true line a rest = refl
 one_line false line a rest = refl
 
-module _ (line : ℕ → List Cell) (passes : ℕ → Bool) where
+module _ (line : ℕ → List Value) (passes : ℕ → Bool) where
   -- the lines of n places, and those of the next
   pub lines_join : (m n a k b : ℕ) → k ≡ m + n → b ≡ a + m → lines_from line passes a k ≡ lines_from line passes a m ++ lines_from line passes b n
   lines_join zero n a k b e f =
@@ -41,16 +39,16 @@ module _ (line : ℕ → List Cell) (passes : ℕ → Bool) where
       ∙ ap (λ l. lines_from line passes a n ++ l) (one_line (passes b) line b [] ∙ append-nil (if passes b then line b else []))
 
   -- a place that passes puts its line last
-  pub lines_put : (n b : ℕ) (old cells new : List Cell) → b ≡ 0 + n → passes b ≡ true → cells ≡ old ++ lines_from line passes 0 n → new ≡ cells ++ line b → new ≡ old ++ lines_from line passes 0 (n + 1)
-  lines_put n b old cells new f e so_far more =
+  pub lines_put : (n b : ℕ) (old values new : List Value) → b ≡ 0 + n → passes b ≡ true → values ≡ old ++ lines_from line passes 0 n → new ≡ values ++ line b → new ≡ old ++ lines_from line passes 0 (n + 1)
+  lines_put n b old values new f e so_far more =
       more
       ∙ ap (λ l. l ++ line b) so_far
       ∙ append_assoc old (lines_from line passes 0 n) (line b)
       ∙ ap (λ p. old ++ (lines_from line passes 0 n ++ (if p then line b else []))) (sym e)
       ∙ ap (λ l. old ++ l) (sym (lines_more 0 n b f))
 
-  pub lines_left : (n b : ℕ) (old cells : List Cell) → b ≡ 0 + n → passes b ≡ false → cells ≡ old ++ lines_from line passes 0 n → cells ≡ old ++ lines_from line passes 0 (n + 1)
-  lines_left n b old cells f e so_far =
+  pub lines_left : (n b : ℕ) (old values : List Value) → b ≡ 0 + n → passes b ≡ false → values ≡ old ++ lines_from line passes 0 n → values ≡ old ++ lines_from line passes 0 (n + 1)
+  lines_left n b old values f e so_far =
       so_far
       ∙ ap (λ l. old ++ l) (sym (append-nil (lines_from line passes 0 n)))
       ∙ ap (λ p. old ++ (lines_from line passes 0 n ++ (if p then line b else []))) (sym e)
@@ -68,7 +66,7 @@ module _ (line : ℕ → List Cell) (passes : ℕ → Bool) where
       next a i = omega arith
 
 -- the same lines from another place on
-pub lines_same : (line other : ℕ → List Cell) (passes others : ℕ → Bool) (n a b : ℕ) → ((i : ℕ) → i < n → passes (a + i) ≡ others (b + i)) → ((i : ℕ) → i < n → others (b + i) ≡ true → line (a + i) ≡ other (b + i)) → lines_from line passes a n ≡ lines_from other others b n
+pub lines_same : (line other : ℕ → List Value) (passes others : ℕ → Bool) (n a b : ℕ) → ((i : ℕ) → i < n → passes (a + i) ≡ others (b + i)) → ((i : ℕ) → i < n → others (b + i) ≡ true → line (a + i) ≡ other (b + i)) → lines_from line passes a n ≡ lines_from other others b n
 lines_same line other passes others zero a b tests lines = refl
 lines_same line other passes others (suc n) a b tests lines =
     let here : passes a ≡ others b = ap passes (plain a) ∙ tests 0 (omega arith) ∙ ap others (sym (plain b)) in
@@ -138,9 +136,10 @@ module _ (slots : List Slot) (places : List ℕ) (found : MaskRows) (word at n :
       read_line : (i : ℕ) → i < n → line_across runs i ≡ slot_line places slots (at + i)
       read_line i h =
           let row = (slot_at slots (at + i)).row in
-          let m = length-map runs (λ (values : List Value). shown (columns.value_at values i)) in
-          same_lists (line_across runs i) (slot_line places slots (at + i)) (m ∙ are.count ∙ sym (length-map places (λ (place : ℕ). shown (value_at row place)))) (λ k d l.
+          let m = length-map runs (λ (values : List Value). columns.value_at values i) in
+          same_lists (line_across runs i) (slot_line places slots (at + i)) (m ∙ are.count ∙ sym (length-map places (λ (place : ℕ). value_at row place))) (λ k d l.
           let low : k < length places = omega (arith, l, m, are.count) in
-          get_or-map (λ (values : List Value). shown (columns.value_at values i)) runs k [] d (omega (arith, low, are.count))
-          ∙ ap shown (are.values k i low h ∙ same_value row (get_or places k 0))
-          ∙ sym (get_or-map (λ (place : ℕ). shown (value_at row place)) places k 0 d low))
+          get_or-map (λ (values : List Value). columns.value_at values i) runs k [] d (omega (arith, low, are.count))
+          ∙ are.values k i low h
+          ∙ same_value row (get_or places k 0)
+          ∙ sym (get_or-map (λ (place : ℕ). value_at row place) places k 0 d low))

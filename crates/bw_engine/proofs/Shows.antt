@@ -1,16 +1,17 @@
 -- What a SELECT shows, from the cells that lie flat.
-use Rattle.std.proofs.Common.{◌≡◌, ℕ, ◌+◌, ◌<◌, ◌≤◌, List, [], ◌∷◌, ◌++◌, Option, None, Some, get_or, length, map, sym, take, ap, ◌∙◌, arith}
+use Rattle.std.proofs.Common.{◌≡◌, ℕ, ◌+◌, ◌<◌, ◌≤◌, List, [], ◌∷◌, ◌++◌, Option, None, Some, get_or, length, map, refl, sym, take, ap, ◌∙◌, arith}
 use Rattle.std.specs.List.{All}
 use Rattle.std.proofs.lemmas.List.Elements.{All-cons, All-nil}
-use Rattle.std.proofs.lemmas.List.{get_or-map, length-map, take_all, take_more}
+use Rattle.std.proofs.lemmas.List.{get_or-map, length-map, map-append, take_all, take_more}
 use Rattle.bw_sql.specs.Rows.{joined}
 use Rattle.bw_sql.specs.Tree.{ConditionTree, ItemsTree}
 use Rattle.bw_sql.specs.declared.tree.LayoutWord.TheVariants.{V}
 use Rattle.bw_sql.specs.declared.tree.KindWord.TheVariants.{Offset}
 use Rattle.bw_model.specs.Answers.{AreWholeLines, Shown, lines_of}
+use Rattle.bw_model.specs.Cells.{shown_all}
 use Rattle.bw_model.specs.Condition.{found_rows}
 use Rattle.bw_model.specs.Select.{answer, line_of, shown, shown_columns}
-use Rattle.bw_model.specs.Store.{Header, Row, Table, names, place_of, value_at}
+use Rattle.bw_model.specs.Store.{Header, Row, Table, Value, names, place_of, value_at}
 use Rattle.bw_model.specs.declared.answer.Cell.{Cell}
 use Rattle.bw_model.specs.declared.answer.Heading.{Heading}
 use Rattle.bw_model.specs.declared.answer.Heading.TheVariants.{Column}
@@ -62,6 +63,23 @@ module _ (headers : List Header) (i : ℕ) (headings : List Heading) where
 
   pub all_headings_are : length headers ≤ i → headings ≡ take i (map (λ name. Column name) (names headers)) → headings ≡ map (λ name. Column name) (names headers)
   all_headings_are upto so_far = so_far ∙ take_all i (map (λ name. Column name) (names headers)) (omega (arith, upto, length-map (names headers) (λ name. Column name), length-map headers (λ h. h.name)))
+
+-- the cells that show the values of lines, one after the other
+shown_line : (row : Row) (places : List ℕ) → shown_all (map (λ place. value_at row place) places) ≡ map (λ place. shown (value_at row place)) places
+shown_line row [] = refl
+shown_line row (place ∷ places) = ap (λ l. shown (value_at row place) ∷ l) (shown_line row places)
+
+shown_joined : (places : List ℕ) (rows : List Row) → shown_all (joined (map (λ row. map (λ place. value_at row place) places) rows)) ≡ joined (map (λ row. map (λ place. shown (value_at row place)) places) rows)
+shown_joined places [] = refl
+shown_joined places (row ∷ rows) =
+    let line = map (λ place. value_at row place) places in
+    let rest = joined (map (λ row. map (λ place. value_at row place) places) rows) in
+    map-append shown line rest
+    ∙ ap (λ l. l ++ shown_all rest) (shown_line row places)
+    ∙ ap (λ l. map (λ place. shown (value_at row place)) places ++ l) (shown_joined places rows)
+
+pub shown_values : (places : List ℕ) (rows : List Row) (values : List Value) → values ≡ joined (map (λ row. map (λ place. value_at row place) places) rows) → shown_all values ≡ joined (map (λ row. map (λ place. shown (value_at row place)) places) rows)
+shown_values places rows values is = ap shown_all is ∙ shown_joined places rows
 
 -- the places of columns are those of columns that are there
 pub places_inside : (headers : List Header) {n : ℕ} → length headers ≡ n → (list : List (List ℕ)) (places : List ℕ) → map (λ place. Some place) places ≡ map (place_of headers) list → All (λ place. place < n) places

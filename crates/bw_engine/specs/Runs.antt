@@ -3,25 +3,23 @@ use Rattle.std.specs.Prelude.{Bool, List, [], length, map, slice_index_or, ℕ, 
 use Rattle.std.specs.List.{filter, range_with_len}
 use Rattle.bw_table.specs.Slots.{Slot, slot_at}
 use Rattle.bw_sql.specs.Rows.{joined}
-use Rattle.bw_model.specs.Select.{shown}
 use Rattle.bw_column.specs.Values as columns
 use Rattle.bw_model.specs.Store.{Row, Value, value_at}
-use Rattle.bw_model.specs.declared.answer.Cell.{Cell}
 
--- the cells at these places of a row
-abbrev pub line_at : List ℕ → Row → List Cell
-line_at places row = map (λ place. shown (value_at row place)) places
+-- the values at these places of a row
+abbrev pub line_at : List ℕ → Row → List Value
+line_at places row = map (λ place. value_at row place) places
 
--- the cells of row i of columns, across
-abbrev pub line_across : List (List Value) → ℕ → List Cell
-line_across runs i = map (λ values. shown (columns.value_at values i)) runs
+-- the values of row i of columns, across
+abbrev pub line_across : List (List Value) → ℕ → List Value
+line_across runs i = map (λ values. columns.value_at values i) runs
 
--- the cells of those of n rows, from row `at` on, that pass
-abbrev pub lines_from : (ℕ → List Cell) → (ℕ → Bool) → (at n : ℕ) → List Cell
+-- the values of those of n rows, from row `at` on, that pass
+abbrev pub lines_from : (ℕ → List Value) → (ℕ → Bool) → (at n : ℕ) → List Value
 lines_from line passes at n = joined (map line (filter passes (range_with_len at n)))
 
 -- the line of slot i
-abbrev pub slot_line : List ℕ → List Slot → ℕ → List Cell
+abbrev pub slot_line : List ℕ → List Slot → ℕ → List Value
 slot_line places slots i = line_at places (slot_at slots i).row
 
 -- columns of which each holds the values at its place of n slots, from slot `at` on

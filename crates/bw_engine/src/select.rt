@@ -14,7 +14,7 @@ ghost use Rattle.bw_plan.specs.Checks.{Answers};
 ghost use Rattle.bw_plan.specs.Columns.{columns_of};
 
 use crate::found::found_slots;
-use crate::shown::found_cells;
+use crate::shown::found_values;
 use crate::table::Table;
 use bw_model::{Answer, Heading, Refusal, Reply};
 use bw_plan::{Headers, resolve_select};
@@ -54,8 +54,8 @@ fn shown_rows(
     let plan = resolve_select(alloc, &headers, &items, condition)?;
     let found = found_slots(alloc, table, &plan.condition)?;
     let headings = headings_of(alloc, &headers, items)?;
-    let cells = found_cells(alloc, table.stored(), plan.places.as_slice(), &found)?;
-    Ok(Reply::Rows(Answer::new(headings, cells)))
+    let values = found_values(alloc, table.stored(), plan.places.as_slice(), &found)?;
+    Ok(Reply::Rows(Answer::of_values(headings, values)))
 }
 
 /// The headings of the columns that are shown.

@@ -101,3 +101,7 @@ module _ {A B C : Type 0} (f : B → List C) (v : A → B) where
   pub joined_more : (rows : List A) (i : ℕ) (row : A) → i < length rows → row ≡ get_or rows i row → joined (map f (map v (take (i + 1) rows))) ≡ joined (map f (map v (take i rows))) ++ f (v row)
   joined_more rows i row within at =
       ap (λ l. joined (map f (map v l))) (take_more rows i row within ∙ ap (λ r. take i rows ++ r ∷ []) (sym at)) ∙ joined-push (take i rows) row
+
+-- the cells are as many as the lines have places
+pub cells_count : {A : Type 0} (w : ℕ) (cells : List A) → AreWholeLines w cells → length cells ≡ length (lines_of w cells) * w
+cells_count w cells are = are.whole ∙ ap (λ n. n * w) (sym (count-lines_of w are.count cells are.some are.whole))

@@ -1,4 +1,5 @@
 pub mod Answers
+pub mod Cells
 pub mod Changes
 pub mod Condition
 pub mod Insert

@@ -16,7 +16,7 @@ mod steps;
 mod store;
 mod texts;
 
-pub use answer::{Answer, Cell, Heading};
+pub use answer::{Answer, Cell, Cells, Heading};
 pub use condition::{found_rows, truth_at};
 pub use condition_laws::{
     between_is_two_comparisons, in_is_a_run_of_or, not_in_with_null_finds_nothing,

@@ -30,7 +30,7 @@ pub(crate) fn shown_columns(
     }
 }
 
-fn shown(value: Value) -> Cell
+pub(crate) fn shown(value: Value) -> Cell
     ensures { result ≡ shown value }
 {
     match value {

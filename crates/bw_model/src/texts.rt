@@ -2,12 +2,14 @@
 
 ghost use Rattle.std.specs.Prelude.{◌≡◌, IfOk, string_bytes};
 ghost use Rattle.bw_model.specs.Answers.{AreWholeLines, lines_of};
+ghost use Rattle.bw_model.specs.Cells.{cells_in, shown_all};
 ghost use Rattle.bw_model.specs.ReplyText.{answer_text, call_text, cell_text, heading_text, lines_text, refusal_text, reply_text, with_commas};
 
-use crate::answer::{Answer, Cell, Heading};
+use crate::answer::{Answer, Cell, Cells, Heading};
 use crate::refusal::Refusal;
 use crate::reply::Reply;
-use bw_sql::Name;
+use crate::select::shown;
+use bw_sql::{Name, Value};
 use std::alloc::{AllocError, Global};
 
 /// The lines of a reply.
@@ -109,6 +111,27 @@ fn lines_text(alloc: Global, cells: &[Cell], width: usize) -> Result<Vec<u8>, Al
     Ok(text)
 }
 
+/// The cells that show the values.
+fn shown_cells(alloc: Global, values: &[Value]) -> Result<Vec<Cell>, AllocError>
+    ensures { IfOk result (λ cells. cells.items ≡ shown_all values.now) }
+{
+    values.iter().map(|value| shown(*value)).collect(alloc)
+}
+
+/// The lines of this width of the cells.
+fn answer_lines(alloc: Global, cells: Cells<'_>, width: usize) -> Result<Vec<u8>, AllocError>
+    requires { AreWholeLines width (cells_in cells) }
+    ensures { IfOk result (λ text. text.items ≡ lines_text (lines_of width (cells_in cells.entry))) }
+{
+    match cells {
+        Cells::Values(values) => {
+            let cells = shown_cells(alloc, values)?;
+            lines_text(alloc, &cells, width)
+        }
+        Cells::Mixed(cells) => lines_text(alloc, cells, width),
+    }
+}
+
 /// The headings, the lines, and how many lines there are.
 fn answer_text(alloc: Global, answer: &Answer) -> Result<Vec<u8>, AllocError>
     ensures { IfOk result (λ text. text.items ≡ answer_text answer.now) }
@@ -117,7 +140,7 @@ fn answer_text(alloc: Global, answer: &Answer) -> Result<Vec<u8>, AllocError>
     let count = answer.line_count();
     let mut text = headings_text(alloc, headings)?;
     text.push(b'\n')?;
-    text.extend_from_slice(&lines_text(alloc, answer.cells(), headings.len())?)?;
+    text.extend_from_slice(&answer_lines(alloc, answer.cells(), headings.len())?)?;
     text.extend_from_slice(format!(in alloc; "rows {count}\n")?.as_bytes())?;
     Ok(text)
 }

@@ -1,6 +1,6 @@
 use Rattle.std.proofs.Common.{List, arith, sym, ℕ, ◌+◌, ◌∙◌}
 use Rattle.bw_mask.specs.Masks.{bit_of}
-use Rattle.bw_model.specs.declared.answer.Cell.{Cell}
+use Rattle.bw_model.specs.Store.{Value}
 use Rattle.bw_engine.specs.Runs.{slot_line}
 use Rattle.bw_engine.proofs.RunLaws.{lines_left, lines_put}
 use Rattle.bw_engine.proofs.shown.fetch_rows.Goals as goal
@@ -8,11 +8,11 @@ use Rattle.bw_engine.proofs.shown.fetch_rows.Goals.{then-has_bit+in_ok-fetch_row
 
 pub loop-i-preserved : goal.loop-i-preserved
 loop-i-preserved c =
-    let line : ℕ → List Cell = λ i. slot_line c.args.places.now c.args.table.now.slots (c.args.at + i) in
+    let line : ℕ → List Value = λ i. slot_line c.args.places.now c.args.table.now.slots (c.args.at + i) in
     let passes = bit_of c.args.word in
     let i = c.loop-i.i in
-    let old = c.args.cells.now.items in
+    let old = c.args.values.now.items in
     elim c.if-has_bit.branch [
-      | then-has_bit+in_ok-fetch_row w ↦ rw w.cells-is (lines_put line passes i i old c.loop-i.cells.items _ (omega arith) (sym c.has_bit.ensures ∙ w.if-has_bit.true) c.loop-i.invariant w.in_ok-fetch_row.ensures)
-      | else-has_bit w ↦ rw w.cells-is (lines_left line passes i i old c.loop-i.cells.items (omega arith) (sym c.has_bit.ensures ∙ w.if-has_bit.false) c.loop-i.invariant)
+      | then-has_bit+in_ok-fetch_row w ↦ rw w.values-is (lines_put line passes i i old c.loop-i.values.items _ (omega arith) (sym c.has_bit.ensures ∙ w.if-has_bit.true) c.loop-i.invariant w.in_ok-fetch_row.ensures)
+      | else-has_bit w ↦ rw w.values-is (lines_left line passes i i old c.loop-i.values.items (omega arith) (sym c.has_bit.ensures ∙ w.if-has_bit.false) c.loop-i.invariant)
     ]

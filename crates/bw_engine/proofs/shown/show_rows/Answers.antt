@@ -10,8 +10,8 @@ loop-i-preserved c =
     let line = line_across c.args.runs.now in
     let passes = bit_of c.args.word in
     let i = c.loop-i.i in
-    let old = c.args.cells.now.items in
+    let old = c.args.values.now.items in
     elim c.if-has_bit.branch [
-      | then-has_bit+in_ok-show_row w ↦ rw w.cells-is (lines_put line passes i i old c.loop-i.cells.items _ (omega arith) (sym c.has_bit.ensures ∙ w.if-has_bit.true) c.loop-i.invariant w.in_ok-show_row.ensures)
-      | else-has_bit w ↦ rw w.cells-is (lines_left line passes i i old c.loop-i.cells.items (omega arith) (sym c.has_bit.ensures ∙ w.if-has_bit.false) c.loop-i.invariant)
+      | then-has_bit+in_ok-show_row w ↦ rw w.values-is (lines_put line passes i i old c.loop-i.values.items _ (omega arith) (sym c.has_bit.ensures ∙ w.if-has_bit.true) c.loop-i.invariant w.in_ok-show_row.ensures)
+      | else-has_bit w ↦ rw w.values-is (lines_left line passes i i old c.loop-i.values.items (omega arith) (sym c.has_bit.ensures ∙ w.if-has_bit.false) c.loop-i.invariant)
     ]

@@ -5,4 +5,4 @@ use Rattle.bw_engine.proofs.shown.show_rows.Given as goal
 
 -- the lines of the rows so far
 abbrev pub invariant-loop-i : goal.invariant-loop-i
-invariant-loop-i l = l.cells.items ≡ l.fn.cells.items ++ lines_from (line_across l.runs) (bit_of l.word) 0 l.i
+invariant-loop-i l = l.values.items ≡ l.fn.values.items ++ lines_from (line_across l.runs) (bit_of l.word) 0 l.i

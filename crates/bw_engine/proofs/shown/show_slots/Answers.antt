@@ -8,11 +8,11 @@ pub returns-then-word-eq0 : goal.returns-then-word-eq0
 returns-then-word-eq0 c =
     let slots = c.args.table.now.slots in
     let found = c.args.found.now in
-    let old = c.args.cells.now.items in
+    let old = c.args.values.now.items in
     let many = c.min-n.ensures ∙ ap (λ k. min (k - c.args.at) 64) (c.len.ensures.rows ∙ c.requires.found) in
     record {
       runs = refl;
-      cells =
+      values =
           sym (append-nil old)
           ∙ ap (λ l. old ++ l) (sym (run_none slots c.args.places.now found c.bits-word.result c.args.at c.min-n.result c.bits-word.ensures c.if-word-eq0.true))
           ∙ ap (λ n. old ++ lines_from (slot_line c.args.places.now slots) (row_at found) c.args.at n) many;
@@ -25,19 +25,19 @@ returns c =
     let many = c.min-n.ensures ∙ ap (λ k. min (k - c.args.at) 64) (c.len.ensures.rows ∙ c.requires.found) in
     record {
       runs = c.read_columns.ensures.count ∙ sym c.requires.runs;
-      cells =
-          subst (λ l. OnOk c.show_rows.result (c.show_rows.new.cells.items ≡ c.args.cells.now.items ++ l))
+      values =
+          subst (λ l. OnOk c.show_rows.result (c.show_rows.new.values.items ≡ c.args.values.now.items ++ l))
           (run_lines slots c.args.places.now found c.bits-word.result c.args.at c.min-n.result c.bits-word.ensures c.read_columns.new.runs c.read_columns.ensures
           ∙ ap (λ n. lines_from (slot_line c.args.places.now slots) (row_at found) c.args.at n) many)
           c.show_rows.ensures;
     }
 
-pub returns-then-word-le-FEW-clause-cells : goal.returns-then-word-le-FEW-clause-cells
-returns-then-word-le-FEW-clause-cells c =
+pub returns-then-word-le-FEW-clause-values : goal.returns-then-word-le-FEW-clause-values
+returns-then-word-le-FEW-clause-values c =
     let slots = c.args.table.now.slots in
     let found = c.args.found.now in
     let many = c.min-n.ensures ∙ ap (λ k. min (k - c.args.at) 64) (c.len.ensures.rows ∙ c.requires.found) in
-    subst (λ l. OnOk c.fetch_rows.result (c.fetch_rows.new.cells.items ≡ c.args.cells.now.items ++ l))
+    subst (λ l. OnOk c.fetch_rows.result (c.fetch_rows.new.values.items ≡ c.args.values.now.items ++ l))
     (run_fetched slots c.args.places.now found c.bits-word.result c.args.at c.min-n.result c.bits-word.ensures
     ∙ ap (λ n. lines_from (slot_line c.args.places.now slots) (row_at found) c.args.at n) many)
     c.fetch_rows.ensures

@@ -1,12 +1,10 @@
-use Rattle.std.proofs.Common.{◌∙◌, ◌/◌, length, sym, ap, replicate}
-use Rattle.std.proofs.lemmas.List.{length-replicate}
-use Rattle.bw_sql.proofs.RowLemmas.{length-rows_of}
+use Rattle.std.proofs.Common.{◌∙◌, ◌/◌, ◌≡◌, ap, length}
+use Rattle.std.proofs.Math.Nat.{mul-div_cancel}
+use Rattle.bw_model.specs.Answers.{Shown}
 use Rattle.bw_model.proofs.answer.Answer.line_count.Goals as goal
 
 pub returns : goal.returns
 returns c =
-    let cells = c.self.inside.cells.items in
-    let width = length c.self.inside.headings.items in
-    let count = length cells / width in
-    rw (c.as_slice.ensures.value, c.as_slice-2.ensures.value)
-    (sym (length-rows_of (replicate count width) cells ∙ length-replicate count width) ∙ ap (λ shown. length shown.lines) c.self.view_is)
+    let shows = c.args.self.now in
+    let width : length c.as_slice.result.now ≡ length shows.headings = ap length (c.as_slice.ensures.value ∙ ap (λ (s : Shown). s.headings) c.self.view_is) in
+    ap (λ n. c.cell_count.result / n) width ∙ ap (λ n. n / length shows.headings) c.cell_count.ensures.count ∙ mul-div_cancel (length shows.lines) c.cell_count.ensures.some

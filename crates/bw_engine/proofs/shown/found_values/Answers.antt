@@ -2,7 +2,7 @@ use Rattle.std.proofs.Common.{ap, arith, drop, length, length-append, length-dro
 use Rattle.bw_mask.specs.Masks.{row_at}
 use Rattle.bw_engine.specs.Runs.{lines_from, slot_line}
 use Rattle.bw_engine.proofs.RunLaws.{lines_join, lines_where}
-use Rattle.bw_engine.proofs.shown.found_cells.Goals as goal
+use Rattle.bw_engine.proofs.shown.found_values.Goals as goal
 
 pub loop-q-preserved : goal.loop-q-preserved
 loop-q-preserved c =
@@ -17,9 +17,9 @@ loop-q-preserved c =
     record {
       count =
           omega (arith, length-take runs.len (new ++ drop (length new) runs.items), length-append new (drop (length new) runs.items), length-drop (length new) runs.items, c.in_ok-show_slots.ensures.runs, ap length c.deref_mut.ensures.value, runs.ok.0, c.loop-q.invariant.count);
-      cells =
-          c.in_ok-show_slots.ensures.cells
-          ∙ ap (λ l. l ++ lines_from line passes (64 * q) (min (total - 64 * q) 64)) c.loop-q.invariant.cells
+      values =
+          c.in_ok-show_slots.ensures.values
+          ∙ ap (λ l. l ++ lines_from line passes (64 * q) (min (total - 64 * q) 64)) c.loop-q.invariant.values
           ∙ sym (lines_join line passes (min (64 * q) total) (min (total - 64 * q) 64) 0 (min (64 * (q + 1)) total) (64 * q) (omega (arith, inside)) (omega (arith, inside)));
     }
 
@@ -28,6 +28,6 @@ returns c =
     let slots = c.args.table.now.slots in
     let q = c.loop-q.q in
     let all : min (64 * q) (length slots) ≡ length slots = omega (arith, c.div_ceil-q-end.ensures, c.loop-q-test.false, c.len.ensures.rows, c.requires.found) in
-    c.loop-q.invariant.cells
+    c.loop-q.invariant.values
     ∙ ap (λ n. lines_from (slot_line c.args.places.now slots) (row_at c.args.found.now) 0 n) all
     ∙ lines_where c.args.places.now (row_at c.args.found.now) slots
