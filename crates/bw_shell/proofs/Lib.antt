@@ -5,4 +5,5 @@ pub mod Outputs
 pub mod Sessions
 pub mod Telling
 pub mod Texts
+pub mod ValueLines
 pub mod Written

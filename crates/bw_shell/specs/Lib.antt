@@ -3,4 +3,5 @@ pub mod Output
 pub mod Replies
 pub mod Run
 pub mod Script
+pub mod ValueTexts
 pub mod Writing

@@ -1,6 +1,8 @@
 //! A script of statements run over a reader, a writer and a folder, and the text of the replies.
 #![tactic(auto)]
 
+mod backward;
+mod cells;
 mod folders;
 mod laws;
 mod reading;

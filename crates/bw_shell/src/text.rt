@@ -1,13 +1,13 @@
 //! The text of a reply. It is written piece by piece and takes no memory.
 
 ghost use Rattle.std.specs.Prelude.{◌≡◌, ◌++◌, ◌<◌, ◌*◌, ℕ, List, codes, decimal, length};
-ghost use Rattle.std.specs.Fmt.{signed_decimal};
-ghost use Rattle.bw_model.specs.Answers.{AreWholeLines, Shown, lines_of};
-ghost use Rattle.bw_model.specs.ReplyText.{answer_text, call_text, cell_text, heading_text, line, lines_text, refusal_text, reply_text, with_commas};
+ghost use Rattle.bw_model.specs.Answers.{Shown};
+ghost use Rattle.bw_model.specs.ReplyText.{answer_text, call_text, heading_text, line, refusal_text, reply_text, with_commas};
 ghost use Rattle.bw_shell.specs.Writing.{Wrote};
 
+use crate::cells::put_lines;
 use crate::writing::{WriteFault, put, put_number};
-use bw_model::{Answer, Cell, Heading, Refusal, Reply};
+use bw_model::{Answer, Heading, Refusal, Reply};
 use std::io::Write;
 
 /// Writes the lines of a reply, or a front of them where the writer fails.
@@ -83,54 +83,6 @@ fn put_call<W: Write>(writer: &mut W, function: &[u8], column: &[u8]) -> Result<
     put(writer, b"(")?;
     put(writer, column)?;
     put(writer, b")")
-}
-
-fn put_lines<W: Write>(writer: &mut W, cells: &[Cell], width: usize) -> Result<(), WriteFault>
-    requires { AreWholeLines width cells.now }
-    ensures { Wrote (W.contents writer.old) (W.contents writer.new) (lines_text (lines_of width cells.now)) result }
-{
-    let mut rest = cells;
-    while !rest.is_empty() {
-        let (first, after) = rest.split_at(width);
-        put_cells(writer, first)?;
-        put(writer, b"\n")?;
-        rest = after;
-    }
-    Ok(())
-}
-
-fn put_cells<W: Write>(writer: &mut W, cells: &[Cell]) -> Result<(), WriteFault>
-    ensures { Wrote (W.contents writer.old) (W.contents writer.new) (with_commas cell_text cells.now) result }
-{
-    let [first, others @ ..] = cells else {
-        return Ok(());
-    };
-    put_cell(writer, first)?;
-    for cell in others {
-        put(writer, b",")?;
-        put_cell(writer, cell)?;
-    }
-    Ok(())
-}
-
-// Nearly all numbers fit 64 bits, which are written faster.
-fn put_wide_number<W: Write>(writer: &mut W, n: i128) -> Result<(), WriteFault>
-    ensures { Wrote (W.contents writer.old) (W.contents writer.new) (signed_decimal n) result }
-{
-    match i64::try_from(n) {
-        Ok(narrow) => put_number(writer, narrow),
-        Err(_) => put_number(writer, n),
-    }
-}
-
-fn put_cell<W: Write>(writer: &mut W, cell: &Cell) -> Result<(), WriteFault>
-    ensures { Wrote (W.contents writer.old) (W.contents writer.new) (cell_text cell.now) result }
-{
-    match cell {
-        Cell::Null => put(writer, b"NULL"),
-        Cell::Number(n) => put_wide_number(writer, *n),
-        Cell::Name(name) => put(writer, name.as_bytes()),
-    }
 }
 
 fn put_refusal<W: Write>(writer: &mut W, refusal: Refusal) -> Result<(), WriteFault>

@@ -1,7 +1,7 @@
 use Rattle.bw_model.specs.ReplyText.{cell_text}
 use Rattle.bw_shell.proofs.Items.{comma_fails, first_fails, first_written, item_fails, item_more}
 use Rattle.bw_shell.proofs.Texts.{wrote_front}
-use Rattle.bw_shell.proofs.text.put_cells.Goals as goal
+use Rattle.bw_shell.proofs.cells.put_cells.Goals as goal
 
 pub returns-in_err-put_cell : goal.returns-in_err-put_cell
 returns-in_err-put_cell g c =

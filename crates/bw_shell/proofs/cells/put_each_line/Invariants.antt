@@ -2,7 +2,7 @@ use Rattle.std.proofs.Common.{length}
 use Rattle.bw_model.specs.Answers.{AreWholeLines, lines_of}
 use Rattle.bw_model.specs.ReplyText.{lines_text}
 use Rattle.bw_shell.proofs.Texts.{Progress}
-use Rattle.bw_shell.proofs.text.put_lines.Given as goal
+use Rattle.bw_shell.proofs.cells.put_each_line.Given as goal
 
 abbrev pub invariant-loop-rest : goal.invariant-loop-rest
 invariant-loop-rest g l = record {
