@@ -1,9 +1,11 @@
 """What the benches share: where programs and data lie, and the statements that fill a table of two columns."""
 
+import functools
+import os
+import re
 import shutil
 import subprocess
 import sys
-import time
 from pathlib import Path
 
 HERE = Path(__file__).resolve().parent
@@ -11,7 +13,8 @@ DATA = HERE / "data"
 
 STATEMENT_BYTES = 60_000
 ROWS_A_STATEMENT = 1_000
-ROUNDS = 5
+ROUNDS = 7
+MEGABYTE = 1_000_000
 LEAST, MOST = -(2**31), 2**31 - 1
 
 
@@ -23,6 +26,7 @@ def built(crate):
     return str(program)
 
 
+@functools.cache
 def sqlite3():
     """The sqlite3 of this machine, or None."""
     program = shutil.which("sqlite3")
@@ -70,27 +74,51 @@ def filling(table, columns, rows):
         yield insert(map(written, rows[start : start + ROWS_A_STATEMENT]), table)
 
 
-def in_both(fill):
-    """The programs that there are, each with the script that fills its tables."""
-    programs = {"bitcol": ([built("bitcol")], fill)}
+def processor_seconds(command, source, answers=subprocess.DEVNULL):
+    """The processor time that the command takes over the file, and the most memory that it holds, in megabytes."""
+    with source.open("rb") as stdin:
+        child = subprocess.Popen(command, stdin=stdin, stdout=answers)
+        _, status, usage = os.wait4(child.pid, 0)
+    child.returncode = os.waitstatus_to_exitcode(status)
+    if child.returncode != 0:
+        sys.exit(f"{command[0]} ended with status {child.returncode}")
+    return usage.ru_utime + usage.ru_stime, usage.ru_maxrss * 1024 / MEGABYTE
+
+
+def bitcol_run(name, script):
+    """A call that runs bitcol over the script and gives the processor time. The bench ends where a statement is refused."""
+    command, source = [built("bitcol")], data_file(name)
+    source.write_text(script)
+    with source.open("rb") as stdin:
+        if b"error" in subprocess.run(command, stdin=stdin, stdout=subprocess.PIPE, check=True).stdout:
+            sys.exit("bitcol refuses a statement")
+    return lambda: processor_seconds(command, source)[0]
+
+
+def sqlite_run(program, fill, timed):
+    """A call that runs sqlite3 and gives the processor time of the timed statements, as its own timer tells it."""
+    source = data_file("timed.sqlite.sql")
+    source.write_text("BEGIN;\n" + fill + "COMMIT;\n.output /dev/null\n.timer on\n" + timed)
+
+    def run():
+        with source.open("rb") as stdin:
+            ended = subprocess.run([program, ":memory:"], stdin=stdin, capture_output=True, check=True)
+        if ended.stderr:
+            sys.exit(f"sqlite3 refuses a statement: {ended.stderr[:200]}")
+        times = re.findall(rb"^Run Time: real \S+ user (\S+) sys (\S+)$", ended.stdout, re.MULTILINE)
+        return sum(float(user) + float(system) for user, system in times)
+
+    return run
+
+
+def quickest(fill, timed):
+    """The processor time that each program takes for the timed statements over the tables that are filled, the least of
+    some rounds; of bitcol that of the whole script less that of a script which only fills. Each round takes all runs in
+    turn, since a machine's speed swings. What is shown goes to no file."""
+    runs = {"filling": bitcol_run("filled.sql", fill), "bitcol": bitcol_run("timed.sql", fill + timed)}
     if program := sqlite3():
-        programs["sqlite3"] = ([program, ":memory:"], "BEGIN;\n" + fill + "COMMIT;\n")
-    return programs
-
-
-def seconds(command, script):
-    """How long the command takes over the script: the quickest of some runs, behind one that shows that nothing is refused."""
-    path = data_file("timed.sql")
-    path.write_text(script)
-    with path.open("rb") as stdin:
-        answers = subprocess.run(command, stdin=stdin, stdout=subprocess.PIPE, check=True).stdout
-    if b"error" in answers:
-        sys.exit(f"{command[0]} refuses a statement")
-    return min(once(command, path) for _ in range(ROUNDS))
-
-
-def once(command, path):
-    with path.open("rb") as stdin:
-        start = time.perf_counter()
-        subprocess.run(command, stdin=stdin, stdout=subprocess.DEVNULL, check=True)
-        return time.perf_counter() - start
+        runs["sqlite3"] = sqlite_run(program, fill, timed)
+    rounds = [{name: run() for name, run in runs.items()} for _ in range(ROUNDS)]
+    least = {name: min(times[name] for times in rounds) for name in runs}
+    least["bitcol"] -= least.pop("filling")
+    return least

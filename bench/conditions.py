@@ -2,8 +2,7 @@
 """Times selects whose condition has 1, 10 and 100 predicates, in bitcol and in sqlite3, in one run.
 
 A table of two columns is filled with random 32-bit values by INSERT statements. A script ends with some
-selects, each of which finds no row, so that only the condition is timed; the time of the same script
-without them is taken away. Build bitcol first, by `rt run` in crates/bitcol.
+selects, each of which finds no row, so that only the condition is timed. Build bitcol first, by `rt run` in crates/bitcol.
 
     python3 bench/conditions.py [ROWS]      how many rows; 1000000 if not given
 """
@@ -11,7 +10,10 @@ without them is taken away. Build bitcol first, by `rt run` in crates/bitcol.
 import random
 import sys
 
-from common import MOST, filling, in_both, random_row, random_value, seconds
+from common import MOST, filling, quickest, random_row, random_value
+
+# How many selects of so many predicates are timed.
+SELECTS = {1: 200, 10: 20, 100: 2}
 
 
 def select(predicates):
@@ -24,13 +26,10 @@ def select(predicates):
 def main():
     rows = int(sys.argv[1]) if len(sys.argv) > 1 else 1_000_000
     generator = random.Random(rows)
-    programs = in_both("".join(filling("t", "ab", (random_row(generator) for _ in range(rows)))))
-    filled = {name: seconds(command, fill) for name, (command, fill) in programs.items()}
-    for predicates, selects in ((1, 200), (10, 20), (100, 2)):
-        costs = {}
-        for name, (command, fill) in programs.items():
-            taken = seconds(command, fill + select(predicates) * selects) - filled[name]
-            costs[name] = taken / (rows * predicates * selects) * 1e9
+    fill = "".join(filling("t", "ab", (random_row(generator) for _ in range(rows))))
+    for predicates, selects in SELECTS.items():
+        taken = quickest(fill, select(predicates) * selects)
+        costs = {name: seconds / (rows * predicates * selects) * 1e9 for name, seconds in taken.items()}
         beside = f", sqlite3 {costs['sqlite3']:6.2f} ns, {costs['bitcol'] / costs['sqlite3']:5.2f} of it" if "sqlite3" in costs else ""
         print(f"{predicates:4} predicates: bitcol {costs['bitcol']:6.2f} ns a row and predicate{beside}")
 

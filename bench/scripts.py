@@ -8,19 +8,27 @@ one transaction. Build bitcol first, by `rt run` in crates/bitcol.
     python3 bench/scripts.py [MB ..]        sizes in megabytes; 1 10 100 if none is given
 """
 
-import os
 import random
 import shutil
-import subprocess
 import sys
-import time
 from dataclasses import dataclass
 from pathlib import Path
 
-from common import LEAST, MOST, built, data_file, insert, random_row, rows_of_a_statement, sqlite3, written
+from common import (
+    LEAST,
+    MEGABYTE,
+    MOST,
+    ROUNDS,
+    built,
+    data_file,
+    insert,
+    processor_seconds,
+    random_row,
+    rows_of_a_statement,
+    sqlite3,
+    written,
+)
 
-MEGABYTE = 1_000_000
-ROUNDS = 5
 # The values of the first column are spread evenly, so that 1% of them lie below this.
 BOUND = LEAST + (MOST - LEAST + 1) // 100
 
@@ -39,7 +47,6 @@ class Script:
 class Run:
     seconds: float
     peak_megabytes: float
-    found: int
 
 
 def write_script(megabytes):
@@ -63,23 +70,21 @@ def write_script(megabytes):
     return Script(path, count, found)
 
 
-def best_of(command, source, found_in):
-    """The quickest of some runs, so that what else the machine does counts little."""
-    return min((timed(command, source, found_in) for _ in range(ROUNDS)), key=lambda run: run.seconds)
-
-
-def timed(command, source, found_in):
+def timed(name, command, source, script):
     """Runs the command over the file, and reads how many rows it found from its last lines."""
     answers = data_file("answers")
-    with source.open("rb") as stdin, answers.open("wb") as stdout:
-        start = time.perf_counter()
-        child = subprocess.Popen(command, stdin=stdin, stdout=stdout)
-        _, status, usage = os.wait4(child.pid, 0)
-        seconds = time.perf_counter() - start
-    child.returncode = os.waitstatus_to_exitcode(status)
-    if child.returncode != 0:
-        sys.exit(f"{command[0]} ended with status {child.returncode}")
-    return Run(seconds, usage.ru_maxrss * 1024 / MEGABYTE, found_in(answers))
+    with answers.open("wb") as stdout:
+        seconds, peak = processor_seconds(command, source, stdout)
+    found = FOUND[name](answers)
+    if found != script.found:
+        sys.exit(f"{name} found {found} rows of {script.found}")
+    return Run(seconds, peak)
+
+
+def quickest_of(programs, script):
+    """The quickest run of each program. They take turns, so that what else the machine does counts little."""
+    rounds = [{name: timed(name, command, source, script) for name, (command, source) in programs.items()} for _ in range(ROUNDS)]
+    return {name: min((runs[name] for runs in rounds), key=lambda run: run.seconds) for name in programs}
 
 
 def bitcol_found(answers):
@@ -103,9 +108,7 @@ def sqlite_script(script):
     return path
 
 
-def check(name, run, script):
-    if run.found != script.found:
-        sys.exit(f"{name} found {run.found} rows of {script.found}")
+FOUND = {"bitcol": bitcol_found, "sqlite3": sqlite_found}
 
 
 def report(name, run, script, beside=None):
@@ -119,18 +122,15 @@ def report(name, run, script, beside=None):
 
 def main():
     sizes = [int(word) for word in sys.argv[1:]] or [1, 10, 100]
-    bitcol = built("bitcol")
     sqlite = sqlite3()
     for size in sizes:
         script = write_script(size)
-        beside = None
+        programs = {"bitcol": ([built("bitcol")], script.path)}
         if sqlite is not None:
-            beside = best_of([sqlite, ":memory:"], sqlite_script(script), sqlite_found)
-            check("sqlite3", beside, script)
-            report("sqlite3", beside, script)
-        run = best_of([bitcol], script.path, bitcol_found)
-        check("bitcol", run, script)
-        report("bitcol", run, script, beside)
+            programs["sqlite3"] = ([sqlite, ":memory:"], sqlite_script(script))
+        runs = quickest_of(programs, script)
+        for name, run in runs.items():
+            report(name, run, script, runs.get("sqlite3") if name == "bitcol" else None)
 
 
 if __name__ == "__main__":
