@@ -8,6 +8,7 @@ pub mod FitLemmas
 pub mod Fits
 pub mod LaneLemmas
 pub mod Least
+pub mod Lists
 pub mod Meeting
 pub mod Offsets
 pub mod UnitLemmas

@@ -3,6 +3,7 @@ pub mod Columns
 pub mod Encodings
 pub mod Fittings
 pub mod Intervals
+pub mod Lists
 pub mod Meters
 pub mod Sameness
 pub mod Tests

@@ -10,7 +10,7 @@ use Rattle.bw_code.specs.declared.encoding.Encoding.{Encoding}
 use Rattle.bw_code.proofs.Codes.{code_low}
 use Rattle.bw_column.specs.Codes.{AreRowCodes, IsCoded, code_for, codes_for, value_from, values_from}
 use Rattle.bw_column.specs.Values.{IsNullOrInteger, value_at}
-use Rattle.bw_column.proofs.Lists.{made_more, made_set}
+use Rattle.bw_code.proofs.Lists.{made_more, made_set}
 use Rattle.bw_column.proofs.Rows.{back, code_is}
 
 pub code_fits : (e : Encoding) → IsEncoding e → (value : Option ℤ) → IsCoded e value → code_for e value < 2 ^ width e

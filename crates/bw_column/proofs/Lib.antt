@@ -1,7 +1,6 @@
 pub mod Changed
 pub mod Known
 pub mod Listed
-pub mod Lists
 pub mod Narrow
 pub mod Overwriting
 pub mod Presence

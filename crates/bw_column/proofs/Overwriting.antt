@@ -5,7 +5,7 @@ use Rattle.std.proofs.lemmas.List.{get_or-set_other, get_or-set_same, get_or_pas
 use Rattle.bw_mask.specs.Masks.{IsNext, MaskRows, len, row_at}
 use Rattle.bw_column.specs.Places.{overwritten, put_at, rank}
 use Rattle.bw_column.specs.Values.{value_at}
-use Rattle.bw_column.proofs.Lists.{made_is}
+use Rattle.bw_code.proofs.Lists.{made_is}
 use Rattle.bw_column.proofs.Ranks.{rank_below, rank_set, rank_skip}
 
 -- a row that is in is one of the rows

@@ -11,7 +11,7 @@ use Rattle.bw_code.specs.declared.encoding.Encoding.{Encoding}
 use Rattle.bw_code.proofs.Codes.{coded, code_back}
 use Rattle.bw_column.specs.Codes.{AreRowCodes, IsCoded, IsRowCode, code_for, value_from, values_from}
 use Rattle.bw_column.specs.Values.{IsNullOrInteger, value_at}
-use Rattle.bw_column.proofs.Lists.{made_at, made_len}
+use Rattle.bw_code.proofs.Lists.{made_at, made_len}
 
 -- a value that has a code comes back from it
 abbrev pub IsBack : Encoding → Option ℤ → Type 0

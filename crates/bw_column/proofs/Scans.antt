@@ -17,7 +17,7 @@ use Rattle.bw_code.specs.declared.encoding.Encoding.{Encoding}
 use Rattle.bw_column.specs.Codes.{AreRowCodes, IsRowCode, code_for, codes_for, value_from, values_from}
 use Rattle.bw_column.specs.Comparisons.{compare_so, compared, holds_of, truth_of}
 use Rattle.bw_column.specs.Values.{value_at}
-use Rattle.bw_column.proofs.Lists.{made_len}
+use Rattle.bw_code.proofs.Lists.{made_len}
 use Rattle.bw_column.proofs.Rows.{known_rows, row_codes, value_of_row}
 use Rattle.std.proofs.lemmas.Bool.{cases_lt}
 use Rattle.std.proofs.lemmas.List.{get_or_past, take_all}

@@ -4,7 +4,7 @@ use Rattle.bw_mask.specs.Masks.{MaskRows, len, row_at}
 use Rattle.bw_code.specs.Columns.{CodeList, code_at, count}
 use Rattle.bw_code.specs.Encodings.{HasCode, IsEncoding, code_of, value_of, width}
 use Rattle.bw_code.specs.declared.encoding.Encoding.{Encoding}
-use Rattle.bw_column.specs.Lists.{made}
+use Rattle.bw_code.specs.Lists.{made}
 use Rattle.bw_column.specs.Values.{IsInteger}
 
 -- an encoding has a code for a value; for a null any has

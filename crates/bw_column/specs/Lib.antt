@@ -2,7 +2,6 @@ pub mod Codes
 pub mod Columns
 pub mod Comparisons
 pub mod Costs
-pub mod Lists
 pub mod Places
 pub mod Preparing
 pub mod Values

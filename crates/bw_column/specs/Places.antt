@@ -1,7 +1,7 @@
 -- Values put in the set places of a mask, in order.
 use Rattle.std.specs.Prelude.{List, Option, count_by, if◌then◌else◌, length, take, ℕ, ℤ}
 use Rattle.bw_mask.specs.Masks.{MaskRows, row_at}
-use Rattle.bw_column.specs.Lists.{made}
+use Rattle.bw_code.specs.Lists.{made}
 use Rattle.bw_column.specs.Values.{value_at}
 
 -- how many places below i are set

@@ -71,7 +71,7 @@ impl Column {
     }
 
     /// Adds values with their codes at the end, within the room.
-    #[tactic(auto, using(crate::proofs::Lists::made_len))]
+    #[tactic(auto, using(bw_code::proofs::Lists::made_len))]
     pub(crate) fn extend(&mut self, values: &[Option<i64>], codes: &[u64])
         requires coded { All (IsCoded self.old.encoding) values.now }
         requires codes { codes.now ≡ codes_for self.old.encoding values.now }
@@ -146,7 +146,7 @@ impl Column {
     }
 
     /// Makes room for so many values more. The column stays as it is, also where memory is wanting.
-    #[tactic(auto, using(crate::proofs::Lists::made_len))]
+    #[tactic(auto, using(bw_code::proofs::Lists::made_len))]
     pub(crate) fn reserve(&mut self, more: usize) -> Result<(), AllocError>
         requires { length self.old.values + more ≤ 2 ^ 24 }
         ensures room { OnOk result (length self.old.values + more ≤ self.new.room) }

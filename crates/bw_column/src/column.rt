@@ -34,7 +34,7 @@ impl Model for Column {
 
 impl Column {
     /// How many values there are. Each is null or one of the integers that a column may hold.
-    #[tactic(auto, using(crate::proofs::Lists::made_len, crate::proofs::Rows::row_integers))]
+    #[tactic(auto, using(bw_code::proofs::Lists::made_len, crate::proofs::Rows::row_integers))]
     pub fn len(&self) -> usize
         ensures count { result ≡ length self.now.values }
         ensures few { result ≤ 2 ^ 24 }
@@ -66,7 +66,7 @@ impl Column {
     }
 
     /// The rows whose value is not null.
-    #[tactic(auto, using(crate::proofs::Rows::known_rows, crate::proofs::Lists::made_len))]
+    #[tactic(auto, using(crate::proofs::Rows::known_rows, bw_code::proofs::Lists::made_len))]
     pub fn nonnull(&self) -> &Mask
         ensures len { len result.now ≡ length self.now.values }
         ensures few { len result.now ≤ 2 ^ 24 }
@@ -76,7 +76,7 @@ impl Column {
     }
 
     /// Value i.
-    #[tactic(auto, using(crate::proofs::Lists::made_len))]
+    #[tactic(auto, using(bw_code::proofs::Lists::made_len))]
     pub fn get(&self, i: usize) -> Option<i64>
         requires { i < length self.now.values }
         ensures is { result ≡ value_at self.now.values i }
@@ -86,7 +86,7 @@ impl Column {
     }
 
     /// `out` becomes the rows whose code has bit i. Bit 0 is the lowest. A null's code is 0.
-    #[tactic(auto, using(crate::proofs::Rows::row_codes, crate::proofs::Lists::made_len))]
+    #[tactic(auto, using(crate::proofs::Rows::row_codes, bw_code::proofs::Lists::made_len))]
     pub fn plane(&self, i: u32, out: &mut Mask)
         requires bit { i < width self.now.encoding }
         requires out { len out.old ≡ length self.now.values }
@@ -97,7 +97,7 @@ impl Column {
     }
 
     /// Puts a value with its code in place i.
-    #[tactic(auto, using(crate::proofs::Lists::made_len))]
+    #[tactic(auto, using(bw_code::proofs::Lists::made_len))]
     pub(crate) fn put(&mut self, i: usize, value: Option<i64>, code: u64)
         requires inside { i < length self.old.values }
         requires coded { IsCoded self.old.encoding value }

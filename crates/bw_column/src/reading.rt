@@ -57,7 +57,7 @@ fn read_block(
 
 impl Column {
     /// Fills `out` with the values from row `at` on. Takes no memory.
-    #[tactic(auto, using(crate::proofs::Lists::made_len))]
+    #[tactic(auto, using(bw_code::proofs::Lists::made_len))]
     pub fn read(&self, at: usize, out: &mut [Option<i64>])
         requires { at + length out.old ≤ length self.now.values }
         ensures { out.new ≡ take (length out.old) (drop at self.now.values) }

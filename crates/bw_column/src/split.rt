@@ -18,7 +18,7 @@ use bw_mask::Mask;
 
 impl Column {
     /// Those where the code meets the test, and the others.
-    #[tactic(auto, using(crate::proofs::Lists::made_len))]
+    #[tactic(auto, using(bw_code::proofs::Lists::made_len))]
     pub(crate) fn split(
         &self,
         test: CodeTest,
@@ -44,7 +44,7 @@ impl Column {
     }
 
     /// Takes the rows of an entry out of `rest`, whose rows are not null. What becomes of `found` is of no account.
-    #[tactic(auto, using(crate::proofs::Lists::made_len))]
+    #[tactic(auto, using(bw_code::proofs::Lists::made_len))]
     fn take_out(&self, entry: i64, rest: &mut Mask, found: &mut Mask, meter: &mut Meter)
         requires rest { len rest.old ≡ length self.now.values }
         requires found { len found.old ≡ length self.now.values }

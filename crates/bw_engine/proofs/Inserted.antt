@@ -5,7 +5,7 @@ use Rattle.std.specs.Str.{bytes_eq}
 use Rattle.std.proofs.lemmas.List.{drop-drop, drop_at, length-map, take_at}
 use Rattle.std.proofs.lemmas.List.Elements.{All-cons, All-head, All-nil, All-tail}
 use Rattle.bw_column.specs.Values.{IsNullOrInteger}
-use Rattle.bw_column.proofs.Lists.{made_is}
+use Rattle.bw_code.proofs.Lists.{made_is}
 use Rattle.bw_table.specs.Rows.{AreWholeRows, row_from, rows_from}
 use Rattle.bw_table.specs.Slots.{Slot, live_slots, slot_limit}
 use Rattle.bw_sql.specs.Rows.{joined}

@@ -6,8 +6,8 @@ use Rattle.std.proofs.lemmas.Bool.{cases_Bool}
 use Rattle.std.proofs.lemmas.List.{get_or-map, length-map, map-append}
 use Rattle.std.proofs.lemmas.List.Elements.{filter-append}
 use Rattle.bw_mask.specs.Masks.{MaskRows}
-use Rattle.bw_column.specs.Lists.{made}
-use Rattle.bw_column.proofs.Lists.{made_is}
+use Rattle.bw_code.specs.Lists.{made}
+use Rattle.bw_code.proofs.Lists.{made_is}
 use Rattle.bw_table.specs.Changes.{AreAppended, AreInserted, AreRebuilt, Inserts, row_with, slots_with, slots_without}
 use Rattle.bw_table.specs.Slots.{Slot, SlotsView, live_slot, live_slots, slot_at, slot_limit}
 use Rattle.bw_table.specs.declared.choice.Choice.{Choice}

@@ -7,7 +7,7 @@ use Rattle.std.proofs.lemmas.List.{get_or-map, length-map}
 use Rattle.std.proofs.lemmas.List.Quantifiers.{position-Some}
 use Rattle.std.proofs.lemmas.Slice.Eq.{bytes_eq-Decides}
 use Rattle.bw_column.specs.Values as columns
-use Rattle.bw_column.proofs.Lists.{made_is}
+use Rattle.bw_code.proofs.Lists.{made_is}
 use Rattle.bw_table.specs.Changes.{new_value, row_with, set_of}
 use Rattle.bw_table.specs.declared.setting.SetTo.{SetTo}
 use Rattle.bw_table.specs.declared.setting.SetTo.TheVariants.{Column, Value}

@@ -9,8 +9,8 @@ use Rattle.bw_mask.specs.Masks.{MaskRows, len, row_at}
 use Rattle.bw_column.specs.Columns.{ColumnView}
 use Rattle.bw_column.specs.Preparing.{IsEncodingFor}
 use Rattle.bw_column.specs.Values.{value_at}
-use Rattle.bw_column.specs.Lists.{made}
-use Rattle.bw_column.proofs.Lists.{made_at, made_is, made_len}
+use Rattle.bw_code.specs.Lists.{made}
+use Rattle.bw_code.proofs.Lists.{made_at, made_is, made_len}
 use Rattle.bw_table.specs.Changes.{AreAppended, AreEncodingsFor, slots_without}
 use Rattle.bw_table.specs.Slots.{AreColumns, Slot, SlotsView, column_of, live_slot, row_of, slot_at, slot_column, slot_of, slots_of}
 use Rattle.bw_table.specs.Halves.{AllKept, AllMadeFrom}

@@ -2,10 +2,10 @@
 use Rattle.std.proofs.Common.{List, None, Option, [], arith, ap, drop, get_or, length, length-drop, length-take, sym, ℕ, ℤ, ◌*◌, ◌+◌, ◌/◌, ◌<◌, ◌∙◌, ◌≡◌, ◌++◌, ◌∷◌}
 use Rattle.std.proofs.lemmas.List.{get_or-drop, get_or-map, get_or-take, length-map}
 use Rattle.std.proofs.lemmas.List.FromFn.{map-range_with_len_more}
-use Rattle.bw_column.specs.Lists.{made}
+use Rattle.bw_code.specs.Lists.{made}
 use Rattle.bw_table.specs.Slots.{column_of}
 use Rattle.bw_column.specs.Values.{value_at}
-use Rattle.bw_column.proofs.Lists.{made_at, made_is, made_len}
+use Rattle.bw_code.proofs.Lists.{made_at, made_is, made_len}
 use Rattle.bw_table.specs.Rows.{row_from, rows_from}
 
 module _ (width : ℕ) (cells : List (Option ℤ)) (i k : ℕ) (row : i < length (rows_from width cells)) (column : k < length (get_or (rows_from width cells) i [])) where

@@ -7,7 +7,7 @@ use Rattle.std.proofs.lemmas.List.Sums.{count_by-le-length}
 use Rattle.bw_mask.specs.Masks.{MaskRows, len, row_at}
 use Rattle.bw_column.specs.Columns.{ColumnView}
 use Rattle.bw_column.specs.Places.{put_at}
-use Rattle.bw_column.proofs.Lists.{made_at, made_is, made_len}
+use Rattle.bw_code.proofs.Lists.{made_at, made_is, made_len}
 use Rattle.bw_column.specs.Values.{value_at}
 use Rattle.bw_table.specs.Changes.{AreEncodingsWith, AreRebuilt, AreUpdated, IsEncodingWith, choice_of, chosen_kind, chosen_layout, new_value, places, row_with, set_of, slots_with, value_for}
 use Rattle.bw_table.specs.Slots.{AreColumns, Slot, live_slot, live_slots, row_of, slot_at, slot_of, slots_of}

@@ -7,7 +7,7 @@ use Rattle.bw_code.specs.Encodings.{IsFit, kind_of}
 use Rattle.bw_code.specs.declared.encoding.Encoding.{Encoding}
 use Rattle.bw_code.specs.declared.kind.Kind.{Kind}
 use Rattle.bw_code.specs.declared.kind.Layout.{Layout}
-use Rattle.bw_column.specs.Lists.{made}
+use Rattle.bw_code.specs.Lists.{made}
 use Rattle.bw_column.specs.Preparing.{IsEncodingFor}
 use Rattle.bw_column.specs.Values.{IsNullOrInteger, known, value_at}
 use Rattle.bw_table.specs.Slots.{Slot, SlotsView, column_of, live_slot, live_slots, slot_at, slot_column, slot_limit}

@@ -1,6 +1,6 @@
 -- Rows of one width that lie one after the other in one list.
 use Rattle.std.specs.Prelude.{List, drop, length, take, ℕ, ◌*◌, ◌/◌, ◌<◌, ◌≡◌}
-use Rattle.bw_column.specs.Lists.{made}
+use Rattle.bw_code.specs.Lists.{made}
 
 abbrev pub row_from : {A : Type 0} → ℕ → List A → ℕ → List A
 row_from width cells i = take width (drop (i * width) cells)

@@ -5,7 +5,7 @@ use Rattle.bw_mask.specs.Masks.{MaskRows, len, row_at}
 use Rattle.bw_code.specs.declared.encoding.Encoding.{Encoding}
 use Rattle.bw_code.specs.declared.kind.Layout.{Layout}
 use Rattle.bw_column.specs.Columns.{ColumnView}
-use Rattle.bw_column.specs.Lists.{made}
+use Rattle.bw_code.specs.Lists.{made}
 use Rattle.bw_column.specs.Values.{value_at}
 
 pub record Slot : Type 0 where

@@ -36,7 +36,7 @@ impl<'a> Rows<'a> {
     }
 
     /// How many rows there are.
-    #[tactic(auto, using(bw_column::proofs::Lists::made_len))]
+    #[tactic(auto, using(bw_code::proofs::Lists::made_len))]
     pub fn len(&self) -> usize
         ensures { result ≡ length self.now }
     {

@@ -165,7 +165,7 @@ impl Slots {
     }
 
     /// Makes the found slots dead. Takes no memory.
-    #[tactic(auto, using(bw_column::proofs::Lists::made_len))]
+    #[tactic(auto, using(bw_code::proofs::Lists::made_len))]
     pub(crate) fn delete(&mut self, found: &Mask)
         requires { len found.now ≡ length self.old.slots }
         ensures slots { self.new.slots ≡ slots_without found.now self.old.slots }

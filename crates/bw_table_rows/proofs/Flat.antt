@@ -3,7 +3,7 @@ use Rattle.std.proofs.Common.{List, Option, [], arith, ap, drop, get_or, length,
 use Rattle.std.proofs.lemmas.List.Elements.{All-push}
 use Rattle.std.proofs.lemmas.List.{get_or-drop, get_or-take}
 use Rattle.bw_column.specs.Values.{IsNullOrInteger}
-use Rattle.bw_column.proofs.Lists.{made_at, made_len}
+use Rattle.bw_code.proofs.Lists.{made_at, made_len}
 use Rattle.bw_table.specs.Rows.{AreWholeRows, row_from, rows_from}
 
 pub are_whole : (width : ℕ) (cells : List (Option ℤ)) → 0 < width → length cells / width * width ≡ length cells → AreWholeRows width cells

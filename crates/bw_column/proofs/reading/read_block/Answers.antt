@@ -1,6 +1,6 @@
 use Rattle.std.proofs.Common.{arith, length, rules, sym, ◌+◌, ◌<◌, ◌≡◌, ◌∙◌}
 use Rattle.std.proofs.lemmas.Bool.{lt-ltb}
-use Rattle.bw_column.proofs.Lists.{part_at}
+use Rattle.bw_code.proofs.Lists.{part_at}
 use Rattle.bw_column.proofs.Rows.{value_of_row}
 use Rattle.bw_column.proofs.reading.read_block.Goals as goal
 

@@ -3,7 +3,7 @@ use Rattle.std.proofs.lemmas.List.{length-map}
 use Rattle.bw_code.specs.Columns.{count}
 use Rattle.bw_column.specs.Codes.{IsCoded, code_for, codes_for}
 use Rattle.bw_column.proofs.Changed.{codes_fit, rows_extended, values_extended}
-use Rattle.bw_column.proofs.Lists.{made_len}
+use Rattle.bw_code.proofs.Lists.{made_len}
 use Rattle.bw_column.proofs.column.Column.extend.Goals as goal
 
 pub extend-requires-clause-fit : goal.extend-requires-clause-fit

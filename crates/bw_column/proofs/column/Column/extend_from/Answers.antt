@@ -1,5 +1,5 @@
 use Rattle.std.proofs.Common.{ap, arith, drop, length, ◌++◌, ◌+◌, ◌∙◌, ◌≤◌}
-use Rattle.bw_column.proofs.Lists.{front_is, part_fits, part_over}
+use Rattle.bw_code.proofs.Lists.{front_is, part_fits, part_over}
 use Rattle.bw_column.proofs.column.Column.extend_from.Goals as goal
 
 pub extend_block-requires-clause-room : goal.extend_block-requires-clause-room

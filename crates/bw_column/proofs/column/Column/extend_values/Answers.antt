@@ -3,7 +3,7 @@ use Rattle.std.proofs.lemmas.List.{take-append-drop}
 use Rattle.std.proofs.lemmas.List.Elements.{All-drop}
 use Rattle.bw_column.specs.Codes.{IsCoded}
 use Rattle.bw_column.specs.Values.{IsNullOrInteger}
-use Rattle.bw_column.proofs.Lists.{part_fits}
+use Rattle.bw_code.proofs.Lists.{part_fits}
 use Rattle.bw_column.proofs.column.Column.extend_values.Goals as goal
 
 pub extend_block-requires-clause-room : goal.extend_block-requires-clause-room

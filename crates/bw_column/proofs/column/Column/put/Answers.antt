@@ -2,7 +2,7 @@ use Rattle.std.proofs.Common.{arith, ap, set, ◌<◌, ◌∙◌, ◌≡◌}
 use Rattle.bw_code.specs.Columns.{count}
 use Rattle.bw_column.specs.Codes.{IsCoded, code_for}
 use Rattle.bw_column.proofs.Changed.{code_fits, rows_put, values_put}
-use Rattle.bw_column.proofs.Lists.{made_len}
+use Rattle.bw_code.proofs.Lists.{made_len}
 use Rattle.bw_column.proofs.column.Column.put.Goals as goal
 
 pub set-requires-clause-fits : goal.set-requires-clause-fits

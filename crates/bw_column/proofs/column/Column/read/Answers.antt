@@ -1,5 +1,5 @@
 use Rattle.std.proofs.Common.{None, arith, drop, length, take, ◌*◌, ◌≤◌, ◌∙◌, ap}
-use Rattle.bw_column.proofs.Lists.{part_is}
+use Rattle.bw_code.proofs.Lists.{part_is}
 use Rattle.bw_column.proofs.column.Column.read.Goals as goal
 
 pub returns : goal.returns

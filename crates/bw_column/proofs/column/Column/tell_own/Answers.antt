@@ -3,7 +3,7 @@ use Rattle.std.proofs.lemmas.List.{append-nil, drop_all}
 use Rattle.bw_code.specs.Fittings.{AreTold}
 use Rattle.bw_column.specs.Values.{known}
 use Rattle.bw_column.proofs.Known.{known_over}
-use Rattle.bw_column.proofs.Lists.{front_is}
+use Rattle.bw_code.proofs.Lists.{front_is}
 use Rattle.bw_column.proofs.column.Column.tell_own.Goals as goal
 
 pub loop-at-init : goal.loop-at-init

@@ -1,5 +1,5 @@
 use Rattle.std.proofs.Common.{Option, [], ap, arith, get_or, length, sym, ℕ, ℤ, ◌++◌, ◌∙◌, ◌∷◌, ◌≡◌}
-use Rattle.bw_column.specs.Lists.{made}
+use Rattle.bw_code.specs.Lists.{made}
 use Rattle.bw_column.specs.Values.{value_at}
 use Rattle.bw_table.proofs.Flat.{column_made, column_more}
 use Rattle.bw_table.proofs.rows.Rows.column.Goals as goal

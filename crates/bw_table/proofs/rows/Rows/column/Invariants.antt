@@ -1,5 +1,5 @@
 use Rattle.std.proofs.Common.{[], get_or, ◌≡◌}
-use Rattle.bw_column.specs.Lists.{made}
+use Rattle.bw_code.specs.Lists.{made}
 use Rattle.bw_column.specs.Values.{value_at}
 use Rattle.bw_table.proofs.rows.Rows.column.Given as goal
 

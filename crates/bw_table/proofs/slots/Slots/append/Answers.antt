@@ -3,7 +3,7 @@ use Rattle.std.specs.List.{All}
 use Rattle.std.proofs.lemmas.List.{length-map}
 use Rattle.bw_mask.specs.Masks.{len}
 use Rattle.bw_column.specs.Columns.{ColumnView}
-use Rattle.bw_column.proofs.Lists.{made_len}
+use Rattle.bw_code.proofs.Lists.{made_len}
 use Rattle.bw_table.proofs.Across.{are_appended, columns_longer, kept_view, longer, on_err, view_of, AreLonger}
 use Rattle.bw_table.proofs.SameKinds.{appended_kinds}
 use Rattle.bw_code.specs.Encodings.{kind_of}

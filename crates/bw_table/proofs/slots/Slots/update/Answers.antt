@@ -1,6 +1,6 @@
 use Rattle.std.proofs.Common.{refl, ◌≡◌, ap, arith, map, sym, ◌∙◌}
 use Rattle.bw_mask.specs.Masks.{len}
-use Rattle.bw_column.proofs.Lists.{made_len}
+use Rattle.bw_code.proofs.Lists.{made_len}
 use Rattle.bw_code.specs.Encodings.{kind_of}
 use Rattle.bw_table.specs.Changes.{AreUpdated}
 use Rattle.bw_table.specs.Slots.{AreColumns, SlotsView}

@@ -4,7 +4,7 @@ use Rattle.std.proofs.lemmas.Bool.{cases_eq, cases_lt}
 use Rattle.std.proofs.Math.Seq.{take-append_seam}
 use Rattle.std.proofs.lemmas.List.{drop-drop, take-append-drop, get_or-append_right, get_or-drop, get_or-take, get_or_default, same_lists, get_or-set_same, get_or-set_other, get_or_append_left}
 use Rattle.std.proofs.lemmas.List.FromFn.{length-map-range_with_len, get_or-map-range_with_len, fill_by_all}
-use Rattle.bw_column.specs.Lists.{made}
+use Rattle.bw_code.specs.Lists.{made}
 
 pub made_len : {X : Type 0} (n : ℕ) (f : ℕ → X) → length (made n f) ≡ n
 made_len n f = length-map-range_with_len f 0 n
