@@ -11,5 +11,6 @@ pub mod Least
 pub mod Lists
 pub mod Meeting
 pub mod Offsets
+pub mod Parts
 pub mod UnitLemmas
 pub mod Widths

@@ -6,5 +6,6 @@ pub mod Intervals
 pub mod Lists
 pub mod Meters
 pub mod Sameness
+pub mod Shifts
 pub mod Tests
 pub mod Units

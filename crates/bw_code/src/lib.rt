@@ -14,6 +14,7 @@ mod meter;
 mod offset;
 mod plain;
 mod ranks;
+mod shift;
 mod source;
 mod unit_laws;
 mod width;

@@ -10,6 +10,7 @@ use crate::column::CodeColumn;
 use crate::compare::CodeTest;
 use crate::lanes::{self, Interval, filled_up};
 use crate::meter::Meter;
+use crate::shift::shift_codes;
 use bw_mask::Mask;
 use std::alloc::{AllocError, Global};
 use std::marker::Model;
@@ -102,6 +103,26 @@ impl CodeColumn for PlainColumn {
             }
         }
         meter.add(units(test, need));
+    }
+}
+
+impl PlainColumn {
+    ghost use Rattle.std.specs.Prelude.{pos};
+    ghost use Rattle.bw_code.specs.Columns.{code_at, count};
+    ghost use Rattle.bw_code.specs.Shifts.{shifted, StaysBelow};
+
+    /// Adds so much to the code of each of the rows, and makes all codes ones of so many bits. Takes no memory.
+    pub fn shift(&mut self, rows: &Mask, by: i64, width: u32)
+        requires some { 1 ≤ width }
+        requires narrow { width ≤ 32 }
+        requires fit { (i : ℕ) → i < count self.old → StaysBelow (2 ^ width) (shifted by (row_at rows.now i) (code_at self.old i)) }
+        ensures width { self.new.width ≡ width }
+        ensures count { count self.new ≡ count self.old }
+        ensures codes { (i : ℕ) → i < count self.old → pos (code_at self.new i) ≡ shifted by (row_at rows.now i) (code_at self.old i) }
+        ensures room { self.old.room ≤ self.new.room }
+    {
+        shift_codes(&mut self.codes, rows, by);
+        self.width = width;
     }
 }
 
