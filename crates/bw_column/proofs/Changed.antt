@@ -50,6 +50,7 @@ module _ (e : Encoding) (codes new_codes : CodeList) (rows new_rows : MaskRows) 
     rows_extended = record {
       sound = are.sound;
       len = ap length rows_are ∙ length-append rows.rows (map is_some values) ∙ omega (arith, are.len, many, length-map values is_some);
+      narrow = are.narrow;
       width = width_stays ∙ are.width;
       few = omega (arith, many);
       each = λ i h.
@@ -88,6 +89,7 @@ module _ (e : Encoding) (codes new_codes : CodeList) (rows new_rows : MaskRows) 
     rows_put = record {
       sound = are.sound;
       len = ap length rows_are ∙ length-set rows.rows at (is_some value) ∙ are.len ∙ sym as_many;
+      narrow = are.narrow;
       width = width_stays ∙ are.width;
       few = omega (arith, as_many, are.few);
       each = λ i h.

@@ -1,6 +1,6 @@
 -- The values that are not null.
-use Rattle.std.proofs.Common.{append_assoc, drop, sym, ◌≡◌, ℕ, suc, zero, ℤ, ◌+◌, ◌<◌, List, [], ◌∷◌, ◌++◌, length, get_or, take, refl, ap, ◌∙◌, arith, length-append, Option, Some, None}
-use Rattle.std.specs.List.{All}
+use Rattle.std.proofs.Common.{append_assoc, drop, sym, ◌≡◌, ℕ, suc, zero, ℤ, ◌+◌, ◌<◌, List, [], ◌∷◌, ◌++◌, length, get_or, take, refl, ap, ◌∙◌, arith, length-append, Option, Some, None, false, is_some, unwrap_or}
+use Rattle.std.specs.List.{All, Contains}
 use Rattle.std.specs.Option.{option_to_list}
 use Rattle.std.proofs.lemmas.List.{drop-drop, take-append-drop, take_more, get_or_append_left, get_or-append_right}
 use Rattle.std.proofs.lemmas.List.Elements.{filter_map-append, All-head, All-tail}
@@ -43,3 +43,22 @@ known_over whole done xs at n is =
     ∙ ap (λ ys. done ++ (known (take n rest) ++ known ys)) (sym (drop-drop n at xs))
     ∙ ap (λ ys. done ++ ys) (sym (filter_map-append (λ value. value) (take n rest) (drop n rest)) ∙ ap known (take-append-drop n rest))
     ∙ is
+
+-- what holds of each value that is not null, by the places
+pub all_known : (P : ℤ → Type 0) (xs : List (Option ℤ)) → ((i : ℕ) (x : ℤ) → get_or xs i None ≡ Some x → P x) → All P (known xs)
+all_known P [] h k d l = absurd (omega arith)
+all_known P (None ∷ xs) h k d l = all_known P xs (λ i x is. h (suc i) x is) k d l
+all_known P (Some y ∷ xs) h zero d l = h 0 y refl
+all_known P (Some y ∷ xs) h (suc k) d l = all_known P xs (λ i x is. h (suc i) x is) k d (omega arith)
+
+pub known_at : (xs : List (Option ℤ)) (i : ℕ) (x : ℤ) → get_or xs i None ≡ Some x → Contains (known xs) x
+known_at [] i x is = absurd cc
+known_at (None ∷ xs) zero x is = absurd cc
+known_at (None ∷ xs) (suc i) x is = known_at xs i x is
+known_at (Some y ∷ xs) zero x is = (0, omega arith, ap (λ (o : Option ℤ). unwrap_or o x) is)
+known_at (Some y ∷ xs) (suc i) x is = let rest = known_at xs i x is in (suc rest.0, omega (arith, rest.1), rest.2)
+
+pub none_known : (xs : List (Option ℤ)) → ((i : ℕ) → is_some (get_or xs i None) ≡ false) → known xs ≡ []
+none_known [] h = refl
+none_known (None ∷ xs) h = none_known xs (λ i. h (suc i))
+none_known (Some x ∷ xs) h = absurd (let first = h 0 in cc)

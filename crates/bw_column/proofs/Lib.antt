@@ -1,4 +1,5 @@
 pub mod Changed
+pub mod Extremes
 pub mod Known
 pub mod Listed
 pub mod Narrow
@@ -7,3 +8,5 @@ pub mod Presence
 pub mod Ranks
 pub mod Rows
 pub mod Scans
+pub mod Shifting
+pub mod Spanned

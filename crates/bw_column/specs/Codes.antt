@@ -36,6 +36,7 @@ IsRowCode e code false = code ≡ 0
 pub record AreRowCodes (e : Encoding) (codes : CodeList) (nonnull : MaskRows) : Type 0 where
   pub sound : IsEncoding e
   pub len : len nonnull ≡ count codes
+  pub narrow : width e ≤ 32
   pub width : codes.width ≡ width e
   pub few : count codes ≤ 2 ^ 24
   pub each : (i : ℕ) → i < count codes → IsRowCode e (code_at codes i) (row_at nonnull i)

@@ -1,6 +1,7 @@
 pub mod Codes
 pub mod Columns
 pub mod Comparisons
+pub mod Extremes
 pub mod Costs
 pub mod Places
 pub mod Preparing

@@ -1,15 +1,19 @@
 -- What a column has ready to take values.
-use Rattle.std.specs.Prelude.{Bool, List, Option, if◌then◌else◌, length, unwrap_or, ℕ, ℤ, ◌+◌, ◌++◌, ◌^◌, ◌≡◌, ◌≤◌}
+use Rattle.std.specs.Prelude.{Bool, List, Option, if◌then◌else◌, length, ⊤, ℕ, ℤ, ◌+◌, ◌++◌, ◌^◌, ◌≡◌, ◌≤◌}
 use Rattle.std.specs.List.{All}
 use Rattle.bw_code.specs.Encodings.{IsFit, kind_of}
 use Rattle.bw_code.specs.declared.encoding.Encoding.{Encoding}
+use Rattle.bw_code.specs.declared.encoding.Encoding.TheVariants as by
+use Rattle.bw_code.specs.declared.kind.Kind.TheVariants as kind
 use Rattle.bw_column.specs.Codes.{IsCoded, codes_for}
 use Rattle.bw_column.specs.Columns.{ColumnView}
 use Rattle.bw_column.specs.Values.{IsNullOrInteger, known}
+use Rattle.bw_column.specs.declared.step.Step.{Step}
+use Rattle.bw_column.specs.declared.step.Step.TheVariants.{Replace, Shift, Stay}
 
--- where a value has no code, the column encoded anew; and the codes of the values
+-- the step that comes before, and the codes of the values
 pub record Preparation : Type 0 where
-  pub anew : Option ColumnView
+  pub step : Step
   pub codes : List ℕ
 
 -- the encoding in which a column takes values: its own where each of them has a code, else one of its kind that fits all its
@@ -18,9 +22,16 @@ pub record IsEncodingFor (old : List (Option ℤ)) (own : Encoding) (values : Li
   pub stays : All (IsCoded own) values → e ≡ own
   pub anew : (All (IsCoded own) values → ⊥) → IsFit (known (old ++ values)) e × (kind_of e ≡ kind_of own)
 
--- the column that takes the values: the one that was encoded anew, if there is one
-abbrev pub taker : ColumnView → Preparation → ColumnView
-taker column prepared = unwrap_or prepared.anew column
+-- the column after a step: as it was, with its codes counted from another base, or the one that takes its place
+abbrev pub after : ColumnView → Step → ColumnView
+after column Stay = column
+after column (Shift offset) = record { values = column.values; layout = column.layout; encoding = by.Offset offset; room = column.room }
+after column (Replace other) = other
+
+-- codes can be counted from another base where they are distances, and each value has a code of at most 32 bits from there
+abbrev pub CanTake : ColumnView → Step → Type 0
+CanTake column (Shift offset) = (kind_of column.encoding ≡ kind.Offset) × All (IsCoded (by.Offset offset)) column.values × (offset.width ≤ 32)
+CanTake column other = ⊤
 
 -- how many values a column gets more
 abbrev pub more : Bool → List (Option ℤ) → ℕ
@@ -28,11 +39,12 @@ more grow values = if grow then length values else 0
 
 -- what is prepared lets the column as it stands take these values, at its end where it is to grow
 pub record IsPreparedFor (column : ColumnView) (values : List (Option ℤ)) (grow : Bool) (prepared : Preparation) : Type 0 where
-  pub same : (taker column prepared).values ≡ column.values
-  pub layout : (taker column prepared).layout ≡ column.layout
-  pub encoding : IsEncodingFor column.values column.encoding values (taker column prepared).encoding
-  pub coded : All (IsCoded (taker column prepared).encoding) values
-  pub codes : prepared.codes ≡ codes_for (taker column prepared).encoding values
+  pub can : CanTake column prepared.step
+  pub same : (after column prepared.step).values ≡ column.values
+  pub layout : (after column prepared.step).layout ≡ column.layout
+  pub encoding : IsEncodingFor column.values column.encoding values (after column prepared.step).encoding
+  pub coded : All (IsCoded (after column prepared.step).encoding) values
+  pub codes : prepared.codes ≡ codes_for (after column prepared.step).encoding values
   pub integers : All IsNullOrInteger values
   pub few : length column.values + more grow values ≤ 2 ^ 24
-  pub room : length column.values + more grow values ≤ (taker column prepared).room
+  pub room : length column.values + more grow values ≤ (after column prepared.step).room

@@ -13,22 +13,6 @@ use bw_code::{CodeColumn, Encoding, Fitting, Kind, Layout, PlainColumn};
 use bw_mask::Mask;
 use std::alloc::{AllocError, Global};
 
-/// The codes of the values.
-pub(crate) fn codes_of(
-    alloc: Global,
-    encoding: &Encoding,
-    values: &[Option<i64>],
-) -> Result<Vec<u64>, AllocError>
-    requires { All (IsCoded encoding.now) values.now }
-    ensures { IfOk result (λ codes. codes.items ≡ codes_for encoding.now values.now) }
-{
-    let mut codes = Vec::from_elem(alloc, 0, values.len())?;
-    if !encode_all(encoding, values, &mut codes) {
-        unreachable!()
-    }
-    Ok(codes)
-}
-
 /// The encoding of a kind that fits the values which are not null.
 fn encoding_of(alloc: Global, values: &[Option<i64>], kind: Kind) -> Result<Encoding, AllocError>
     requires integers { All IsNullOrInteger values.now }
@@ -122,6 +106,26 @@ impl Column {
             let (block, after) = rest.split_at(rest.len().min(64));
             self.extend_block(block);
             rest = after;
+        }
+    }
+
+    /// Adds the values of another column at the end, within the room.
+    pub(crate) fn extend_from(&mut self, other: &Column)
+        requires coded { All (IsCoded self.old.encoding) other.now.values }
+        requires room { length self.old.values + length other.now.values ≤ self.old.room }
+        requires few { length self.old.values + length other.now.values ≤ 2 ^ 24 }
+        ensures values { self.new.values ≡ self.old.values ++ other.now.values }
+        ensures layout { self.new.layout ≡ self.old.layout }
+        ensures encoding { self.new.encoding ≡ self.old.encoding }
+        ensures room { self.old.room ≤ self.new.room }
+    {
+        let mut run = [None; 64];
+        let mut at = 0;
+        while at < other.len() {
+            let n = (other.len() - at).min(64);
+            other.read(at, &mut run[..n]);
+            self.extend_block(&run[..n]);
+            at += n;
         }
     }
 

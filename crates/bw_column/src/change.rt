@@ -9,19 +9,17 @@ ghost use Rattle.bw_column.specs.Places.{overwritten};
 ghost use Rattle.bw_column.specs.Preparing.{IsEncodingFor, IsPreparedFor, more};
 ghost use Rattle.bw_column.specs.Values.{IsNullOrInteger, known};
 
-use crate::building::codes_of;
 use crate::codes::encode_all;
 use crate::column::Column;
-use crate::telling::tell_known;
-use bw_code::{Encoding, Fitting};
+use crate::step::Step;
 use bw_mask::Mask;
 use std::alloc::{AllocError, Global};
 use std::marker::Model;
 
-/// What a column has ready to take values: their codes and, where one of them had none, the column encoded anew.
+/// What a column has ready to take values: their codes, and what it does before so that each of them has one.
 #[derive(Drop)]
 pub struct Prepared {
-    anew: Option<Column>,
+    step: Step,
     codes: Vec<u64>,
 }
 
@@ -30,7 +28,7 @@ impl Model for Prepared {
 
     ghost Value = { Preparation };
 
-    ghost view = { λ p. record { anew = p.anew; codes = p.codes.items } };
+    ghost view = { λ p. record { step = p.step; codes = p.codes.items } };
 }
 
 /// How many values a column gets more.
@@ -41,64 +39,9 @@ fn count_more(values: &[Option<i64>], grow: bool) -> usize
 }
 
 impl Column {
-    /// The encoding of the column's kind that fits its values and these.
-    fn encoding_with(&self, alloc: Global, values: &[Option<i64>]) -> Result<Encoding, AllocError>
-        requires integers { All IsNullOrInteger values.now }
-        requires some { length values.now ≤ 2 ^ 24 }
-        ensures fits { IfOk result (IsFit (known (self.now.values ++ values.now))) }
-        ensures kind { IfOk result (λ e. kind_of e ≡ kind_of self.now.encoding) }
-        ensures own { IfOk result (λ e. All (IsCoded e) self.now.values) }
-        ensures coded { IfOk result (λ e. All (IsCoded e) values.now) }
-        ensures narrow { IfOk result (λ e. width e ≤ 32) }
-    {
-        let mut fitting = Fitting::new(alloc, self.kind(), self.len() + values.len())?;
-        self.tell_own(&mut fitting)?;
-        tell_known(&mut fitting, values)?;
-        fitting.encoding(alloc)
-    }
-
-    /// Adds the values of another column at the end, within the room.
-    fn extend_from(&mut self, other: &Column)
-        requires coded { All (IsCoded self.old.encoding) other.now.values }
-        requires room { length self.old.values + length other.now.values ≤ self.old.room }
-        requires few { length self.old.values + length other.now.values ≤ 2 ^ 24 }
-        ensures values { self.new.values ≡ self.old.values ++ other.now.values }
-        ensures layout { self.new.layout ≡ self.old.layout }
-        ensures encoding { self.new.encoding ≡ self.old.encoding }
-        ensures room { self.old.room ≤ self.new.room }
-    {
-        let mut run = [None; 64];
-        let mut at = 0;
-        while at < other.len() {
-            let n = (other.len() - at).min(64);
-            other.read(at, &mut run[..n]);
-            self.extend_block(&run[..n]);
-            at += n;
-        }
-    }
-
-    /// The column encoded anew, so that these values have codes, and room for so many values more. For DICTIONARY the
-    /// values are listed on the way.
-    fn anew(&self, alloc: Global, values: &[Option<i64>], more: usize) -> Result<Column, AllocError>
-        requires integers { All IsNullOrInteger values.now }
-        requires some { length values.now ≤ 2 ^ 24 }
-        requires few { length self.now.values + more ≤ 2 ^ 24 }
-        ensures values { IfOk result (λ c. c.values ≡ self.now.values) }
-        ensures layout { IfOk result (λ c. c.layout ≡ self.now.layout) }
-        ensures fits { IfOk result (λ c. IsFit (known (self.now.values ++ values.now)) c.encoding) }
-        ensures kind { IfOk result (λ c. kind_of c.encoding ≡ kind_of self.now.encoding) }
-        ensures coded { IfOk result (λ c. All (IsCoded c.encoding) values.now) }
-        ensures room { IfOk result (λ c. length self.now.values + more ≤ c.room) }
-    {
-        let encoding = self.encoding_with(alloc, values)?;
-        let mut column = Column::with_room(alloc, self.layout, encoding, self.len() + more)?;
-        column.extend_from(self);
-        Ok(column)
-    }
-
     /// Makes ready to take the values, at the end where the column is to grow, and else in place of others. Where one
-    /// of them has no code, what is prepared holds the column encoded anew. The column keeps its values, layout and
-    /// encoding, also where memory is wanting; at most its room grows.
+    /// of them has no code, what is prepared has the step to an encoding that fits all values. The column keeps its
+    /// values, layout and encoding, also where memory is wanting; at most its room grows.
     pub fn room_for(
         &mut self,
         alloc: Global,
@@ -113,17 +56,17 @@ impl Column {
     {
         let more = count_more(values, grow);
         let mut codes = Vec::from_elem(alloc, 0, values.len())?;
-        let coded = encode_all(&self.encoding, values, &mut codes);
-        if coded {
+        if encode_all(&self.encoding, values, &mut codes) {
             self.reserve(more)?;
-            return Ok(Prepared { anew: None, codes });
+            let step = Step::Stay;
+            return Ok(Prepared { step, codes });
         }
-        let anew = self.anew(alloc, values, more)?;
-        let codes = codes_of(alloc, anew.encoding(), values)?;
-        Ok(Prepared {
-            anew: Some(anew),
-            codes,
-        })
+        let encoding = self.encoding_with(alloc, values)?;
+        if !encode_all(&encoding, values, &mut codes) {
+            unreachable!()
+        }
+        let step = self.step_to(alloc, encoding, more)?;
+        Ok(Prepared { step, codes })
     }
 
     /// Adds the values at the end. Takes no memory.
@@ -133,10 +76,8 @@ impl Column {
         ensures layout { self.new.layout ≡ self.old.layout }
         ensures encoding { IsEncodingFor self.old.values self.old.encoding values.now self.new.encoding }
     {
-        let Prepared { anew, codes } = prepared;
-        if let Some(column) = anew {
-            *self = column;
-        }
+        let Prepared { step, codes } = prepared;
+        self.take(step);
         self.extend(values, &codes);
     }
 
@@ -170,10 +111,8 @@ impl Column {
         ensures layout { self.new.layout ≡ self.old.layout }
         ensures encoding { IsEncodingFor self.old.values self.old.encoding values.now self.new.encoding }
     {
-        let Prepared { anew, codes } = prepared;
-        if let Some(column) = anew {
-            *self = column;
-        }
+        let Prepared { step, codes } = prepared;
+        self.take(step);
         self.put_all(places, values, &codes);
     }
 }

@@ -8,9 +8,11 @@ mod codes;
 mod column;
 mod compare;
 mod compare_anew;
+mod ends;
 mod pairs;
 mod reading;
 mod split;
+mod step;
 mod telling;
 
 pub use change::Prepared;

@@ -8,6 +8,8 @@ use Rattle.std.proofs.lemmas.Map.Entries.{lookup_head, lookup_tail}
 use Rattle.bw_mask.specs.Masks.{MaskRows}
 use Rattle.bw_column.specs.Columns.{ColumnView, Keeps}
 use Rattle.bw_column.specs.Preparing.{IsEncodingFor, IsPreparedFor, Preparation}
+use Rattle.bw_column.specs.declared.step.Step.{Step}
+use Rattle.bw_column.specs.declared.step.Step.TheVariants.{Replace, Shift, Stay}
 use Rattle.bw_column.specs.Places.{overwritten}
 use Rattle.bw_table.specs.Changes.{places, set_of, value_for}
 use Rattle.bw_table.specs.Slots.{row_of}
@@ -21,8 +23,9 @@ use Rattle.bw_table.proofs.Across.{kept_row}
 
 -- what is prepared for a column serves as long as that keeps its list
 module _ (new old : ColumnView) (values : List (Option ℤ)) (keeps : Keeps new old) where
-  still_ready_by : (anew : Option ColumnView) (codes : List ℕ) → IsPreparedFor old values false (record { anew = anew; codes = codes }) → IsPreparedFor new values false (record { anew = anew; codes = codes })
-  still_ready_by None codes is = record {
+  still_ready_by : (step : Step) (codes : List ℕ) → IsPreparedFor old values false (record { step = step; codes = codes }) → IsPreparedFor new values false (record { step = step; codes = codes })
+  still_ready_by Stay codes is = record {
+    can = tt;
     same = refl;
     layout = refl;
     encoding = rw (keeps.values, keeps.encoding) is.encoding;
@@ -32,7 +35,19 @@ module _ (new old : ColumnView) (values : List (Option ℤ)) (keeps : Keeps new 
     few = omega (arith, is.few, ap length keeps.values);
     room = omega (arith, is.room, keeps.room, ap length keeps.values);
   }
-  still_ready_by (Some column) codes is = record {
+  still_ready_by (Shift offset) codes is = record {
+    can = rw (keeps.values, keeps.encoding) is.can;
+    same = refl;
+    layout = refl;
+    encoding = rw (keeps.values, keeps.encoding) is.encoding;
+    coded = is.coded;
+    codes = is.codes;
+    integers = is.integers;
+    few = omega (arith, is.few, ap length keeps.values);
+    room = omega (arith, is.room, keeps.room, ap length keeps.values);
+  }
+  still_ready_by (Replace column) codes is = record {
+    can = tt;
     same = is.same ∙ sym keeps.values;
     layout = is.layout ∙ sym keeps.layout;
     encoding = rw (keeps.values, keeps.encoding) is.encoding;
@@ -44,7 +59,7 @@ module _ (new old : ColumnView) (values : List (Option ℤ)) (keeps : Keeps new 
   }
 
 pub still_ready : (new old : ColumnView) (values : List (Option ℤ)) (prepared : Preparation) → Keeps new old → IsPreparedFor old values false prepared → IsPreparedFor new values false prepared
-still_ready new old values prepared keeps is = still_ready_by new old values keeps prepared.anew prepared.codes is
+still_ready new old values prepared keeps is = still_ready_by new old values keeps prepared.step prepared.codes is
 
 module _ (new old : List ColumnView) (kept : AllKept new old) (found : MaskRows) where
   pub gathered_kept : (to : SetTo) → gathered new found to ≡ gathered old found to

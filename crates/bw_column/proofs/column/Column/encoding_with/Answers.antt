@@ -1,4 +1,4 @@
-use Rattle.std.proofs.Common.{All, [], subst, sym, ◌++◌, ◌≤◌, refl}
+use Rattle.std.proofs.Common.{All, subst, sym, ◌++◌, ◌≤◌, refl}
 use Rattle.std.proofs.lemmas.List.Elements.{filter_map-append}
 use Rattle.std.proofs.lemmas.Result.{IfOk-weaker}
 use Rattle.bw_code.specs.Encodings.{IsFit, width}
@@ -9,11 +9,11 @@ use Rattle.bw_column.proofs.Known.{both_coded}
 use Rattle.bw_column.proofs.Narrow.{integers_of_both, narrow}
 use Rattle.bw_column.proofs.column.Column.encoding_with.Goals as goal
 
-told : (c : goal.Joined-fitting-3) → AreTold (known (c.args.self.now.values ++ c.args.values.now)) c.tell_known.new.fitting
+told : (c : goal.Joined-fitting-2) → AreTold (known (c.args.self.now.values ++ c.args.values.now)) c.tell_known.new.fitting
 told c =
     let own = c.args.self.now.values in
     let values = c.args.values.now in
-    subst (λ xs. AreTold xs c.tell_known.new.fitting) (sym (filter_map-append (λ value. value) own values)) (c.in_ok-tell_known.ensures.told (known own) (c.in_ok-tell_own.ensures.told [] c.in_ok-fitting.ensures.told))
+    subst (λ xs. AreTold xs c.tell_known.new.fitting) (sym (filter_map-append (λ value. value) own values)) (c.in_ok-tell_known.ensures.told (known own) c.in_ok-fitting.ensures.told)
 
 pub returns-clause-fits : goal.returns-clause-fits
 returns-clause-fits c =

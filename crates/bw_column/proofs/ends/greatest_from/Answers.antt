@@ -1,0 +1,13 @@
+use Rattle.std.proofs.Common.{arith, get_or, sym, ap, max, ◌∙◌}
+use Rattle.bw_mask.specs.Masks.{bit_of}
+use Rattle.bw_column.proofs.Extremes.{greatest_seen, greatest_skipped}
+use Rattle.bw_column.proofs.ends.greatest_from.Goals as goal
+use Rattle.bw_column.proofs.ends.greatest_from.Goals.{then-has_bit, else-has_bit}
+
+pub loop-i-preserved : goal.loop-i-preserved
+loop-i-preserved c =
+    let old = c.loop-i.greatest in
+    elim c.if-has_bit.branch [
+      | then-has_bit w ↦ greatest_seen c.args.start c.loop-i.i (bit_of c.args.present) (λ i. get_or c.args.codes.now i 0) old c.max-greatest.result c.loop-i.invariant (sym c.has_bit.ensures ∙ w.if-has_bit.true) (c.max-greatest.ensures ∙ ap (max old) w.code-is)
+      | else-has_bit w ↦ greatest_skipped c.args.start c.loop-i.i (bit_of c.args.present) (λ i. get_or c.args.codes.now i 0) old c.max-greatest.result c.loop-i.invariant (sym c.has_bit.ensures ∙ w.if-has_bit.false) (omega (arith, c.max-greatest.ensures, w.code-is))
+    ]

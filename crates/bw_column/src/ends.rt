@@ -1,0 +1,83 @@
+//! The least and the greatest value of a column, found among its codes.
+
+ghost use Rattle.std.specs.Prelude.{length, slice_index, ◌^◌, ◌-◌, ◌≡◌, ◌≤◌};
+ghost use Rattle.bw_mask.specs.Masks.{bit_of, row_at};
+ghost use Rattle.bw_code.specs.Columns.{code_at, count};
+ghost use Rattle.bw_code.specs.Encodings.{kind_of};
+ghost use Rattle.bw_code.specs.Fittings.{AreEnds};
+ghost use Rattle.bw_code.specs.declared.kind.Kind.TheVariants as kind;
+ghost use Rattle.bw_column.specs.Extremes.{IsGreatestFrom, IsLeastFrom};
+ghost use Rattle.bw_column.specs.Values.{known};
+
+use crate::bits::has_bit;
+use crate::column::Column;
+use bw_code::{CodeColumn, Ends, PlainColumn};
+use bw_mask::Mask;
+
+/// The least of these codes whose bit is set, or the start where none is below it.
+fn least_from(start: u64, codes: &[u64], present: u64) -> u64
+    requires { length codes.now ≤ 64 }
+    ensures { IsLeastFrom start (length codes.now) (bit_of present) (slice_index codes.now) result }
+{
+    let mut least = start;
+    for i in 0..codes.len() {
+        let code = if has_bit(present, i) {
+            codes[i]
+        } else {
+            u64::MAX
+        };
+        least = least.min(code);
+    }
+    least
+}
+
+/// The greatest of these codes whose bit is set, or the start where none is above it.
+fn greatest_from(start: u64, codes: &[u64], present: u64) -> u64
+    requires { length codes.now ≤ 64 }
+    ensures { IsGreatestFrom start (length codes.now) (bit_of present) (slice_index codes.now) result }
+{
+    let mut greatest = start;
+    for i in 0..codes.len() {
+        let code = if has_bit(present, i) { codes[i] } else { 0 };
+        greatest = greatest.max(code);
+    }
+    greatest
+}
+
+/// The least and the greatest of a code and of the codes of the rows that are not null.
+fn code_ends(codes: &PlainColumn, nonnull: &Mask, start: u64) -> (u64, u64)
+    ensures least { IsLeastFrom start (count codes.now) (row_at nonnull.now) (code_at codes.now) result.0 }
+    ensures greatest { IsGreatestFrom start (count codes.now) (row_at nonnull.now) (code_at codes.now) result.1 }
+{
+    let mut run = [0; 64];
+    let (mut least, mut greatest) = (start, start);
+    let mut at = 0;
+    while at < codes.len() {
+        let n = (codes.len() - at).min(64);
+        let block = &mut run[..n];
+        codes.read(at, block);
+        let present = nonnull.bits(at, n);
+        least = least_from(least, block, present);
+        greatest = greatest_from(greatest, block, present);
+        at += n;
+    }
+    (least, greatest)
+}
+
+impl Column {
+    /// The ends of the values that are not null, if there are any. The kind is OFFSET.
+    pub(crate) fn ends(&self) -> Option<Ends>
+        requires { kind_of self.now.encoding ≡ kind.Offset }
+        ensures { AreEnds (known self.now.values) result }
+    {
+        let Some(first) = self.nonnull.next_from(0) else {
+            return None;
+        };
+        let start = self.codes.get(first);
+        let (least, greatest) = code_ends(&self.codes, &self.nonnull, start);
+        Some(Ends {
+            least: self.encoding.decode(least),
+            greatest: self.encoding.decode(greatest),
+        })
+    }
+}

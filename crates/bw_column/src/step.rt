@@ -1,0 +1,146 @@
+//! How a column comes to have a code for each of some values.
+
+ghost use Rattle.std.specs.Int.{w64};
+ghost use Rattle.std.specs.Prelude.{All, FitsSigned, IfOk, length, ◌++◌, ◌+◌, ◌-ℤ◌, ◌^◌, ◌≡◌, ◌≤◌};
+ghost use Rattle.bw_code.specs.Encodings.{IsFit, kind_of, width};
+ghost use Rattle.bw_code.specs.Fittings.{AreTold, told_kind};
+ghost use Rattle.bw_code.specs.declared.encoding.Encoding.TheVariants as by;
+ghost use Rattle.bw_code.specs.declared.kind.Kind.TheVariants as kind;
+ghost use Rattle.bw_column.specs.Codes.{IsCoded};
+ghost use Rattle.bw_column.specs.Columns.{Keeps};
+ghost use Rattle.bw_column.specs.Preparing.{CanTake, after};
+ghost use Rattle.bw_column.specs.Values.{IsNullOrInteger, known};
+
+use crate::column::Column;
+use crate::telling::tell_known;
+use bw_code::{Encoding, Fitting, Kind, Offset};
+use std::alloc::{AllocError, Global};
+
+/// What a column does before it takes values, so that each of them has a code.
+#[derive(Drop)]
+pub(crate) enum Step {
+    /// Nothing: each has one.
+    Stay,
+    /// Its codes are counted from another base.
+    Shift(Offset),
+    /// Another column takes its place: the same values, encoded anew.
+    Replace(Column),
+}
+
+/// How much a code gets more where the base goes from one to the other. It is of use only where it fits.
+fn shift_between(from: Offset, to: Offset) -> i64
+    ensures { FitsSigned w64 (from.base -ℤ to.base) → result ≡ from.base -ℤ to.base }
+{
+    from.base.wrapping_sub(to.base)
+}
+
+impl Column {
+    /// The column's own values that are not null, told. Of all values so many can be told before a dictionary's list
+    /// grows.
+    fn told(&self, alloc: Global, room: usize) -> Result<Fitting, AllocError>
+        ensures told { IfOk result (AreTold (known self.now.values)) }
+        ensures kind { IfOk result (λ f. told_kind f ≡ kind_of self.now.encoding) }
+    {
+        match self.kind() {
+            Kind::Offset => Ok(Fitting::Offset(self.ends())),
+            Kind::Dictionary => {
+                let mut fitting = Fitting::new(alloc, Kind::Dictionary, room)?;
+                self.tell_own(&mut fitting)?;
+                Ok(fitting)
+            }
+        }
+    }
+
+    /// The encoding of the column's kind that fits its values and these.
+    pub(crate) fn encoding_with(
+        &self,
+        alloc: Global,
+        values: &[Option<i64>],
+    ) -> Result<Encoding, AllocError>
+        requires integers { All IsNullOrInteger values.now }
+        requires some { length values.now ≤ 2 ^ 24 }
+        ensures fits { IfOk result (IsFit (known (self.now.values ++ values.now))) }
+        ensures kind { IfOk result (λ e. kind_of e ≡ kind_of self.now.encoding) }
+        ensures own { IfOk result (λ e. All (IsCoded e) self.now.values) }
+        ensures coded { IfOk result (λ e. All (IsCoded e) values.now) }
+        ensures narrow { IfOk result (λ e. width e ≤ 32) }
+    {
+        let mut fitting = self.told(alloc, self.len() + values.len())?;
+        tell_known(&mut fitting, values)?;
+        fitting.encoding(alloc)
+    }
+
+    /// The same values in another encoding, and room for so many values more.
+    fn anew(&self, alloc: Global, encoding: Encoding, more: usize) -> Result<Column, AllocError>
+        requires coded { All (IsCoded encoding) self.now.values }
+        requires narrow { width encoding ≤ 32 }
+        requires few { length self.now.values + more ≤ 2 ^ 24 }
+        ensures values { IfOk result (λ c. c.values ≡ self.now.values) }
+        ensures layout { IfOk result (λ c. c.layout ≡ self.now.layout) }
+        ensures encoding { IfOk result (λ c. c.encoding ≡ encoding) }
+        ensures room { IfOk result (λ c. length self.now.values + more ≤ c.room) }
+    {
+        let mut column = Column::with_room(alloc, self.layout, encoding, self.len() + more)?;
+        column.extend_from(self);
+        Ok(column)
+    }
+
+    /// The step to an encoding of the column's kind, and room for so many values more. Codes that are distances from a
+    /// base take no second column. The column keeps its values, layout and encoding, also where memory is wanting.
+    pub(crate) fn step_to(
+        &mut self,
+        alloc: Global,
+        encoding: Encoding,
+        more: usize,
+    ) -> Result<Step, AllocError>
+        requires kind { kind_of encoding ≡ kind_of self.old.encoding }
+        requires coded { All (IsCoded encoding) self.old.values }
+        requires narrow { width encoding ≤ 32 }
+        requires few { length self.old.values + more ≤ 2 ^ 24 }
+        ensures can { IfOk result (CanTake self.new) }
+        ensures values { IfOk result (λ step. (after self.new step).values ≡ self.old.values) }
+        ensures layout { IfOk result (λ step. (after self.new step).layout ≡ self.old.layout) }
+        ensures encoding { IfOk result (λ step. (after self.new step).encoding ≡ encoding) }
+        ensures room { IfOk result (λ step. length self.old.values + more ≤ (after self.new step).room) }
+        ensures keeps { Keeps self.new self.old }
+    {
+        match encoding {
+            Encoding::Offset(offset) => {
+                self.reserve(more)?;
+                Ok(Step::Shift(offset))
+            }
+            dictionary => Ok(Step::Replace(self.anew(alloc, dictionary, more)?)),
+        }
+    }
+
+    /// Counts the codes, which are distances from a base, from another base.
+    fn shift_to(&mut self, offset: Offset)
+        requires { CanTake self.old (Step.Shift offset) }
+        ensures values { self.new.values ≡ self.old.values }
+        ensures layout { self.new.layout ≡ self.old.layout }
+        ensures encoding { self.new.encoding ≡ by.Offset offset }
+        ensures room { self.old.room ≤ self.new.room }
+    {
+        let Encoding::Offset(own) = self.encoding else {
+            unreachable!()
+        };
+        let by = shift_between(own, offset);
+        self.codes.shift(&self.nonnull, by, offset.width);
+        self.encoding = Encoding::Offset(offset);
+    }
+
+    /// Takes a step. Takes no memory.
+    pub(crate) fn take(&mut self, step: Step)
+        requires { CanTake self.old step }
+        ensures values { self.new.values ≡ (after self.old step).values }
+        ensures layout { self.new.layout ≡ (after self.old step).layout }
+        ensures encoding { self.new.encoding ≡ (after self.old step).encoding }
+        ensures room { (after self.old step).room ≤ self.new.room }
+    {
+        match step {
+            Step::Stay => {}
+            Step::Shift(offset) => self.shift_to(offset),
+            Step::Replace(column) => *self = column,
+        }
+    }
+}
