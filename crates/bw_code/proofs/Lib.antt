@@ -2,6 +2,7 @@ pub mod Answering
 pub mod BlockLemmas
 pub mod Bulk
 pub mod Codes
+pub mod Digits
 pub mod Distinct
 pub mod Entries
 pub mod FitLemmas
@@ -12,5 +13,7 @@ pub mod Lists
 pub mod Meeting
 pub mod Offsets
 pub mod Parts
+pub mod Reach
+pub mod Segments
 pub mod UnitLemmas
 pub mod Widths

@@ -19,12 +19,12 @@ unfolding sum_below
 sum_zero zero = refl
 sum_zero (suc n) = ap (λ x. x + 0) (sum_zero n)
 
-some_same : (n : ℕ) (f g : ℕ → Bool) → ((j : ℕ) → j < n → f j ≡ g j) → some_below n f ≡ some_below n g
+pub some_same : (n : ℕ) (f g : ℕ → Bool) → ((j : ℕ) → j < n → f j ≡ g j) → some_below n f ≡ some_below n g
 unfolding some_below
 some_same zero f g same = refl
 some_same (suc n) f g same = rw (some_same n f g (λ j h. same j (omega arith)), same n (omega arith)) refl
 
-greatest_same : (n : ℕ) (f g : ℕ → ℕ) → ((j : ℕ) → j < n → f j ≡ g j) → greatest_below n f ≡ greatest_below n g
+pub greatest_same : (n : ℕ) (f g : ℕ → ℕ) → ((j : ℕ) → j < n → f j ≡ g j) → greatest_below n f ≡ greatest_below n g
 unfolding greatest_below
 greatest_same zero f g same = refl
 greatest_same (suc n) f g same = rw (greatest_same n f g (λ j h. same j (omega arith)), same n (omega arith)) refl

@@ -1,4 +1,5 @@
 pub mod Ascending
+pub mod Choosing
 pub mod Columns
 pub mod Encodings
 pub mod Fittings

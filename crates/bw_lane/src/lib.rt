@@ -1,0 +1,12 @@
+//! Kernels over lanes: each does with many rows at once what its definition says of one. None takes memory.
+#![tactic(auto)]
+
+mod planes;
+mod sections;
+mod slices;
+mod words;
+
+pub use planes::plane_step;
+pub use sections::{LaneOp, SectionMasks, word_compare};
+pub use slices::byte_step;
+pub use words::{and_words, andnot_words, count_and_words, count_words, or_words};

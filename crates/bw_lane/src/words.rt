@@ -1,0 +1,81 @@
+//! Words of bits, combined and counted: four words at a time, and a plain loop for the rest.
+
+ghost use Rattle.std.specs.Prelude.{bit_and, bit_or, length, slice_index, ℕ, ◌-◌, ◌<◌, ◌^◌, ◌≡◌, ◌≤◌};
+ghost use Rattle.std.specs.List.{sum_by, zip};
+ghost use Rattle.std.specs.Int.RustNames.{count_ones};
+
+use std::simd::prelude::*;
+
+/// Each word of a keeps the bits that the word of b has too.
+pub fn and_words(a: &mut [u64], b: &[u64])
+    requires { length a.old ≡ length b.now }
+    ensures len { length a.new ≡ length a.old }
+    ensures words { (k : ℕ) → k < length a.old → slice_index a.new k ≡ bit_and (slice_index a.old k) (slice_index b.now k) }
+{
+    let mut i = 0;
+    'fours: while a.len() - i >= 4 {
+        let four = u64x4::from_slice(&a[i..]) & u64x4::from_slice(&b[i..]);
+        four.copy_to_slice(&mut a[i..]);
+        i += 4;
+    }
+    'rest: while i < a.len() {
+        a[i] &= b[i];
+        i += 1;
+    }
+}
+
+/// Each word of a gets the bits of the word of b.
+pub fn or_words(a: &mut [u64], b: &[u64])
+    requires { length a.old ≡ length b.now }
+    ensures len { length a.new ≡ length a.old }
+    ensures words { (k : ℕ) → k < length a.old → slice_index a.new k ≡ bit_or (slice_index a.old k) (slice_index b.now k) }
+{
+    let mut i = 0;
+    'fours: while a.len() - i >= 4 {
+        let four = u64x4::from_slice(&a[i..]) | u64x4::from_slice(&b[i..]);
+        four.copy_to_slice(&mut a[i..]);
+        i += 4;
+    }
+    'rest: while i < a.len() {
+        a[i] |= b[i];
+        i += 1;
+    }
+}
+
+/// Each word of a loses the bits of the word of b.
+pub fn andnot_words(a: &mut [u64], b: &[u64])
+    requires { length a.old ≡ length b.now }
+    ensures len { length a.new ≡ length a.old }
+    ensures words { (k : ℕ) → k < length a.old → slice_index a.new k ≡ bit_and (slice_index a.old k) (2 ^ 64 - 1 - slice_index b.now k) }
+{
+    let mut i = 0;
+    'fours: while a.len() - i >= 4 {
+        let four = u64x4::from_slice(&a[i..]) & !u64x4::from_slice(&b[i..]);
+        four.copy_to_slice(&mut a[i..]);
+        i += 4;
+    }
+    'rest: while i < a.len() {
+        a[i] &= !b[i];
+        i += 1;
+    }
+}
+
+/// How many bits are set.
+pub fn count_words(words: &[u64]) -> u64
+    requires { length words.now ≤ 2 ^ 56 }
+    ensures { result ≡ sum_by count_ones words.now }
+{
+    words.iter().map(|word| word.count_ones() as u64).sum()
+}
+
+/// How many bits are set in both of two words side by side.
+pub fn count_and_words(a: &[u64], b: &[u64]) -> u64
+    requires same { length a.now ≡ length b.now }
+    requires few { length a.now ≤ 2 ^ 56 }
+    ensures { result ≡ sum_by (λ p. count_ones (bit_and p.0 p.1)) (zip a.now b.now) }
+{
+    a.iter()
+        .zip(b)
+        .map(|(x, y)| (*x & *y).count_ones() as u64)
+        .sum()
+}

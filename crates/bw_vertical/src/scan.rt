@@ -1,0 +1,166 @@
+//! Scans of planes from the highest down, as far as a needed row is left (BitWeaving/V: Li and Patel, SIGMOD 2013).
+
+ghost use Rattle.std.specs.Prelude.{length, max, nat_le, nat_lt, not, true, ℕ, ◌%◌, ◌&&◌, ◌*◌, ◌+◌, ◌<◌, ◌==◌, ◌^◌, ◌||◌, ◌≡◌, ◌≤◌};
+ghost use Rattle.bw_mask.specs.Masks.{SameShape, len, row_at, row_in};
+ghost use Rattle.bw_code.specs.Tests.{TestFits, meets};
+ghost use Rattle.bw_code.specs.Units.{agreement, by_planes, cost_of, scan_units, segment_units, some_below};
+ghost use Rattle.bw_code.specs.Choosing.{by_masks};
+ghost use Rattle.bw_vertical.specs.Planes.{code_in, segments_of};
+
+use crate::rows::{either, is_empty, lanes_at, put_lanes, without};
+use bw_code::{CmpOp, CodeTest, Source};
+use bw_lane::plane_step;
+use bw_mask::Mask;
+
+/// Whether a scan stops after plane i: a group of planes ends there, and no row is left.
+fn stops(i: usize, left: &[u64; 4]) -> bool
+    ensures { result ≡ (i % 4 == 3 && not (some_below 256 (row_in left.now))) }
+{
+    i % 4 == 3 && is_empty(left)
+}
+
+/// The needed rows that compare so, by those that are below and those that are equal.
+fn chosen(op: CmpOp, need: &[u64; 4], lt: &[u64; 4], eq: &[u64; 4]) -> [u64; 4]
+    ensures { (j : ℕ) → j < 256 → row_in result j ≡ by_masks op (row_in need.now j) (row_in lt.now j) (row_in eq.now j) }
+{
+    match op {
+        CmpOp::Eq => *eq,
+        CmpOp::Ne => without(need, eq),
+        CmpOp::Lt => *lt,
+        CmpOp::Le => either(lt, eq),
+        CmpOp::Gt => without(need, &either(lt, eq)),
+        CmpOp::Ge => without(need, lt),
+    }
+}
+
+/// The needed rows of segment q that are below the constant, and those that are equal to it.
+fn compare<S: Source<[u64; 4]>>(
+    source: &mut S,
+    k: usize,
+    q: usize,
+    constant: u64,
+    need: &[u64; 4],
+) -> ([u64; 4], [u64; 4])
+    requires narrow { k ≤ 32 }
+    requires constant { constant < 2 ^ k }
+    requires small { q < 2 ^ 32 }
+    requires there { (q + 1) * k ≤ length (S.units source.old) }
+    requires few { S.reads source.old + k ≤ 2 ^ 63 }
+    requires needed { some_below 256 (row_in need.now) ≡ true }
+    ensures units { S.units source.new ≡ S.units source.old }
+    ensures reads { S.reads source.new ≡ S.reads source.old + cost_of (by_planes k) (row_in need.now) (λ j. agreement 2 k (code_in k (S.units source.old) (256 * q + j)) constant) }
+    ensures less { (j : ℕ) → j < 256 → row_in result.0 j ≡ (row_in need.now j && nat_lt (code_in k (S.units source.old) (256 * q + j)) constant) }
+    ensures same { (j : ℕ) → j < 256 → row_in result.1 j ≡ (row_in need.now j && (code_in k (S.units source.old) (256 * q + j) == constant)) }
+{
+    let mut lt = [0; 4];
+    let mut eq = *need;
+    for i in 0..k {
+        let plane = source.read(q * k + i);
+        plane_step(&mut lt, &mut eq, &plane, constant >> (k - 1 - i) & 1 == 1);
+        if stops(i, &eq) {
+            return (lt, eq);
+        }
+    }
+    (lt, eq)
+}
+
+/// The rows that are not below the low end, and below the high end or equal to it.
+fn inside(below: &[u64; 4], lt: &[u64; 4], eq: &[u64; 4]) -> [u64; 4]
+    ensures { (j : ℕ) → j < 256 → row_in result j ≡ ((row_in lt.now j || row_in eq.now j) && not (row_in below.now j)) }
+{
+    without(&either(lt, eq), below)
+}
+
+/// The needed rows of segment q that are within the two constants, both in.
+fn between<S: Source<[u64; 4]>>(
+    source: &mut S,
+    k: usize,
+    q: usize,
+    low: u64,
+    high: u64,
+    need: &[u64; 4],
+) -> [u64; 4]
+    requires narrow { k ≤ 32 }
+    requires low { low < 2 ^ k }
+    requires high { high < 2 ^ k }
+    requires small { q < 2 ^ 32 }
+    requires there { (q + 1) * k ≤ length (S.units source.old) }
+    requires few { S.reads source.old + k ≤ 2 ^ 63 }
+    requires needed { some_below 256 (row_in need.now) ≡ true }
+    ensures units { S.units source.new ≡ S.units source.old }
+    ensures reads { S.reads source.new ≡ S.reads source.old + cost_of (by_planes k) (row_in need.now) (λ j.
+        max (agreement 2 k (code_in k (S.units source.old) (256 * q + j)) low) (agreement 2 k (code_in k (S.units source.old) (256 * q + j)) high)) }
+    ensures rows { (j : ℕ) → j < 256 → row_in result j ≡ (row_in need.now j
+        && (nat_le low (code_in k (S.units source.old) (256 * q + j)) && nat_le (code_in k (S.units source.old) (256 * q + j)) high)) }
+{
+    let (mut lt_lo, mut eq_lo) = ([0; 4], *need);
+    let (mut lt_hi, mut eq_hi) = ([0; 4], *need);
+    for i in 0..k {
+        let plane = source.read(q * k + i);
+        plane_step(&mut lt_lo, &mut eq_lo, &plane, low >> (k - 1 - i) & 1 == 1);
+        plane_step(&mut lt_hi, &mut eq_hi, &plane, high >> (k - 1 - i) & 1 == 1);
+        if stops(i, &either(&eq_lo, &eq_hi)) {
+            return inside(&lt_lo, &lt_hi, &eq_hi);
+        }
+    }
+    inside(&lt_lo, &lt_hi, &eq_hi)
+}
+
+/// The needed rows of segment q that meet the test.
+fn segment<S: Source<[u64; 4]>>(
+    source: &mut S,
+    k: usize,
+    q: usize,
+    test: CodeTest,
+    need: &[u64; 4],
+) -> [u64; 4]
+    requires narrow { k ≤ 32 }
+    requires test { TestFits k test }
+    requires small { q < 2 ^ 32 }
+    requires there { (q + 1) * k ≤ length (S.units source.old) }
+    requires few { S.reads source.old + k ≤ 2 ^ 63 }
+    ensures units { S.units source.new ≡ S.units source.old }
+    ensures reads { S.reads source.new ≡ S.reads source.old + segment_units (by_planes k) test (row_in need.now) (λ j. code_in k (S.units source.old) (256 * q + j)) }
+    ensures most { S.reads source.new ≤ S.reads source.old + k }
+    ensures rows { (j : ℕ) → j < 256 → row_in result j ≡ (row_in need.now j && meets test (code_in k (S.units source.old) (256 * q + j))) }
+{
+    if is_empty(need) {
+        return [0; 4];
+    }
+    match test {
+        CodeTest::None => [0; 4],
+        CodeTest::All => *need,
+        CodeTest::Cmp(op, constant) => {
+            let (lt, eq) = compare(source, k, q, constant, need);
+            chosen(op, need, &lt, &eq)
+        }
+        CodeTest::Range(low, high) => between(source, k, q, low, high, need),
+    }
+}
+
+/// Scans planes: `out` becomes the needed rows whose code meets the test, and of the units so many
+/// are read as `scan_units` says. Unit q * width + i is plane i of segment q.
+pub fn scan_from<S: Source<[u64; 4]>>(
+    source: &mut S,
+    width: u32,
+    test: CodeTest,
+    need: &Mask,
+    out: &mut Mask,
+)
+    requires narrow { width ≤ 32 }
+    requires test { TestFits width test }
+    requires few { len need.now ≤ 2 ^ 24 }
+    requires out { len out.old ≡ len need.now }
+    requires units { length (S.units source.old) ≡ segments_of (len need.now) * width }
+    requires reads { S.reads source.old ≤ 2 ^ 62 }
+    ensures units { S.units source.new ≡ S.units source.old }
+    ensures reads { S.reads source.new ≡ S.reads source.old + scan_units (by_planes width) test (row_at need.now) (code_in width (S.units source.old)) (segments_of (len need.now)) }
+    ensures shape { SameShape out.new out.old }
+    ensures rows { (i : ℕ) → row_at out.new i ≡ (row_at need.now i && meets test (code_in width (S.units source.old) i)) }
+{
+    let words = need.words();
+    for q in 0..need.len().div_ceil(256) {
+        let found = segment(source, width as usize, q, test, &lanes_at(words, q));
+        put_lanes(out, q, &found);
+    }
+}
