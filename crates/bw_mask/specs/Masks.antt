@@ -1,7 +1,8 @@
 -- A mask says of each row whether it is in; row i is bit i % 64 of word i / 64, and bits past the end are 0.
-use Rattle.std.specs.Prelude.{Bool, List, None, Option, Some, false, length, map, slice_index, slice_index_or, true, ℕ, ◌%◌, ◌+◌, ◌/◌, ◌<◌, ◌==◌, ◌^◌, ◌≡◌, ◌≤◌}
+use Rattle.std.specs.Prelude.{Bool, List, None, Option, Some, false, length, map, slice_index_or, true, ℕ, ◌+◌, ◌/◌, ◌<◌, ◌^◌, ◌≡◌, ◌≤◌}
 use Rattle.std.specs.List.{range_with_len}
-use Rattle.std.specs.Int.{bit_at}
+-- whether a bit of a word is set, and whether a row is in by the words; no row past the last word is
+pub use Rattle.bw_lane.specs.Rows.{bit_of, row_in}
 
 -- the rows, and for how many there is room
 pub record MaskRows : Type 0 where
@@ -23,14 +24,6 @@ SameShape a b = (len a ≡ len b) × (a.room ≡ b.room)
 abbrev pub IsNext : (ℕ → Bool) → ℕ → Option ℕ → Type 0
 IsNext test i None = (j : ℕ) → i ≤ j → test j ≡ false
 IsNext test i (Some next) = (i ≤ next) × (test next ≡ true) × ((j : ℕ) → i ≤ j → j < next → test j ≡ false)
-
--- whether a bit of a word is set
-abbrev pub bit_of : ℕ → ℕ → Bool
-bit_of word i = bit_at word i == 1
-
--- whether a row is in by the words; no row past the last word is
-abbrev pub row_in : List ℕ → ℕ → Bool
-row_in words i = bit_of (slice_index words (i / 64)) (i % 64)
 
 -- the first n places, each with what a test says of it
 abbrev pub rows_of : ℕ → (ℕ → Bool) → List Bool

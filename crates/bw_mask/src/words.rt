@@ -13,9 +13,7 @@ pub(crate) fn and_words(a: &mut [u64], b: &[u64])
     ensures len { length a.new ≡ length a.old }
     ensures rows { (i : ℕ) → i < 64 * length a.old → row_in a.new i ≡ (row_in a.old i && row_in b.now i) }
 {
-    for k in 0..a.len() {
-        a[k] &= b[k];
-    }
+    bw_lane::and_words(a, b);
 }
 
 #[tactic(auto, using(crate::proofs::Bits::bit_of_or))]
@@ -24,9 +22,7 @@ pub(crate) fn or_words(a: &mut [u64], b: &[u64])
     ensures len { length a.new ≡ length a.old }
     ensures rows { (i : ℕ) → i < 64 * length a.old → row_in a.new i ≡ (row_in a.old i || row_in b.now i) }
 {
-    for k in 0..a.len() {
-        a[k] |= b[k];
-    }
+    bw_lane::or_words(a, b);
 }
 
 #[tactic(auto, using(crate::proofs::Bits::bit_of_andnot))]
@@ -35,9 +31,7 @@ pub(crate) fn andnot_words(a: &mut [u64], b: &[u64])
     ensures len { length a.new ≡ length a.old }
     ensures rows { (i : ℕ) → i < 64 * length a.old → row_in a.new i ≡ (row_in a.old i && not (row_in b.now i)) }
 {
-    for k in 0..a.len() {
-        a[k] &= !b[k];
-    }
+    bw_lane::andnot_words(a, b);
 }
 
 #[tactic(auto, using(crate::proofs::Bits::bit_of_not))]
@@ -270,5 +264,5 @@ pub(crate) fn count_words(words: &[u64]) -> u64
     ensures sum { result ≡ sum_by count_ones words.now }
     ensures fits { (k : ℕ) → slice_index words.now k < 2 ^ 64 }
 {
-    words.iter().map(|word| word.count_ones() as u64).sum()
+    bw_lane::count_words(words)
 }
