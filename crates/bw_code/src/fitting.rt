@@ -1,6 +1,6 @@
 //! The encoding of values that are told one after the other.
 
-ghost use Rattle.std.specs.Prelude.{◌≡◌, ◌++◌, ◌∷◌, All, IfOk, List, OnOk, [], ℤ};
+ghost use Rattle.std.specs.Prelude.{◌≡◌, ◌++◌, ◌∷◌, All, IfOk, List, OnErr, OnOk, [], ℤ};
 ghost use Rattle.bw_code.specs.Encodings.{HasCode, IsFit, kind_of};
 ghost use Rattle.bw_code.specs.Fittings.{AreTold, told_kind};
 
@@ -33,9 +33,10 @@ impl Fitting {
         }
     }
 
-    /// Tells one value more.
+    /// Tells one value more. Where memory is wanting, what was told before still is.
     pub fn tell(&mut self, x: i64) -> Result<(), AllocError>
         ensures told { OnOk result ((values : List ℤ) → AreTold values self.old → AreTold (values ++ x ∷ []) self.new) }
+        ensures before { OnErr result ((values : List ℤ) → AreTold values self.old → AreTold values self.new) }
         ensures kind { told_kind self.new ≡ told_kind self.old }
     {
         match self {

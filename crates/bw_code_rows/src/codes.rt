@@ -2,7 +2,7 @@
 //! want memory, seen answering.
 
 use bw_code::CmpOp::{Eq, Ge, Gt, Le, Lt, Ne};
-use bw_code::{CmpOp, CodeTest, Encoding, Kind, fit};
+use bw_code::{CmpOp, CodeTest, Encoding, Fitting, Kind, fit};
 use std::process::Abort;
 
 const NONE: CodeTest = CodeTest::None;
@@ -112,9 +112,20 @@ const OFFSET_RANGES: [(i64, i64, CodeTest); 8] = [
     (4, 4, CodeTest::Range(3, 3)),
 ];
 
-/// The encoding that fits the values.
+/// The encoding that fits the values, which are told one after the other.
+fn fitted_one_by_one<R: Abort + AllocGlobal>(rt: &R, values: &[i64], kind: Kind) -> Encoding {
+    let mut fitting = Fitting::new(rt.alloc(), kind, 0).expect(rt, "memory");
+    for x in values {
+        fitting.tell(*x).expect(rt, "memory");
+    }
+    fitting.encoding(rt.alloc()).expect(rt, "memory")
+}
+
+/// The encoding that fits the values, which is the same where they are told one after the other.
 fn fitted<R: Abort + AllocGlobal>(rt: &R, values: &[i64], kind: Kind) -> Encoding {
-    fit(rt.alloc(), values, kind).expect(rt, "memory")
+    let encoding = fit(rt.alloc(), values, kind).expect(rt, "memory");
+    assert!(rt; encoding == fitted_one_by_one(rt, values, kind));
+    encoding
 }
 
 /// The value that the code of a value stands for.

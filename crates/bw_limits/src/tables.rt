@@ -89,3 +89,26 @@ fn many_rows_of_sixty_four_columns(rt: HostRuntime) {
         ],
     );
 }
+
+#[test]
+fn lines_that_are_longer_than_their_buffer(rt: HostRuntime) {
+    check_run(
+        &rt,
+        &[
+            ("CREATE TABLE t (a INT);", 1),
+            ("INSERT INTO t VALUES (-2147483648), (NULL);", 1),
+            ("SELECT a", 1),
+            (", a", 999),
+            (" FROM t;", 1),
+        ],
+        &[
+            ("ok\nok 2\nA", 1),
+            (",A", 999),
+            ("\n-2147483648", 1),
+            (",-2147483648", 999),
+            ("\nNULL", 1),
+            (",NULL", 999),
+            ("\nrows 2\n", 1),
+        ],
+    );
+}
