@@ -1,7 +1,14 @@
 //! Codes as planes of bits (layout V, BitWeaving/V).
 #![tactic(auto)]
 
+mod blocks;
+mod codes;
+mod column;
+mod growing;
 mod rows;
 mod scan;
+mod source;
+mod storage;
 
+pub use column::VerticalColumn;
 pub use scan::scan_from;

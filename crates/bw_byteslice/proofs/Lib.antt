@@ -1,0 +1,11 @@
+pub mod InUnits
+pub mod Keeping
+pub mod Numbers
+pub mod Planes
+pub mod Raised
+pub mod Replacing
+pub mod Rooms
+pub mod Scanned
+pub mod Steps
+pub mod Views
+pub mod Words

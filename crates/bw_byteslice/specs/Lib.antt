@@ -1,0 +1,2 @@
+pub mod Slices
+pub mod Storing

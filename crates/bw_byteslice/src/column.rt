@@ -1,0 +1,128 @@
+//! The column of layout S.
+
+ghost use Rattle.std.specs.Prelude.{length, slice_index, ℕ, ◌*◌, ◌+◌, ◌/◌, ◌<◌, ◌^◌, ◌≡◌, ◌≤◌};
+ghost use Rattle.bw_mask.specs.Masks.{bit_of, len, row_at, SameShape};
+ghost use Rattle.bw_code.specs.Columns.{code_at, count};
+ghost use Rattle.bw_code.specs.Units.{digit};
+ghost use Rattle.bw_code.specs.declared.kind.Layout.TheVariants as layouts;
+ghost use Rattle.bw_byteslice.specs.Slices.{segments_of, shift_of, slices_of};
+
+use crate::scan::scan_from;
+use crate::shift::{shift_of, slices_of};
+use crate::source::SliceSource;
+use crate::{plane, reading, storage};
+use bw_code::{CodeColumn, CodeTest, Meter, Source};
+use bw_mask::Mask;
+use std::alloc::{AllocError, Global};
+use std::marker::Model;
+
+/// A column of codes of at most 32 bits as slices of bytes. Each code is shifted up until its highest bit is the
+/// highest of a byte; slice j holds byte j of each code, the highest byte first (ByteSlice: Feng and others, SIGMOD
+/// 2015).
+#[derive(Drop)]
+pub struct SliceColumn {
+    width: u32,
+    len: usize,
+    slices: Vec<Vec<u8>>,
+}
+
+impl Model for SliceColumn {
+    ghost use Rattle.bw_code.specs.Columns.{CodeList};
+    ghost use Rattle.bw_code.specs.Lists.{made};
+    ghost use Rattle.bw_byteslice.specs.Storing.{AreSlices, bytes_of, capacities_of, code_of, room_of};
+
+    ghost Value = { CodeList };
+
+    ghost view = { λ c. record { width = c.width; codes = made c.len (code_of c.width (bytes_of c.slices.items)); room = room_of (capacities_of c.slices.items) } };
+
+    ghost invariant = { λ c. AreSlices c.width c.len (bytes_of c.slices.items) };
+}
+
+/// As many bytes as whole segments of 32 rows take.
+fn whole_segments(rows: usize) -> usize
+    requires { rows ≤ 2 ^ 24 }
+    ensures { result ≡ 32 * segments_of rows }
+{
+    32 * rows.div_ceil(32)
+}
+
+impl SliceColumn {
+    /// Slice j: a byte for each row, and zeros up to a multiple of 32.
+    pub fn slice(&self, j: usize) -> &[u8]
+        requires { j < slices_of self.now.width }
+        ensures len { length result.now ≡ 32 * segments_of (count self.now) }
+        ensures bytes { (r : ℕ) → slice_index result.now r ≡ digit 256 (slices_of self.now.width) (code_at self.now r * 2 ^ shift_of self.now.width) j }
+    {
+        &self.slices[j]
+    }
+}
+
+impl CodeColumn for SliceColumn {
+    ghost layout = { layouts.S };
+
+    ghost WIDEST = { 32 };
+
+    ghost seen = { λ c. c };
+
+    const WIDEST: u32 = 32;
+
+    fn with_width(alloc: Global, width: u32) -> Result<SliceColumn, AllocError> {
+        let slices = storage::no_bytes(alloc, slices_of(width))?;
+        Ok(SliceColumn {
+            width,
+            len: 0,
+            slices,
+        })
+    }
+
+    fn reserve(&mut self, more: usize) -> Result<(), AllocError> {
+        storage::reserve(&mut self.slices, whole_segments(self.len + more))
+    }
+
+    fn push(&mut self, code: u64) {
+        self.extend(&[code]);
+    }
+
+    fn extend(&mut self, codes: &[u64]) {
+        let at = self.len;
+        let rows = at + codes.len();
+        storage::grow(&mut self.slices, whole_segments(rows));
+        storage::put(&mut self.slices, self.width, at, codes);
+        self.len = rows;
+    }
+
+    fn len(&self) -> usize {
+        self.len
+    }
+
+    fn width(&self) -> u32 {
+        self.width
+    }
+
+    fn get(&self, i: usize) -> u64 {
+        reading::code_at(&self.slices, self.width, i)
+    }
+
+    fn set(&mut self, i: usize, code: u64) {
+        storage::put(&mut self.slices, self.width, i, &[code]);
+    }
+
+    fn read(&self, at: usize, out: &mut [u64]) {
+        reading::read(&self.slices, self.width, at, out);
+    }
+
+    fn plane(&self, i: u32, out: &mut Mask) {
+        let place = i + shift_of(self.width);
+        let slice = &self.slices[self.slices.len() - 1 - place as usize / 8];
+        plane::put_rows(slice, place % 8, out);
+    }
+
+    fn scan(&self, test: CodeTest, need: &Mask, out: &mut Mask, meter: &mut Meter) {
+        let mut source = SliceSource::new(&self.slices);
+        scan_from(&mut source, self.width, test, need, out);
+        meter.add(source.reads());
+    }
+}
+
+#[cfg(test)]
+mod tests;

@@ -1,0 +1,14 @@
+//! Codes as slices of bytes (layout S, ByteSlice).
+#![tactic(auto)]
+
+mod column;
+mod plane;
+mod reading;
+mod rows;
+mod scan;
+mod shift;
+mod source;
+mod storage;
+
+pub use column::SliceColumn;
+pub use scan::scan_from;

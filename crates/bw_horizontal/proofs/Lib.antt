@@ -1,0 +1,5 @@
+pub mod Costs
+pub mod Marks
+pub mod Places
+pub mod Rows
+pub mod Views

@@ -1,0 +1,10 @@
+use Rattle.std.proofs.Common.{length, ◌≡◌, ◌≤◌}
+use Rattle.bw_horizontal.proofs.column.tests.column_of.Given as goal
+
+-- the rows so far
+abbrev pub invariant-loop-row : goal.invariant-loop-row
+invariant-loop-row g l = record {
+  width : (g.C.CodeColumn.seen l.column).width ≡ l.width;
+  count : length (g.C.CodeColumn.seen l.column).codes ≡ l.row;
+  room : l.rows ≤ (g.C.CodeColumn.seen l.column).room;
+}

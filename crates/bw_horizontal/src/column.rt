@@ -1,0 +1,126 @@
+//! The column of codes side by side in words.
+
+ghost use Rattle.std.specs.Prelude.{length, nat_lt, slice_index, ℕ, ◌%◌, ◌&&◌, ◌*◌, ◌+◌, ◌≡◌};
+ghost use Rattle.bw_mask.specs.Masks.{bit_of};
+ghost use Rattle.bw_lane.specs.Sections.{sections_in};
+ghost use Rattle.bw_code.specs.Columns.{code_at, count};
+ghost use Rattle.bw_code.specs.declared.kind.Layout.TheVariants as layouts;
+ghost use Rattle.bw_horizontal.specs.Words.{row_of_bit, segments_of};
+
+use crate::place::Place;
+use crate::planes;
+use crate::scan::scan_from;
+use crate::source::WordSource;
+use crate::storage::{fill_up, put_codes, read_codes, words_for};
+use bw_code::{CodeColumn, CodeTest, Meter, Source};
+use bw_mask::Mask;
+use std::alloc::{AllocError, Global};
+use std::marker::Model;
+
+/// Codes of at most 32 bits, side by side in words (BitWeaving/H: Li and Patel, SIGMOD 2013). A code and a delimiter bit
+/// above it, which is 0, are a section, and a word has as many sections as fit it. A segment is as many words as a
+/// section has bits; its rows go round its words, section by section.
+#[derive(Drop)]
+pub struct HorizontalColumn {
+    width: u32,
+    len: usize,
+    words: Vec<u64>,
+}
+
+impl Model for HorizontalColumn {
+    ghost use Rattle.std.specs.Prelude.{vec_capacity};
+    ghost use Rattle.bw_code.specs.Columns.{CodeList};
+    ghost use Rattle.bw_horizontal.specs.Words.{AreWords, codes_of, room_in};
+
+    ghost Value = { CodeList };
+
+    ghost view = { λ h. record { width = h.width; codes = codes_of h.width h.len h.words.items; room = room_in h.width (vec_capacity h.words) } };
+
+    ghost invariant = { λ h. AreWords h.width h.len h.words.items };
+}
+
+impl HorizontalColumn {
+    /// The words: bit p of section t of word i of segment q is bit p of the code of the row that lies there. Delimiters,
+    /// bits above the last section and the places of no row are 0.
+    pub fn words(&self) -> &[u64]
+        ensures count { length result.now ≡ segments_of self.now.width (count self.now) * (self.now.width + 1) }
+        ensures bits { (w p : ℕ) → bit_of (slice_index result.now w) p ≡ (nat_lt p (sections_in self.now.width * (self.now.width + 1)) && bit_of (code_at self.now (row_of_bit self.now.width w p)) (p % (self.now.width + 1))) }
+    {
+        &self.words
+    }
+}
+
+impl CodeColumn for HorizontalColumn {
+    ghost layout = { layouts.H };
+
+    ghost WIDEST = { 32 };
+
+    ghost seen = { λ h. h };
+
+    const WIDEST: u32 = 32;
+
+    fn with_width(alloc: Global, width: u32) -> Result<HorizontalColumn, AllocError> {
+        Ok(HorizontalColumn {
+            width,
+            len: 0,
+            words: Vec::new(alloc),
+        })
+    }
+
+    #[tactic(auto, using(crate::proofs::Views::count_is))]
+    fn reserve(&mut self, more: usize) -> Result<(), AllocError> {
+        let more_words = words_for(self.width, self.len + more) - self.words.len();
+        self.words.reserve(more_words)
+    }
+
+    fn push(&mut self, code: u64) {
+        self.extend(&[code]);
+    }
+
+    #[tactic(auto, using(crate::proofs::Views::count_is))]
+    fn extend(&mut self, codes: &[u64]) {
+        let len = self.len + codes.len();
+        fill_up(&mut self.words, self.width, len);
+        put_codes(&mut self.words, self.width, self.len, codes);
+        self.len = len;
+    }
+
+    #[tactic(auto, using(crate::proofs::Views::count_is))]
+    fn len(&self) -> usize {
+        self.len
+    }
+
+    fn width(&self) -> u32 {
+        self.width
+    }
+
+    #[tactic(auto, using(crate::proofs::Views::count_is))]
+    fn get(&self, i: usize) -> u64 {
+        Place::of(self.width, i).code(&self.words)
+    }
+
+    #[tactic(auto, using(crate::proofs::Views::count_is))]
+    fn set(&mut self, i: usize, code: u64) {
+        Place::of(self.width, i).put(&mut self.words, code);
+    }
+
+    #[tactic(auto, using(crate::proofs::Views::count_is))]
+    fn read(&self, at: usize, out: &mut [u64]) {
+        read_codes(&self.words, self.width, at, out);
+    }
+
+    #[tactic(auto, using(crate::proofs::Views::count_is))]
+    fn plane(&self, i: u32, out: &mut Mask) {
+        planes::plane(&self.words, self.width, i, out);
+    }
+
+    #[tactic(auto, using(crate::proofs::Views::count_is))]
+    fn scan(&self, test: CodeTest, need: &Mask, out: &mut Mask, meter: &mut Meter) {
+        let mut source = WordSource::new(&self.words);
+        scan_from(&mut source, self.width, test, need, out);
+        meter.add(source.reads());
+    }
+}
+
+#[cfg(test)]
+mod tests;

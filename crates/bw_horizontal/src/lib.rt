@@ -1,0 +1,12 @@
+//! Codes side by side in words (layout H, BitWeaving/H).
+#![tactic(auto)]
+
+mod column;
+mod place;
+mod planes;
+mod scan;
+mod source;
+mod storage;
+
+pub use column::HorizontalColumn;
+pub use scan::scan_from;

@@ -1,0 +1,104 @@
+//! Where the code of a row lies in words of sections.
+
+ghost use Rattle.std.specs.Prelude.{if◌then◌else◌, length, slice_index, ℕ, ◌%◌, ◌*◌, ◌+◌, ◌/◌, ◌<◌, ◌==◌, ◌^◌, ◌≡◌, ◌≤◌};
+ghost use Rattle.std.specs.List.{All};
+ghost use Rattle.bw_lane.specs.Sections.{IsStored};
+ghost use Rattle.bw_horizontal.specs.Words.{code_in, section_in, segment_rows, word_of};
+
+use bw_lane::SectionMasks;
+
+/// The place of a row's code. The next row's is found without a division.
+#[derive(Clone, Copy)]
+pub(crate) struct Place {
+    masks: SectionMasks,
+    row: usize,
+    /// The first word of the row's segment.
+    start: usize,
+    /// The row's word in its segment.
+    word: usize,
+    /// The row's section in its word.
+    section: u32,
+    ghost narrow: { masks.width ≤ 32 },
+    ghost start_is: { start ≡ row / segment_rows masks.width * (masks.width + 1) },
+    ghost word_is: { word ≡ row % segment_rows masks.width % (masks.width + 1) },
+    ghost section_is: { section ≡ section_in masks.width row },
+}
+
+impl Place {
+    /// The place of a row in words of codes of so many bits.
+    pub(crate) fn of(width: u32, row: usize) -> Place
+        requires narrow { width ≤ 32 }
+        requires small { row ≤ 2 ^ 32 }
+        ensures width { result.masks.width ≡ width }
+        ensures row { result.row ≡ row }
+    {
+        let masks = SectionMasks::new(width);
+        let words = width as usize + 1;
+        let rows = words * (64 / words);
+        let (q, r) = (row / rows, row % rows);
+        Place {
+            masks,
+            row,
+            start: q * words,
+            word: r % words,
+            section: (r / words) as u32,
+        }
+    }
+
+    /// The place of the next row.
+    pub(crate) fn next(self) -> Place
+        requires { self.row ≤ 2 ^ 32 }
+        ensures width { result.masks.width ≡ self.masks.width }
+        ensures row { result.row ≡ self.row + 1 }
+    {
+        let masks = self.masks;
+        let words = masks.width as usize + 1;
+        let row = self.row + 1;
+        if self.word + 1 < words {
+            return Place {
+                masks,
+                row,
+                start: self.start,
+                word: self.word + 1,
+                section: self.section,
+            };
+        }
+        if (self.section as usize + 1) < 64 / words {
+            return Place {
+                masks,
+                row,
+                start: self.start,
+                word: 0,
+                section: self.section + 1,
+            };
+        }
+        Place {
+            masks,
+            row,
+            start: self.start + words,
+            word: 0,
+            section: 0,
+        }
+    }
+
+    /// The row's code.
+    pub(crate) fn code(self, words: &[u64]) -> u64
+        requires { word_of self.masks.width self.row < length words.now }
+        ensures { result ≡ code_in self.masks.width words.now self.row }
+    {
+        self.masks.code(words[self.start + self.word], self.section)
+    }
+
+    /// The row's code becomes this one.
+    pub(crate) fn put(self, words: &mut [u64], code: u64)
+        requires there { word_of self.masks.width self.row < length words.old }
+        requires stored { All (IsStored self.masks.width) words.old }
+        requires fits { code < 2 ^ self.masks.width }
+        ensures len { length words.new ≡ length words.old }
+        ensures stored { All (IsStored self.masks.width) words.new }
+        ensures codes { (j : ℕ) → code_in self.masks.width words.new j ≡ (if j == self.row then code else code_in self.masks.width words.old j) }
+    {
+        let i = self.start + self.word;
+        words[i] = self.masks.with_code(words[i], self.section, code as u32);
+    }
+}

@@ -1,0 +1,65 @@
+//! Words of a column: room for rows, and codes put and read row after row.
+
+ghost use Rattle.std.specs.Prelude.{All, length, slice_index, vec_capacity, vec_len, ℕ, ◌*◌, ◌+◌, ◌<◌, ◌^◌, ◌≡◌, ◌≤◌};
+ghost use Rattle.bw_lane.specs.Sections.{IsStored};
+ghost use Rattle.bw_code.specs.Columns.{Fit};
+ghost use Rattle.bw_horizontal.specs.Words.{code_in, segments_of, word_of};
+
+use crate::place::Place;
+
+/// How many words so many rows take.
+pub(crate) fn words_for(width: u32, rows: usize) -> usize
+    requires narrow { width ≤ 32 }
+    requires few { rows ≤ 2 ^ 24 }
+    ensures { result ≡ segments_of width rows * (width + 1) }
+{
+    let words = width as usize + 1;
+    rows.div_ceil(words * (64 / words)) * words
+}
+
+/// Adds words of zeros until there are those of so many rows, within the capacity.
+pub(crate) fn fill_up(words: &mut Vec<u64>, width: u32, rows: usize)
+    requires narrow { width ≤ 32 }
+    requires few { rows ≤ 2 ^ 24 }
+    requires most { vec_len words.old ≤ segments_of width rows * (width + 1) }
+    requires room { segments_of width rows * (width + 1) ≤ vec_capacity words.old }
+    ensures capacity { vec_capacity words.old ≤ vec_capacity words.new }
+    ensures len { vec_len words.new ≡ segments_of width rows * (width + 1) }
+    ensures words { (i : ℕ) → slice_index words.new.items i ≡ slice_index words.old.items i }
+{
+    let Ok(()) = words.resize(words_for(width, rows), 0) else {
+        unreachable!()
+    };
+}
+
+/// The codes of the rows from `at` on become these.
+pub(crate) fn put_codes(words: &mut [u64], width: u32, at: usize, codes: &[u64])
+    requires narrow { width ≤ 32 }
+    requires few { at + length codes.now ≤ 2 ^ 24 }
+    requires fit { Fit width codes.now }
+    requires there { (j : ℕ) → j < at + length codes.now → word_of width j < length words.old }
+    requires stored { All (IsStored width) words.old }
+    ensures stored { All (IsStored width) words.new }
+    ensures put { (i : ℕ) → i < length codes.now → code_in width words.new (at + i) ≡ slice_index codes.now i }
+    ensures other { (j : ℕ) → (at ≤ j → at + length codes.now ≤ j) → code_in width words.new j ≡ code_in width words.old j }
+{
+    let mut place = Place::of(width, at);
+    for code in codes {
+        place.put(words, *code);
+        place = place.next();
+    }
+}
+
+/// Fills `out` with the codes of the rows from `at` on.
+pub(crate) fn read_codes(words: &[u64], width: u32, at: usize, out: &mut [u64])
+    requires narrow { width ≤ 32 }
+    requires few { at + length out.old ≤ 2 ^ 24 }
+    requires there { (j : ℕ) → j < at + length out.old → word_of width j < length words.now }
+    ensures { (i : ℕ) → i < length out.old → slice_index out.new i ≡ code_in width words.now (at + i) }
+{
+    let mut place = Place::of(width, at);
+    for code in out.iter_mut() {
+        *code = place.code(words);
+        place = place.next();
+    }
+}

@@ -1,0 +1,121 @@
+-- One word of one plane changes.
+use Rattle.std.proofs.Common.{List, [], Vec, Global, ap, arith, get_or, inl, inr, length, set, subst, sym, ℕ, ◌%◌, ◌*◌, ◌+◌, ◌/◌, ◌<◌, ◌≡◌, ◌≤◌, ◌∙◌, ◌⊎◌, refl}
+use mathlib.Core.Logic.{◌≢◌}
+use Rattle.std.specs.Prelude.{vec_capacity}
+use Rattle.std.proofs.lemmas.Bool.{cases_eq}
+use Rattle.std.proofs.lemmas.Nat.{div-mul-add, mod-mul-add}
+use Rattle.std.proofs.lemmas.List.{get_or-map, get_or-set_other, get_or-set_same, length-map, map-set, length-set}
+use Rattle.bw_vertical.specs.Storage.{KeepsSizes, capacities, lists, planes_in, word_of}
+
+-- a place among rows of m tells its row and its column
+row_is : (a b m x y : ℕ) → x < m → y < m → a * m + x ≡ b * m + y → a ≡ b
+row_is a b m x y p q e = sym (div-mul-add a m x p) ∙ ap (λ n. n / m) e ∙ div-mul-add b m y q
+
+column_is : (a b m x y : ℕ) → x < m → y < m → a * m + x ≡ b * m + y → x ≡ y
+column_is a b m x y p q e = sym (mod-mul-add a m x p) ∙ ap (λ n. n % m) e ∙ mod-mul-add b m y q
+
+-- plane i has its place in its group
+pub in_its_group : (k i : ℕ) → i < k → i % 4 < planes_in k (i / 4)
+in_its_group k i h = omega arith
+
+-- a group of the list
+pub group_is : (vs : List (Vec (List ℕ) Global)) (g : ℕ) (v : Vec (List ℕ) Global) → g < length vs → v ≡ get_or vs g v → get_or (lists vs) g [] ≡ v.items
+group_is vs g v within read = get_or-map (λ x. x.items) vs g v [] within ∙ ap (λ x. x.items) (sym read)
+
+pub capacity_is : (vs : List (Vec (List ℕ) Global)) (g : ℕ) (v : Vec (List ℕ) Global) → g < length vs → v ≡ get_or vs g v → get_or (capacities vs) g 0 ≡ vec_capacity v
+capacity_is vs g v within read = get_or-map (λ x. vec_capacity x) vs g v 0 within ∙ ap (λ x. vec_capacity x) (sym read)
+
+-- group g becomes w
+module _ (vs : List (Vec (List ℕ) Global)) (g : ℕ) (v w : Vec (List ℕ) Global) (within : g < length vs) (read : v ≡ get_or vs g v) where
+  abbrev after : List (Vec (List ℕ) Global)
+  after = set vs g w
+
+  pub here : get_or (lists after) g [] ≡ w.items
+  here = ap (λ gs. get_or gs g []) (map-set (λ x. x.items) vs g w) ∙ get_or-set_same (lists vs) g w.items [] (omega (arith, length-map vs (λ (x : Vec (List ℕ) Global). x.items)))
+
+  pub elsewhere : (h : ℕ) → h ≢ g → get_or (lists after) h [] ≡ get_or (lists vs) h []
+  elsewhere h d = ap (λ gs. get_or gs h []) (map-set (λ x. x.items) vs g w) ∙ get_or-set_other (lists vs) g h w.items [] d
+
+  pub capacity_here : get_or (capacities after) g 0 ≡ vec_capacity w
+  capacity_here = ap (λ cs. get_or cs g 0) (map-set (λ x. vec_capacity x) vs g w) ∙ get_or-set_same (capacities vs) g (vec_capacity w) 0 (omega (arith, length-map vs (λ (x : Vec (List ℕ) Global). vec_capacity x)))
+
+  pub capacity_elsewhere : (h : ℕ) → h ≢ g → get_or (capacities after) h 0 ≡ get_or (capacities vs) h 0
+  capacity_elsewhere h d = ap (λ cs. get_or cs h 0) (map-set (λ x. vec_capacity x) vs g w) ∙ get_or-set_other (capacities vs) g h (vec_capacity w) 0 d
+
+  pub capacities_more : vec_capacity v ≤ vec_capacity w → (h : ℕ) → get_or (capacities vs) h 0 ≤ get_or (capacities after) h 0
+  capacities_more more h =
+      elim (cases_eq h g) [
+        | inl e ↦ rw (e, capacity_here, capacity_is vs g v within read) more
+        | inr d ↦ rw (capacity_elsewhere h d) (omega arith)
+      ]
+
+  pub keeps_sizes : length w.items ≡ length v.items → vec_capacity v ≤ vec_capacity w → KeepsSizes after vs
+  keeps_sizes len more = record {
+    count = length-set vs g w;
+    sizes = λ h.
+        elim (cases_eq h g) [
+          | inl e ↦ rw (e, here, group_is vs g v within read) len
+          | inr d ↦ rw (elsewhere h d) refl
+        ];
+    capacities = capacities_more more;
+  }
+
+-- lane w % 4 of the place of plane i in segment w / 4 becomes the word
+module _
+    (k i w m word : ℕ) (vs : List (Vec (List ℕ) Global)) (v u : Vec (List ℕ) Global)
+    (low : i < k) (within : i / 4 < length vs) (read : v ≡ get_or vs (i / 4) v) (m_is : m ≡ planes_in k (i / 4))
+    (same : get_or (get_or u.items (w / 4 * m + i % 4) []) (w % 4) 0 ≡ word)
+    (lanes : (n : ℕ) → n ≢ w % 4 → get_or (get_or u.items (w / 4 * m + i % 4) []) n 0 ≡ get_or (get_or v.items (w / 4 * m + i % 4) []) n 0)
+    (planes : (b : ℕ) → b ≢ w / 4 * m + i % 4 → get_or u.items b [] ≡ get_or v.items b [])
+  where
+    abbrev now : List (Vec (List ℕ) Global)
+    now = set vs (i / 4) u
+
+    place_is : w / 4 * m + i % 4 ≡ w / 4 * planes_in k (i / 4) + i % 4
+    place_is = ap (λ x. w / 4 * x + i % 4) m_is
+
+    pub word_same : word_of k (lists now) i w ≡ word
+    word_same =
+        ap (λ g. get_or (get_or g (w / 4 * planes_in k (i / 4) + i % 4) []) (w % 4) 0) (here vs (i / 4) v u within read)
+        ∙ ap (λ a. get_or (get_or u.items a []) (w % 4) 0) (sym place_is) ∙ same
+
+    in_group : (p v2 : ℕ) → p < k → p / 4 ≡ i / 4 → (p ≢ i) ⊎ (v2 ≢ w)
+        → get_or (get_or u.items (v2 / 4 * m + p % 4) []) (v2 % 4) 0 ≡ get_or (get_or v.items (v2 / 4 * m + p % 4) []) (v2 % 4) 0
+    in_group p v2 inside e away =
+        let column : i % 4 < m = rw m_is (in_its_group k i low) in
+        let also : p % 4 < m = rw m_is (subst (λ g. p % 4 < planes_in k g) e (in_its_group k p inside)) in
+        elim (cases_eq (v2 / 4 * m + p % 4) (w / 4 * m + i % 4)) [
+          | inl f ↦
+              let row = row_is (v2 / 4) (w / 4) m (p % 4) (i % 4) also column f in
+              let col = column_is (v2 / 4) (w / 4) m (p % 4) (i % 4) also column f in
+              let plane : p ≡ i = omega (arith, e, col) in
+              elim away [
+                | inl d ↦ absurd (d plane)
+                | inr d ↦
+                    let lane : v2 % 4 ≢ w % 4 = λ q. d (omega (arith, row, q)) in
+                    ap (λ a. get_or (get_or u.items a []) (v2 % 4) 0) f ∙ lanes (v2 % 4) lane ∙ ap (λ a. get_or (get_or v.items a []) (v2 % 4) 0) (sym f)
+              ]
+          | inr f ↦ ap (λ x. get_or x (v2 % 4) 0) (planes (v2 / 4 * m + p % 4) f)
+        ]
+
+    pub word_other : (p v2 : ℕ) → p < k → (p ≢ i) ⊎ (v2 ≢ w) → word_of k (lists now) p v2 ≡ word_of k (lists vs) p v2
+    word_other p v2 inside away =
+        elim (cases_eq (p / 4) (i / 4)) [
+          | inl e ↦
+              let there : get_or (lists now) (p / 4) [] ≡ u.items = ap (λ g. get_or (lists now) g []) e ∙ here vs (i / 4) v u within read in
+              let before : get_or (lists vs) (p / 4) [] ≡ v.items = ap (λ g. get_or (lists vs) g []) e ∙ group_is vs (i / 4) v within read in
+              let size : planes_in k (p / 4) ≡ m = ap (planes_in k) e ∙ sym m_is in
+              ap (λ g. get_or (get_or g (v2 / 4 * planes_in k (p / 4) + p % 4) []) (v2 % 4) 0) there
+              ∙ ap (λ x. get_or (get_or u.items (v2 / 4 * x + p % 4) []) (v2 % 4) 0) size
+              ∙ in_group p v2 inside e away
+              ∙ ap (λ x. get_or (get_or v.items (v2 / 4 * x + p % 4) []) (v2 % 4) 0) (sym size)
+              ∙ ap (λ g. get_or (get_or g (v2 / 4 * planes_in k (p / 4) + p % 4) []) (v2 % 4) 0) (sym before)
+          | inr d ↦ ap (λ g. get_or (get_or g (v2 / 4 * planes_in k (p / 4) + p % 4) []) (v2 % 4) 0) (elsewhere vs (i / 4) v u within read (p / 4) d)
+        ]
+
+pub sizes_more : {newer new old : List (Vec (List ℕ) Global)} → KeepsSizes newer new → KeepsSizes new old → KeepsSizes newer old
+sizes_more a b = record {
+  count = a.count ∙ b.count;
+  sizes = λ g. a.sizes g ∙ b.sizes g;
+  capacities = λ g. omega (arith, a.capacities g, b.capacities g);
+}

@@ -1,0 +1,26 @@
+use Rattle.std.proofs.Common.{ap, arith, drop, get_or, length, sym, take, ◌+◌, ◌≡◌, ◌≤◌, ◌∙◌}
+use Rattle.std.proofs.lemmas.List.{get_or_default}
+use Rattle.bw_code.proofs.Lists.{part_is}
+use Rattle.bw_vertical.specs.Storage.{code_of, codes_of, lists}
+use Rattle.bw_vertical.proofs.Holding.{code_lt, codes_at, codes_len}
+use Rattle.bw_vertical.proofs.column.VerticalColumnCodeColumn.read.Goals as goal
+
+pub returns-clause-codes : goal.returns-clause-codes
+returns-clause-codes c =
+    let k = c.self.inside.width in
+    let n = c.self.inside.len in
+    let gs = lists c.self.inside.groups.items in
+    let at = c.args.at in
+    let out = c.read_codes.new.out in
+    let inside : at + length c.args.out.now ≤ n = grind (arith, codes_len) in
+    let whole = part_is (codes_of k gs n) out at 0 (omega (arith, inside, c.read_codes.ensures.long, codes_len k n gs)) (λ i h.
+    c.read_codes.ensures.codes i (omega (arith, h, c.read_codes.ensures.long)) ∙ ap (λ vs. code_of k (lists vs) (at + i)) c.deref.ensures.value ∙ sym (codes_at k n gs c.self.invariant (at + i))) in
+    rw (← c.self.view_is) (whole ∙ ap (λ m. take m (drop at (codes_of k gs n))) c.read_codes.ensures.long)
+
+pub returns-clause-fit : goal.returns-clause-fit
+returns-clause-fit c =
+    let k = c.self.inside.width in
+    let out = c.read_codes.new.out in
+    rw (← c.self.view_is) (λ i d h.
+    let code : get_or out i d ≡ code_of k (lists c.deref.result.now) (c.args.at + i) = get_or_default out i d 0 h ∙ c.read_codes.ensures.codes i (omega (arith, h, c.read_codes.ensures.long)) in
+    rw code (code_lt k (lists c.deref.result.now) (c.args.at + i)))

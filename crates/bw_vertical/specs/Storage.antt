@@ -1,0 +1,84 @@
+-- How a column of codes lies in memory. Group g holds planes 4g to 4g + 3, as far as there are such planes; in it the planes of
+-- segment 0 come first, then those of segment 1, and so on. A plane of a segment is four words of 64 rows.
+use Rattle.std.specs.Prelude.{Bool, List, [], false, length, map, min, slice_index, slice_index_or, suc, zero, ℕ, ◌%◌, ◌*◌, ◌+◌, ◌-◌, ◌/◌, ◌<◌, ◌^◌, ◌≡◌, ◌≤◌}
+use Rattle.std.specs.Prelude.{vec_capacity}
+use Rattle.std.specs.Global.{Vec}
+use Rattle.std.specs.Simd.Lanes.{mask_l}
+use Rattle.bw_mask.specs.Masks.{bit_of, rows_of}
+use Rattle.bw_code.specs.Lists.{made}
+use Rattle.bw_vertical.specs.Planes.{segments_of}
+
+-- how many groups k planes make, and how many planes group g has
+abbrev pub groups_of : ℕ → ℕ
+groups_of k = (k + 3) / 4
+
+abbrev pub planes_in : ℕ → ℕ → ℕ
+planes_in k g = min 4 (k - 4 * g)
+
+-- plane i of segment q
+abbrev pub plane_at : ℕ → List (List (List ℕ)) → ℕ → ℕ → List ℕ
+plane_at k groups q i = slice_index_or (slice_index_or groups (i / 4) []) (q * planes_in k (i / 4) + i % 4) []
+
+-- word w of plane i: rows 64w to 64w + 63
+abbrev pub word_of : ℕ → List (List (List ℕ)) → ℕ → ℕ → ℕ
+word_of k groups i w = slice_index (plane_at k groups (w / 4) i) (w % 4)
+
+-- whether row j of plane i is set
+abbrev pub is_set : ℕ → List (List (List ℕ)) → ℕ → ℕ → Bool
+is_set k groups i j = bit_of (word_of k groups i (j / 64)) (j % 64)
+
+-- the code of row j: its bit i is row j of plane k - 1 - i
+abbrev pub code_of : ℕ → List (List (List ℕ)) → ℕ → ℕ
+code_of k groups j = mask_l (rows_of k (λ i. is_set k groups (k - 1 - i) j))
+
+-- each group holds its planes of segment q
+abbrev pub HasSegment : ℕ → List (List (List ℕ)) → ℕ → Type 0
+HasSegment k groups q = (g : ℕ) → 4 * g < k → (q + 1) * planes_in k g ≤ length (slice_index_or groups g [])
+
+-- the planes of n codes of k bits: whole segments, and rows past the last are not set
+pub record AreGroups (k : ℕ) (groups : List (List (List ℕ))) (n : ℕ) : Type 0 where
+  pub some : 1 ≤ k
+  pub narrow : k ≤ 32
+  pub few : n ≤ 2 ^ 24
+  pub count : length groups ≡ groups_of k
+  pub sizes : (g : ℕ) → 4 * g < k → length (slice_index_or groups g []) ≡ segments_of n * planes_in k g
+  pub clean : (i j : ℕ) → i < k → n ≤ j → is_set k groups i j ≡ false
+
+-- what the vectors hold, and for how many planes each has capacity
+abbrev pub lists : List (Vec (List ℕ)) → List (List (List ℕ))
+lists groups = map (λ group. group.items) groups
+
+abbrev pub capacities : List (Vec (List ℕ)) → List ℕ
+capacities groups = map (λ group. vec_capacity group) groups
+
+-- the least value at a place below n, and no more than `most`
+unfoldable pub least_below : ℕ → ℕ → (ℕ → ℕ) → ℕ
+least_below most zero value = most
+least_below most (suc n) value = min (least_below most n value) (value n)
+
+-- how many rows fit: whole segments for which every group has capacity, 65,536 at most
+abbrev pub room_of : ℕ → List ℕ → ℕ
+room_of k capacities = 256 * least_below 65536 (groups_of k) (λ g. slice_index capacities g / planes_in k g)
+
+-- as many groups, each as long as before, with no less capacity
+pub record KeepsSizes (new old : List (Vec (List ℕ))) : Type 0 where
+  pub count : length new ≡ length old
+  pub sizes : (g : ℕ) → length (slice_index_or (lists new) g []) ≡ length (slice_index_or (lists old) g [])
+  pub capacities : (g : ℕ) → slice_index (capacities old) g ≤ slice_index (capacities new) g
+
+-- the first n codes
+abbrev pub codes_of : ℕ → List (List (List ℕ)) → ℕ → List ℕ
+codes_of k groups n = made n (code_of k groups)
+
+-- the planes as units of a scan, and how many of them were read
+abbrev pub units_of : ℕ → List (List (List ℕ)) → ℕ → List (List ℕ)
+units_of k groups n = made (segments_of n * k) (λ u. plane_at k groups (u / k) (u % k))
+
+pub record PlanesRead : Type 0 where
+  pub units : List (List ℕ)
+  pub reads : ℕ
+
+-- the planes of n codes, and the first unit of a segment of them
+pub record IsInPlace (k : ℕ) (groups : List (List (List ℕ))) (n segment start : ℕ) : Type 0 where
+  pub planes : AreGroups k groups n
+  pub start_is : start ≡ segment * k

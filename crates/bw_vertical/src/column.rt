@@ -1,0 +1,151 @@
+//! Columns of codes as planes of bits.
+
+ghost use Rattle.std.specs.Prelude.{[], ◌++◌, ◌%◌, ◌≤◌, ◌^◌, length, slice_index_or, ℕ, ◌*◌, ◌+◌, ◌-◌, ◌<◌, ◌≡◌};
+ghost use Rattle.bw_mask.specs.Masks.{bit_of, row_in};
+ghost use Rattle.bw_code.specs.Columns.{code_at, count, Fit, KeepsShape};
+ghost use Rattle.bw_code.specs.declared.kind.Layout.TheVariants as layouts;
+ghost use Rattle.bw_vertical.specs.Planes.{segments_of};
+ghost use Rattle.bw_vertical.specs.Storage.{groups_of, planes_in};
+
+use crate::growing::{begin_segment, empty_groups, reserve_segments};
+use crate::scan::scan_from;
+use crate::source::PlaneSource;
+use crate::{blocks, codes};
+use bw_code::{CodeColumn, CodeTest, Meter, Source};
+use bw_mask::Mask;
+use std::alloc::{AllocError, Global};
+use std::marker::Model;
+
+/// Codes of at most 32 bits as planes, each of one bit of every code (BitWeaving/V: Li and Patel,
+/// SIGMOD 2013). Plane 0 holds the highest bits.
+#[derive(Drop)]
+pub struct VerticalColumn {
+    width: u32,
+    len: usize,
+    groups: Vec<Vec<[u64; 4]>>,
+}
+
+impl Model for VerticalColumn {
+    ghost use Rattle.bw_code.specs.Columns.{CodeList};
+    ghost use Rattle.bw_vertical.specs.Storage.{AreGroups, capacities, codes_of, lists, room_of};
+
+    ghost Value = { CodeList };
+
+    ghost view = { λ c. record { width = c.width; codes = codes_of c.width (lists c.groups.items) c.len; room = room_of c.width (capacities c.groups.items) } };
+
+    ghost invariant = { λ c. AreGroups c.width (lists c.groups.items) c.len };
+}
+
+impl VerticalColumn {
+    /// Group g: planes 4 g to 4 g + 3, as far as there are such planes. Of m planes in the group,
+    /// plane 4 g + i of segment q is at q * m + i. A segment is 256 rows; row j of it is bit j % 64 of
+    /// word j / 64. Rows past the last are not set.
+    #[tactic(auto, using(crate::proofs::Holding::codes_len))]
+    pub fn group(&self, g: usize) -> &[[u64; 4]]
+        requires { g < groups_of self.now.width }
+        ensures count { length result.now ≡ segments_of (count self.now) * planes_in self.now.width g }
+        ensures rows { (q i r : ℕ) → i < planes_in self.now.width g → r < 256
+            → row_in (slice_index_or result.now (q * planes_in self.now.width g + i) []) r ≡ bit_of (code_at self.now (256 * q + r)) (self.now.width - 1 - (4 * g + i)) }
+    {
+        &self.groups[g]
+    }
+
+    /// Adds codes at the end, within the room, so few that their rows lie in one word.
+    #[tactic(auto, using(crate::proofs::Holding::codes_len))]
+    fn append(&mut self, codes: &[u64])
+        requires some { 0 < length codes.now }
+        requires word { count self.old % 64 + length codes.now ≤ 64 }
+        requires fit { Fit self.old.width codes.now }
+        requires room { count self.old + length codes.now ≤ self.old.room }
+        requires few { count self.old + length codes.now ≤ 2 ^ 24 }
+        ensures shape { KeepsShape self.new self.old }
+        ensures codes { self.new.codes ≡ self.old.codes ++ codes.now }
+    {
+        let k = self.width as usize;
+        begin_segment(&mut self.groups, k, self.len);
+        blocks::put_block(&mut self.groups, k, self.len, codes);
+        self.len += codes.len();
+    }
+}
+
+impl CodeColumn for VerticalColumn {
+    ghost layout = { layouts.V };
+
+    ghost WIDEST = { 32 };
+
+    ghost seen = { λ c. c };
+
+    const WIDEST: u32 = 32;
+
+    #[tactic(auto, using(crate::proofs::Holding::codes_len))]
+    fn with_width(alloc: Global, width: u32) -> Result<VerticalColumn, AllocError> {
+        let groups = empty_groups(alloc, (width as usize).div_ceil(4))?;
+        Ok(VerticalColumn {
+            width,
+            len: 0,
+            groups,
+        })
+    }
+
+    #[tactic(auto, using(crate::proofs::Holding::codes_len))]
+    fn reserve(&mut self, more: usize) -> Result<(), AllocError> {
+        let segments = (self.len + more).div_ceil(256) - self.len.div_ceil(256);
+        reserve_segments(&mut self.groups, self.width as usize, segments)
+    }
+
+    #[tactic(auto, using(crate::proofs::Holding::codes_len))]
+    fn push(&mut self, code: u64) {
+        let k = self.width as usize;
+        begin_segment(&mut self.groups, k, self.len);
+        codes::put_code(&mut self.groups, k, self.len, code);
+        self.len += 1;
+    }
+
+    fn extend(&mut self, codes: &[u64]) {
+        let mut rest = codes;
+        'parts: while !rest.is_empty() {
+            let (front, back) = rest.split_at(rest.len().min(64 - self.len() % 64));
+            self.append(front);
+            rest = back;
+        }
+    }
+
+    #[tactic(auto, using(crate::proofs::Holding::codes_len))]
+    fn len(&self) -> usize {
+        self.len
+    }
+
+    fn width(&self) -> u32 {
+        self.width
+    }
+
+    #[tactic(auto, using(crate::proofs::Holding::codes_len))]
+    fn get(&self, i: usize) -> u64 {
+        codes::code_at(&self.groups, self.width as usize, i)
+    }
+
+    #[tactic(auto, using(crate::proofs::Holding::codes_len))]
+    fn set(&mut self, i: usize, code: u64) {
+        codes::put_code(&mut self.groups, self.width as usize, i, code);
+    }
+
+    #[tactic(auto, using(crate::proofs::Holding::codes_len))]
+    fn read(&self, at: usize, out: &mut [u64]) {
+        blocks::read_codes(&self.groups, self.width as usize, at, out);
+    }
+
+    #[tactic(auto, using(crate::proofs::Holding::codes_len))]
+    fn plane(&self, i: u32, out: &mut Mask) {
+        codes::put_plane(&self.groups, self.width as usize, i as usize, self.len, out);
+    }
+
+    #[tactic(auto, using(crate::proofs::Holding::codes_len))]
+    fn scan(&self, test: CodeTest, need: &Mask, out: &mut Mask, meter: &mut Meter) {
+        let mut source = PlaneSource::new(&self.groups, self.width, self.len);
+        scan_from(&mut source, self.width, test, need, out);
+        meter.add(source.reads());
+    }
+}
+
+#[cfg(test)]
+mod tests;
