@@ -84,16 +84,13 @@ module _ (k n : ℕ) (slices : List (List ℕ)) (stored : AreSlices k n slices) 
   code_here j = ap (λ x. x / 2 ^ shift_of k) (number_here j)
 
   unit_bytes : AreBytes (units_of slices)
-  unit_bytes u r =
+  unit_bytes u r short =
       elim (cases_lt u (length (units_of slices))) [
         | inl h ↦
             let q = u / length slices in
             let slice = get_or slices (u % length slices) [] in
             let unit = ap (λ s. get_or s r 0) (unit_is slices u [] h) in
-            elim (cases_lt r 32) [
-              | inl short ↦ omega (arith, unit, get_or-take 32 (drop (32 * q) slice) r 0 short, get_or-drop (32 * q) slice r 0, stored.bytes (u % length slices) (32 * q + r))
-              | inr long ↦ omega (arith, unit, get_or_past (take 32 (drop (32 * q) slice)) r 0 (omega (arith, length-take 32 (drop (32 * q) slice), long)))
-            ]
+            omega (arith, unit, get_or-take 32 (drop (32 * q) slice) r 0 short, get_or-drop (32 * q) slice r 0, stored.bytes (u % length slices) (32 * q + r))
         | inr past ↦ let none = ap (λ s. get_or s r 0) (get_or_past (units_of slices) u [] past) in omega (arith, none)
       ]
 

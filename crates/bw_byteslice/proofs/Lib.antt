@@ -1,3 +1,4 @@
+pub mod Bytes
 pub mod InUnits
 pub mod Keeping
 pub mod Numbers

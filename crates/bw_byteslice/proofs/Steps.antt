@@ -9,7 +9,7 @@ use Rattle.bw_byteslice.specs.Slices.{AreBytes, by_bytes, byte_in, number_in}
 use Rattle.bw_byteslice.proofs.Numbers.{digit_of_number, number_fits}
 
 pub number_in_fits : (m : ℕ) (units : List (List ℕ)) → AreBytes units → (j : ℕ) → number_in m units j < 256 ^ m
-number_in_fits m units holds j = number_fits (byte_in m units j) (λ e. holds _ _) m
+number_in_fits m units holds j = number_fits (byte_in m units j) (λ e. holds _ _ (omega arith)) m
 
 -- a slice read is that of the units
 module _
@@ -24,7 +24,7 @@ module _
         let at : (32 * q + r) / 32 ≡ q = omega arith in
         let within : (32 * q + r) % 32 ≡ r = omega arith in
         let here : byte_in m units (32 * q + r) i ≡ get_or slice r 0 = rw (at, within) (ap (λ s. get_or s r 0) (sym unit)) in
-        sym (digit_of_number (byte_in m units (32 * q + r)) (λ e. holds _ _) m i low ∙ here)
+        sym (digit_of_number (byte_in m units (32 * q + r)) (λ e. holds _ _ (omega arith)) m i low ∙ here)
 
     -- the masks after one slice more, and the rows that are left
     pub slice_more : (need lt eq lt2 eq2 : ℕ → Bool) (byte : ℕ) → byte ≡ digit 256 m c i

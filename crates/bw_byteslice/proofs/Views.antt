@@ -1,8 +1,5 @@
 -- The view of a column of slices.
 use Rattle.std.proofs.Common.{List, [], ◌∷◌, suc, zero, vec_capacity, Vec, Global, ap, arith, get_or, length, sym, subst, ℕ, ◌*◌, ◌+◌, ◌<◌, ◌^◌, ◌≡◌, ◌≤◌, ◌∙◌, take, drop}
-use Rattle.std.specs.Result.{OnOk}
-use Rattle.std.specs.declared.result.Result.{Result}
-use Rattle.std.specs.declared.result.Result.TheVariants.{Err, Ok}
 use Rattle.std.proofs.lemmas.List.{get_or_default, length-map}
 use Rattle.bw_code.specs.Columns.{CodeList, Fit}
 use Rattle.bw_code.specs.Lists.{made}
@@ -66,10 +63,6 @@ capacity_count slices = length-map slices (λ v. vec_capacity v)
 
 pub byte_count : (slices : List (Vec ℕ Global)) → length (bytes_of slices) ≡ length slices
 byte_count slices = length-map slices (λ v. v.items)
-
-pub on_ok : {P Q T E : Type 0} (result : Result T E) → (P → Q) → OnOk result P → OnOk result Q
-on_ok (Ok x) f p = f p
-on_ok (Err e) f p = p
 
 -- a list of one code
 pub fit_one : (k code : ℕ) → code < 2 ^ k → Fit k (code ∷ [])

@@ -1,11 +1,14 @@
 -- 32 rows as the bits of a word.
-use Rattle.std.proofs.Common.{Bool, ap, arith, eqb, false, not, refl, sym, true, ℕ, ◌%◌, ◌*◌, ◌+◌, ◌/◌, ◌<◌, ◌^◌, ◌≡◌, ◌∙◌}
-use Rattle.std.proofs.lemmas.Bool.{eq-eqb, ne_eqb}
-use Rattle.std.proofs.lemmas.Nat.Bits.{bit_at-lt, bit_at-zero, bit_at_cat_low, same_from_bits_below}
-use Rattle.bw_mask.specs.Masks.{bit_of}
-use Rattle.bw_mask.proofs.Bits.{bit_of_zero}
-use Rattle.bw_code.specs.Units.{some_below}
-use Rattle.bw_code.proofs.Reach.{none_at, none_if}
+use Rattle.std.proofs.Common.{Bool, List, get_or, ap, arith, bit_or, inl, inr, eqb, false, not, refl, sym, true, ℕ, ◌%◌, ◌*◌, ◌+◌, ◌-◌, ◌/◌, ◌<◌, ◌^◌, ◌≡◌, ◌≤◌, ◌||◌, ◌∙◌}
+use Rattle.std.proofs.Math.Nat.{mul-le-mul_right}
+use Rattle.std.proofs.lemmas.Bool.{cases_lt, eq-eqb, ne_eqb}
+use Rattle.std.proofs.lemmas.Nat.{shr-shr}
+use Rattle.std.proofs.lemmas.Nat.Bits.{bit_at-lt, bit_at-zero, bit_at_above, bit_at_cat_low, same_from_bits_below}
+use Rattle.bw_mask.specs.Masks.{bit_of, row_in}
+use Rattle.bw_mask.proofs.Bits.{bit_below_shl, bit_of_or, bit_of_shl, bit_of_zero}
+use Rattle.bw_code.specs.Units.{some_below, sum_below}
+use Rattle.bw_byteslice.specs.Slices.{segments_of}
+use Rattle.bw_code.proofs.Reach.{none_at, none_if, sum_more}
 
 pub empty_is : (w : ℕ) → w < 2 ^ 32 → eqb w 0 ≡ not (some_below 32 (bit_of w))
 empty_is w fits = by_cases (some_below 32 (bit_of w)) refl
@@ -22,3 +25,51 @@ pub low_bit : (w r : ℕ) → r < 32 → bit_of (w % 2 ^ 32) r ≡ bit_of w r
 low_bit w r h =
     let whole : w ≡ w / 2 ^ 32 * 2 ^ 32 + w % 2 ^ 32 = omega arith in
     sym (ap (λ n. bit_of n r) whole ∙ ap (λ x. eqb x 1) (bit_at_cat_low (w / 2 ^ 32) 32 (w % 2 ^ 32) r h))
+
+pub high_bit : (w r : ℕ) → bit_of (w / 2 ^ 32) r ≡ bit_of w (32 + r)
+high_bit w r = ap (λ n. eqb (n % 2) 1) (shr-shr w 32 r)
+
+module _ (low high : ℕ) (fits : low < 2 ^ 32) (r : ℕ) (h : r < 32) where
+  pub joined_low : bit_of (bit_or (high * 2 ^ 32 % 2 ^ 64) low) r ≡ bit_of low r
+  joined_low = bit_of_or (high * 2 ^ 32 % 2 ^ 64) low r ∙ ap (λ b. b || bit_of low r) (bit_below_shl high 32 r h (omega arith))
+
+  pub joined_high : bit_of (bit_or (high * 2 ^ 32 % 2 ^ 64) low) (32 + r) ≡ bit_of high r
+  joined_high =
+      let place : 32 + r - 32 ≡ r = omega arith in
+      let none : bit_of low (32 + r) ≡ false = ap (λ x. eqb x 1) (bit_at_above low 32 (32 + r) fits (omega arith)) in
+      bit_of_or (high * 2 ^ 32 % 2 ^ 64) low (32 + r)
+      ∙ ap (λ b. bit_of (high * 2 ^ 32 % 2 ^ 64) (32 + r) || b) none
+      ∙ or_none (bit_of (high * 2 ^ 32 % 2 ^ 64) (32 + r))
+      ∙ bit_of_shl high 32 (32 + r) (omega arith) (omega arith)
+      ∙ ap (bit_of high) place
+    where
+      or_none : (b : Bool) → (b || false) ≡ b
+      or_none true = refl
+      or_none false = refl
+
+-- a segment of which a row is needed is there
+module _ (n q : ℕ) (rows need : ℕ → Bool) (each : (r : ℕ) → r < 32 → rows r ≡ need (32 * q + r)) (past : (j : ℕ) → n ≤ j → need j ≡ false) where
+  pub none_past : segments_of n ≤ q → some_below 32 rows ≡ false
+  none_past h = none_if 32 rows (λ r l. each r l ∙ past (32 * q + r) (omega (arith, h)))
+
+  pub segment_there : (m units : ℕ) → units ≡ segments_of n * m → some_below 32 rows ≡ true → (q + 1) * m ≤ units
+  segment_there m units count some =
+      elim (cases_lt q (segments_of n)) [
+        | inl l ↦ rw count (mul-le-mul_right {m = q + 1} {n = segments_of n} m (omega (arith, l)))
+        | inr h ↦ let none = none_past h in absurd cc
+      ]
+
+-- a bit of a word of a mask is a row of it
+pub word_row : (words : List ℕ) (need : ℕ → Bool) → ((i : ℕ) → row_in words i ≡ need i) → (w e j : ℕ) → e < 64 → 64 * w + e ≡ j → bit_of (get_or words w 0) e ≡ need j
+word_row words need each w e j h place =
+    let at : (64 * w + e) / 64 ≡ w = omega arith in
+    let within : (64 * w + e) % 64 ≡ e = omega arith in
+    sym (ap (λ q. bit_of (get_or words q 0) ((64 * w + e) % 64)) at ∙ ap (bit_of (get_or words w 0)) within) ∙ each (64 * w + e) ∙ ap need place
+
+-- segments by twos, where the last of them may have no row
+pub sum_by_twos : (n words : ℕ) (f : ℕ → ℕ) → words ≡ (n + 63) / 64 → (segments_of n < 2 * words → f (segments_of n) ≡ 0) → sum_below (2 * words) f ≡ sum_below (segments_of n) f
+sum_by_twos n words f count none =
+    elim (cases_lt (segments_of n) (2 * words)) [
+      | inl l ↦ let one : 2 * words ≡ segments_of n + 1 = omega (arith, count, l) in ap (λ k. sum_below k f) one ∙ omega (arith, sum_more (segments_of n) f, none l)
+      | inr h ↦ let same : 2 * words ≡ segments_of n = omega (arith, count, h) in ap (λ k. sum_below k f) same
+    ]

@@ -34,7 +34,7 @@ abbrev pub code_in : ℕ → List (List ℕ) → ℕ → ℕ
 code_in k units j = number_in (slices_of k) units j / 2 ^ shift_of k
 
 abbrev pub AreBytes : List (List ℕ) → Type 0
-AreBytes units = (u r : ℕ) → slice_index (slice_index_or units u []) r < 256
+AreBytes units = (u r : ℕ) → r < 32 → slice_index (slice_index_or units u []) r < 256
 
 -- the units hold bytes, and the bits below a shifted code are 0
 pub record AreStored (k : ℕ) (units : List (List ℕ)) : Type 0 where

@@ -2,7 +2,7 @@
 use Rattle.std.specs.Prelude.{List, [], ◌∷◌, drop, length, map, min, slice_index, slice_index_or, take, vec_capacity, ℕ, ◌%◌, ◌*◌, ◌/◌, ◌<◌, ◌^◌, ◌≡◌, ◌≤◌}
 use Rattle.std.specs.Global.{Vec}
 use Rattle.bw_code.specs.Lists.{made}
-use Rattle.bw_byteslice.specs.Slices.{AreBytes, number_of, segments_of, shift_of, slices_of}
+use Rattle.bw_byteslice.specs.Slices.{number_of, segments_of, shift_of, slices_of}
 
 -- the bytes of each slice
 abbrev pub bytes_of : List (Vec ℕ) → List (List ℕ)
@@ -54,6 +54,6 @@ pub record AreSlices (k n : ℕ) (slices : List (List ℕ)) : Type 0 where
   pub few : n ≤ 2 ^ 24
   pub count : length slices ≡ slices_of k
   pub long : (i : ℕ) → i < slices_of k → length (slice_index_or slices i []) ≡ 32 * segments_of n
-  pub bytes : AreBytes slices
+  pub bytes : (i j : ℕ) → byte_of slices j i < 256
   pub spare : (j : ℕ) → number_at (slices_of k) slices j % 2 ^ shift_of k ≡ 0
   pub clean : (j : ℕ) → n ≤ j → number_at (slices_of k) slices j ≡ 0

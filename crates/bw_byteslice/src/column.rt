@@ -1,7 +1,6 @@
 //! The column of layout S.
 
-ghost use Rattle.std.specs.Prelude.{length, slice_index, ℕ, ◌*◌, ◌+◌, ◌/◌, ◌<◌, ◌^◌, ◌≡◌, ◌≤◌};
-ghost use Rattle.bw_mask.specs.Masks.{bit_of, len, row_at, SameShape};
+ghost use Rattle.std.specs.Prelude.{length, slice_index, ℕ, ◌*◌, ◌<◌, ◌^◌, ◌≡◌, ◌≤◌};
 ghost use Rattle.bw_code.specs.Columns.{code_at, count};
 ghost use Rattle.bw_code.specs.Units.{digit};
 ghost use Rattle.bw_code.specs.declared.kind.Layout.TheVariants as layouts;
@@ -47,7 +46,8 @@ fn whole_segments(rows: usize) -> usize
 }
 
 impl SliceColumn {
-    /// Slice j: a byte for each row, and zeros up to a multiple of 32.
+    /// Slice j, of as many slices as a code has bytes: byte j of each row's code, shifted up, where byte 0 is the
+    /// highest. Behind the last row come zeros, up to a multiple of 32.
     pub fn slice(&self, j: usize) -> &[u8]
         requires { j < slices_of self.now.width }
         ensures len { length result.now ≡ 32 * segments_of (count self.now) }

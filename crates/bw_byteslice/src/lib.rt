@@ -2,6 +2,7 @@
 #![tactic(auto)]
 
 mod column;
+mod laws;
 mod plane;
 mod reading;
 mod rows;
@@ -11,4 +12,5 @@ mod source;
 mod storage;
 
 pub use column::SliceColumn;
+pub use laws::codes_of_units;
 pub use scan::scan_from;

@@ -1,8 +1,8 @@
 //! Codes read off slices in memory.
 
 ghost use Rattle.std.specs.Prelude.{[], length, slice_index, slice_index_or, ℕ, ◌*◌, ◌+◌, ◌/◌, ◌<◌, ◌^◌, ◌≡◌, ◌≤◌};
-ghost use Rattle.bw_byteslice.specs.Slices.{AreBytes, slices_of};
-ghost use Rattle.bw_byteslice.specs.Storing.{bytes_of, code_of};
+ghost use Rattle.bw_byteslice.specs.Slices.{slices_of};
+ghost use Rattle.bw_byteslice.specs.Storing.{byte_of, bytes_of, code_of};
 
 use crate::shift::shift_of;
 
@@ -10,7 +10,7 @@ use crate::shift::shift_of;
 pub(crate) fn code_at(slices: &[Vec<u8>], width: u32, j: usize) -> u64
     requires narrow { width ≤ 32 }
     requires count { length slices.now ≡ slices_of width }
-    requires bytes { AreBytes (bytes_of slices.now) }
+    requires bytes { (i j : ℕ) → byte_of (bytes_of slices.now) j i < 256 }
     requires there { (i : ℕ) → i < slices_of width → j < length (slice_index_or (bytes_of slices.now) i []) }
     ensures { result ≡ code_of width (bytes_of slices.now) j }
 {
@@ -58,7 +58,7 @@ fn lower(numbers: &mut [u64], places: u32)
 pub(crate) fn read(slices: &[Vec<u8>], width: u32, at: usize, out: &mut [u64])
     requires narrow { width ≤ 32 }
     requires count { length slices.now ≡ slices_of width }
-    requires bytes { AreBytes (bytes_of slices.now) }
+    requires bytes { (i j : ℕ) → byte_of (bytes_of slices.now) j i < 256 }
     requires there { (i : ℕ) → i < slices_of width → at + length out.old ≤ length (slice_index_or (bytes_of slices.now) i []) }
     ensures len { length out.new ≡ length out.old }
     ensures codes { (r : ℕ) → r < length out.old → slice_index out.new r ≡ code_of width (bytes_of slices.now) (at + r) }

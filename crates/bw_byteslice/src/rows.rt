@@ -1,17 +1,29 @@
 //! 32 rows as the bits of a word.
 
-ghost use Rattle.std.specs.Prelude.{not, ℕ, ◌&&◌, ◌*◌, ◌+◌, ◌<◌, ◌^◌, ◌||◌, ◌≡◌};
-ghost use Rattle.bw_mask.specs.Masks.{bit_of, row_at};
+ghost use Rattle.std.specs.Prelude.{not, ℕ, ◌&&◌, ◌+◌, ◌<◌, ◌||◌, ◌≡◌};
+ghost use Rattle.bw_mask.specs.Masks.{bit_of};
 ghost use Rattle.bw_code.specs.Units.{some_below};
 
-use bw_mask::Mask;
-
-/// Rows 32 q to 32 q + 31.
-pub(crate) fn rows_at(mask: &Mask, q: usize) -> u32
-    requires { q < 2 ^ 32 }
-    ensures { (r : ℕ) → r < 32 → bit_of result r ≡ row_at mask.now (32 * q + r) }
+/// Rows 0 to 31 of a word.
+pub(crate) fn low_half(word: u64) -> u32
+    ensures { (r : ℕ) → r < 32 → bit_of result r ≡ bit_of word r }
 {
-    (mask.bits(32 * q, 32) % 0x1_0000_0000) as u32
+    (word % 0x1_0000_0000) as u32
+}
+
+/// Rows 32 to 63 of a word.
+pub(crate) fn high_half(word: u64) -> u32
+    ensures { (r : ℕ) → r < 32 → bit_of result r ≡ bit_of word (32 + r) }
+{
+    (word >> 32) as u32
+}
+
+/// A word of both halves.
+pub(crate) fn joined(low: u32, high: u32) -> u64
+    ensures low { (r : ℕ) → r < 32 → bit_of result r ≡ bit_of low r }
+    ensures high { (r : ℕ) → r < 32 → bit_of result (32 + r) ≡ bit_of high r }
+{
+    u64::from(high) << 32 | u64::from(low)
 }
 
 pub(crate) fn is_empty(rows: u32) -> bool

@@ -7,7 +7,7 @@ ghost use Rattle.bw_code.specs.Units.{agreement, by_slices, cost_of, scan_units,
 ghost use Rattle.bw_code.specs.Choosing.{by_masks};
 ghost use Rattle.bw_byteslice.specs.Slices.{AreBytes, AreStored, IsBelow, by_bytes, code_in, number_in, segments_of, slices_of};
 
-use crate::rows::{either, is_empty, rows_at, without};
+use crate::rows::{either, high_half, is_empty, joined, low_half, without};
 use crate::shift::{byte_at, raise_test, slices_of};
 use bw_code::{CmpOp, CodeTest, Source};
 use bw_lane::byte_step;
@@ -101,7 +101,7 @@ fn between<S: Source<[u8; 32]>>(
     inside(lt_lo, lt_hi, eq_hi)
 }
 
-/// The needed rows of segment q whose number of m bytes meets the test.
+/// The needed rows of segment q whose number of m bytes meets the test. There may be no segment q where no row is needed.
 fn segment<S: Source<[u8; 32]>>(
     source: &mut S,
     m: usize,
@@ -112,7 +112,7 @@ fn segment<S: Source<[u8; 32]>>(
     requires narrow { m ≤ 4 }
     requires test { IsBelow (256 ^ m) test }
     requires small { q < 2 ^ 32 }
-    requires there { (q + 1) * m ≤ length (S.units source.old) }
+    requires there { some_below 32 (bit_of need) ≡ true → (q + 1) * m ≤ length (S.units source.old) }
     requires bytes { AreBytes (S.units source.old) }
     requires few { S.reads source.old + m ≤ 2 ^ 63 }
     ensures units { S.units source.new ≡ S.units source.old }
@@ -154,14 +154,18 @@ fn scan_numbers<S: Source<[u8; 32]>>(
     ensures shape { SameShape out.new out.old }
     ensures rows { (j : ℕ) → row_at out.new j ≡ (row_at need.now j && meets test (number_in m (S.units source.old) j)) }
 {
-    for q in 0..need.len().div_ceil(32) {
-        let found = segment(source, m, q, test, rows_at(need, q));
-        out.put_bits(32 * q, 32, u64::from(found));
+    let words = need.words();
+    for w in 0..words.len() {
+        let low = segment(source, m, 2 * w, test, low_half(words[w]));
+        let high = segment(source, m, 2 * w + 1, test, high_half(words[w]));
+        out.put_bits(64 * w, 64, joined(low, high));
     }
 }
 
-/// Scans slices: `out` becomes the needed rows whose code meets the test, and of the units so many are read as
-/// `scan_units` says. With m slices, unit q * m + i is slice i of segment q.
+/// Scans slices of codes of `width` bits: `out` becomes the needed rows whose code meets the test, and of the units so
+/// many are read as `scan_units` says: none of a segment of 32 rows in which no row is needed, and of each other one as
+/// many slices as it takes until no needed row is left that might equal the constant. With m slices, unit q * m + i is
+/// slice i of segment q.
 pub fn scan_from<S: Source<[u8; 32]>>(
     source: &mut S,
     width: u32,

@@ -1,12 +1,12 @@
 //! Slices in memory: byte j of each slice is of row j.
 
-ghost use Rattle.std.specs.Prelude.{[], IfOk, OnOk, length, slice_index, slice_index_or, vec_capacity, vec_len, ℕ, ◌*◌, ◌+◌, ◌-◌, ◌<◌, ◌^◌, ◌≡◌, ◌≤◌};
+ghost use Rattle.std.specs.Prelude.{[], IfOk, OnOk, length, slice_index, slice_index_or, vec_capacity, vec_len, ℕ, ◌*◌, ◌+◌, ◌<◌, ◌^◌, ◌≡◌, ◌≤◌};
 ghost use Rattle.bw_code.specs.Columns.{Fit};
 ghost use Rattle.bw_code.specs.Units.{digit};
 ghost use Rattle.bw_byteslice.specs.Slices.{shift_of, slices_of};
 ghost use Rattle.bw_byteslice.specs.Storing.{byte_of, bytes_of, capacities_of};
 
-use crate::shift::{byte_at, raise};
+use crate::shift::{byte_at, raise, slices_of};
 use std::alloc::{AllocError, Global};
 
 /// How many codes are written at a time.
@@ -76,7 +76,7 @@ fn put_bytes(bytes: &mut [u8], width: u32, i: usize, codes: &[u64])
     ensures len { length bytes.new ≡ length bytes.old }
     ensures bytes { (r : ℕ) → r < length codes.now → slice_index bytes.new r ≡ digit 256 (slices_of width) (slice_index codes.now r * 2 ^ shift_of width) i }
 {
-    let m = crate::shift::slices_of(width);
+    let m = slices_of(width);
     for r in 0..bytes.len() {
         bytes[r] = byte_at(raise(codes[r], width), m, i);
     }

@@ -1,4 +1,5 @@
 pub mod Costs
+pub mod Gathered
 pub mod Marks
 pub mod Places
 pub mod Rows

@@ -129,23 +129,24 @@ bit_is k words stored w p =
 pub written : (n : ℕ) (new old : List ℕ) → length new ≡ n → take n (new ++ drop (length new) old) ≡ new
 written n new old len = ap (λ m. take m (new ++ drop (length new) old)) (sym len) ∙ take-append_seam new (drop (length new) old)
 
+-- the other codes, where one is replaced
+pub codes_other : (k row code : ℕ) (words new : List ℕ) → ((j : ℕ) → code_in k new j ≡ (if j == row then code else code_in k words j)) → (j : ℕ) → j ≢ row → code_in k new j ≡ code_in k words j
+codes_other k row code words new each j ne = each j ∙ ap (λ b. if b then code else code_in k words j) (ne_eqb j row ne)
+
 -- one code replaced
 module _ (k n row code : ℕ) (words new : List ℕ) (h : AreWords k n words) (low : row < n) (len : length new ≡ length words) (stored : All (IsStored k) new)
     (each : (j : ℕ) → code_in k new j ≡ (if j == row then code else code_in k words j)) where
-  other : (j : ℕ) → j ≢ row → code_in k new j ≡ code_in k words j
-  other j ne = each j ∙ ap (λ b. if b then code else code_in k words j) (ne_eqb j row ne)
-
   pub words_set : AreWords k n new
   words_set = record {
     some = h.some;
     narrow = h.narrow;
     few = h.few;
     segments = record { count = len ∙ h.segments.count; stored = stored };
-    clean = λ j l. other j (λ e. omega (arith, e, l, low)) ∙ h.clean j l;
+    clean = λ j l. codes_other k row code words new each j (λ e. omega (arith, e, l, low)) ∙ h.clean j l;
   }
 
   pub codes_set : codes_of k n new ≡ set (codes_of k n words) row code
-  codes_set = made_set n (code_in k words) (code_in k new) row code low (each row ∙ ap (λ b. if b then code else code_in k words row) (eq-eqb row row refl)) (λ j l ne. other j ne)
+  codes_set = made_set n (code_in k words) (code_in k new) row code low (each row ∙ ap (λ b. if b then code else code_in k words row) (eq-eqb row row refl)) (λ j l ne. codes_other k row code words new each j ne)
 
 -- codes put behind the last
 module _ (k n : ℕ) (codes words filled new : List ℕ) (h : AreWords k n words) (few : n + length codes ≤ 2 ^ 24)
@@ -168,9 +169,6 @@ module _ (k n : ℕ) (codes words filled new : List ℕ) (h : AreWords k n words
   codes_longer = made_more n (code_in k words) (code_in k new) codes 0 (λ j l. kept j (λ g. absurd (omega (arith, g, l)))) put
 
 -- one code more is put
-pub codes_other : (k row code : ℕ) (words new : List ℕ) → ((j : ℕ) → code_in k new j ≡ (if j == row then code else code_in k words j)) → (j : ℕ) → j ≢ row → code_in k new j ≡ code_in k words j
-codes_other k row code words new each j ne = each j ∙ ap (λ b. if b then code else code_in k words j) (ne_eqb j row ne)
-
 pub codes_more : (k at i : ℕ) (words new codes : List ℕ) → ((j : ℕ) → code_in k new j ≡ (if j == at + i then get_or codes i 0 else code_in k words j)) → ((m : ℕ) → m < i → code_in k words (at + m) ≡ get_or codes m 0)
     → (m : ℕ) → m < i + 1 → code_in k new (at + m) ≡ get_or codes m 0
 codes_more k at i words new codes each before =

@@ -2,6 +2,7 @@
 #![tactic(auto)]
 
 mod column;
+mod gather;
 mod place;
 mod planes;
 mod scan;

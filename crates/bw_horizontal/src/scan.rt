@@ -9,6 +9,7 @@ ghost use Rattle.bw_code.specs.Tests.{TestFits, code_compares, meets};
 ghost use Rattle.bw_code.specs.Units.{by_words, scan_units, segment_units};
 ghost use Rattle.bw_horizontal.specs.Words.{AreDelimiters, AreSegments, code_at, code_in, segment_rows, segments_of};
 
+use crate::gather::{finish, gather};
 use bw_code::{CmpOp, CodeTest, Source};
 use bw_lane::{LaneOp, SectionMasks};
 use bw_mask::Mask;
@@ -53,7 +54,6 @@ fn rows_meeting<S: Source<u64>>(
     q: usize,
     test: CodeTest,
 ) -> u64
-    requires narrow { masks.now.width ≤ 32 }
     requires test { TestFits masks.now.width test }
     requires small { q < 2 ^ 32 }
     requires there { (q + 1) * (masks.now.width + 1) ≤ length (S.units source.old) }
@@ -80,7 +80,6 @@ fn segment<S: Source<u64>>(
     test: CodeTest,
     need: u64,
 ) -> u64
-    requires narrow { masks.now.width ≤ 32 }
     requires test { TestFits masks.now.width test }
     requires small { q < 2 ^ 32 }
     requires there { (q + 1) * (masks.now.width + 1) ≤ length (S.units source.old) }
@@ -90,6 +89,7 @@ fn segment<S: Source<u64>>(
     ensures units { S.units source.new ≡ S.units source.old }
     ensures reads { S.reads source.new ≡ S.reads source.old + segment_units (by_words masks.now.width) test (on need) (code_at masks.now.width (S.units source.old) q) }
     ensures rows { (r : ℕ) → r < segment_rows masks.now.width → on result r ≡ (on need r && meets test (code_at masks.now.width (S.units source.old) q r)) }
+    ensures clean { (r : ℕ) → segment_rows masks.now.width ≤ r → on result r ≡ false }
 {
     match test {
         CodeTest::None => 0,
@@ -123,8 +123,11 @@ pub fn scan_from<S: Source<u64>>(
     let masks = SectionMasks::new(width);
     let words = width as usize + 1;
     let rows = words * (64 / words);
-    for q in 0..need.len().div_ceil(rows) {
+    let segments = need.len().div_ceil(rows);
+    let mut rest = 0;
+    for q in 0..segments {
         let found = segment(source, &masks, q, test, need.bits(rows * q, rows));
-        out.put_bits(rows * q, rows, found);
+        rest = gather(out, rows * q, rest, rows, found);
     }
+    finish(out, rows * segments, rest);
 }

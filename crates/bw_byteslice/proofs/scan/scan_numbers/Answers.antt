@@ -1,60 +1,96 @@
-use Rattle.std.proofs.Common.{ap, arith, false, inl, inr, refl, subst, ℕ, ◌&&◌, ◌*◌, ◌+◌, ◌-◌, ◌<◌, ◌≡◌, ◌≤◌, ◌∙◌}
-use Rattle.std.proofs.Math.Nat.{mul-le-mul_right}
+use Rattle.std.proofs.Common.{Bool, ap, arith, false, inl, inr, length, refl, subst, sym, ℕ, ◌&&◌, ◌*◌, ◌+◌, ◌-◌, ◌<◌, ◌≡◌, ◌≤◌, ◌∙◌}
 use Rattle.std.proofs.lemmas.Bool.{cases_lt}
 use Rattle.std.proofs.lemmas.List.{get_or_past}
 use Rattle.bw_mask.specs.Masks.{bit_of, len, row_at}
 use Rattle.bw_code.specs.Tests.{meets}
-use Rattle.bw_code.specs.Units.{segment_units}
+use Rattle.bw_code.specs.Units.{segment_units, sum_below}
 use Rattle.bw_code.proofs.Reach.{sum_more, sum_none}
-use Rattle.bw_code.proofs.UnitLemmas.{segment_same}
+use Rattle.bw_code.proofs.UnitLemmas.{segment_none, segment_same}
 use Rattle.bw_byteslice.specs.Slices.{by_bytes, number_in, segments_of}
+use Rattle.bw_byteslice.proofs.Words.{none_past, segment_there, sum_by_twos, word_row}
 use Rattle.bw_byteslice.proofs.scan.scan_numbers.Goals as goal
 
-pub loop-q-init : goal.loop-q-init
-loop-q-init g c = record {
+pub loop-w-init : goal.loop-w-init
+loop-w-init g c = record {
   units = refl;
-  reads = rw sum_none (omega arith);
+  reads = let none : 2 * 0 ≡ 0 = refl in rw sum_none (omega arith);
   most = omega arith;
   shape = (refl, refl);
   rows = λ j h. absurd (omega arith);
 }
 
-pub segment-found-requires-clause-there : goal.segment-found-requires-clause-there
-segment-found-requires-clause-there g c =
-    let inside : c.loop-q.q + 1 ≤ segments_of (len c.args.need.now) = omega arith in
-    rw (c.loop-q.invariant.units, c.requires.units) (mul-le-mul_right {m = c.loop-q.q + 1} {n = segments_of (len c.args.need.now)} c.args.m inside)
+pub segment-high-requires-clause-there : goal.segment-high-requires-clause-there
+segment-high-requires-clause-there g c =
+    let w = c.loop-w.w in
+    let need = row_at c.args.need.now in
+    let here : (r : ℕ) → r < 32 → bit_of c.high_half.result r ≡ need (32 * (2 * w + 1) + r) = λ r h. c.high_half.ensures r h ∙ word_row c.words-words.result.now need c.words-words.ensures.rows w (32 + r) (32 * (2 * w + 1) + r) (omega (arith, h)) (omega arith) in
+    let past : (j : ℕ) → len c.args.need.now ≤ j → need j ≡ false = λ j h. get_or_past c.args.need.now.rows j false h in
+    segment_there (len c.args.need.now) (2 * w + 1) (bit_of c.high_half.result) need here past c.args.m _ (ap length (c.segment-low.ensures.units ∙ c.loop-w.invariant.units) ∙ c.requires.units)
 
-pub loop-q-preserved : goal.loop-q-preserved
-loop-q-preserved g c =
+pub loop-w-preserved : goal.loop-w-preserved
+loop-w-preserved g c =
     let m = c.args.m in
-    let q = c.loop-q.q in
+    let w = c.loop-w.w in
     let test = c.args.test in
     let units = g.S.Source.units c.args.source.now in
-    let needed = λ (j : ℕ). row_at c.args.need.now j in
-    let cost : segment_units (by_bytes m) test (bit_of c.rows_at.result) (λ r. number_in m (g.S.Source.units c.loop-q.source) (32 * q + r)) ≡ segment_units (by_bytes m) test (λ r. needed (32 * q + r)) (λ r. number_in m units (32 * q + r)) =
-    segment_same (by_bytes m) test _ _ _ _ c.rows_at.ensures (λ r h. refl) ∙ ap (λ us. segment_units (by_bytes m) test (λ r. needed (32 * q + r)) (λ r. number_in m us (32 * q + r))) c.loop-q.invariant.units in
+    let need = row_at c.args.need.now in
+    let words = c.words-words.result.now in
+    let wanted : ℕ → Bool = λ j. need j && meets test (number_in m units j) in
+    let cost : ℕ → ℕ = λ p. segment_units (by_bytes m) test (λ r. need (32 * p + r)) (λ r. number_in m units (32 * p + r)) in
+    let here_low : (r : ℕ) → r < 32 → bit_of c.low_half.result r ≡ need (32 * (2 * w) + r) = λ r h. c.low_half.ensures r h ∙ word_row words need c.words-words.ensures.rows w r (32 * (2 * w) + r) (omega (arith, h)) (omega arith) in
+    let here_high : (r : ℕ) → r < 32 → bit_of c.high_half.result r ≡ need (32 * (2 * w + 1) + r) = λ r h. c.high_half.ensures r h ∙ word_row words need c.words-words.ensures.rows w (32 + r) (32 * (2 * w + 1) + r) (omega (arith, h)) (omega arith) in
+    let units_low = c.loop-w.invariant.units in
+    let units_high = c.segment-low.ensures.units ∙ c.loop-w.invariant.units in
+    let cost_low : segment_units (by_bytes m) test (bit_of c.low_half.result) (λ r. number_in m (g.S.Source.units c.loop-w.source) (32 * (2 * w) + r)) ≡ cost (2 * w) =
+    segment_same (by_bytes m) test _ _ _ _ here_low (λ r h. refl) ∙ ap (λ us. segment_units (by_bytes m) test (λ r. need (32 * (2 * w) + r)) (λ r. number_in m us (32 * (2 * w) + r))) units_low in
+    let cost_high : segment_units (by_bytes m) test (bit_of c.high_half.result) (λ r. number_in m (g.S.Source.units c.segment-low.new.source) (32 * (2 * w + 1) + r)) ≡ cost (2 * w + 1) =
+    segment_same (by_bytes m) test _ _ _ _ here_high (λ r h. refl) ∙ ap (λ us. segment_units (by_bytes m) test (λ r. need (32 * (2 * w + 1) + r)) (λ r. number_in m us (32 * (2 * w + 1) + r))) units_high in
+    let found_low : (r : ℕ) → r < 32 → bit_of c.joined.result r ≡ wanted (32 * (2 * w) + r) = λ r h.
+    c.joined.ensures.low r h ∙ c.segment-low.ensures.rows r h ∙ ap (λ b. b && meets test (number_in m (g.S.Source.units c.loop-w.source) (32 * (2 * w) + r))) (here_low r h) ∙ ap (λ us. need (32 * (2 * w) + r) && meets test (number_in m us (32 * (2 * w) + r))) units_low in
+    let found_high : (r : ℕ) → r < 32 → bit_of c.joined.result (32 + r) ≡ wanted (32 * (2 * w + 1) + r) = λ r h.
+    c.joined.ensures.high r h ∙ c.segment-high.ensures.rows r h ∙ ap (λ b. b && meets test (number_in m (g.S.Source.units c.segment-low.new.source) (32 * (2 * w + 1) + r))) (here_high r h) ∙ ap (λ us. need (32 * (2 * w + 1) + r) && meets test (number_in m us (32 * (2 * w + 1) + r))) units_high in
+    let found : (r : ℕ) → r < 64 → bit_of c.joined.result r ≡ wanted (64 * w + r) = λ r h.
+    elim (cases_lt r 32) [
+      | inl l ↦ let place : 32 * (2 * w) + r ≡ 64 * w + r = omega arith in found_low r l ∙ ap wanted place
+      | inr l ↦
+          let e = r - 32 in
+          let back : 32 + e ≡ r = omega (arith, l) in
+          let place : 32 * (2 * w + 1) + e ≡ 64 * w + r = omega (arith, l) in
+          ap (bit_of c.joined.result) (sym back) ∙ found_high e (omega (arith, l, h)) ∙ ap wanted place
+    ] in
+    let more : sum_below (2 * (w + 1)) cost ≡ sum_below (2 * w + 1 + 1) cost = let e : 2 * (w + 1) ≡ 2 * w + 1 + 1 = omega arith in ap (λ k. sum_below k cost) e in
     record {
-      units = c.segment-found.ensures.units ∙ c.loop-q.invariant.units;
-      reads = omega (arith, c.segment-found.ensures.reads, c.loop-q.invariant.reads, cost, sum_more q (λ p. segment_units (by_bytes m) test (λ r. needed (32 * p + r)) (λ r. number_in m units (32 * p + r))));
-      most = omega (arith, c.segment-found.ensures.most, c.loop-q.invariant.most);
-      shape = (c.put_bits.ensures.shape.0 ∙ c.loop-q.invariant.shape.0, c.put_bits.ensures.shape.1 ∙ c.loop-q.invariant.shape.1);
+      units = c.segment-high.ensures.units ∙ units_high;
+      reads = omega (arith, c.segment-low.ensures.reads, c.segment-high.ensures.reads, c.loop-w.invariant.reads, cost_low, cost_high, sum_more (2 * w) cost, sum_more (2 * w + 1) cost, more);
+      most = omega (arith, c.segment-low.ensures.most, c.segment-high.ensures.most, c.loop-w.invariant.most);
+      shape = (c.put_bits.ensures.shape.0 ∙ c.loop-w.invariant.shape.0, c.put_bits.ensures.shape.1 ∙ c.loop-w.invariant.shape.1);
       rows = λ j h.
-          elim (cases_lt j (32 * q)) [
-            | inl l ↦ c.put_bits.ensures.outside j (λ up. absurd (omega arith)) ∙ c.loop-q.invariant.rows j l
+          elim (cases_lt j (64 * w)) [
+            | inl l ↦ c.put_bits.ensures.outside j (λ up. absurd (omega arith)) ∙ c.loop-w.invariant.rows j l
             | inr l ↦
-                let r = j - 32 * q in
-                let within : r < 32 = omega arith in
-                let at : 32 * q + r ≡ j = omega arith in
-                let same_len : len c.loop-q.out ≡ len c.args.need.now = c.loop-q.invariant.shape.0 ∙ c.requires.out in
+                let r = j - 64 * w in
+                let within : r < 64 = omega (arith, h, l) in
+                let at : 64 * w + r ≡ j = omega (arith, l) in
+                let same_len : len c.loop-w.out ≡ len c.args.need.now = c.loop-w.invariant.shape.0 ∙ c.requires.out in
                 elim (cases_lt j (len c.args.need.now)) [
-                  | inl inside ↦
-                      let found = c.put_bits.ensures.inside r within (omega (arith, same_len)) ∙ ap (λ w. bit_of w r) c.from.ensures ∙ c.segment-found.ensures.rows r within in
-                      let row = found ∙ ap (λ b. b && meets test (number_in m (g.S.Source.units c.loop-q.source) (32 * q + r))) (c.rows_at.ensures r within) ∙ ap (λ us. needed (32 * q + r) && meets test (number_in m us (32 * q + r))) c.loop-q.invariant.units in
-                      subst (λ n. row_at c.put_bits.new.self n ≡ (needed n && meets test (number_in m units n))) at row
+                  | inl inside ↦ subst (λ n. row_at c.put_bits.new.self n ≡ wanted n) at (c.put_bits.ensures.inside r within (omega (arith, same_len, inside, at)) ∙ found r within)
                   | inr past ↦
-                      let left : row_at c.put_bits.new.self j ≡ false = get_or_past c.put_bits.new.self.rows j false (omega (arith, c.put_bits.ensures.shape.0, same_len)) in
-                      let right : needed j ≡ false = get_or_past c.args.need.now.rows j false past in
+                      let left : row_at c.put_bits.new.self j ≡ false = get_or_past c.put_bits.new.self.rows j false (omega (arith, c.put_bits.ensures.shape.0, same_len, past)) in
+                      let right : need j ≡ false = get_or_past c.args.need.now.rows j false past in
                       left ∙ rw right refl
                 ]
           ];
     }
+
+pub returns-clause-reads : goal.returns-clause-reads
+returns-clause-reads g c =
+    let m = c.args.m in
+    let test = c.args.test in
+    let n = len c.args.need.now in
+    let units = g.S.Source.units c.args.source.now in
+    let need = row_at c.args.need.now in
+    let cost : ℕ → ℕ = λ p. segment_units (by_bytes m) test (λ r. need (32 * p + r)) (λ r. number_in m units (32 * p + r)) in
+    let past : (j : ℕ) → n ≤ j → need j ≡ false = λ j h. get_or_past c.args.need.now.rows j false h in
+    let last : segments_of n < 2 * c.loop-w.w → cost (segments_of n) ≡ 0 = λ _.
+    segment_none (by_bytes m) test (λ r. need (32 * segments_of n + r)) (λ r. number_in m units (32 * segments_of n + r)) (none_past n (segments_of n) (λ r. need (32 * segments_of n + r)) need (λ r h. refl) past (omega arith)) in
+    omega (arith, c.loop-w.invariant.reads, sum_by_twos n c.loop-w.w cost (omega (arith, c.words-words.ensures.count, c.loop-w-test.false, c.loop-w.auto.w-end)) last)

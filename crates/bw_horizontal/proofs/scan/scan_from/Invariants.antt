@@ -1,8 +1,9 @@
-use Rattle.std.proofs.Common.{ℕ, ◌&&◌, ◌*◌, ◌+◌, ◌<◌, ◌≡◌, ◌≤◌}
+use Rattle.std.proofs.Common.{◌&&◌, ◌*◌, ◌+◌, ◌≡◌, ◌≤◌}
 use Rattle.bw_mask.specs.Masks.{row_at, SameShape}
 use Rattle.bw_code.specs.Tests.{meets}
 use Rattle.bw_code.specs.Units.{by_words, scan_units}
 use Rattle.bw_horizontal.specs.Words.{code_in, segment_rows}
+use Rattle.bw_horizontal.specs.Gathering.{AreGathered}
 use Rattle.bw_horizontal.proofs.scan.scan_from.Given as goal
 
 -- the segments so far
@@ -12,5 +13,5 @@ invariant-loop-q g l = record {
   reads : g.S.Source.reads l.source ≡ g.S.Source.reads l.fn.source + scan_units (by_words l.width) l.test (row_at l.need) (code_in l.width (g.S.Source.units l.fn.source)) l.q;
   most : g.S.Source.reads l.source ≤ g.S.Source.reads l.fn.source + 33 * l.q;
   shape : SameShape l.out l.fn.out;
-  rows : (j : ℕ) → j < segment_rows l.width * l.q → row_at l.out j ≡ (row_at l.need j && meets l.test (code_in l.width (g.S.Source.units l.fn.source) j));
+  rows : AreGathered l.out (segment_rows l.width * l.q) l.rest (λ j. row_at l.need j && meets l.test (code_in l.width (g.S.Source.units l.fn.source) j));
 }

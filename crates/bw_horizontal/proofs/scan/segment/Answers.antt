@@ -18,3 +18,6 @@ pub returns-in_default-2-clause-rows : goal.returns-in_default-2-clause-rows
 returns-in_default-2-clause-rows g c r h =
     bit_of_and c.args.need c.rows_meeting.result r
     ∙ ap (λ b. on c.args.need r && b) (c.rows_meeting.ensures.rows r ∙ rw (lt-ltb r (segment_rows c.args.masks.now.width) h) refl)
+
+pub returns-in_default-2-clause-clean : goal.returns-in_default-2-clause-clean
+returns-in_default-2-clause-clean g c r h = bit_of_and c.args.need c.rows_meeting.result r ∙ ap (λ b. b && on c.rows_meeting.result r) (c.requires.need r h)

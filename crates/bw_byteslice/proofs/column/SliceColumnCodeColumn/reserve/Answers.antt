@@ -1,5 +1,6 @@
 use Rattle.std.proofs.Common.{arith, length, ◌+◌, ◌<◌, ◌≡◌, ◌≤◌}
-use Rattle.bw_byteslice.proofs.Views.{capacity_count, count_is, on_ok, room_is, width_is}
+use Rattle.std.proofs.lemmas.Result.{on_ok_weaker}
+use Rattle.bw_byteslice.proofs.Views.{capacity_count, count_is, room_is, width_is}
 use Rattle.bw_byteslice.proofs.Rooms.{room_enough, room_more}
 use Rattle.bw_byteslice.specs.Storing.{capacities_of, room_of}
 use Rattle.bw_byteslice.proofs.column.SliceColumnCodeColumn.reserve.Goals as goal
@@ -11,7 +12,7 @@ pub returns-clause-room : goal.returns-clause-room
 returns-clause-room c =
     let count = count_is c.self.inside.width c.self.inside.len c.self.inside.slices.items c.args.self.now c.self.invariant c.self.view_is in
     let capacities = capacities_of c.reserve.new.slices.items in
-    on_ok c.reserve.result
+    on_ok_weaker c.reserve.result
     (λ each.
     let enough : c.self.inside.len + c.args.more ≤ room_of capacities =
     room_enough capacities (c.self.inside.len + c.args.more) (omega (arith, count, c.requires)) (λ i h.
