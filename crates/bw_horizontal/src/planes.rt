@@ -18,7 +18,7 @@ fn with_bit(masks: &SectionMasks, i: u32, word: u64) -> u64
     word << (masks.width - i) & delimiters
 }
 
-/// The rows of segment q whose code has bit i, row 0 lowest.
+/// The rows of segment q whose code has bit i, the first row lowest.
 fn rows_with_bit(words: &[u64], masks: &SectionMasks, q: usize, i: u32) -> u64
     requires bit { i < masks.now.width }
     requires there { (q + 1) * (masks.now.width + 1) ≤ length words.now }

@@ -167,7 +167,7 @@ fn columns_beside_plain_ones(rt: HostRuntime) {
     }
 }
 
-// Of two bits and a delimiter: rows 0, 1 and 2 lie in the lowest sections of three words, and row 3 above row 0.
+// Of two bits and a delimiter: the first three rows lie in the lowest sections of three words, and the fourth above the first.
 #[test]
 fn the_words_of_four_codes(rt: HostRuntime) {
     let mut column = HorizontalColumn::with_width(rt.alloc(), 2).expect(&rt, "memory");
@@ -181,7 +181,7 @@ fn the_words_of_four_codes(rt: HostRuntime) {
     assert_eq!(rt; words.as_slice(), [0b010_011, 0b001, 0b001].as_slice());
 }
 
-// A segment of two bits is 63 rows and three words, so row 63 lies in the second.
+// A segment of two bits is 63 rows and three words, so the 64th row lies in the second segment.
 #[test]
 fn units_of_two_segments(rt: HostRuntime) {
     let column: HorizontalColumn = column_of(&rt, 2, 64);
