@@ -47,7 +47,7 @@ fn meeting(masks: &SectionMasks, test: CodeTest, word: u64) -> u64
     }
 }
 
-/// The rows of segment q whose code meets the test, row 0 lowest.
+/// The rows of segment q whose code meets the test, the first row lowest.
 fn rows_meeting<S: Source<u64>>(
     source: &mut S,
     masks: &SectionMasks,
