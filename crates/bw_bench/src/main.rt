@@ -1,12 +1,15 @@
 //! `bw_bench [ROUNDS [VALUES]]` reads a script from standard input and times how fast its parts are found, and their
 //! tokens and statements are read, beside a plain pass over the same bytes; and how fast so many values are fitted,
-//! encoded and scanned, beside plain passes over the same values. The figures go to standard error; standard output has
-//! what was read. `bench/parsing.py` and `bench/codes.py` run it.
+//! encoded and scanned, beside plain passes over the same values, and codes of each width taken, read and scanned in each
+//! layout. The figures go to standard error; standard output has what was read. `bench/parsing.py`, `bench/codes.py` and
+//! `bench/layouts.py` run it.
 #![tactic(auto)]
 
 mod codes;
+mod layouts;
 
 use crate::codes::time_codes;
+use crate::layouts::time_layouts;
 use bw_sql::{Part, parts, statement, tokens};
 use std::alloc::Global;
 use std::io::Read;
@@ -41,7 +44,9 @@ fn main(rt: HostRuntime) -> io::Result<()> {
     report(&rt, "statement", parsed)?;
     println!(rt; "bytes {}, parts {}", script.len(), parts.len())?;
     println!(rt; "tokens {}, statements {}", lexed.found, parsed.found)?;
-    time_codes(&rt, rounds, word_or(&rt, 2, VALUES)? as usize)
+    let count = word_or(&rt, 2, VALUES)? as usize;
+    time_codes(&rt, rounds, count)?;
+    time_layouts(&rt, rounds, count)
 }
 
 // How long all rounds took together, and what one round found.

@@ -7,16 +7,10 @@ use Rattle.bw_code.specs.Units.{units_of_fetches, units_of_scan}
 use Rattle.bw_code.specs.declared.compare.CmpOp.{CmpOp}
 use Rattle.bw_code.specs.declared.compare.CmpOp.TheVariants.{Eq}
 use Rattle.bw_code.specs.declared.compare.CodeTest.{CodeTest}
-use Rattle.bw_code.specs.declared.kind.Layout.{Layout}
-use Rattle.bw_code.specs.declared.kind.Layout.TheVariants.{P}
 use Rattle.bw_column.specs.Codes.{codes_for}
 use Rattle.bw_column.specs.Columns.{ColumnView}
 use Rattle.bw_column.specs.Comparisons.{holds_of}
 use Rattle.bw_column.specs.Values.{value_at}
-
--- the layout in which the codes of a column lie: plain codes in each, until each layout holds its own
-abbrev pub held : Layout → Layout
-held layout = P
 
 -- the needed rows whose value is not null
 abbrev pub needed_known : MaskRows → List (Option ℤ) → ℕ → Bool
@@ -24,7 +18,7 @@ needed_known need values i = row_at need i && is_some (value_at values i)
 
 -- one scan of the codes for a test
 abbrev pub units_of_test : ColumnView → CodeTest → (ℕ → Bool) → ℕ
-units_of_test column test needed = units_of_scan (held column.layout) (width column.encoding) test needed (codes_for column.encoding column.values)
+units_of_test column test needed = units_of_scan column.layout (width column.encoding) test needed (codes_for column.encoding column.values)
 
 abbrev pub units_of_comparison : ColumnView → CmpOp → ℤ → MaskRows → ℕ
 units_of_comparison column op constant need = units_of_test column (test_of column.encoding op constant) (needed_known need column.values)

@@ -5,4 +5,5 @@ pub mod Extremes
 pub mod Costs
 pub mod Places
 pub mod Preparing
+pub mod Storing
 pub mod Values

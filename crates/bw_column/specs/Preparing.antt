@@ -1,12 +1,13 @@
 -- What a column has ready to take values.
 use Rattle.std.specs.Prelude.{Bool, List, Option, if◌then◌else◌, length, ⊤, ℕ, ℤ, ◌+◌, ◌++◌, ◌^◌, ◌≡◌, ◌≤◌}
 use Rattle.std.specs.List.{All}
-use Rattle.bw_code.specs.Encodings.{IsFit, kind_of}
+use Rattle.bw_code.specs.Encodings.{IsFit, kind_of, width}
 use Rattle.bw_code.specs.declared.encoding.Encoding.{Encoding}
 use Rattle.bw_code.specs.declared.encoding.Encoding.TheVariants as by
 use Rattle.bw_code.specs.declared.kind.Kind.TheVariants as kind
 use Rattle.bw_column.specs.Codes.{IsCoded, codes_for}
 use Rattle.bw_column.specs.Columns.{ColumnView}
+use Rattle.bw_column.specs.Storing.{ShiftsTo}
 use Rattle.bw_column.specs.Values.{IsNullOrInteger, known}
 use Rattle.bw_column.specs.declared.step.Step.{Step}
 use Rattle.bw_column.specs.declared.step.Step.TheVariants.{Replace, Shift, Stay}
@@ -28,9 +29,10 @@ after column Stay = column
 after column (Shift offset) = record { values = column.values; layout = column.layout; encoding = by.Offset offset; room = column.room }
 after column (Replace other) = other
 
--- codes can be counted from another base where they are distances, and each value has a code of at most 32 bits from there
+-- codes can be counted from another base where their layout lets them, they are distances, and each value has a code of at most
+-- 32 bits from there
 abbrev pub CanTake : ColumnView → Step → Type 0
-CanTake column (Shift offset) = (kind_of column.encoding ≡ kind.Offset) × All (IsCoded (by.Offset offset)) column.values × (offset.width ≤ 32)
+CanTake column (Shift offset) = ShiftsTo column.layout (width column.encoding) offset.width × (kind_of column.encoding ≡ kind.Offset) × All (IsCoded (by.Offset offset)) column.values × (offset.width ≤ 32)
 CanTake column other = ⊤
 
 -- how many values a column gets more

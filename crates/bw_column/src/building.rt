@@ -8,8 +8,9 @@ ghost use Rattle.bw_column.specs.Values.{IsNullOrInteger, known};
 
 use crate::codes::{encode_all, push_presence};
 use crate::column::Column;
+use crate::storage::Codes;
 use crate::telling::tell_known;
-use bw_code::{CodeColumn, Encoding, Fitting, Kind, Layout, PlainColumn};
+use bw_code::{Encoding, Fitting, Kind, Layout};
 use bw_mask::Mask;
 use std::alloc::{AllocError, Global};
 
@@ -42,12 +43,11 @@ impl Column {
         ensures encoding { IfOk result (λ c. c.encoding ≡ encoding) }
         ensures room { IfOk result (λ c. room ≤ c.room) }
     {
-        let mut codes = PlainColumn::with_width(alloc, encoding.width())?;
+        let mut codes = Codes::with_width(alloc, layout, encoding.width())?;
         codes.reserve(room)?;
         let mut nonnull = Mask::filled(alloc, 0, false)?;
         nonnull.reserve(room)?;
         Ok(Column {
-            layout,
             encoding,
             codes,
             nonnull,

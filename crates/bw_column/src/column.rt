@@ -3,20 +3,21 @@
 ghost use Rattle.std.specs.Prelude.{All, is_some, length, slice_set, ℕ, ◌<◌, ◌^◌, ◌≡◌, ◌≤◌};
 ghost use Rattle.bw_mask.specs.Masks.{SameShape, bit_of, len, row_at};
 ghost use Rattle.bw_code.specs.Encodings.{IsEncoding, kind_of, width};
-ghost use Rattle.bw_column.specs.Codes.{IsCoded, code_for};
+ghost use Rattle.bw_column.specs.Codes.{IsCoded, code_for, codes_for};
+ghost use Rattle.bw_column.specs.Storing.{lent_layout, lent_list};
 ghost use Rattle.bw_column.specs.Values.{IsNullOrInteger, value_at};
 
 use crate::reading::value;
-use bw_code::{CodeColumn, Encoding, Kind, Layout, PlainColumn};
+use crate::storage::{Codes, Storage};
+use bw_code::{Encoding, Kind, Layout};
 use bw_mask::Mask;
 use std::marker::Model;
 
 /// A column of integers and nulls: the codes of its values, 0 at a null, and the rows that are not null.
 #[derive(Drop)]
 pub struct Column {
-    pub(crate) layout: Layout,
     pub(crate) encoding: Encoding,
-    pub(crate) codes: PlainColumn,
+    pub(crate) codes: Codes,
     pub(crate) nonnull: Mask,
 }
 
@@ -24,12 +25,13 @@ impl Model for Column {
     ghost use Rattle.std.specs.Prelude.{min};
     ghost use Rattle.bw_column.specs.Codes.{AreRowCodes, values_from};
     ghost use Rattle.bw_column.specs.Columns.{ColumnView};
+    ghost use Rattle.bw_column.specs.Storing.{layout_of, list_of};
 
     ghost Value = { ColumnView };
 
-    ghost view = { λ c. record { values = values_from c.encoding c.codes c.nonnull; layout = c.layout; encoding = c.encoding; room = min c.codes.room c.nonnull.room } };
+    ghost view = { λ c. record { values = values_from c.encoding (list_of c.codes) c.nonnull; layout = layout_of c.codes; encoding = c.encoding; room = min (list_of c.codes).room c.nonnull.room } };
 
-    ghost invariant = { λ c. AreRowCodes c.encoding c.codes c.nonnull };
+    ghost invariant = { λ c. AreRowCodes c.encoding (list_of c.codes) c.nonnull };
 }
 
 impl Column {
@@ -47,7 +49,7 @@ impl Column {
     pub fn layout(&self) -> Layout
         ensures { result ≡ self.now.layout }
     {
-        self.layout
+        self.codes.layout()
     }
 
     /// The kind of the encoding.
@@ -94,6 +96,15 @@ impl Column {
         ensures rows { (r : ℕ) → row_at out.new r ≡ bit_of (code_for self.now.encoding (value_at self.now.values r)) i }
     {
         self.codes.plane(i, out);
+    }
+
+    /// The codes of the values, 0 at a null, lent in the type of the layout.
+    pub fn storage(&self) -> Storage<'_>
+        ensures layout { lent_layout result ≡ self.now.layout }
+        ensures width { (lent_list result).width ≡ width self.now.encoding }
+        ensures codes { (lent_list result).codes ≡ codes_for self.now.encoding self.now.values }
+    {
+        self.codes.lent()
     }
 
     /// Puts a value with its code in place i.

@@ -7,11 +7,13 @@ ghost use Rattle.bw_code.specs.Encodings.{kind_of};
 ghost use Rattle.bw_code.specs.Fittings.{AreEnds};
 ghost use Rattle.bw_code.specs.declared.kind.Kind.TheVariants as kind;
 ghost use Rattle.bw_column.specs.Extremes.{IsGreatestFrom, IsLeastFrom};
+ghost use Rattle.bw_column.specs.Storing.{list_of};
 ghost use Rattle.bw_column.specs.Values.{known};
 
 use crate::bits::has_bit;
 use crate::column::Column;
-use bw_code::{CodeColumn, Ends, PlainColumn};
+use crate::storage::Codes;
+use bw_code::Ends;
 use bw_mask::Mask;
 
 /// The least of these codes whose bit is set, or the start where none is below it.
@@ -45,9 +47,9 @@ fn greatest_from(start: u64, codes: &[u64], present: u64) -> u64
 }
 
 /// The least and the greatest of a code and of the codes of the rows that are not null.
-fn code_ends(codes: &PlainColumn, nonnull: &Mask, start: u64) -> (u64, u64)
-    ensures least { IsLeastFrom start (count codes.now) (row_at nonnull.now) (code_at codes.now) result.0 }
-    ensures greatest { IsGreatestFrom start (count codes.now) (row_at nonnull.now) (code_at codes.now) result.1 }
+fn code_ends(codes: &Codes, nonnull: &Mask, start: u64) -> (u64, u64)
+    ensures least { IsLeastFrom start (count (list_of codes.now)) (row_at nonnull.now) (code_at (list_of codes.now)) result.0 }
+    ensures greatest { IsGreatestFrom start (count (list_of codes.now)) (row_at nonnull.now) (code_at (list_of codes.now)) result.1 }
 {
     let mut run = [0; 64];
     let (mut least, mut greatest) = (start, start);

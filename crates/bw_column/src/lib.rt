@@ -13,7 +13,9 @@ mod pairs;
 mod reading;
 mod split;
 mod step;
+mod storage;
 mod telling;
 
 pub use change::Prepared;
 pub use column::Column;
+pub use storage::Storage;

@@ -4,11 +4,13 @@ ghost use Rattle.std.specs.Prelude.{drop, length, slice_index, take, ℕ, ◌+�
 ghost use Rattle.bw_mask.specs.Masks.{bit_of};
 ghost use Rattle.bw_code.specs.Columns.{count};
 ghost use Rattle.bw_column.specs.Codes.{AreRowCodes, IsRowCode, value_from, values_from};
+ghost use Rattle.bw_column.specs.Storing.{list_of};
 ghost use Rattle.bw_column.specs.Values.{IsNullOrInteger, value_at};
 
 use crate::bits::has_bit;
 use crate::column::Column;
-use bw_code::{CodeColumn, Encoding, PlainColumn};
+use crate::storage::Codes;
+use bw_code::Encoding;
 use bw_mask::Mask;
 
 /// The value of a row, by its code and by whether it is there.
@@ -39,15 +41,15 @@ fn decode_all(encoding: &Encoding, codes: &[u64], present: u64, out: &mut [Optio
 /// Fills `out` with the values of at most 64 rows from row `at` on.
 fn read_block(
     encoding: &Encoding,
-    codes: &PlainColumn,
+    codes: &Codes,
     nonnull: &Mask,
     at: usize,
     out: &mut [Option<i64>],
 )
-    requires rows { AreRowCodes encoding.now codes.now nonnull.now }
+    requires rows { AreRowCodes encoding.now (list_of codes.now) nonnull.now }
     requires few { length out.old ≤ 64 }
-    requires there { at + length out.old ≤ count codes.now }
-    ensures { (k : ℕ) → k < length out.old → value_at out.new k ≡ value_at (values_from encoding.now codes.now nonnull.now) (at + k) }
+    requires there { at + length out.old ≤ count (list_of codes.now) }
+    ensures { (k : ℕ) → k < length out.old → value_at out.new k ≡ value_at (values_from encoding.now (list_of codes.now) nonnull.now) (at + k) }
 {
     let mut list = [0; 64];
     let block = &mut list[..out.len()];

@@ -13,7 +13,7 @@ ghost use Rattle.bw_column.specs.Costs.{needed_known, units_of_columns, units_of
 ghost use Rattle.bw_column.specs.Values.{value_at};
 
 use crate::column::Column;
-use bw_code::{CmpOp, CodeColumn, CodeTest, Meter};
+use bw_code::{CmpOp, CodeTest, Meter};
 use bw_mask::Mask;
 
 impl Column {

@@ -1,5 +1,6 @@
 //! How a column comes to have a code for each of some values.
 
+ghost use Rattle.std.specs.Bool.{OnTrue};
 ghost use Rattle.std.specs.Int.{w64};
 ghost use Rattle.std.specs.Prelude.{All, FitsSigned, IfOk, length, ◌++◌, ◌+◌, ◌-ℤ◌, ◌^◌, ◌≡◌, ◌≤◌};
 ghost use Rattle.bw_code.specs.Encodings.{IsFit, kind_of, width};
@@ -9,11 +10,12 @@ ghost use Rattle.bw_code.specs.declared.kind.Kind.TheVariants as kind;
 ghost use Rattle.bw_column.specs.Codes.{IsCoded};
 ghost use Rattle.bw_column.specs.Columns.{Keeps};
 ghost use Rattle.bw_column.specs.Preparing.{CanTake, after};
+ghost use Rattle.bw_column.specs.Storing.{ShiftsTo};
 ghost use Rattle.bw_column.specs.Values.{IsNullOrInteger, known};
 
 use crate::column::Column;
 use crate::telling::tell_known;
-use bw_code::{Encoding, Fitting, Kind, Offset};
+use bw_code::{Encoding, Fitting, Kind, Layout, Offset};
 use std::alloc::{AllocError, Global};
 
 /// What a column does before it takes values, so that each of them has a code.
@@ -21,7 +23,7 @@ use std::alloc::{AllocError, Global};
 pub(crate) enum Step {
     /// Nothing: each has one.
     Stay,
-    /// Its codes are counted from another base.
+    /// Its codes are counted from another base, where they lie.
     Shift(Offset),
     /// Another column takes its place: the same values, encoded anew.
     Replace(Column),
@@ -80,13 +82,24 @@ impl Column {
         ensures encoding { IfOk result (λ c. c.encoding ≡ encoding) }
         ensures room { IfOk result (λ c. length self.now.values + more ≤ c.room) }
     {
-        let mut column = Column::with_room(alloc, self.layout, encoding, self.len() + more)?;
+        let mut column = Column::with_room(alloc, self.layout(), encoding, self.len() + more)?;
         column.extend_from(self);
         Ok(column)
     }
 
-    /// The step to an encoding of the column's kind, and room for so many values more. Codes that are distances from a
-    /// base take no second column. The column keeps its values, layout and encoding, also where memory is wanting.
+    /// Whether codes can be counted from another base where they lie, as codes of so many bits.
+    fn shifts_to(&self, bits: u32) -> bool
+        ensures { OnTrue result (ShiftsTo self.now.layout (width self.now.encoding) bits) }
+    {
+        match self.layout() {
+            Layout::P => true,
+            Layout::V => bits == self.encoding.width(),
+            Layout::H | Layout::S => false,
+        }
+    }
+
+    /// The step to an encoding of the column's kind, and room for so many values more. Codes that can be shifted
+    /// take no second column. The column keeps its values, layout and encoding, also where memory is wanting.
     pub(crate) fn step_to(
         &mut self,
         alloc: Global,
@@ -105,11 +118,11 @@ impl Column {
         ensures keeps { Keeps self.new self.old }
     {
         match encoding {
-            Encoding::Offset(offset) => {
+            Encoding::Offset(offset) if self.shifts_to(offset.width) => {
                 self.reserve(more)?;
                 Ok(Step::Shift(offset))
             }
-            dictionary => Ok(Step::Replace(self.anew(alloc, dictionary, more)?)),
+            other => Ok(Step::Replace(self.anew(alloc, other, more)?)),
         }
     }
 

@@ -36,7 +36,7 @@ module _ (new old : ColumnView) (values : List (Option ℤ)) (keeps : Keeps new 
     room = omega (arith, is.room, keeps.room, ap length keeps.values);
   }
   still_ready_by (Shift offset) codes is = record {
-    can = rw (keeps.values, keeps.encoding) is.can;
+    can = rw (keeps.values, keeps.layout, keeps.encoding) is.can;
     same = refl;
     layout = refl;
     encoding = rw (keeps.values, keeps.encoding) is.encoding;

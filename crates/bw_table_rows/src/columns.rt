@@ -5,7 +5,7 @@ ghost use Rattle.bw_mask.specs.Masks.{len};
 ghost use Rattle.bw_column.specs.Values.{IsNullOrInteger};
 
 use bw_code::{CmpOp, Encoding, Kind, Layout, Meter};
-use bw_column::Column;
+use bw_column::{Column, Storage};
 use bw_mask::{Mask, Truth};
 use std::process::Abort;
 
@@ -192,6 +192,18 @@ fn a_value_without_a_code_encodes_the_column_anew(rt: HostRuntime) {
 }
 
 #[test]
+fn both_ends_in_words_of_sections(rt: HostRuntime) {
+    let ends = [Some(-2_147_483_648), Some(2_147_483_647)];
+    let column = column_of(&rt, &ends, Layout::H, Kind::Offset);
+    let mut wanted = [0; 33];
+    wanted[1] = 0xffff_ffff;
+    let Storage::H(codes) = column.storage() else {
+        panic!(rt; "another layout")
+    };
+    assert_eq!(rt; codes.words(), wanted.as_slice());
+}
+
+#[test]
 fn a_null_has_a_code_in_any_encoding(rt: HostRuntime) {
     let values = [Some(1), Some(1_000_000)];
     let mut column = column_of(&rt, &values, Layout::V, Kind::Offset);
@@ -273,20 +285,24 @@ const WITH_A_NULL: [Option<i64>; 4] = [Some(1), None, Some(3), Some(5)];
 
 #[test]
 fn nulls_beside_a_constant(rt: HostRuntime) {
-    for kind in [Kind::Offset, Kind::Dictionary] {
+    // Words of sections: one more than the bits of a code.
+    for (kind, units) in [(Kind::Offset, 4), (Kind::Dictionary, 3)] {
         let column = column_of(&rt, &WITH_A_NULL, Layout::H, kind);
-        for (need, outcome) in [(0b1111, (0b1001, 0b0100, 3)), (0b0111, (0b0001, 0b0100, 2))] {
+        for (need, trues) in [(0b1111, 0b1001), (0b0111, 0b0001)] {
+            let outcome = (trues, 0b0100, units);
             assert_eq!(rt; compared(&rt, &column, CmpOp::Ne, 3, need), outcome);
         }
-        assert_eq!(rt; between(&rt, &column, 2, 3, 0b1111), (0b0100, 0b1001, 3));
+        let outcome = (0b0100, 0b1001, units);
+        assert_eq!(rt; between(&rt, &column, 2, 3, 0b1111), outcome);
     }
 }
 
 #[test]
 fn nulls_beside_a_list(rt: HostRuntime) {
-    for kind in [Kind::Offset, Kind::Dictionary] {
+    for (kind, units) in [(Kind::Offset, 8), (Kind::Dictionary, 6)] {
         let column = column_of(&rt, &WITH_A_NULL, Layout::H, kind);
-        assert_eq!(rt; listed(&rt, &column, &[5, 1], 0b1111), (0b1001, 0b0100, 5));
+        let outcome = (0b1001, 0b0100, units);
+        assert_eq!(rt; listed(&rt, &column, &[5, 1], 0b1111), outcome);
         assert_eq!(rt; listed(&rt, &column, &[], 0b1111), (0, 0b1101, 0));
     }
 }

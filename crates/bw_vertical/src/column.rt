@@ -1,14 +1,16 @@
 //! Columns of codes as planes of bits.
 
-ghost use Rattle.std.specs.Prelude.{[], ◌++◌, ◌%◌, ◌≤◌, ◌^◌, length, slice_index_or, ℕ, ◌*◌, ◌+◌, ◌-◌, ◌<◌, ◌≡◌};
-ghost use Rattle.bw_mask.specs.Masks.{bit_of, row_in};
+ghost use Rattle.std.specs.Prelude.{[], pos, ◌++◌, ◌%◌, ◌≤◌, ◌^◌, length, slice_index_or, ℕ, ◌*◌, ◌+◌, ◌-◌, ◌<◌, ◌≡◌};
+ghost use Rattle.bw_mask.specs.Masks.{bit_of, len, row_at, row_in};
 ghost use Rattle.bw_code.specs.Columns.{code_at, count, Fit, KeepsShape};
+ghost use Rattle.bw_code.specs.Shifts.{StaysBelow, shifted};
 ghost use Rattle.bw_code.specs.declared.kind.Layout.TheVariants as layouts;
 ghost use Rattle.bw_vertical.specs.Planes.{segments_of};
 ghost use Rattle.bw_vertical.specs.Storage.{groups_of, planes_in};
 
 use crate::growing::{begin_segment, empty_groups, reserve_segments};
 use crate::scan::scan_from;
+use crate::shifting::{as_word, shift_codes};
 use crate::source::PlaneSource;
 use crate::{blocks, codes};
 use bw_code::{CodeColumn, CodeTest, Meter, Source};
@@ -48,6 +50,19 @@ impl VerticalColumn {
             → row_in (slice_index_or result.now (q * planes_in self.now.width g + i) []) r ≡ bit_of (code_at self.now (256 * q + r)) (self.now.width - 1 - (4 * g + i)) }
     {
         &self.groups[g]
+    }
+
+    /// Adds so much to the code of each of the rows. Each of them then is a code of the column's width, too. Takes no
+    /// memory.
+    pub fn shift(&mut self, rows: &Mask, by: i64)
+        requires rows { len rows.now ≡ count self.old }
+        requires fit { (i : ℕ) → i < count self.old → StaysBelow (2 ^ self.old.width) (shifted by (row_at rows.now i) (code_at self.old i)) }
+        ensures shape { KeepsShape self.new self.old }
+        ensures count { count self.new ≡ count self.old }
+        ensures codes { (i : ℕ) → i < count self.old → pos (code_at self.new i) ≡ shifted by (row_at rows.now i) (code_at self.old i) }
+    {
+        let k = self.width as usize;
+        shift_codes(&mut self.groups, k, self.len, rows, as_word(by));
     }
 
     /// Adds codes at the end, within the room, so few that their rows lie in one word.

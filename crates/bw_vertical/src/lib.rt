@@ -7,6 +7,7 @@ mod column;
 mod growing;
 mod rows;
 mod scan;
+mod shifting;
 mod source;
 mod storage;
 

@@ -154,11 +154,21 @@ fn check_codes<R: Abort + AllocGlobal>(rt: &R, width: u32, rows: usize)
     );
 }
 
+/// How many rows a segment of codes of so many bits has.
+fn segment_rows(width: u32) -> usize
+    requires some { 1 ≤ width }
+    requires narrow { width ≤ 32 }
+    ensures some { 1 ≤ result }
+    ensures few { result ≤ 64 }
+{
+    let section = width as usize + 1;
+    section * (64 / section)
+}
+
 #[test]
 fn columns_beside_plain_ones(rt: HostRuntime) {
-    for width in [1, 2, 8, 20, 31, 32] {
-        let section = width as usize + 1;
-        let rows = section * (64 / section);
+    for width in 1..=32 {
+        let rows = segment_rows(width);
         for rows in [0, 1, rows - 1, rows, rows + 1, 2 * rows + 5] {
             check_codes(&rt, width, rows);
             check_planes(&rt, width, rows);

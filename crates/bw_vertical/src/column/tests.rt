@@ -157,8 +157,8 @@ fn check_calls<R: Abort + AllocGlobal>(rt: &R, width: u32, rows: usize)
 
 #[test]
 fn calls_at_the_seams_of_words_and_segments(rt: HostRuntime) {
-    for width in [1, 3, 4, 5, 8, 31, 32] {
-        for rows in [0, 1, 63, 64, 65, 255, 256, 257, 512, 700] {
+    for width in 1..=32 {
+        for rows in [0, 1, 63, 64, 65, 255, 256, 257, 513] {
             check_calls(&rt, width, rows);
         }
     }

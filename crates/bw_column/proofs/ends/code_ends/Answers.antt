@@ -4,13 +4,14 @@ use Rattle.bw_mask.specs.Masks.{bit_of, row_at}
 use Rattle.bw_code.specs.Columns.{code_at, count}
 use Rattle.bw_code.proofs.Lists.{part_at}
 use Rattle.bw_column.specs.Extremes.{IsGreatestFrom, IsLeastFrom}
+use Rattle.bw_column.specs.Storing.{list_of}
 use Rattle.bw_column.proofs.Extremes.{greatest_over, least_over}
 use Rattle.bw_column.proofs.ends.code_ends.Goals as goal
 
 pub loop-at-preserved : goal.loop-at-preserved
 loop-at-preserved c =
     let i = c.loop-at.invariant in
-    let codes = c.args.codes.now in
+    let codes = list_of c.args.codes.now in
     let nonnull = c.args.nonnull.now in
     let at = c.loop-at.at in
     let n = c.min-n.result in

@@ -1,0 +1,178 @@
+//! Times how fast codes are taken, read and scanned in each layout, at each width.
+
+ghost use Rattle.std.specs.Prelude.{IfOk, length, vec_len, ◌+◌, ◌<◌, ◌^◌, ◌≡◌, ◌≤◌};
+ghost use Rattle.bw_mask.specs.Masks.{len};
+ghost use Rattle.bw_code.specs.Columns.{Fit, count};
+
+use bw_byteslice::SliceColumn;
+use bw_code::{CmpOp, CodeColumn, CodeTest, Meter, PlainColumn};
+use bw_horizontal::HorizontalColumn;
+use bw_mask::Mask;
+use bw_vertical::VerticalColumn;
+use std::alloc::{AllocError, Global};
+use std::io;
+use std::time::Instant;
+
+// How many codes are read at once.
+const RUN: usize = 1_024;
+
+// The most codes of a column.
+const ROW_LIMIT: usize = 16_777_216;
+
+/// Times every layout at every width over so many codes, so many times.
+pub(crate) fn time_layouts(rt: &HostRuntime, rounds: u32, count: usize) -> io::Result<()> {
+    let count = count.min(ROW_LIMIT);
+    for width in 1..=32 {
+        let codes = codes_of(rt.alloc(), width, count)?;
+        time_column::<PlainColumn>(rt, Timed { layout: "P", width }, rounds, &codes)?;
+        time_column::<VerticalColumn>(rt, Timed { layout: "V", width }, rounds, &codes)?;
+        time_column::<HorizontalColumn>(rt, Timed { layout: "H", width }, rounds, &codes)?;
+        time_column::<SliceColumn>(rt, Timed { layout: "S", width }, rounds, &codes)?;
+    }
+    Ok(())
+}
+
+// Random codes of so many bits.
+fn codes_of(alloc: Global, width: u32, count: usize) -> Result<Vec<u64>, AllocError>
+    requires some { 1 ≤ width }
+    requires narrow { width ≤ 32 }
+    ensures count { IfOk result (λ codes. vec_len codes ≡ count) }
+    ensures fit { IfOk result (λ codes. Fit width codes.items) }
+{
+    let mut codes = Vec::with_capacity(alloc, count)?;
+    for row in 0..count {
+        codes.push(upper_bits(mixed(row as u64), width))?;
+    }
+    Ok(codes)
+}
+
+// A number that looks random, by the row (a step of splitmix64: Steele, Lea and Flood, OOPSLA 2014).
+fn mixed(row: u64) -> u64 {
+    let once = row.wrapping_mul(0xbf58_476d_1ce4_e5b9);
+    (once ^ once >> 31).wrapping_mul(0x94d0_49bb_1331_11eb)
+}
+
+// The upper bits of a word: a number of so many bits.
+fn upper_bits(word: u64, width: u32) -> u64
+    requires some { 1 ≤ width }
+    requires narrow { width ≤ 32 }
+    ensures { result < 2 ^ width }
+{
+    word >> (64 - width)
+}
+
+// A layout at a width.
+#[derive(Clone, Copy)]
+struct Timed<'a> {
+    layout: &'a str,
+    width: u32,
+}
+
+fn report(
+    rt: &HostRuntime,
+    timed: Timed<'_>,
+    what: &str,
+    start: Instant,
+    found: u64,
+) -> io::Result<()> {
+    let time = start.elapsed(rt)?.as_nanos();
+    let Timed { layout, width } = timed;
+    eprintln!(rt; "{layout} {width} {what} {time} ns, found {found}")
+}
+
+fn time_column<C: CodeColumn + Drop>(
+    rt: &HostRuntime,
+    timed: Timed<'_>,
+    rounds: u32,
+    codes: &[u64],
+) -> io::Result<()>
+    requires some { 1 ≤ timed.width }
+    requires narrow { timed.width ≤ 32 }
+    requires wide { timed.width ≤ C.WIDEST }
+    requires fit { Fit timed.width codes.now }
+    requires few { length codes.now ≤ 2 ^ 24 }
+{
+    let start = Instant::now(rt)?;
+    for _ in 1..rounds {
+        column_of::<C>(rt.alloc(), timed.width, codes)?;
+    }
+    let column: C = column_of(rt.alloc(), timed.width, codes)?;
+    report(rt, timed, "extend", start, column.len() as u64)?;
+    let start = Instant::now(rt)?;
+    let mut found = 0;
+    for _ in 0..rounds {
+        found = read_all(&column);
+    }
+    report(rt, timed, "read", start, found)?;
+    time_scan(rt, timed, rounds, &column)
+}
+
+fn time_scan<C: CodeColumn>(
+    rt: &HostRuntime,
+    timed: Timed<'_>,
+    rounds: u32,
+    column: &C,
+) -> io::Result<()>
+    requires some { 1 ≤ timed.width }
+    requires narrow { timed.width ≤ 32 }
+    requires width { (C.seen column.now).width ≡ timed.width }
+{
+    let need = Mask::filled(rt.alloc(), column.len(), true)?;
+    let mut rows = Mask::filled(rt.alloc(), column.len(), false)?;
+    let start = Instant::now(rt)?;
+    let found = scan_all(column, rounds, timed.width, &need, &mut rows);
+    report(rt, timed, "scan", start, found)
+}
+
+fn column_of<C: CodeColumn + Drop>(
+    alloc: Global,
+    width: u32,
+    codes: &[u64],
+) -> Result<C, AllocError>
+    requires some { 1 ≤ width }
+    requires narrow { width ≤ 32 }
+    requires wide { width ≤ C.WIDEST }
+    requires fit { Fit width codes.now }
+    requires few { length codes.now ≤ 2 ^ 24 }
+    ensures { IfOk result (λ column. (C.seen column).width ≡ width) }
+{
+    let mut column = C::with_width(alloc, width)?;
+    column.reserve(codes.len())?;
+    column.extend(codes);
+    Ok(column)
+}
+
+// Reads all codes in runs.
+fn read_all<C: CodeColumn>(column: &C) -> u64 {
+    let mut run = [0; RUN];
+    let mut mixed = 0;
+    for q in 0..column.len().div_ceil(RUN) {
+        let count = (column.len() - RUN * q).min(RUN);
+        let codes = &mut run[..count];
+        column.read(RUN * q, codes);
+        mixed ^= codes[0];
+    }
+    mixed
+}
+
+// Finds the codes below a tenth of the greatest, so many times, and says how many they are.
+fn scan_all<C: CodeColumn>(
+    column: &C,
+    rounds: u32,
+    width: u32,
+    need: &Mask,
+    found: &mut Mask,
+) -> u64
+    requires some { 1 ≤ width }
+    requires narrow { width ≤ 32 }
+    requires width { (C.seen column.now).width ≡ width }
+    requires need { len need.now ≡ count (C.seen column.now) }
+    requires found { len found.old ≡ count (C.seen column.now) }
+{
+    let tenth = upper_bits(u64::MAX / 10, width);
+    let test = CodeTest::Cmp(CmpOp::Lt, tenth);
+    for _ in 0..rounds {
+        column.scan(test, need, found, &mut Meter::new());
+    }
+    found.count() as u64
+}

@@ -1,0 +1,40 @@
+-- The codes of a column, in whichever layout they lie.
+use Rattle.bw_code.specs.Columns.{CodeList}
+use Rattle.std.specs.Prelude.{⊤, ℕ, ◌≡◌}
+use Rattle.bw_code.specs.declared.kind.Layout.{Layout}
+use Rattle.bw_code.specs.declared.kind.Layout.TheVariants as layouts
+use Rattle.bw_column.specs.declared.storage.Codes.{Codes}
+use Rattle.bw_column.specs.declared.storage.Codes.TheVariants as kept
+use Rattle.bw_column.specs.declared.storage.Storage.{Storage}
+use Rattle.bw_column.specs.declared.storage.Storage.TheVariants as lent
+
+abbrev pub list_of : Codes → CodeList
+list_of (kept.P codes) = codes
+list_of (kept.V codes) = codes
+list_of (kept.H codes) = codes
+list_of (kept.S codes) = codes
+
+abbrev pub layout_of : Codes → Layout
+layout_of (kept.P codes) = layouts.P
+layout_of (kept.V codes) = layouts.V
+layout_of (kept.H codes) = layouts.H
+layout_of (kept.S codes) = layouts.S
+
+abbrev pub lent_list : Storage → CodeList
+lent_list (lent.P codes) = codes.now
+lent_list (lent.V codes) = codes.now
+lent_list (lent.H codes) = codes.now
+lent_list (lent.S codes) = codes.now
+
+abbrev pub lent_layout : Storage → Layout
+lent_layout (lent.P codes) = layouts.P
+lent_layout (lent.V codes) = layouts.V
+lent_layout (lent.H codes) = layouts.H
+lent_layout (lent.S codes) = layouts.S
+
+-- where codes can get another base without being laid anew: plain codes with any width, and planes where the width stays
+abbrev pub ShiftsTo : Layout → ℕ → ℕ → Type 0
+ShiftsTo layouts.P old new = ⊤
+ShiftsTo layouts.V old new = new ≡ old
+ShiftsTo layouts.H old new = ⊥
+ShiftsTo layouts.S old new = ⊥

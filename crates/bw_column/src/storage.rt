@@ -1,0 +1,211 @@
+//! The codes of a column, each layout in its own type.
+
+ghost use Rattle.std.specs.Prelude.{[], IfOk, OnOk, drop, length, slice_set, take, ℕ, ◌&&◌, ◌++◌, ◌+◌, ◌<◌, ◌^◌, ◌≡◌, ◌≤◌, pos};
+ghost use Rattle.bw_mask.specs.Masks.{SameShape, bit_of, len, row_at};
+ghost use Rattle.bw_code.specs.Columns.{Fit, KeepsShape, code_at, count};
+ghost use Rattle.bw_code.specs.Meters.{raised};
+ghost use Rattle.bw_code.specs.Shifts.{StaysBelow, shifted};
+ghost use Rattle.bw_code.specs.Tests.{TestFits, meets};
+ghost use Rattle.bw_code.specs.Units.{units_of_scan};
+ghost use Rattle.bw_column.specs.Storing.{ShiftsTo, layout_of, lent_layout, lent_list, list_of};
+
+use bw_byteslice::SliceColumn;
+use bw_code::{CodeColumn, CodeTest, Layout, Meter, PlainColumn};
+use bw_horizontal::HorizontalColumn;
+use bw_mask::Mask;
+use bw_vertical::VerticalColumn;
+use std::alloc::{AllocError, Global};
+
+/// The codes of a column, lent in the type of its layout.
+#[derive(Clone, Copy)]
+pub enum Storage<'a> {
+    P(&'a PlainColumn),
+    V(&'a VerticalColumn),
+    H(&'a HorizontalColumn),
+    S(&'a SliceColumn),
+}
+
+/// Codes in a layout. What each call does with them is what `CodeColumn` says.
+#[derive(Drop)]
+pub(crate) enum Codes {
+    P(PlainColumn),
+    V(VerticalColumn),
+    H(HorizontalColumn),
+    S(SliceColumn),
+}
+
+impl Codes {
+    /// No codes.
+    pub(crate) fn with_width(alloc: Global, layout: Layout, width: u32) -> Result<Codes, AllocError>
+        requires some { 1 ≤ width }
+        requires narrow { width ≤ 32 }
+        ensures layout { IfOk result (λ codes. layout_of codes ≡ layout) }
+        ensures width { IfOk result (λ codes. (list_of codes).width ≡ width) }
+        ensures codes { IfOk result (λ codes. (list_of codes).codes ≡ []) }
+    {
+        match layout {
+            Layout::P => Ok(Codes::P(PlainColumn::with_width(alloc, width)?)),
+            Layout::V => Ok(Codes::V(VerticalColumn::with_width(alloc, width)?)),
+            Layout::H => Ok(Codes::H(HorizontalColumn::with_width(alloc, width)?)),
+            Layout::S => Ok(Codes::S(SliceColumn::with_width(alloc, width)?)),
+        }
+    }
+
+    pub(crate) fn layout(&self) -> Layout
+        ensures { result ≡ layout_of self.now }
+    {
+        match self {
+            Codes::P(_) => Layout::P,
+            Codes::V(_) => Layout::V,
+            Codes::H(_) => Layout::H,
+            Codes::S(_) => Layout::S,
+        }
+    }
+
+    /// The codes, lent.
+    pub(crate) fn lent(&self) -> Storage<'_>
+        ensures layout { lent_layout result ≡ layout_of self.now }
+        ensures codes { lent_list result ≡ list_of self.now }
+    {
+        match self {
+            Codes::P(codes) => Storage::P(codes),
+            Codes::V(codes) => Storage::V(codes),
+            Codes::H(codes) => Storage::H(codes),
+            Codes::S(codes) => Storage::S(codes),
+        }
+    }
+
+    pub(crate) fn reserve(&mut self, more: usize) -> Result<(), AllocError>
+        requires { count (list_of self.old) + more ≤ 2 ^ 24 }
+        ensures layout { layout_of self.new ≡ layout_of self.old }
+        ensures room { OnOk result (count (list_of self.old) + more ≤ (list_of self.new).room) }
+        ensures shape { KeepsShape (list_of self.new) (list_of self.old) }
+        ensures codes { (list_of self.new).codes ≡ (list_of self.old).codes }
+    {
+        match self {
+            Codes::P(codes) => codes.reserve(more),
+            Codes::V(codes) => codes.reserve(more),
+            Codes::H(codes) => codes.reserve(more),
+            Codes::S(codes) => codes.reserve(more),
+        }
+    }
+
+    pub(crate) fn extend(&mut self, more: &[u64])
+        requires fit { Fit (list_of self.old).width more.now }
+        requires room { count (list_of self.old) + length more.now ≤ (list_of self.old).room }
+        requires few { count (list_of self.old) + length more.now ≤ 2 ^ 24 }
+        ensures layout { layout_of self.new ≡ layout_of self.old }
+        ensures shape { KeepsShape (list_of self.new) (list_of self.old) }
+        ensures codes { (list_of self.new).codes ≡ (list_of self.old).codes ++ more.now }
+    {
+        match self {
+            Codes::P(codes) => codes.extend(more),
+            Codes::V(codes) => codes.extend(more),
+            Codes::H(codes) => codes.extend(more),
+            Codes::S(codes) => codes.extend(more),
+        }
+    }
+
+    pub(crate) fn len(&self) -> usize
+        ensures count { result ≡ count (list_of self.now) }
+        ensures few { result ≤ 2 ^ 24 }
+    {
+        match self {
+            Codes::P(codes) => codes.len(),
+            Codes::V(codes) => codes.len(),
+            Codes::H(codes) => codes.len(),
+            Codes::S(codes) => codes.len(),
+        }
+    }
+
+    pub(crate) fn get(&self, i: usize) -> u64
+        requires { i < count (list_of self.now) }
+        ensures code { result ≡ code_at (list_of self.now) i }
+        ensures fits { result < 2 ^ (list_of self.now).width }
+    {
+        match self {
+            Codes::P(codes) => codes.get(i),
+            Codes::V(codes) => codes.get(i),
+            Codes::H(codes) => codes.get(i),
+            Codes::S(codes) => codes.get(i),
+        }
+    }
+
+    pub(crate) fn set(&mut self, i: usize, code: u64)
+        requires there { i < count (list_of self.old) }
+        requires fits { code < 2 ^ (list_of self.old).width }
+        ensures layout { layout_of self.new ≡ layout_of self.old }
+        ensures shape { KeepsShape (list_of self.new) (list_of self.old) }
+        ensures codes { (list_of self.new).codes ≡ slice_set (list_of self.old).codes i code }
+    {
+        match self {
+            Codes::P(codes) => codes.set(i, code),
+            Codes::V(codes) => codes.set(i, code),
+            Codes::H(codes) => codes.set(i, code),
+            Codes::S(codes) => codes.set(i, code),
+        }
+    }
+
+    pub(crate) fn read(&self, at: usize, out: &mut [u64])
+        requires { at + length out.old ≤ count (list_of self.now) }
+        ensures codes { out.new ≡ take (length out.old) (drop at (list_of self.now).codes) }
+        ensures fit { Fit (list_of self.now).width out.new }
+    {
+        match self {
+            Codes::P(codes) => codes.read(at, out),
+            Codes::V(codes) => codes.read(at, out),
+            Codes::H(codes) => codes.read(at, out),
+            Codes::S(codes) => codes.read(at, out),
+        }
+    }
+
+    pub(crate) fn plane(&self, i: u32, out: &mut Mask)
+        requires bit { i < (list_of self.now).width }
+        requires out { len out.old ≡ count (list_of self.now) }
+        ensures shape { SameShape out.new out.old }
+        ensures rows { (r : ℕ) → row_at out.new r ≡ bit_of (code_at (list_of self.now) r) i }
+    {
+        match self {
+            Codes::P(codes) => codes.plane(i, out),
+            Codes::V(codes) => codes.plane(i, out),
+            Codes::H(codes) => codes.plane(i, out),
+            Codes::S(codes) => codes.plane(i, out),
+        }
+    }
+
+    pub(crate) fn scan(&self, test: CodeTest, need: &Mask, out: &mut Mask, meter: &mut Meter)
+        requires test { TestFits (list_of self.now).width test }
+        requires need { len need.now ≡ count (list_of self.now) }
+        requires out { len out.old ≡ count (list_of self.now) }
+        ensures shape { SameShape out.new out.old }
+        ensures rows { (r : ℕ) → row_at out.new r ≡ (row_at need.now r && meets test (code_at (list_of self.now) r)) }
+        ensures units { meter.new ≡ raised meter.old (units_of_scan (layout_of self.now) (list_of self.now).width test (row_at need.now) (list_of self.now).codes) }
+    {
+        match self {
+            Codes::P(codes) => codes.scan(test, need, out, meter),
+            Codes::V(codes) => codes.scan(test, need, out, meter),
+            Codes::H(codes) => codes.scan(test, need, out, meter),
+            Codes::S(codes) => codes.scan(test, need, out, meter),
+        }
+    }
+
+    /// Adds so much to the code of each of the rows, and makes all codes ones of so many bits, where they lie.
+    pub(crate) fn shift(&mut self, rows: &Mask, by: i64, width: u32)
+        requires here { ShiftsTo (layout_of self.old) (list_of self.old).width width }
+        requires some { 1 ≤ width }
+        requires narrow { width ≤ 32 }
+        requires rows { len rows.now ≡ count (list_of self.old) }
+        requires fit { (i : ℕ) → i < count (list_of self.old) → StaysBelow (2 ^ width) (shifted by (row_at rows.now i) (code_at (list_of self.old) i)) }
+        ensures layout { layout_of self.new ≡ layout_of self.old }
+        ensures width { (list_of self.new).width ≡ width }
+        ensures count { count (list_of self.new) ≡ count (list_of self.old) }
+        ensures codes { (i : ℕ) → i < count (list_of self.old) → pos (code_at (list_of self.new) i) ≡ shifted by (row_at rows.now i) (code_at (list_of self.old) i) }
+        ensures room { (list_of self.old).room ≤ (list_of self.new).room }
+    {
+        match self {
+            Codes::P(codes) => codes.shift(rows, by, width),
+            Codes::V(codes) => codes.shift(rows, by),
+            Codes::H(_) | Codes::S(_) => unreachable!(),
+        }
+    }
+}
