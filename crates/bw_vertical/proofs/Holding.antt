@@ -9,7 +9,7 @@ use Rattle.bw_mask.specs.Masks.{bit_of, row_in}
 use Rattle.bw_mask.proofs.Bits.{bit_of_zero}
 use Rattle.bw_code.proofs.Lists.{made_at, made_len, made_more, made_set}
 use Rattle.bw_vertical.specs.Planes.{code_in, in_plane, segments_of}
-use Rattle.bw_vertical.specs.Storage.{AreGroups, HasSegment, KeepsSizes, code_of, codes_of, is_set, lists, plane_at, planes_in, units_of}
+use Rattle.bw_vertical.specs.Storage.{AreGroups, HasSegment, HoldsUnits, KeepsSizes, code_of, codes_of, is_set, lists, plane_at, planes_in, units_of}
 use Rattle.bw_vertical.proofs.Numbers.{number_bit, number_is, number_lt, number_same}
 
 pub codes_len : (k n : ℕ) (gs : List (List (List ℕ))) → length (codes_of k gs n) ≡ n
@@ -71,6 +71,10 @@ module _ (k n : ℕ) (gs : List (List (List ℕ))) where
 
   pub unit_at : (u : ℕ) (d : List ℕ) → u < segments_of n * k → get_or (units_of k gs n) u d ≡ plane_at k gs (u / k) (u % k)
   unit_at u d h = made_at (segments_of n * k) (λ v. plane_at k gs (v / k) (v % k)) u d h
+
+  pub unit_held : (group : List (List ℕ)) (base first count u : ℕ) (d : List ℕ) → HoldsUnits k gs group base first count → first ≤ u → u < first + count → u < segments_of n * k
+      → get_or group (base + (u - first)) [] ≡ get_or (units_of k gs n) u d
+  unit_held group base first count u d held from to h = (held u from to).1 ∙ sym (unit_at u d h)
 
   plane_is : (i j : ℕ) → i < k → j / 256 < segments_of n → in_plane k (units_of k gs n) i j ≡ is_set k gs i j
   plane_is i j low h =

@@ -1,11 +1,11 @@
 -- One word of one plane changes.
-use Rattle.std.proofs.Common.{List, [], Vec, Global, ap, arith, get_or, inl, inr, length, set, subst, sym, ℕ, ◌%◌, ◌*◌, ◌+◌, ◌/◌, ◌<◌, ◌≡◌, ◌≤◌, ◌∙◌, ◌⊎◌, refl}
+use Rattle.std.proofs.Common.{List, [], Vec, Global, ap, arith, get_or, inl, inr, length, set, subst, sym, ℕ, ◌%◌, ◌*◌, ◌+◌, ◌-◌, ◌/◌, ◌<◌, ◌≡◌, ◌≤◌, ◌∙◌, ◌⊎◌, refl}
 use mathlib.Core.Logic.{◌≢◌}
 use Rattle.std.specs.Prelude.{vec_capacity}
 use Rattle.std.proofs.lemmas.Bool.{cases_eq}
 use Rattle.std.proofs.lemmas.Nat.{div-mul-add, mod-mul-add}
 use Rattle.std.proofs.lemmas.List.{get_or-map, get_or-set_other, get_or-set_same, length-map, map-set, length-set}
-use Rattle.bw_vertical.specs.Storage.{KeepsSizes, capacities, lists, planes_in, word_of}
+use Rattle.bw_vertical.specs.Storage.{KeepsSizes, capacities, lists, plane_at, planes_in, word_of}
 
 -- a place among rows of m tells its row and its column
 row_is : (a b m x y : ℕ) → x < m → y < m → a * m + x ≡ b * m + y → a ≡ b
@@ -119,3 +119,20 @@ sizes_more a b = record {
   sizes = λ g. a.sizes g ∙ b.sizes g;
   capacities = λ g. omega (arith, a.capacities g, b.capacities g);
 }
+
+-- units of a segment that are of one group lie side by side in it
+pub side_by_side : (k q g u : ℕ) (gs : List (List (List ℕ))) → 4 * g < k → q * k + 4 * g ≤ u → u < q * k + 4 * g + planes_in k g
+    → get_or (get_or gs g []) (q * planes_in k g + (u - (q * k + 4 * g))) [] ≡ plane_at k gs (u / k) (u % k)
+side_by_side k q g u gs some from to =
+    let i = u - q * k in
+    let unit : u ≡ q * k + i = omega (arith, from) in
+    let low : i < k = omega (arith, from, to, some) in
+    let segment : u / k ≡ q = ap (λ n. n / k) unit ∙ div-mul-add q k i low in
+    let plane : u % k ≡ i = ap (λ n. n % k) unit ∙ mod-mul-add q k i low in
+    let group : i / 4 ≡ g = omega (arith, from, to) in
+    let place : i % 4 ≡ u - (q * k + 4 * g) = omega (arith, from, to) in
+    sym (
+    ap (λ s. plane_at k gs s (u % k)) segment
+    ∙ ap (plane_at k gs q) plane
+    ∙ ap (λ p. get_or (get_or gs (i / 4) []) (q * planes_in k (i / 4) + p) []) place
+    ∙ ap (λ h. get_or (get_or gs h []) (q * planes_in k h + (u - (q * k + 4 * g))) []) group)

@@ -1,9 +1,9 @@
 //! Planes in memory as a source of units.
 
-ghost use Rattle.std.specs.Prelude.{◌*◌, ◌/◌, ◌<◌, ◌≡◌};
-ghost use Rattle.bw_vertical.specs.Storage.{AreGroups, lists, units_of};
+ghost use Rattle.std.specs.Prelude.{length, true, ◌*◌, ◌+◌, ◌/◌, ◌<◌, ◌^◌, ◌≡◌, ◌≤◌};
+ghost use Rattle.bw_vertical.specs.Storage.{AreGroups, HasSegment, HoldsUnits, groups_of, lists, units_of};
 
-use crate::storage::plane_at;
+use crate::storage::planes_in;
 use bw_code::Source;
 use std::marker::Model;
 
@@ -24,7 +24,56 @@ fn place(segment: usize, start: usize, k: usize, i: usize) -> (usize, usize)
     }
 }
 
-/// The planes of a column, read one at a time: unit q * width + i is plane i of segment q.
+/// Planes that lie side by side: units `first` to `first + count - 1` are at `base` and after it.
+#[derive(Clone, Copy)]
+struct PlaneRun<'a> {
+    group: &'a [[u64; 4]],
+    base: usize,
+    first: usize,
+    count: usize,
+}
+
+impl<'a> PlaneRun<'a> {
+    /// Whether unit i is one of them.
+    fn has(&self, i: usize) -> bool
+        ensures from { result ≡ true → self.now.first ≤ i }
+        ensures to { result ≡ true → i < self.now.first + self.now.count }
+    {
+        self.first <= i && i - self.first < self.count
+    }
+}
+
+/// The planes of the segment that are of one group with unit i.
+fn run_at<'a>(
+    groups: &'a [Vec<[u64; 4]>],
+    k: usize,
+    segment: usize,
+    start: usize,
+    i: usize,
+) -> PlaneRun<'a>
+    requires start { start ≡ segment * k }
+    requires from { start ≤ i }
+    requires to { i < start + k }
+    requires narrow { k ≤ 32 }
+    requires small { segment < 2 ^ 32 }
+    requires count { length groups.now ≡ groups_of k }
+    requires there { HasSegment k (lists groups.now) segment }
+    ensures from { result.first ≤ i }
+    ensures to { i < result.first + result.count }
+    ensures units { HoldsUnits k (lists groups.now) result.group.now result.base result.first result.count }
+{
+    let g = (i - start) / 4;
+    let count = planes_in(k, g);
+    PlaneRun {
+        group: &groups[g],
+        base: segment * count,
+        first: start + 4 * g,
+        count,
+    }
+}
+
+/// The planes of a column, read one at a time: unit q * width + i is plane i of segment q. A plane of
+/// the run that was read from last is read without looking for its place.
 #[derive(Drop)]
 pub(crate) struct PlaneSource<'a> {
     groups: &'a [Vec<[u64; 4]>],
@@ -32,6 +81,7 @@ pub(crate) struct PlaneSource<'a> {
     len: usize,
     segment: usize,
     start: usize,
+    run: PlaneRun<'a>,
     reads: u64,
 }
 
@@ -42,7 +92,7 @@ impl<'a> Model for PlaneSource<'a> {
 
     ghost view = { λ s. record { units = units_of s.width (lists s.groups.now) s.len; reads = s.reads } };
 
-    ghost invariant = { λ s. IsInPlace s.width (lists s.groups.now) s.len s.segment s.start };
+    ghost invariant = { λ s. IsInPlace s.width (lists s.groups.now) s.len s.segment s.start s.run.group.now s.run.base s.run.first s.run.count };
 }
 
 impl<'a> PlaneSource<'a> {
@@ -58,6 +108,12 @@ impl<'a> PlaneSource<'a> {
             len,
             segment: 0,
             start: 0,
+            run: PlaneRun {
+                group: &[],
+                base: 0,
+                first: 0,
+                count: 0,
+            },
             reads: 0,
         }
     }
@@ -70,10 +126,13 @@ impl<'a> Source<[u64; 4]> for PlaneSource<'a> {
 
     fn read(&mut self, i: usize) -> [u64; 4] {
         self.reads += 1;
-        let (segment, start) = place(self.segment, self.start, self.width, i);
-        self.segment = segment;
-        self.start = start;
-        *plane_at(self.groups, self.width, segment, i - start)
+        if !self.run.has(i) {
+            let (segment, start) = place(self.segment, self.start, self.width, i);
+            self.segment = segment;
+            self.start = start;
+            self.run = run_at(self.groups, self.width, segment, start, i);
+        }
+        self.run.group[self.run.base + (i - self.run.first)]
     }
 
     fn reads(&self) -> u64 {
