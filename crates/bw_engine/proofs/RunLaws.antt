@@ -1,9 +1,9 @@
 -- The lines of the places that pass, in parts, and from the columns.
-use Rattle.std.proofs.Common.{◌≡◌, ◌∙◌, ℕ, zero, suc, ◌+◌, ◌<◌, ◌&&◌, Bool, true, false, List, [], ◌∷◌, ◌++◌, append-nil, append_assoc, get_or, if◌then◌else◌, length, map, nat_lt, refl, sym, ap, arith}
+use Rattle.std.proofs.Common.{◌≡◌, ◌∙◌, ℕ, zero, suc, ◌%◌, ◌*◌, ◌+◌, ◌/◌, ◌<◌, ◌≤◌, ◌&&◌, Bool, true, false, List, [], ◌∷◌, ◌++◌, append-nil, append_assoc, get_or, if◌then◌else◌, length, map, nat_lt, refl, sym, ap, arith}
 use Rattle.std.specs.List.{filter, range_with_len}
 use Rattle.std.proofs.lemmas.Bool.{lt-ltb}
 use Rattle.std.proofs.lemmas.List.{get_or-map, length-map, same_lists}
-use Rattle.bw_mask.specs.Masks.{MaskRows, bit_of, row_at}
+use Rattle.bw_mask.specs.Masks.{MaskRows, bit_of, row_at, row_in}
 use Rattle.bw_mask.proofs.Bits.{bit_of_zero}
 use Rattle.bw_column.specs.Values as columns
 use Rattle.bw_table.specs.Slots.{Slot, slot_at}
@@ -107,13 +107,17 @@ lines_where places passes (slot ∷ slots) =
     by true rows = refl
     by false rows = refl
 
+-- an empty word of the found slots has no line
+pub word_none : (line : ℕ → List Value) (passes : ℕ → Bool) (words : List ℕ) (q n : ℕ) → n ≤ 64 → ((i : ℕ) → row_in words i ≡ passes i) → get_or words q 0 ≡ 0 → lines_from line passes (64 * q) n ≡ []
+word_none line passes words q n few rows e =
+    lines_none line passes n (64 * q) (λ i h.
+    let word : (64 * q + i) / 64 ≡ q = omega (arith, few, h) in
+    sym (rows (64 * q + i)) ∙ ap (λ w. bit_of (get_or words w 0) ((64 * q + i) % 64)) word ∙ ap (λ w. bit_of w ((64 * q + i) % 64)) e ∙ bit_of_zero ((64 * q + i) % 64))
+
 -- a run of slots, by the word of those that are found
 module _ (slots : List Slot) (places : List ℕ) (found : MaskRows) (word at n : ℕ) (bits : (i : ℕ) → bit_of word i ≡ (nat_lt i n && row_at found (at + i))) where
   bit_is : (i : ℕ) → i < n → bit_of word i ≡ row_at found (at + i)
   bit_is i h = bits i ∙ ap (λ b. b && row_at found (at + i)) (lt-ltb i n h)
-
-  pub run_none : word ≡ 0 → lines_from (slot_line places slots) (row_at found) at n ≡ []
-  run_none e = lines_none (slot_line places slots) (row_at found) n at (λ i h. sym (bit_is i h) ∙ ap (λ w. bit_of w i) e ∙ bit_of_zero i)
 
   pub run_fetched : lines_from (λ i. slot_line places slots (at + i)) (bit_of word) 0 n ≡ lines_from (slot_line places slots) (row_at found) at n
   run_fetched =

@@ -37,13 +37,16 @@ pub(crate) fn found_values(
     let count = found.count().saturating_mul(places.len());
     let mut values = Vec::with_capacity(alloc, count)?;
     let mut runs = vec![in alloc; [None; 64]; places.len()]?;
-    for q in 0..found.len().div_ceil(64) {
-        show_slots(&mut values, &mut runs, table, places, found, 64 * q)?;
+    let words = found.words();
+    for q in 0..words.len() {
+        if words[q] != 0 {
+            show_slots(&mut values, &mut runs, table, places, found, 64 * q)?;
+        }
     }
     Ok(values)
 }
 
-/// Puts the values of the found ones of the next 64 slots last, from slot `at` on. Where none is found, nothing is read.
+/// Puts the values of the found ones of the next 64 slots last, from slot `at` on.
 fn show_slots(
     values: &mut Vec<Value>,
     runs: &mut [Run],
@@ -61,9 +64,6 @@ fn show_slots(
 {
     let n = (found.len() - at).min(64);
     let word = found.bits(at, n);
-    if word == 0 {
-        return Ok(());
-    }
     if word.count_ones() <= FEW {
         return fetch_rows(values, table, places, at, word, n);
     }

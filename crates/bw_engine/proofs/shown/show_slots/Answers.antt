@@ -1,22 +1,8 @@
-use Rattle.std.proofs.Common.{OnOk, ap, append-nil, min, refl, subst, sym, ◌++◌, ◌-◌, ◌∙◌, ◌≡◌}
+use Rattle.std.proofs.Common.{OnOk, ap, min, subst, sym, ◌++◌, ◌-◌, ◌∙◌, ◌≡◌}
 use Rattle.bw_mask.specs.Masks.{row_at}
 use Rattle.bw_engine.specs.Runs.{lines_from, slot_line}
-use Rattle.bw_engine.proofs.RunLaws.{run_fetched, run_lines, run_none}
+use Rattle.bw_engine.proofs.RunLaws.{run_fetched, run_lines}
 use Rattle.bw_engine.proofs.shown.show_slots.Goals as goal
-
-pub returns-then-word-eq0 : goal.returns-then-word-eq0
-returns-then-word-eq0 c =
-    let slots = c.args.table.now.slots in
-    let found = c.args.found.now in
-    let old = c.args.values.now.items in
-    let many = c.min-n.ensures ∙ ap (λ k. min (k - c.args.at) 64) (c.len.ensures.rows ∙ c.requires.found) in
-    record {
-      runs = refl;
-      values =
-          sym (append-nil old)
-          ∙ ap (λ l. old ++ l) (sym (run_none slots c.args.places.now found c.bits-word.result c.args.at c.min-n.result c.bits-word.ensures c.if-word-eq0.true))
-          ∙ ap (λ n. old ++ lines_from (slot_line c.args.places.now slots) (row_at found) c.args.at n) many;
-    }
 
 pub returns : goal.returns
 returns c =
