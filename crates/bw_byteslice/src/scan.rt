@@ -102,6 +102,7 @@ fn between<S: Source<[u8; 32]>>(
 }
 
 /// The needed rows of segment q whose number of m bytes meets the test. There may be no segment q where no row is needed.
+#[inline(always)]
 fn segment<S: Source<[u8; 32]>>(
     source: &mut S,
     m: usize,

@@ -5,6 +5,7 @@ ghost use Rattle.bw_byteslice.specs.Storing.{AreEven, bytes_of, units_of};
 
 use bw_code::Source;
 use std::marker::Model;
+use std::simd::prelude::*;
 
 /// The segment of unit i and its first unit, by those of the unit that was read before: without a division if the unit
 /// is of the same segment or of the next.
@@ -28,10 +29,7 @@ pub(crate) fn bytes_at(slice: &[u8], q: usize) -> [u8; 32]
     requires { q < length slice.now / 32 }
     ensures { result ≡ take 32 (drop (32 * q) slice.now) }
 {
-    match slice[32 * q..].first_chunk::<32>() {
-        Some(bytes) => *bytes,
-        None => [0; 32],
-    }
+    u8x32::from_slice(&slice[32 * q..]).to_array()
 }
 
 /// Slices in memory. Unit q * m + i is segment q of slice i, of m slices.

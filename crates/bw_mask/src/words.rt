@@ -134,8 +134,24 @@ fn down(word: u64, places: usize) -> u64
     if places < 64 { word >> places } else { 0 }
 }
 
-/// Rows at, at + 1, .. at + n - 1 become the n lowest bits of the word, as far as there are words.
+/// Rows at, at + 1, .. at + n - 1 become the n lowest bits of the word, as far as there are words. A whole word is told
+/// apart by a constant, so that the compiler puts it without a mask.
 pub(crate) fn put_bits(words: &mut Vec<u64>, at: usize, n: usize, word: u64)
+    requires { n ≤ 64 }
+    ensures room { vec_capacity words.new ≡ vec_capacity words.old }
+    ensures len { vec_len words.new ≡ vec_len words.old }
+    ensures inside { (i : ℕ) → i < n → (at + i) / 64 < vec_len words.old → row_in words.new.items (at + i) ≡ bit_of word i }
+    ensures outside { (j : ℕ) → (at ≤ j → at + n ≤ j) → row_in words.new.items j ≡ row_in words.old.items j }
+{
+    if n == 64 {
+        put_lowest(words, at, 64, word);
+    } else {
+        put_lowest(words, at, n, word);
+    }
+}
+
+/// Rows at, at + 1, .. at + n - 1 become the n lowest bits of the word, under a mask of n bits.
+fn put_lowest(words: &mut Vec<u64>, at: usize, n: usize, word: u64)
     requires { n ≤ 64 }
     ensures room { vec_capacity words.new ≡ vec_capacity words.old }
     ensures len { vec_len words.new ≡ vec_len words.old }

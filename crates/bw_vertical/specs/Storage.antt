@@ -81,7 +81,7 @@ pub record PlanesRead : Type 0 where
 -- units first to first + count - 1 are side by side in the group, at base and after it
 abbrev pub HoldsUnits : ℕ → List (List (List ℕ)) → List (List ℕ) → ℕ → ℕ → ℕ → Type 0
 HoldsUnits k groups group base first count = (u : ℕ) → first ≤ u → u < first + count
-  → (base + (u - first) < length group) × (slice_index_or group (base + (u - first)) [] ≡ plane_at k groups (u / k) (u % k))
+    → (base + (u - first) < length group) × (slice_index_or group (base + (u - first)) [] ≡ plane_at k groups (u / k) (u % k))
 
 -- the planes of n codes, the first unit of a segment of them, and units that lie side by side
 pub record IsInPlace (k : ℕ) (groups : List (List (List ℕ))) (n segment start : ℕ) (group : List (List ℕ)) (base first count : ℕ) : Type 0 where

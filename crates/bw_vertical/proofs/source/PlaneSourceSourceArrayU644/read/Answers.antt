@@ -39,12 +39,12 @@ returns-clause-unit c =
           let r = w.run_at-self-inside.result in
           let d = get_or r.group.now (r.base + (c.args.i - r.first)) [] in
           rw (w.self-inside-is)
-            (unit_held k n gs r.group.now r.base r.first r.count c.args.i d e.units e.from e.to there
-            ∙ ap (λ (s : PlanesRead). get_or s.units c.args.i d) c.self.view_is)
+          (unit_held k n gs r.group.now r.base r.first r.count c.args.i d e.units e.from e.to there
+          ∙ ap (λ (s : PlanesRead). get_or s.units c.args.i d) c.self.view_is)
       | else-not-has w ↦
           let r = c.self.inside.run in
           let d = get_or r.group.now (r.base + (c.args.i - r.first)) [] in
           rw (w.self-inside-is)
-            (unit_held k n gs r.group.now r.base r.first r.count c.args.i d c.self.invariant.run (c.has.ensures.from w.if-not-has.false) (c.has.ensures.to w.if-not-has.false) there
-            ∙ ap (λ (s : PlanesRead). get_or s.units c.args.i d) c.self.view_is)
+          (unit_held k n gs r.group.now r.base r.first r.count c.args.i d c.self.invariant.run (c.has.ensures.from w.if-not-has.false) (c.has.ensures.to w.if-not-has.false) there
+          ∙ ap (λ (s : PlanesRead). get_or s.units c.args.i d) c.self.view_is)
     ]
