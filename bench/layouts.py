@@ -1,8 +1,8 @@
 #!/usr/bin/env python3
 """Times how fast codes are taken, read and scanned in each layout at each width, and draws the scans' times over the width.
 
-Random codes; a tenth of them is found. Beside them, in the same run, a plain pass counts 32-bit codes below a constant. Build
-the timing program first, by `rt run` in crates/bw_bench.
+Random codes; a tenth of them is found. The quickest of the rounds counts, since a machine's speed swings. Beside them, in the
+same run, a plain pass counts 32-bit codes below a constant. Build the timing program first, by `rt run` in crates/bw_bench.
 
     python3 bench/layouts.py [ROUNDS [CODES [SVG]]]     3 rounds over 16,777,216 codes, docs/scans.svg if not given
 """
@@ -66,7 +66,10 @@ def main():
     rounds, codes = (int(word) for word in (words[:2] + ["3", "16777216"][len(words[:2]) :]))
     target = words[2] if len(words) > 2 else HERE.parent / "docs" / "scans.svg"
     done = subprocess.run([built("bw_bench"), str(rounds), str(codes)], input="", capture_output=True, text=True, check=True)
-    times = {(layout, int(width), what): int(time) / rounds / codes for layout, width, what, time in FIGURE.findall(done.stderr)}
+    times = {}
+    for layout, width, what, time in FIGURE.findall(done.stderr):
+        key = layout, int(width), what
+        times[key] = min(int(time) / codes, times.get(key, float("inf")))
     plain = int(COUNT.search(done.stderr)[1]) / rounds / codes
     print(f"ns a row; a plain pass that counts: {plain:.2f}")
     for what in WORKS:

@@ -92,18 +92,17 @@ fn time_column<C: CodeColumn + Drop>(
     requires fit { Fit timed.width codes.now }
     requires few { length codes.now ≤ 2 ^ 24 }
 {
-    let start = Instant::now(rt)?;
-    for _ in 1..rounds {
-        column_of::<C>(rt.alloc(), timed.width, codes)?;
+    for _ in 0..rounds {
+        let start = Instant::now(rt)?;
+        let column: C = column_of(rt.alloc(), timed.width, codes)?;
+        report(rt, timed, "extend", start, column.len() as u64)?;
     }
     let column: C = column_of(rt.alloc(), timed.width, codes)?;
-    report(rt, timed, "extend", start, column.len() as u64)?;
-    let start = Instant::now(rt)?;
-    let mut found = 0;
     for _ in 0..rounds {
-        found = read_all(&column);
+        let start = Instant::now(rt)?;
+        let found = read_all(&column);
+        report(rt, timed, "read", start, found)?;
     }
-    report(rt, timed, "read", start, found)?;
     time_scan(rt, timed, rounds, &column)
 }
 
@@ -119,9 +118,12 @@ fn time_scan<C: CodeColumn>(
 {
     let need = Mask::filled(rt.alloc(), column.len(), true)?;
     let mut rows = Mask::filled(rt.alloc(), column.len(), false)?;
-    let start = Instant::now(rt)?;
-    let found = scan_all(column, rounds, timed.width, &need, &mut rows);
-    report(rt, timed, "scan", start, found)
+    for _ in 0..rounds {
+        let start = Instant::now(rt)?;
+        let found = scan_once(column, timed.width, &need, &mut rows);
+        report(rt, timed, "scan", start, found)?;
+    }
+    Ok(())
 }
 
 fn column_of<C: CodeColumn + Drop>(
@@ -155,24 +157,17 @@ fn read_all<C: CodeColumn>(column: &C) -> u64 {
     mixed
 }
 
-// Finds the codes below a tenth of the greatest, so many times, and says how many they are.
-fn scan_all<C: CodeColumn>(
-    column: &C,
-    rounds: u32,
-    width: u32,
-    need: &Mask,
-    found: &mut Mask,
-) -> u64
+// Finds the codes below a tenth of the greatest, and says how many they are.
+fn scan_once<C: CodeColumn>(column: &C, width: u32, need: &Mask, found: &mut Mask) -> u64
     requires some { 1 ≤ width }
     requires narrow { width ≤ 32 }
     requires width { (C.seen column.now).width ≡ width }
     requires need { len need.now ≡ count (C.seen column.now) }
     requires found { len found.old ≡ count (C.seen column.now) }
+    ensures { len found.new ≡ len found.old }
 {
     let tenth = upper_bits(u64::MAX / 10, width);
     let test = CodeTest::Cmp(CmpOp::Lt, tenth);
-    for _ in 0..rounds {
-        column.scan(test, need, found, &mut Meter::new());
-    }
+    column.scan(test, need, found, &mut Meter::new());
     found.count() as u64
 }

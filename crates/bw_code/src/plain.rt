@@ -173,11 +173,11 @@ fn rows_in(codes: &[u32], interval: Interval, need: &Mask, out: &mut Mask)
     let blocks = codes.len() / 64;
     for q in 0..blocks {
         let found = chosen(&codes[64 * q..], interval, need.bits(64 * q, 64));
-        out.put_bits(64 * q, 64, found);
+        out.put_word(q, found);
     }
     let at = 64 * blocks;
     let found = chosen(&filled_up(&codes[at..]), interval, need.bits(at, 64));
-    out.put_bits(at, 64, found);
+    out.put_word(blocks, found);
 }
 
 /// `out` becomes the rows whose code has bit i.
@@ -190,8 +190,8 @@ fn rows_with_bit(codes: &[u32], i: u32, out: &mut Mask)
 {
     let blocks = codes.len() / 64;
     for q in 0..blocks {
-        out.put_bits(64 * q, 64, lanes::rows_with_bit(&codes[64 * q..], i));
+        out.put_word(q, lanes::rows_with_bit(&codes[64 * q..], i));
     }
-    let at = 64 * blocks;
-    out.put_bits(at, 64, lanes::rows_with_bit(&filled_up(&codes[at..]), i));
+    let rest = filled_up(&codes[64 * blocks..]);
+    out.put_word(blocks, lanes::rows_with_bit(&rest, i));
 }

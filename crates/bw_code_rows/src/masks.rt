@@ -140,6 +140,17 @@ fn rows_of_a_mask(rt: HostRuntime) {
 }
 
 #[test]
+fn words_of_a_mask(rt: HostRuntime) {
+    let mut mask = mask_of(&rt, 70, true);
+    mask.put_word(1, 0xffff_ffff_ffff_ff2a);
+    assert_eq!(rt; mask.words(), [u64::MAX, 0x2a].as_slice());
+    mask.put_word(0, 0x72c);
+    mask.put_word(2, u64::MAX);
+    assert_eq!(rt; mask.words(), [0x72c, 0x2a].as_slice());
+    assert_eq!(rt; (mask.len(), mask.count()), (70, 9));
+}
+
+#[test]
 fn bits_of_a_mask(rt: HostRuntime) {
     let mut mask = mask_of(&rt, 71, false);
     mask.put_bits(60, 11, 0x72c);

@@ -87,7 +87,7 @@ impl Column {
     {
         for q in 0..self.len().div_ceil(64) {
             let found = self.chosen_of_block(op, other, 64 * q, need.bits(64 * q, 64));
-            out.put_bits(64 * q, 64, found);
+            out.put_word(q, found);
         }
     }
 

@@ -56,7 +56,7 @@ module _ (mask : MaskRows) (at n rest rows : ℕ) (wanted : ℕ → Bool) (befor
       }
 
   pub word_full : (new : MaskRows) (rest2 : ℕ) → 64 ≤ f + n → n ≤ 64 → len new ≡ len mask
-      → ((i : ℕ) → i < 64 → base + i < len mask → row_at new (base + i) ≡ bit_of word i) → ((j : ℕ) → (base ≤ j → base + 64 ≤ j) → row_at new j ≡ row_at mask j)
+      → ((i : ℕ) → i < 64 → 64 * (at / 64) + i < len mask → row_at new (64 * (at / 64) + i) ≡ bit_of word i) → ((j : ℕ) → (64 * (at / 64) ≤ j → 64 * (at / 64) + 64 ≤ j) → row_at new j ≡ row_at mask j)
       → ((i : ℕ) → bit_of rest2 i ≡ bit_of rows (64 - f + i)) → AreGathered new (at + n) rest2 wanted
   word_full new rest2 h most len_is inside outside over =
       let next : (at + n) / 64 * 64 ≡ base + 64 = omega arith in
@@ -67,8 +67,9 @@ module _ (mask : MaskRows) (at n rest rows : ℕ) (wanted : ℕ → Bool) (befor
               | inl low ↦ outside j (λ g. absurd (omega (arith, g, low))) ∙ before.full j low (omega (arith, there, len_is))
               | inr high ↦
                   let place : base + (j - base) ≡ j = omega (arith, high) in
+                  let word_place : 64 * (at / 64) + (j - base) ≡ j = omega (arith, high) in
                   let low : j - base < 64 = omega (arith, l, next, high) in
-                  subst (λ m. row_at new m ≡ wanted m) place (inside (j - base) low (omega (arith, place, there, len_is)) ∙ word_bit (j - base) low (omega (arith, low, h)))
+                  ap (row_at new) (sym word_place) ∙ inside (j - base) low (omega (arith, word_place, there, len_is)) ∙ word_bit (j - base) low (omega (arith, low, h)) ∙ ap wanted place
             ];
         begun = λ i l. over i ∙ here (64 - f + i) (omega (arith, l, more)) ∙ ap wanted (omega (arith, next));
         clean = λ i l. over i ∙ clean (64 - f + i) (omega (arith, l, more));

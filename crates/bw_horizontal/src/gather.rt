@@ -27,7 +27,7 @@ pub(crate) fn gather(out: &mut Mask, at: usize, rest: u64, n: usize, rows: u64) 
     if begun + n < 64 {
         return word;
     }
-    out.put_bits(at / 64 * 64, 64, word);
+    out.put_word(at / 64, word);
     past(rows, 64 - begun)
 }
 

@@ -12,7 +12,7 @@ and_true true = refl
 and_true false = refl
 
 -- no row past the last word is in
-past : (words : List ℕ) (j : ℕ) → length words ≤ j / 64 → row_in words j ≡ false
+pub past : (words : List ℕ) (j : ℕ) → length words ≤ j / 64 → row_in words j ≡ false
 past words j h = ap (λ w. bit_of w (j % 64)) (get_or_past words (j / 64) 0 h) ∙ ap (λ x. x == 1) (bit_at-zero (j % 64))
 
 pub rows_len : (n : ℕ) (f : ℕ → Bool) → length (rows_of n f) ≡ n

@@ -240,6 +240,16 @@ impl Mask {
         words::put_bits(&mut self.words, at, rows, word);
     }
 
+    /// Rows 64 k to 64 k + 63, as far as there are such rows, become the bits of the word. No other row changes.
+    #[tactic(auto, using(crate::proofs::Views::rows_len))]
+    pub fn put_word(&mut self, k: usize, word: u64)
+        ensures shape { SameShape self.new self.old }
+        ensures inside { (i : ℕ) → i < 64 → 64 * k + i < len self.old → row_at self.new (64 * k + i) ≡ bit_of word i }
+        ensures outside { (j : ℕ) → (64 * k ≤ j → 64 * k + 64 ≤ j) → row_at self.new j ≡ row_at self.old j }
+    {
+        words::put_word(&mut self.words, self.len, k, word);
+    }
+
     /// The words: row i is bit i % 64 of word i / 64, and bits past the end are 0.
     #[tactic(auto, using(crate::proofs::Views::rows_len, crate::proofs::Views::rows_clean))]
     pub fn words(&self) -> &[u64]

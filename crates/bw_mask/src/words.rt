@@ -134,24 +134,8 @@ fn down(word: u64, places: usize) -> u64
     if places < 64 { word >> places } else { 0 }
 }
 
-/// Rows at, at + 1, .. at + n - 1 become the n lowest bits of the word, as far as there are words. A whole word is told
-/// apart by a constant, so that the compiler puts it without a mask.
+/// Rows at, at + 1, .. at + n - 1 become the n lowest bits of the word, as far as there are words.
 pub(crate) fn put_bits(words: &mut Vec<u64>, at: usize, n: usize, word: u64)
-    requires { n ≤ 64 }
-    ensures room { vec_capacity words.new ≡ vec_capacity words.old }
-    ensures len { vec_len words.new ≡ vec_len words.old }
-    ensures inside { (i : ℕ) → i < n → (at + i) / 64 < vec_len words.old → row_in words.new.items (at + i) ≡ bit_of word i }
-    ensures outside { (j : ℕ) → (at ≤ j → at + n ≤ j) → row_in words.new.items j ≡ row_in words.old.items j }
-{
-    if n == 64 {
-        put_lowest(words, at, 64, word);
-    } else {
-        put_lowest(words, at, n, word);
-    }
-}
-
-/// Rows at, at + 1, .. at + n - 1 become the n lowest bits of the word, under a mask of n bits.
-fn put_lowest(words: &mut Vec<u64>, at: usize, n: usize, word: u64)
     requires { n ≤ 64 }
     ensures room { vec_capacity words.new ≡ vec_capacity words.old }
     ensures len { vec_len words.new ≡ vec_len words.old }
@@ -167,6 +151,32 @@ fn put_lowest(words: &mut Vec<u64>, at: usize, n: usize, word: u64)
         down(chosen, 64 - shift),
         down(word, 64 - shift),
     );
+}
+
+/// The bits of word k that are of the first n rows.
+fn within(n: usize, k: usize, word: u64) -> u64
+    requires { k ≤ n / 64 }
+    ensures { (i : ℕ) → i < 64 → bit_of result i ≡ (bit_of word i && nat_lt (64 * k + i) n) }
+{
+    if k < n / 64 {
+        word
+    } else {
+        word & low_bits(n % 64)
+    }
+}
+
+/// Word k, where there is such a word, becomes this one. No row from n on, where the words end, comes in.
+pub(crate) fn put_word(words: &mut Vec<u64>, n: usize, k: usize, word: u64)
+    requires { vec_len words.old ≡ (n + 63) / 64 }
+    ensures room { vec_capacity words.new ≡ vec_capacity words.old }
+    ensures len { vec_len words.new ≡ vec_len words.old }
+    ensures inside { (j : ℕ) → j / 64 ≡ k → j < n → row_in words.new.items j ≡ bit_of word (j % 64) }
+    ensures clean { (j : ℕ) → j / 64 ≡ k → n ≤ j → k < vec_len words.old → row_in words.new.items j ≡ false }
+    ensures other { (j : ℕ) → (j / 64 ≡ k → vec_len words.old ≤ k) → row_in words.new.items j ≡ row_in words.old.items j }
+{
+    if k < words.len() {
+        words[k] = within(n, k, word);
+    }
 }
 
 /// Word k; past the last word 0.

@@ -72,9 +72,11 @@ module _ (k n : ℕ) (gs : List (List (List ℕ))) where
   pub unit_at : (u : ℕ) (d : List ℕ) → u < segments_of n * k → get_or (units_of k gs n) u d ≡ plane_at k gs (u / k) (u % k)
   unit_at u d h = made_at (segments_of n * k) (λ v. plane_at k gs (v / k) (v % k)) u d h
 
-  pub unit_held : (group : List (List ℕ)) (base first count u : ℕ) (d : List ℕ) → HoldsUnits k gs group base first count → first ≤ u → u < first + count → u < segments_of n * k
-      → get_or group (base + (u - first)) [] ≡ get_or (units_of k gs n) u d
-  unit_held group base first count u d held from to h = (held u from to).1 ∙ sym (unit_at u d h)
+  pub unit_held : (run : List (List ℕ)) (first u : ℕ) (d : List ℕ) → HoldsUnits k gs run first → first ≤ u → u - first < length run → u < segments_of n * k
+      → get_or run (u - first) [] ≡ get_or (units_of k gs n) u d
+  unit_held run first u d held from to h =
+      let unit : first + (u - first) ≡ u = omega (arith, from) in
+      held (u - first) to ∙ ap (λ v. plane_at k gs (v / k) (v % k)) unit ∙ sym (unit_at u d h)
 
   plane_is : (i j : ℕ) → i < k → j / 256 < segments_of n → in_plane k (units_of k gs n) i j ≡ is_set k gs i j
   plane_is i j low h =

@@ -78,13 +78,14 @@ pub record PlanesRead : Type 0 where
   pub units : List (List ℕ)
   pub reads : ℕ
 
--- units first to first + count - 1 are side by side in the group, at base and after it
-abbrev pub HoldsUnits : ℕ → List (List (List ℕ)) → List (List ℕ) → ℕ → ℕ → ℕ → Type 0
-HoldsUnits k groups group base first count = (u : ℕ) → first ≤ u → u < first + count
-    → (base + (u - first) < length group) × (slice_index_or group (base + (u - first)) [] ≡ plane_at k groups (u / k) (u % k))
+-- these are units first, first + 1, ..
+abbrev pub HoldsUnits : ℕ → List (List (List ℕ)) → List (List ℕ) → ℕ → Type 0
+HoldsUnits k groups run first = (i : ℕ) → i < length run → slice_index_or run i [] ≡ plane_at k groups ((first + i) / k) ((first + i) % k)
 
--- the planes of n codes, the first unit of a segment of them, and units that lie side by side
-pub record IsInPlace (k : ℕ) (groups : List (List (List ℕ))) (n segment start : ℕ) (group : List (List ℕ)) (base first count : ℕ) : Type 0 where
+-- the planes of n codes, the first unit of a segment of them, and the units of a group of planes, four at most
+pub record IsInPlace (k : ℕ) (groups : List (List (List ℕ))) (n segment start : ℕ) (run : List (List ℕ)) (first : ℕ) : Type 0 where
   pub planes : AreGroups k groups n
   pub start_is : start ≡ segment * k
-  pub run : HoldsUnits k groups group base first count
+  pub units : HoldsUnits k groups run first
+  pub few : length run ≤ 4
+  pub low : first ≤ 2 ^ 63

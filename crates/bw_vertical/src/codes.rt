@@ -59,6 +59,6 @@ pub(crate) fn put_plane(groups: &[Vec<[u64; 4]>], k: usize, i: usize, len: usize
     ensures rows { (j : ℕ) → row_at out.new j ≡ is_set k (lists groups.now) (k - 1 - i) j }
 {
     for w in 0..len.div_ceil(64) {
-        out.put_bits(64 * w, 64, word_at(groups, k, k - 1 - i, w));
+        out.put_word(w, word_at(groups, k, k - 1 - i, w));
     }
 }

@@ -14,17 +14,21 @@ fn word_at(words: &[u64], i: usize) -> u64
     if i < words.len() { words[i] } else { 0 }
 }
 
-/// Rows 256 q to 256 q + 255.
+/// Rows 256 q to 256 q + 255. Four words that are there are taken by one load.
 pub(crate) fn lanes_at(words: &[u64], q: usize) -> [u64; 4]
     requires { q < 2 ^ 32 }
     ensures { (j : ℕ) → j < 256 → row_in result j ≡ row_in words.now (256 * q + j) }
 {
-    [
-        word_at(words, 4 * q),
-        word_at(words, 4 * q + 1),
-        word_at(words, 4 * q + 2),
-        word_at(words, 4 * q + 3),
-    ]
+    if 4 * q + 4 <= words.len() {
+        u64x4::from_slice(&words[4 * q..]).to_array()
+    } else {
+        [
+            word_at(words, 4 * q),
+            word_at(words, 4 * q + 1),
+            word_at(words, 4 * q + 2),
+            word_at(words, 4 * q + 3),
+        ]
+    }
 }
 
 /// Rows 256 q to 256 q + 255 become these, as far as there are such rows.
@@ -35,7 +39,7 @@ pub(crate) fn put_lanes(out: &mut Mask, q: usize, lanes: &[u64; 4])
     ensures before { (j : ℕ) → j < 256 * q → row_at out.new j ≡ row_at out.old j }
 {
     for i in 0..4 {
-        out.put_bits(256 * q + 64 * i, 64, lanes[i]);
+        out.put_word(4 * q + i, lanes[i]);
     }
 }
 

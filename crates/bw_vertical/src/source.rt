@@ -1,6 +1,6 @@
 //! Planes in memory as a source of units.
 
-ghost use Rattle.std.specs.Prelude.{length, true, ◌*◌, ◌+◌, ◌/◌, ◌<◌, ◌^◌, ◌≡◌, ◌≤◌};
+ghost use Rattle.std.specs.Prelude.{length, nat_le, nat_lt, ◌&&◌, ◌*◌, ◌+◌, ◌-◌, ◌/◌, ◌<◌, ◌^◌, ◌≡◌, ◌≤◌};
 ghost use Rattle.bw_vertical.specs.Storage.{AreGroups, HasSegment, HoldsUnits, groups_of, lists, units_of};
 
 use crate::storage::planes_in;
@@ -24,22 +24,22 @@ fn place(segment: usize, start: usize, k: usize, i: usize) -> (usize, usize)
     }
 }
 
-/// Planes that lie side by side: units `first` to `first + count - 1` are at `base` and after it.
+/// Planes that lie side by side: those of units `first`, `first + 1`, ..
 #[derive(Clone, Copy)]
 struct PlaneRun<'a> {
-    group: &'a [[u64; 4]],
-    base: usize,
+    planes: &'a [[u64; 4]],
     first: usize,
-    count: usize,
 }
 
 impl<'a> PlaneRun<'a> {
-    /// Whether unit i is one of them.
+    /// Whether unit i is one of them. Below the first, the difference wraps to a number past any length, so that one
+    /// comparison tells.
     fn has(&self, i: usize) -> bool
-        ensures from { result ≡ true → self.now.first ≤ i }
-        ensures to { result ≡ true → i < self.now.first + self.now.count }
+        requires few { length self.now.planes.now ≤ 4 }
+        requires low { self.now.first ≤ 2 ^ 63 }
+        ensures { result ≡ (nat_le self.now.first i && nat_lt (i - self.now.first) (length self.now.planes.now)) }
     {
-        self.first <= i && i - self.first < self.count
+        i.wrapping_sub(self.first) < self.planes.len()
     }
 }
 
@@ -56,19 +56,21 @@ fn run_at<'a>(
     requires to { i < start + k }
     requires narrow { k ≤ 32 }
     requires small { segment < 2 ^ 32 }
+    requires low { i ≤ 2 ^ 63 }
     requires count { length groups.now ≡ groups_of k }
     requires there { HasSegment k (lists groups.now) segment }
     ensures from { result.first ≤ i }
-    ensures to { i < result.first + result.count }
-    ensures units { HoldsUnits k (lists groups.now) result.group.now result.base result.first result.count }
+    ensures to { i - result.first < length result.planes.now }
+    ensures units { HoldsUnits k (lists groups.now) result.planes.now result.first }
+    ensures few { length result.planes.now ≤ 4 }
+    ensures low { result.first ≤ 2 ^ 63 }
 {
     let g = (i - start) / 4;
     let count = planes_in(k, g);
+    let group = &groups[g];
     PlaneRun {
-        group: &groups[g],
-        base: segment * count,
+        planes: &group[segment * count..segment * count + count],
         first: start + 4 * g,
-        count,
     }
 }
 
@@ -92,7 +94,7 @@ impl<'a> Model for PlaneSource<'a> {
 
     ghost view = { λ s. record { units = units_of s.width (lists s.groups.now) s.len; reads = s.reads } };
 
-    ghost invariant = { λ s. IsInPlace s.width (lists s.groups.now) s.len s.segment s.start s.run.group.now s.run.base s.run.first s.run.count };
+    ghost invariant = { λ s. IsInPlace s.width (lists s.groups.now) s.len s.segment s.start s.run.planes.now s.run.first };
 }
 
 impl<'a> PlaneSource<'a> {
@@ -109,10 +111,8 @@ impl<'a> PlaneSource<'a> {
             segment: 0,
             start: 0,
             run: PlaneRun {
-                group: &[],
-                base: 0,
+                planes: &[],
                 first: 0,
-                count: 0,
             },
             reads: 0,
         }
@@ -132,7 +132,7 @@ impl<'a> Source<[u64; 4]> for PlaneSource<'a> {
             self.start = start;
             self.run = run_at(self.groups, self.width, segment, start, i);
         }
-        self.run.group[self.run.base + (i - self.run.first)]
+        self.run.planes[i - self.run.first]
     }
 
     fn reads(&self) -> u64 {

@@ -63,19 +63,19 @@ loop-w-preserved g c =
       units = c.segment-high.ensures.units ∙ units_high;
       reads = omega (arith, c.segment-low.ensures.reads, c.segment-high.ensures.reads, c.loop-w.invariant.reads, cost_low, cost_high, sum_more (2 * w) cost, sum_more (2 * w + 1) cost, more);
       most = omega (arith, c.segment-low.ensures.most, c.segment-high.ensures.most, c.loop-w.invariant.most);
-      shape = (c.put_bits.ensures.shape.0 ∙ c.loop-w.invariant.shape.0, c.put_bits.ensures.shape.1 ∙ c.loop-w.invariant.shape.1);
+      shape = (c.put_word.ensures.shape.0 ∙ c.loop-w.invariant.shape.0, c.put_word.ensures.shape.1 ∙ c.loop-w.invariant.shape.1);
       rows = λ j h.
           elim (cases_lt j (64 * w)) [
-            | inl l ↦ c.put_bits.ensures.outside j (λ up. absurd (omega arith)) ∙ c.loop-w.invariant.rows j l
+            | inl l ↦ c.put_word.ensures.outside j (λ up. absurd (omega arith)) ∙ c.loop-w.invariant.rows j l
             | inr l ↦
                 let r = j - 64 * w in
                 let within : r < 64 = omega (arith, h, l) in
                 let at : 64 * w + r ≡ j = omega (arith, l) in
                 let same_len : len c.loop-w.out ≡ len c.args.need.now = c.loop-w.invariant.shape.0 ∙ c.requires.out in
                 elim (cases_lt j (len c.args.need.now)) [
-                  | inl inside ↦ subst (λ n. row_at c.put_bits.new.self n ≡ wanted n) at (c.put_bits.ensures.inside r within (omega (arith, same_len, inside, at)) ∙ found r within)
+                  | inl inside ↦ subst (λ n. row_at c.put_word.new.self n ≡ wanted n) at (c.put_word.ensures.inside r within (omega (arith, same_len, inside, at)) ∙ found r within)
                   | inr past ↦
-                      let left : row_at c.put_bits.new.self j ≡ false = get_or_past c.put_bits.new.self.rows j false (omega (arith, c.put_bits.ensures.shape.0, same_len, past)) in
+                      let left : row_at c.put_word.new.self j ≡ false = get_or_past c.put_word.new.self.rows j false (omega (arith, c.put_word.ensures.shape.0, same_len, past)) in
                       let right : need j ≡ false = get_or_past c.args.need.now.rows j false past in
                       left ∙ rw right refl
                 ]

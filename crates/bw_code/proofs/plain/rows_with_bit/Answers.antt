@@ -12,9 +12,9 @@ loop-q-preserved c =
     let wanted : ℕ → Bool = λ r. bit_of (get_or codes r 0) c.args.i in
     let same_len : len c.loop-q.out ≡ length codes = c.loop-q.invariant.shape.0 ∙ c.requires.out in
     let found : (i : ℕ) → i < 64 → at + i < len c.loop-q.out → bit_of c.rows_with_bit.result i ≡ wanted (at + i) = λ i h l. c.rows_with_bit.ensures i h ∙ ap (λ x. bit_of x c.args.i) (rest_at codes at i) in
-    let rows = rows_more wanted (row_at c.loop-q.out) (row_at c.put_bits.new.self) at (len c.loop-q.out) c.rows_with_bit.result c.loop-q.invariant.rows c.put_bits.ensures.inside c.put_bits.ensures.outside found in
+    let rows = rows_more wanted (row_at c.loop-q.out) (row_at c.put_word.new.self) at (len c.loop-q.out) c.rows_with_bit.result c.loop-q.invariant.rows c.put_word.ensures.inside c.put_word.ensures.outside found in
     record {
-      shape = (c.put_bits.ensures.shape.0 ∙ c.loop-q.invariant.shape.0, c.put_bits.ensures.shape.1 ∙ c.loop-q.invariant.shape.1);
+      shape = (c.put_word.ensures.shape.0 ∙ c.loop-q.invariant.shape.0, c.put_word.ensures.shape.1 ∙ c.loop-q.invariant.shape.1);
       rows = λ r h. rows r (omega (arith, h)) (omega (arith, h, same_len, c.loop-q-test.true));
     }
 
@@ -26,7 +26,7 @@ returns-clause-rows c =
     let same_len : len c.loop-q.out ≡ length codes = c.loop-q.invariant.shape.0 ∙ c.requires.out in
     let before : (r : ℕ) → r < at → row_at c.loop-q.out r ≡ wanted r = λ r h. c.loop-q.invariant.rows r (omega (arith, h, c.loop-q-test.false)) in
     let found : (i : ℕ) → i < 64 → at + i < len c.loop-q.out → bit_of c.rows_with_bit-2.result i ≡ wanted (at + i) = λ i h l.
-    c.rows_with_bit-2.ensures i h ∙ ap (λ x. bit_of x c.args.i) (c.filled_up.ensures i ∙ rest_at codes at i) in
-    rows_whole wanted (row_at c.loop-q.out) (row_at c.put_bits-2.new.self) at (len c.loop-q.out) c.rows_with_bit-2.result before c.put_bits-2.ensures.inside c.put_bits-2.ensures.outside found
-    (omega (arith, same_len)) (λ r h. get_or_past c.put_bits-2.new.self.rows r false (omega (arith, h, c.put_bits-2.ensures.shape.0)))
+    c.rows_with_bit-2.ensures i h ∙ ap (λ x. bit_of x c.args.i) (c.filled_up-rest.ensures i ∙ rest_at codes at i) in
+    rows_whole wanted (row_at c.loop-q.out) (row_at c.put_word-2.new.self) at (len c.loop-q.out) c.rows_with_bit-2.result before c.put_word-2.ensures.inside c.put_word-2.ensures.outside found
+    (omega (arith, same_len)) (λ r h. get_or_past c.put_word-2.new.self.rows r false (omega (arith, h, c.put_word-2.ensures.shape.0)))
     (λ r h. ap (λ x. bit_of x c.args.i) (get_or_past codes r 0 (omega (arith, h, same_len))) ∙ ap (λ x. x == 1) (bit_at-zero c.args.i))

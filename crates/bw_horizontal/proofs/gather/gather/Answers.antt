@@ -6,4 +6,4 @@ returns-then-begun-n-lt64-clause-rows c wanted before here = kept_back c.args.ou
 
 pub returns-clause-rows : goal.returns-clause-rows
 returns-clause-rows c wanted before here =
-    word_full c.args.out.now c.args.at c.args.n c.args.rest c.args.rows wanted before c.requires.clean here c.put_bits.new.self c.past.result c.if-begun-n-lt64.false c.requires.most c.put_bits.ensures.shape.0 c.put_bits.ensures.inside c.put_bits.ensures.outside c.past.ensures
+    word_full c.args.out.now c.args.at c.args.n c.args.rest c.args.rows wanted before c.requires.clean here c.put_word.new.self c.past.result c.if-begun-n-lt64.false c.requires.most c.put_word.ensures.shape.0 c.put_word.ensures.inside c.put_word.ensures.outside c.past.ensures

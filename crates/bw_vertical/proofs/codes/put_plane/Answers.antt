@@ -20,9 +20,9 @@ loop-w-preserved c =
     let word : (64 * w + i) / 64 ≡ w = omega (arith, h) in
     let bit : (64 * w + i) % 64 ≡ i = omega (arith, h) in
     ap (λ x. bit_of x i) c.word_at.ensures ∙ sym (ap (λ v. bit_of (word_of k gs p v) ((64 * w + i) % 64)) word ∙ ap (bit_of (word_of k gs p w)) bit) in
-    let rows = rows_more wanted (row_at c.loop-w.out) (row_at c.put_bits.new.self) (64 * w) (len c.loop-w.out) c.word_at.result (λ r h. inv.rows r h (omega (arith, h, inside))) c.put_bits.ensures.inside c.put_bits.ensures.outside found in
+    let rows = rows_more wanted (row_at c.loop-w.out) (row_at c.put_word.new.self) (64 * w) (len c.loop-w.out) c.word_at.result (λ r h. inv.rows r h (omega (arith, h, inside))) c.put_word.ensures.inside c.put_word.ensures.outside found in
     record {
-      shape = (c.put_bits.ensures.shape.0 ∙ inv.shape.0, c.put_bits.ensures.shape.1 ∙ inv.shape.1);
+      shape = (c.put_word.ensures.shape.0 ∙ inv.shape.0, c.put_word.ensures.shape.1 ∙ inv.shape.1);
       rows = λ r h l. rows r (omega (arith, h)) (omega (arith, l, same_len));
     }
 

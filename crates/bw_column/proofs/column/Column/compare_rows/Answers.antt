@@ -15,16 +15,16 @@ loop-q-preserved c =
     let so : ℕ → Bool = λ i. compare_so c.args.op (value_at c.args.self.now.values i) (value_at c.args.other.now.values i) in
     let wanted : ℕ → Bool = λ i. row_at need i && so i in
     let same : len c.loop-q.out ≡ n = c.loop-q.invariant.shape.0 ∙ c.requires.out in
-    let inside : (i : ℕ) → i < 64 → at + i < n → row_at c.put_bits.new.self (at + i) ≡ bit_of c.chosen_of_block-found.result i = λ i h l. c.put_bits.ensures.inside i h (omega (arith, l, same)) in
+    let inside : (i : ℕ) → i < 64 → at + i < n → row_at c.put_word.new.self (at + i) ≡ bit_of c.chosen_of_block-found.result i = λ i h l. c.put_word.ensures.inside i h (omega (arith, l, same)) in
     let found : (i : ℕ) → i < 64 → at + i < n → bit_of c.chosen_of_block-found.result i ≡ wanted (at + i) = λ i h l.
     c.chosen_of_block-found.ensures i h l ∙ rw (c.bits.ensures i, lt-ltb i 64 h) refl in
     let past : (m : MaskRows) → len m ≡ n → (i : ℕ) → n ≤ i → row_at m i ≡ false = λ m e i h. get_or_past m.rows i false (omega (arith, e, h)) in
-    let more = rows_more wanted (row_at c.loop-q.out) (row_at c.put_bits.new.self) at n c.chosen_of_block-found.result c.loop-q.invariant.rows inside c.put_bits.ensures.outside found in
+    let more = rows_more wanted (row_at c.loop-q.out) (row_at c.put_word.new.self) at n c.chosen_of_block-found.result c.loop-q.invariant.rows inside c.put_word.ensures.outside found in
     record {
-      shape = (c.put_bits.ensures.shape.0 ∙ c.loop-q.invariant.shape.0, c.put_bits.ensures.shape.1 ∙ c.loop-q.invariant.shape.1);
+      shape = (c.put_word.ensures.shape.0 ∙ c.loop-q.invariant.shape.0, c.put_word.ensures.shape.1 ∙ c.loop-q.invariant.shape.1);
       rows = λ i h.
           elim (cases_lt i n) [
             | inl l ↦ more i (omega (arith, h)) l
-            | inr l ↦ past c.put_bits.new.self (c.put_bits.ensures.shape.0 ∙ same) i l ∙ sym (ap (λ b. b && so i) (past need c.requires.need i l))
+            | inr l ↦ past c.put_word.new.self (c.put_word.ensures.shape.0 ∙ same) i l ∙ sym (ap (λ b. b && so i) (past need c.requires.need i l))
           ];
     }

@@ -1,7 +1,7 @@
 use Rattle.bw_mask.proofs.Places.{put_inside, put_outside}
 use Rattle.bw_mask.specs.Masks.{row_in}
 use Rattle.std.specs.Prelude.{vec_len}
-use Rattle.bw_mask.proofs.words.put_lowest.Goals as goal
+use Rattle.bw_mask.proofs.words.put_bits.Goals as goal
 
 pub returns-clause-inside : goal.returns-clause-inside
 returns-clause-inside c =

@@ -1,0 +1,163 @@
+#!/usr/bin/env python3
+"""Strikes clauses, one at a time, and shows that the call above can't do without them.
+
+A clause of a lower call is made to say nothing (`THING ≡ THING`), in a copy, and what proved it is taken out. Then the call
+above must not be proved any more: so it gets its answer through the lower call, and not past it. Prove the crates first, by
+`rt all check` at the top: the copy goes on from what that kept, and each strike takes 15 to 90 seconds.
+
+    python3 bench/strikes.py [WORD ..]      only the strikes whose upper call has one of the words in its name
+"""
+
+import re
+import shutil
+import subprocess
+import sys
+import tempfile
+from dataclasses import dataclass
+from pathlib import Path
+
+from common import HERE
+
+TOP = HERE.parent
+LAYOUTS = ("bw_vertical", "bw_horizontal", "bw_byteslice")
+
+
+@dataclass
+class Clause:
+    """A clause of a function's contract, what it comes to be about, and the crates whose proofs answer it (its own if none is given)."""
+
+    file: str
+    function: str
+    name: str
+    thing: str
+    answered_in: tuple = ()
+
+    def crates(self):
+        return self.answered_in or (self.file.split("/")[0],)
+
+    def struck(self, text):
+        """The file's text where the clause says nothing."""
+        at = re.search(rf"\bfn {self.function}\b", text).start()
+        start = text.index(f"ensures {self.name} {{" if self.name else "ensures {", at)
+        end = re.compile(r" \};?\n").search(text, start).end()
+        closing = text[start:end].rstrip("\n").endswith(";")
+        words = "ensures " + (f"{self.name} " if self.name else "") + f"{{ {self.thing} ≡ {self.thing} }}" + ";" * closing + "\n"
+        return text[:start] + words + text[end:]
+
+
+@dataclass
+class Strike:
+    """Clauses that are struck together, and the call that then must not be proved."""
+
+    upper: str
+    clauses: tuple
+
+    def crate(self):
+        return self.upper.split("::", maxsplit=1)[0]
+
+
+def scans(crate, column):
+    """The answer and the reads of a layout's `scan_from`, for the column's `scan`."""
+    upper = f"{crate}::column::{column}CodeColumn::scan"
+    for name, thing in (("rows", "out.new"), ("reads", "S.reads source.new")):
+        yield Strike(upper, (Clause(f"{crate}/src/scan.rt", "scan_from", name, thing),))
+
+
+def of_column(function, file="compare.rt", name="truth", thing="truth.new"):
+    return Clause(f"bw_column/src/{file}", function, name, thing)
+
+
+def with_its_own(function):
+    """A comparison into a truth that is there, and the same in a truth of its own, which is proved by it."""
+    return of_column(f"{function}_in"), of_column(function, "compare_anew.rt", thing="result")
+
+
+def of_every_column(function, name, thing):
+    """A clause of the trait of columns of codes."""
+    return Clause("bw_code/src/column.rt", function, name, thing, ("bw_code", *LAYOUTS))
+
+
+STRIKES = [
+    *scans("bw_vertical", "VerticalColumn"),
+    *scans("bw_horizontal", "HorizontalColumn"),
+    *scans("bw_byteslice", "SliceColumn"),
+    Strike("bw_column::storage::Codes::scan", (of_every_column("scan", "rows", "out.new"),)),
+    Strike("bw_column::column::Column::split", (of_column("scan", "storage.rt", "rows", "out.new"),)),
+    Strike("bw_column::column::Column::take_out", (of_column("scan", "storage.rt", "rows", "out.new"),)),
+    Strike("bw_column::column::Column::test_in", (of_column("split", "split.rt", "trues", "trues.new"),)),
+    Strike("bw_column::column::Column::split_by_list", (of_column("take_out", "split.rt", "rows", "rest.new"),)),
+    Strike("bw_column::column::Column::compare_in", (of_column("test_in"),)),
+    Strike("bw_column::column::Column::range_in", (of_column("test_in"),)),
+    Strike("bw_column::column::Column::in_list_in", (of_column("split_by_list", "split.rt", "trues", "trues.new"),)),
+    Strike("bw_plan::comparison_truth::set_compared_with", with_its_own("compare")),
+    Strike("bw_plan::comparison_truth::set_column_compared", with_its_own("compare_column")),
+    Strike("bw_plan::range_truth::set_between", with_its_own("range")),
+    Strike("bw_plan::list_truth::set_column_listed", with_its_own("in_list")),
+    Strike("bw_engine::found::true_slots", (Clause("bw_plan/src/evaluation.rt", "evaluate", "truths", "result"),)),
+    Strike("bw_column::storage::Codes::get", (of_every_column("get", "code", "result"),)),
+    Strike("bw_column::column::Column::get", (of_column("get", "storage.rt", "code", "result"),)),
+    Strike("bw_table::table::Table::fetch", (of_column("get", "column.rt", "is", "result"),)),
+    Strike("bw_engine::shown::fetch_row", (Clause("bw_table/src/table.rt", "fetch", "", "result"),)),
+]
+
+
+def without_answers(text, name):
+    """A file of answers without those to the clause of this name; None if no answer is left."""
+    goal = rf"returns\S*-clause-{name}" if name else r"returns\S*"
+    rest = re.sub(rf"(?ms)^pub {goal} :.*?(?=^pub |\Z)", "", text)
+    return rest if re.search(r"(?m)^pub ", rest) else None
+
+
+def strike(crates, clause, kept):
+    """Strikes the clause in the crates' copy, and keeps what each file said before."""
+    source = crates / clause.file
+    kept.setdefault(source, source.read_text(encoding="utf-8"))
+    source.write_text(clause.struck(source.read_text(encoding="utf-8")), encoding="utf-8")
+    for crate in clause.crates():
+        for answers in (crates / crate / "proofs").rglob(f"{clause.function}/Answers.antt"):
+            text = answers.read_text(encoding="utf-8")
+            rest = without_answers(text, clause.name)
+            if rest == text:
+                continue
+            kept.setdefault(answers, text)
+            if rest is None:
+                answers.unlink()
+            else:
+                answers.write_text(rest, encoding="utf-8")
+
+
+def is_refused(crates, tried):
+    """Whether the check came as far as the upper call and did not prove it; and what it said of that."""
+    words = ["rt", "check", "--jobs", "2", "--only", tried.upper]
+    done = subprocess.run(words, cwd=crates / tried.crate(), capture_output=True, text=True, check=False)
+    said = done.stdout + done.stderr
+    there = re.search(r"(?m)^only=\d+ proved=\d+$", said) and f"fn {tried.upper}: proved" not in said
+    told = re.findall(r"(?m)^(?:note: )?\S+:\d+:\d+: .*(?:error|not proved).*$", said)
+    return bool(done.returncode and there), "; ".join(line[:160] for line in told[:2]) or said[-400:]
+
+
+def main():
+    words = sys.argv[1:]
+    chosen = [it for it in STRIKES if not words or any(word in it.upper for word in words)]
+    failed = 0
+    with tempfile.TemporaryDirectory(prefix="bitcol-strikes-") as room:
+        crates = Path(room) / "crates"
+        shutil.copytree(TOP / "crates", crates, ignore=shutil.ignore_patterns("rlib"))
+        for name in ("crates.txt", "HANDLES"):
+            shutil.copy(TOP / name, Path(room) / name)
+        subprocess.run(["git", "init", "-q", room], check=True)
+        for tried in chosen:
+            kept = {}
+            for clause in tried.clauses:
+                strike(crates, clause, kept)
+            refused, said = is_refused(crates, tried)
+            for file, text in kept.items():
+                file.write_text(text, encoding="utf-8")
+            clauses = ", ".join(f"{it.function} {it.name}".strip() for it in tried.clauses)
+            print(f"{tried.upper} without {clauses}: {'refused' if refused else 'NOT SHOWN'}: {said}", flush=True)
+            failed += not refused
+    sys.exit(f"{failed} not shown" if failed else 0)
+
+
+if __name__ == "__main__":
+    main()
