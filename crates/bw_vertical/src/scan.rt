@@ -1,7 +1,7 @@
 //! Scans of planes from the highest down, as far as a needed row is left (BitWeaving/V: Li and Patel, SIGMOD 2013).
 
-ghost use Rattle.std.specs.Prelude.{length, max, nat_le, nat_lt, not, true, ℕ, ◌%◌, ◌&&◌, ◌*◌, ◌+◌, ◌<◌, ◌==◌, ◌^◌, ◌||◌, ◌≡◌, ◌≤◌};
-ghost use Rattle.bw_mask.specs.Masks.{SameShape, len, row_at, row_in};
+ghost use Rattle.std.specs.Prelude.{[], if◌then◌else◌, length, max, nat_le, nat_lt, not, true, slice_index_or, ℕ, ◌%◌, ◌&&◌, ◌*◌, ◌+◌, ◌-◌, ◌<◌, ◌==◌, ◌^◌, ◌||◌, ◌≡◌, ◌≤◌};
+ghost use Rattle.bw_mask.specs.Masks.{SameShape, bit_of, len, row_at, row_in};
 ghost use Rattle.bw_code.specs.Tests.{TestFits, meets};
 ghost use Rattle.bw_code.specs.Units.{agreement, by_planes, cost_of, scan_units, segment_units, some_below};
 ghost use Rattle.bw_code.specs.Choosing.{by_masks};
@@ -33,6 +33,33 @@ fn chosen(op: CmpOp, need: &[u64; 4], lt: &[u64; 4], eq: &[u64; 4]) -> [u64; 4]
     }
 }
 
+/// Compares the rows of segment q with a constant by plane i more, below those that were compared. `lt` are the rows below
+/// the constant so far, and `eq` those that are equal to it so far.
+// A scan calls it for each plane, and a call left in place would keep both masks in memory.
+#[inline(always)]
+fn compare_plane<S: Source<[u64; 4]>>(
+    source: &mut S,
+    k: usize,
+    q: usize,
+    i: usize,
+    constant: u64,
+    lt: &mut [u64; 4],
+    eq: &mut [u64; 4],
+)
+    requires narrow { k ≤ 32 }
+    requires within { i < k }
+    requires small { q < 2 ^ 32 }
+    requires there { (q + 1) * k ≤ length (S.units source.old) }
+    requires few { S.reads source.old < 2 ^ 63 }
+    ensures units { S.units source.new ≡ S.units source.old }
+    ensures reads { S.reads source.new ≡ S.reads source.old + 1 }
+    ensures less { (j : ℕ) → j < 256 → row_in lt.new j ≡ (row_in lt.old j || (row_in eq.old j && (bit_of constant (k - 1 - i) && not (row_in (slice_index_or (S.units source.old) (q * k + i) []) j)))) }
+    ensures same { (j : ℕ) → j < 256 → row_in eq.new j ≡ (row_in eq.old j && (if bit_of constant (k - 1 - i) then row_in (slice_index_or (S.units source.old) (q * k + i) []) j else not (row_in (slice_index_or (S.units source.old) (q * k + i) []) j))) }
+{
+    let plane = source.read(q * k + i);
+    plane_step(lt, eq, &plane, constant >> (k - 1 - i) & 1 == 1);
+}
+
 /// The needed rows of segment q that are below the constant, and those that are equal to it.
 fn compare<S: Source<[u64; 4]>>(
     source: &mut S,
@@ -52,14 +79,18 @@ fn compare<S: Source<[u64; 4]>>(
     ensures less { (j : ℕ) → j < 256 → row_in result.0 j ≡ (row_in need.now j && nat_lt (code_in k (S.units source.old) (256 * q + j)) constant) }
     ensures same { (j : ℕ) → j < 256 → row_in result.1 j ≡ (row_in need.now j && (code_in k (S.units source.old) (256 * q + j) == constant)) }
 {
-    let mut lt = [0; 4];
-    let mut eq = *need;
-    for i in 0..k {
-        let plane = source.read(q * k + i);
-        plane_step(&mut lt, &mut eq, &plane, constant >> (k - 1 - i) & 1 == 1);
-        if stops(i, &eq) {
+    let (mut lt, mut eq) = ([0; 4], *need);
+    for g in 0..k / 4 {
+        compare_plane(source, k, q, 4 * g, constant, &mut lt, &mut eq);
+        compare_plane(source, k, q, 4 * g + 1, constant, &mut lt, &mut eq);
+        compare_plane(source, k, q, 4 * g + 2, constant, &mut lt, &mut eq);
+        compare_plane(source, k, q, 4 * g + 3, constant, &mut lt, &mut eq);
+        if is_empty(&eq) {
             return (lt, eq);
         }
+    }
+    for i in k / 4 * 4..k {
+        compare_plane(source, k, q, i, constant, &mut lt, &mut eq);
     }
     (lt, eq)
 }
