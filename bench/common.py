@@ -111,12 +111,12 @@ def sqlite_run(program, fill, timed):
     return run
 
 
-def quickest(fill, timed):
+def quickest(fill, timed, beside=True):
     """The processor time that each program takes for the timed statements over the tables that are filled, the least of
     some rounds; of bitcol that of the whole script less that of a script which only fills. Each round takes all runs in
-    turn, since a machine's speed swings. What is shown goes to no file."""
+    turn, since a machine's speed swings. What is shown goes to no file. Without `beside` bitcol runs alone."""
     runs = {"filling": bitcol_run("filled.sql", fill), "bitcol": bitcol_run("timed.sql", fill + timed)}
-    if program := sqlite3():
+    if beside and (program := sqlite3()):
         runs["sqlite3"] = sqlite_run(program, fill, timed)
     rounds = [{name: run() for name, run in runs.items()} for _ in range(ROUNDS)]
     least = {name: min(times[name] for times in rounds) for name in runs}

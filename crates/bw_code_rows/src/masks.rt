@@ -170,6 +170,7 @@ fn two_masks(rt: HostRuntime) {
     let mut both = left.try_clone().expect(&rt, "memory");
     let mut one = left.try_clone().expect(&rt, "memory");
     assert!(rt; right.len() == both.len() && right.len() == left.len() && right.len() == one.len());
+    assert_eq!(rt; left.count_both(&right), 1);
     both.and_in(&right);
     left.or_in(&right);
     one.andnot_in(&right);

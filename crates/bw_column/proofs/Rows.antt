@@ -71,3 +71,12 @@ module _ (e : Encoding) (codes : CodeList) (nonnull : MaskRows) (are : AreRowCod
   row_integers k d h =
       let low : k < count codes = omega (arith, made_len (count codes) (λ j. value_from e (code_at codes j) (row_at nonnull j))) in
       rw (made_at (count codes) (λ j. value_from e (code_at codes j) (row_at nonnull j)) k d low) (integer (code_at codes k) (row_at nonnull k) (are.each k low))
+
+  has_code : (code : ℕ) (b : Bool) → IsRowCode e code b → IsCoded e (value_from e code b)
+  has_code code true h = (coded e are.sound (value_of e code)).0 (rw h.0 refl)
+  has_code code false h = tt
+
+  pub row_coded : All (IsCoded e) (values_from e codes nonnull)
+  row_coded k d h =
+      let low : k < count codes = omega (arith, made_len (count codes) (λ j. value_from e (code_at codes j) (row_at nonnull j))) in
+      rw (made_at (count codes) (λ j. value_from e (code_at codes j) (row_at nonnull j)) k d low) (has_code (code_at codes k) (row_at nonnull k) (are.each k low))

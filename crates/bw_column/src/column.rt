@@ -59,10 +59,12 @@ impl Column {
         self.encoding.kind()
     }
 
-    /// The encoding of the values that are not null.
+    /// The encoding of the values that are not null. Each of them has its code.
+    #[tactic(auto, using(crate::proofs::Rows::row_coded))]
     pub fn encoding(&self) -> &Encoding
         ensures is { result.now ≡ self.now.encoding }
         ensures sound { IsEncoding self.now.encoding }
+        ensures coded { All (IsCoded self.now.encoding) self.now.values }
     {
         &self.encoding
     }

@@ -42,7 +42,7 @@ module _ {A : Type 0} where
   more_if true x rows = omega arith
   more_if false x rows = omega arith
 
-  counted : (bits : List Bool) (rows : List A) → length bits ≡ length rows → count_by (λ b. b) bits ≡ length (rows_where (λ i. get_or bits i false) rows)
+  pub counted : (bits : List Bool) (rows : List A) → length bits ≡ length rows → count_by (λ b. b) bits ≡ length (rows_where (λ i. get_or bits i false) rows)
   counted [] [] same = refl
   counted [] (x ∷ rows) same = absurd (omega arith)
   counted (b ∷ bits) [] same = absurd (omega arith)

@@ -1,6 +1,7 @@
 mod Added
 pub mod Chosen
 pub mod Columns
+pub mod Folding
 mod FoundLaws
 pub mod Founds
 pub mod Inserted

@@ -1,51 +1,49 @@
 -- What a SELECT shows, from the cells that lie flat.
-use Rattle.std.proofs.Common.{◌≡◌, ℕ, ◌+◌, ◌<◌, ◌≤◌, List, [], ◌∷◌, ◌++◌, Option, None, Some, get_or, length, map, refl, sym, take, ap, ◌∙◌, arith}
+use Rattle.std.proofs.Common.{◌≡◌, ℕ, ◌+◌, ◌<◌, ◌≤◌, List, [], ◌∷◌, ◌++◌, Option, None, Some, get_or, length, map, refl, subst, sym, take, ap, append-nil, ◌∙◌, arith}
 use Rattle.std.specs.List.{All}
 use Rattle.std.proofs.lemmas.List.Elements.{All-cons, All-nil}
 use Rattle.std.proofs.lemmas.List.{get_or-map, length-map, map-append, take_all, take_more}
 use Rattle.bw_sql.specs.Rows.{joined}
 use Rattle.bw_sql.specs.Tree.{ConditionTree, ItemsTree}
+use Rattle.bw_sql.specs.declared.tree.SelectItem.TheVariants as item
 use Rattle.bw_sql.specs.declared.tree.LayoutWord.TheVariants.{V}
 use Rattle.bw_sql.specs.declared.tree.KindWord.TheVariants.{Offset}
 use Rattle.bw_model.specs.Answers.{AreWholeLines, Shown, lines_of}
 use Rattle.bw_model.specs.Cells.{shown_all}
 use Rattle.bw_model.specs.Condition.{found_rows}
-use Rattle.bw_model.specs.Select.{answer, line_of, shown, shown_columns}
+use Rattle.bw_model.specs.Select.{answer, heading_of, lines_for, shown, shown_items}
 use Rattle.bw_model.specs.Store.{Header, Row, Table, Value, names, place_of, value_at}
 use Rattle.bw_model.specs.declared.answer.Cell.{Cell}
 use Rattle.bw_model.specs.declared.answer.Heading.{Heading}
 use Rattle.bw_model.specs.declared.answer.Heading.TheVariants.{Column}
-use Rattle.bw_model.proofs.Lines.{All-map, lines_of-joined, shown_lines}
-use Rattle.bw_plan.proofs.Places.{line_by_places}
+use Rattle.bw_model.proofs.Lines.{All-map, length-joined, lines_of-joined, whole_lines}
 use Rattle.bw_plan.proofs.SetLaws.{place_inside}
 
-module _ (headers : List Header) (list : List (List ℕ)) (places : List ℕ) (headings : List Heading) (cells : List Cell) (rows : List Row)
-    (some : 0 < length list)
-    (placed : map (λ place. Some place) places ≡ map (place_of headers) list)
-    (headed : headings ≡ map (λ name. Column name) list)
-    (shows : cells ≡ joined (map (λ row. map (λ place. shown (value_at row place)) places) rows)) where
-  count : length places ≡ length list
-  count = sym (length-map places (λ place. Some place)) ∙ ap length placed ∙ length-map list (place_of headers)
+-- lines of one width that lie flat
+module _ (lines : List (List Cell)) (cells : List Cell) (width : ℕ) (some : 0 < width) (wide : All (λ line. length line ≡ width) lines) (flat : cells ≡ joined lines) where
+  pub whole_answer : AreWholeLines width cells
+  whole_answer = whole_lines width (length lines) cells some (ap length flat ∙ length-joined width lines wide)
 
-  width : length headings ≡ length places
-  width = ap length headed ∙ length-map list (λ name. Column name) ∙ sym count
+  pub lines_answer : lines_of width cells ≡ lines
+  lines_answer = ap (lines_of width) flat ∙ lines_of-joined width lines some wide
 
-  some_places : 0 < length places
-  some_places = omega (arith, count)
+pub place_lines_wide : (places : List ℕ) (rows : List Row) → All (λ line. length line ≡ length places) (map (λ row. map (λ place. shown (value_at row place)) places) rows)
+place_lines_wide places rows = All-map (λ row. map (λ place. shown (value_at row place)) places) (length places) rows (λ row. length-map places (λ place. shown (value_at row place)))
 
-  pub whole_answer : AreWholeLines (length headings) cells
-  whole_answer = shown_lines (λ row place. shown (value_at row place)) places rows cells (length headings) some_places width shows
+pub one_line_flat : (cells : List Cell) → cells ≡ joined (cells ∷ [])
+one_line_flat cells = sym (append-nil cells)
 
-  pub lines_answer : lines_of (length headings) cells ≡ map (line_of headers list) rows
-  lines_answer =
-      ap (λ w. lines_of w cells) width
-      ∙ ap (lines_of (length places)) shows
-      ∙ lines_of-joined (length places) (map (λ row. map (λ place. shown (value_at row place)) places) rows) some_places (All-map (λ row. map (λ place. shown (value_at row place)) places) (length places) rows (λ row. length-map places (λ place. shown (value_at row place))))
-      ∙ (λ j. map (λ row. line_by_places headers list places row placed j) rows)
+pub one_line_wide : (cells : List Cell) (width : ℕ) → length cells ≡ width → All (λ line. length line ≡ width) (cells ∷ [])
+one_line_wide cells width e = All-cons (λ line. length line ≡ width) cells [] e (All-nil (λ line. length line ≡ width))
 
 pub answer_is : (table : Table) (items : ItemsTree) (condition : Option ConditionTree) (shows : Shown)
-    → shows.headings ≡ map (λ name. Column name) (shown_columns table.headers items) → shows.lines ≡ map (line_of table.headers (shown_columns table.headers items)) (found_rows table condition) → shows ≡ answer table items condition
+    → shows.headings ≡ map heading_of (shown_items table.headers items) → shows.lines ≡ lines_for table.headers (shown_items table.headers items) (found_rows table condition) → shows ≡ answer table items condition
 answer_is table items condition shows headings lines = λ j. record { headings = headings j; lines = lines j }
+
+-- columns are headed by their names
+pub headings_all : (list : List (List ℕ)) → map (λ name. Column name) list ≡ map heading_of (map (λ name. item.Column name) list)
+headings_all [] = refl
+headings_all (name ∷ list) = ap (λ l. Column name ∷ l) (headings_all list)
 
 -- the headings of all columns
 module _ (headers : List Header) (i : ℕ) (headings : List Heading) where
@@ -93,3 +91,17 @@ places_inside headers {n} count (name ∷ list) (p ∷ places) e =
     rest_of : List (Option ℕ) → List (Option ℕ)
     rest_of [] = []
     rest_of (x ∷ xs) = xs
+
+-- values that lie flat, and the lines that show them
+module _ (width : ℕ) (places : List ℕ) (rows : List Row) (values : List Value) (some : 0 < width) (wide : width ≡ length places) (flat : values ≡ joined (map (λ row. map (λ place. value_at row place) places) rows)) where
+  abbrev shown_lines : List (List Cell)
+  shown_lines = map (λ row. map (λ place. shown (value_at row place)) places) rows
+
+  lines_wide : All (λ line. length line ≡ width) shown_lines
+  lines_wide = subst (λ w. All (λ line. length line ≡ w) shown_lines) (sym wide) (place_lines_wide places rows)
+
+  pub values_whole : AreWholeLines width (shown_all values)
+  values_whole = whole_answer shown_lines (shown_all values) width some lines_wide (shown_values places rows values flat)
+
+  pub values_lines : lines_of width (shown_all values) ≡ map (λ row. map (λ place. shown (value_at row place)) places) rows
+  values_lines = lines_answer shown_lines (shown_all values) width some lines_wide (shown_values places rows values flat)

@@ -1,3 +1,4 @@
+pub mod Folds
 pub mod Found
 pub mod Outcomes
 pub mod Runs

@@ -6,6 +6,7 @@ mod create;
 mod drop;
 mod engine;
 mod file_answer;
+mod folded;
 mod found;
 mod insert;
 mod listing;

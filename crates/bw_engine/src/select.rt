@@ -1,24 +1,29 @@
 //! SELECT.
 
-ghost use Rattle.std.specs.Prelude.{◌≡◌, map, option_map, IfOk};
+ghost use Rattle.std.specs.Prelude.{◌≡◌, ◌<◌, length, map, option_map, IfOk};
+ghost use Rattle.bw_mask.specs.Masks.{len, row_at};
 ghost use Rattle.bw_model.specs.Refusals.{select_tests};
-ghost use Rattle.bw_model.specs.Select.{answer, shown_columns};
+ghost use Rattle.bw_model.specs.Select.{answer, heading_of, shown_items};
 ghost use Rattle.bw_model.specs.Store.{names};
 ghost use Rattle.bw_model.specs.declared.answer.Heading.TheVariants.{Column};
 ghost use Rattle.bw_model.specs.declared.reply.Reply.TheVariants.{Rows};
 ghost use Rattle.bw_sql.specs.Tree.{condition_of, items_of, statement_of};
 ghost use Rattle.bw_sql.specs.declared.tree.Statement.TheVariants as statements;
+ghost use Rattle.bw_engine.specs.Folds.{IsShownWithin, lines_by, plan_width};
+ghost use Rattle.bw_engine.specs.Found.{rows_where};
 ghost use Rattle.bw_engine.specs.Outcomes.{CarriesOut};
-ghost use Rattle.bw_engine.specs.Stores.{store_of, table_in};
+ghost use Rattle.bw_engine.specs.Stores.{rows_of_slots, store_of, table_in};
 ghost use Rattle.bw_plan.specs.Checks.{Answers};
 ghost use Rattle.bw_plan.specs.Columns.{columns_of};
 
+use crate::folded::function_cells;
 use crate::found::found_slots;
 use crate::shown::found_values;
 use crate::table::Table;
-use bw_model::{Answer, Heading, Refusal, Reply};
-use bw_plan::{Headers, resolve_select};
-use bw_sql::{Condition, Name, Select, SelectItems};
+use bw_mask::Mask;
+use bw_model::{Answer, Heading, Refusal, Reply, heading_of};
+use bw_plan::{Headers, ShownPlan, resolve_select};
+use bw_sql::{Condition, Name, Select, SelectItem, SelectItems};
 use indexmap::IndexMap;
 use std::alloc::{AllocError, Global};
 
@@ -48,27 +53,53 @@ fn shown_rows(
     items: SelectItems,
     condition: &Option<Condition>,
 ) -> Result<Reply, Refusal>
-    ensures { Answers (select_tests (shown_columns (columns_of table.now.headers) (items_of items)) (option_map condition_of condition.now) (table_in table.now)) result (λ reply. reply ≡ Rows (answer (table_in table.now) (items_of items) (option_map condition_of condition.now))) }
+    ensures { Answers (select_tests (shown_items (columns_of table.now.headers) (items_of items)) (option_map condition_of condition.now) (table_in table.now)) result (λ reply. reply ≡ Rows (answer (table_in table.now) (items_of items) (option_map condition_of condition.now))) }
 {
     let headers = table.headers();
     let plan = resolve_select(alloc, &headers, &items, condition)?;
     let found = found_slots(alloc, table, &plan.condition)?;
     let headings = headings_of(alloc, &headers, items)?;
-    let values = found_values(alloc, table.stored(), plan.places.as_slice(), &found)?;
-    Ok(Reply::Rows(Answer::of_values(headings, values)))
+    Ok(Reply::Rows(shown_answer(alloc, table, &plan.shown, &found, headings)?))
 }
 
-/// The headings of the columns that are shown.
+/// The answer that shows these columns of the found slots, or set functions of them.
+fn shown_answer(
+    alloc: Global,
+    table: &Table,
+    shown: &ShownPlan,
+    found: &Mask,
+    headings: Vec<Heading>,
+) -> Result<Answer, AllocError>
+    requires found { len found.now ≡ length table.now.slots }
+    requires some { 0 < length headings.items }
+    requires wide { length headings.items ≡ plan_width shown.now }
+    requires places { IsShownWithin (length table.now.headers) shown.now }
+    ensures headings { IfOk result (λ answer. answer.headings ≡ headings.items) }
+    ensures lines { IfOk result (λ answer. answer.lines ≡ lines_by shown.now (rows_where (row_at found.now) (rows_of_slots table.now.slots))) }
+{
+    match shown {
+        ShownPlan::Columns(places) => {
+            let values = found_values(alloc, table.stored(), places.as_slice(), found)?;
+            Ok(Answer::of_values(headings, values))
+        }
+        ShownPlan::Functions(functions) => {
+            let cells = function_cells(alloc, table.stored(), functions.as_slice(), found)?;
+            Ok(Answer::new(headings, cells))
+        }
+    }
+}
+
+/// The headings of what is shown.
 fn headings_of(
     alloc: Global,
     headers: &Headers<'_>,
     items: SelectItems,
 ) -> Result<Vec<Heading>, AllocError>
-    ensures { IfOk result (λ headings. headings.items ≡ map (λ name. Column name) (shown_columns headers.now (items_of items))) }
+    ensures { IfOk result (λ headings. headings.items ≡ map heading_of (shown_items headers.now (items_of items))) }
 {
     match items {
         SelectItems::All => all_headings(alloc, headers),
-        SelectItems::Columns(names) => column_headings(alloc, names.into_vec()),
+        SelectItems::List(list) => item_headings(alloc, list.into_vec()),
     }
 }
 
@@ -82,12 +113,12 @@ fn all_headings(alloc: Global, headers: &Headers<'_>) -> Result<Vec<Heading>, Al
     Ok(headings)
 }
 
-fn column_headings(alloc: Global, names: Vec<Name>) -> Result<Vec<Heading>, AllocError>
-    ensures { IfOk result (λ headings. headings.items ≡ map (λ name. Column name) names.items) }
+fn item_headings(alloc: Global, list: Vec<SelectItem>) -> Result<Vec<Heading>, AllocError>
+    ensures { IfOk result (λ headings. headings.items ≡ map heading_of list.items) }
 {
-    let mut headings = Vec::with_capacity(alloc, names.len())?;
-    for name in names {
-        headings.push(Heading::Column(name))?;
+    let mut headings = Vec::with_capacity(alloc, list.len())?;
+    for item in list {
+        headings.push(heading_of(item))?;
     }
     Ok(headings)
 }

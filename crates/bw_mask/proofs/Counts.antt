@@ -1,15 +1,20 @@
 -- How many rows are in: the ones of the words.
-use Rattle.std.proofs.Common.{◌≡◌, ℕ, zero, suc, ◌+◌, ◌-◌, ◌*◌, ◌/◌, ◌%◌, ◌^◌, ◌<◌, ◌≤◌, Bool, false, cond, List, length, get_or, take, refl, sym, ap, subst, ◌∙◌, arith, sum_by, count_by}
+use Rattle.std.proofs.Common.{inl, inr, [], ◌&&◌, ◌∷◌, ◌≡◌, ℕ, zero, suc, ◌+◌, ◌-◌, ◌*◌, ◌/◌, ◌%◌, ◌^◌, ◌<◌, ◌≤◌, Bool, false, cond, List, length, get_or, take, refl, sym, ap, subst, ◌∙◌, arith, sum_by, count_by}
 use Rattle.std.specs.Int.{bit_at}
+use Rattle.std.specs.Int.Bits.{bit_and}
+use Rattle.std.specs.List.{zip}
 use Rattle.std.specs.Int.RustNames.{count_ones}
 use Rattle.std.proofs.lemmas.Nat.Bits.{bit_at-lt, same_from_bits_below}
-use Rattle.std.proofs.lemmas.List.{map-id, take_all}
+use Rattle.std.proofs.lemmas.Bool.{cases_lt}
+use Rattle.std.proofs.lemmas.List.{get_or_past, map-id, take_all}
+use Rattle.std.proofs.lemmas.Nat.{and_le_l}
 use Rattle.std.proofs.lemmas.List.FromFn.{map-range_with_len_more}
-use Rattle.std.proofs.lemmas.List.Sums.{sum_by_push, sum_by_more}
-use Rattle.std.proofs.lemmas.Simd.{ones-mask_l, bit_mask_l, mask_l-lt}
+use Rattle.std.proofs.lemmas.List.Sums.{sum_by-cons, sum_by_more, sum_by_push}
+use Rattle.std.proofs.lemmas.Simd.{bit_mask_l, get_or-zip2, length-zip2, mask_l-lt, ones-mask_l}
 use Rattle.bw_mask.specs.Masks.{bit_of, rows_of, row_in, AreWords}
-use Rattle.bw_mask.proofs.Views.{rows_len, rows_at}
-use lib.Lanes.{mask_l}
+use Rattle.bw_mask.proofs.Bits.{bit_of_and}
+use Rattle.bw_mask.proofs.Views.{rows_are, rows_at, rows_len, rows_zip, zip_words}
+use lib.Lanes.{mask_l, zip2}
 
 abbrev pub many : ℕ → (ℕ → Bool) → ℕ
 many n f = count_by (λ b. b) (rows_of n f)
@@ -73,3 +78,45 @@ many_is words n are fits =
     let cut : many (n + (all - n)) (row_in words) ≡ many n (row_in words) + many (all - n) rest = many_add n (all - n) (row_in words) rest (λ j h. refl) in
     let none : many (all - n) rest ≡ 0 = many_none (all - n) rest (λ j h. are.clean (n + j) (omega arith)) in
     sym whole ∙ ap (λ x. many x (row_in words)) (sym over) ∙ cut ∙ omega (arith, none)
+
+-- ---- the rows that are in both of two masks
+
+sum_both : (xs ys : List ℕ) → length xs ≡ length ys → sum_by (λ p. count_ones (bit_and p.0 p.1)) (zip xs ys) ≡ sum_by count_ones (zip2 bit_and xs ys)
+sum_both [] [] e = refl
+sum_both [] (y ∷ ys) e = absurd (omega (arith, e))
+sum_both (x ∷ xs) [] e = absurd (omega (arith, e))
+sum_both (x ∷ xs) (y ∷ ys) e =
+    sum_by-cons (λ p. count_ones (bit_and p.0 p.1)) (x, y) (zip xs ys)
+    ∙ ap (λ n. count_ones (bit_and x y) + n) (sum_both xs ys (omega (arith, e)))
+    ∙ sym (sum_by-cons count_ones (bit_and x y) (zip2 bit_and xs ys))
+
+module _ (xs ys : List ℕ) (n : ℕ) (x_are : AreWords xs n) (y_are : AreWords ys n) where
+  same_count : length xs ≡ length ys
+  same_count = x_are.count ∙ sym y_are.count
+
+  count_zip : length (zip2 bit_and xs ys) ≡ length xs
+  count_zip = length-zip2 bit_and xs ys same_count
+
+  row_both : (j : ℕ) → j < 64 * length xs → row_in (zip2 bit_and xs ys) j ≡ (row_in xs j && row_in ys j)
+  row_both j h =
+      ap (λ w. bit_of w (j % 64)) (get_or-zip2 bit_and xs ys (j / 64) 0 0 0 (omega arith) (omega (arith, same_count)))
+      ∙ bit_of_and (get_or xs (j / 64) 0) (get_or ys (j / 64) 0) (j % 64)
+
+  word_fits : ((k : ℕ) → get_or xs k 0 < 2 ^ 64) → (k : ℕ) → get_or (zip2 bit_and xs ys) k 0 < 2 ^ 64
+  word_fits fits k =
+      elim (cases_lt k (length xs)) [
+        | inl h ↦
+            let word = get_or-zip2 bit_and xs ys k 0 0 0 h (omega (arith, same_count)) in
+            omega (arith, word, and_le_l (get_or xs k 0) (get_or ys k 0), fits k)
+        | inr h ↦ let none = get_or_past (zip2 bit_and xs ys) k 0 (omega (arith, count_zip)) in omega (arith, none)
+      ]
+
+  pub many_both : ((k : ℕ) → get_or xs k 0 < 2 ^ 64)
+      → sum_by (λ p. count_ones (bit_and p.0 p.1)) (zip xs ys) ≡ many n (λ i. get_or (rows_of n (row_in xs)) i false && get_or (rows_of n (row_in ys)) i false)
+  many_both fits =
+      let both = zip2 bit_and xs ys in
+      let test = λ (i : ℕ). get_or (rows_of n (row_in xs)) i false && get_or (rows_of n (row_in ys)) i false in
+      let are = zip_words (λ a b. a && b) refl n xs ys both x_are y_are count_zip row_both in
+      let each = rows_zip (λ a b. a && b) refl n xs ys both x_are y_are count_zip row_both in
+      let same : rows_of n (row_in both) ≡ rows_of n test = rows_are n (row_in both) (rows_of n test) (rows_len n test) (λ i h. rows_at n test i h ∙ sym (each i) ∙ rows_at n (row_in both) i h) in
+      sum_both xs ys same_count ∙ many_is both n are (word_fits fits) ∙ ap (count_by (λ b. b)) same

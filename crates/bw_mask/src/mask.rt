@@ -202,6 +202,16 @@ impl Mask {
         words::count_words(&self.words) as usize
     }
 
+    /// How many rows are in both.
+    #[tactic(auto, using(crate::proofs::Views::rows_len))]
+    pub fn count_both(&self, other: &Mask) -> usize
+        requires { len self.now ≡ len other.now }
+        ensures rows { result ≡ count_by (λ row. row) (rows_of (len self.now) (λ i. row_at self.now i && row_at other.now i)) }
+        ensures few { result ≤ len self.now }
+    {
+        words::count_both_words(&self.words, &other.words) as usize
+    }
+
     /// Whether a row is in.
     pub fn any(&self) -> bool
         ensures rows { result ≡ list_any (λ row. row) self.now.rows }

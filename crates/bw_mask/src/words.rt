@@ -1,7 +1,7 @@
 //! Words of bits: row i is bit i % 64 of word i / 64. Lengths are the caller's affair.
 
-ghost use Rattle.std.specs.Prelude.{◌≡◌, ◌≢◌, false, true, ℕ, ◌+◌, ◌*◌, ◌/◌, ◌%◌, ◌<◌, ◌≤◌, ◌^◌, ◌&&◌, ◌||◌, not, IfOk, length, nat_lt, replicate, slice_index, vec_len, vec_capacity};
-ghost use Rattle.std.specs.List.{sum_by};
+ghost use Rattle.std.specs.Prelude.{bit_and, ◌≡◌, ◌≢◌, false, true, ℕ, ◌+◌, ◌*◌, ◌/◌, ◌%◌, ◌<◌, ◌≤◌, ◌^◌, ◌&&◌, ◌||◌, not, IfOk, length, nat_lt, replicate, slice_index, vec_len, vec_capacity};
+ghost use Rattle.std.specs.List.{sum_by, zip};
 ghost use Rattle.std.specs.Int.RustNames.{count_ones};
 ghost use Rattle.bw_mask.specs.Masks.{bit_of, row_in, IsNext};
 
@@ -291,4 +291,14 @@ pub(crate) fn count_words(words: &[u64]) -> u64
     ensures fits { (k : ℕ) → slice_index words.now k < 2 ^ 64 }
 {
     bw_lane::count_words(words)
+}
+
+/// How many bits are set in both of two words side by side.
+pub(crate) fn count_both_words(a: &[u64], b: &[u64]) -> u64
+    requires same { length a.now ≡ length b.now }
+    requires few { length a.now ≤ 2 ^ 56 }
+    ensures sum { result ≡ sum_by (λ p. count_ones (bit_and p.0 p.1)) (zip a.now b.now) }
+    ensures fits { (k : ℕ) → slice_index a.now k < 2 ^ 64 }
+{
+    bw_lane::count_and_words(a, b)
 }

@@ -5,7 +5,9 @@ pub mod Commas
 pub mod ConditionLaws
 pub mod Cuts
 pub mod Dropped
+pub mod Folded
 pub mod HeadingTexts
+pub mod Items
 pub mod Kept
 pub mod Lines
 pub mod Listed

@@ -5,10 +5,11 @@ use Rattle.std.specs.List.{All, list_any}
 use Rattle.std.specs.Str.{bytes_eq}
 use Rattle.std.proofs.lemmas.Bool.{leb-true, ltb-false, true≢false}
 use Rattle.std.proofs.lemmas.List.Elements.{All-cons, All-filter, All-get_or, All-head, All-map, All-nil, All-tail}
+use Rattle.std.proofs.lemmas.List.{length-map}
 use Rattle.std.proofs.lemmas.List.Quantifiers.{position-Some}
 use Rattle.std.proofs.lemmas.Slice.Eq.{bytes_eq-Decides}
 use Rattle.bw_sql.specs.Names.{IsName}
-use Rattle.bw_sql.specs.Tree.{ConditionTree, ItemsTree, StatementTree, all_columns, columns, create_table, delete, drop_table, insert, list_tables, rebuild, select, update}
+use Rattle.bw_sql.specs.Tree.{ConditionTree, ItemsTree, StatementTree, create_table, delete, drop_table, insert, list_tables, rebuild, select, update}
 use Rattle.bw_sql.specs.declared.tree.LayoutWord.TheVariants.{V}
 use Rattle.bw_sql.specs.declared.tree.KindWord.TheVariants.{Offset}
 use Rattle.bw_model.specs.Condition.{found_rows, is_found}
@@ -16,7 +17,12 @@ use Rattle.bw_model.specs.Insert.{target_columns}
 use Rattle.bw_model.specs.Listing.{listing, table_line}
 use Rattle.bw_model.specs.Named.{AreNamed, HaveNames}
 use Rattle.bw_model.specs.Refusals.{Tests, chosen_columns, delete_tests, first_that_holds, insert_tests, is_in_range, is_missing, over, rebuild_tests, select_tests, tests_of, update_tests}
-use Rattle.bw_model.specs.Select.{answer, line_of, shown, shown_columns}
+use Rattle.bw_model.specs.Select.{answer, columns_in, folded, function_heading, has_functions, heading_of, line_of, lines_for, said_of, shown, shown_items}
+use Rattle.bw_sql.specs.declared.tree.SelectItem.{SelectItem}
+use Rattle.bw_sql.specs.declared.tree.SelectItem.TheVariants as item
+use Rattle.bw_sql.specs.declared.tree.SetFunction.{SetFunction}
+use Rattle.bw_sql.specs.declared.tree.SetFunction.TheVariants.{Count, Sum, Min, Max, Median}
+use Rattle.bw_model.proofs.Folded.{folded_fits}
 use Rattle.bw_model.specs.Step.{Step, carried_out, refused_or, table_or_none}
 use Rattle.bw_model.specs.Store.{Header, Row, Store, Table, Value, place_of, row_limit, table_of, value_from}
 use Rattle.bw_model.specs.Told.{IsCell, IsHeading, IsRefusal, IsReply}
@@ -61,7 +67,7 @@ plain_tests store (update name sets condition) =
 plain_tests store (delete name condition) = plain_over (table_of store name) (λ table. delete_tests condition table) (λ table. (tt, (tt, tt)))
 plain_tests store (rebuild name choices) = plain_over (table_of store name) (λ table. rebuild_tests (chosen_columns choices) table) (λ table. (tt, (tt, tt)))
 plain_tests store (select items name condition) =
-    plain_over (table_of store name) (λ table. select_tests (shown_columns table.headers items) condition table) (λ table. (tt, (tt, (tt, tt))))
+    plain_over (table_of store name) (λ table. select_tests (shown_items table.headers items) condition table) (λ table. (tt, (tt, (tt, (tt, tt)))))
 
 -- cells
 
@@ -101,21 +107,56 @@ names_there headers (name ∷ list) e named =
     let p = neither (is_missing headers name) (list_any (is_missing headers) list) e in
     All-cons IsName name list (name_there headers name (place_of headers name) refl p.0 named) (names_there headers list p.1 named)
 
-shown_names : (headers : List Header) (items : ItemsTree) → list_any (is_missing headers) (shown_columns headers items) ≡ false → HaveNames headers → All IsName (shown_columns headers items)
-shown_names headers all_columns e named = All-map IsName (λ header. header.name) headers named
-shown_names headers (columns list) e named = names_there headers list e named
+function_told : (f : SetFunction) (name : List ℕ) → IsName name → IsHeading (function_heading f name)
+function_told Count name is = is
+function_told Sum name is = is
+function_told Min name is = is
+function_told Max name is = is
+function_told Median name is = is
+
+headings_told : (list : List SelectItem) → All IsName (columns_in list) → All IsHeading (map heading_of list)
+headings_told [] all = All-nil IsHeading
+headings_told (item.Column name ∷ list) all =
+    All-cons IsHeading (heading_of (item.Column name)) (map heading_of list) (All-head IsName name (columns_in list) all) (headings_told list (All-tail IsName name (columns_in list) all))
+headings_told (item.CountRows ∷ list) all = All-cons IsHeading (heading_of item.CountRows) (map heading_of list) tt (headings_told list all)
+headings_told (item.Function f name ∷ list) all =
+    All-cons IsHeading (heading_of (item.Function f name)) (map heading_of list) (function_told f name (All-head IsName name (columns_in list) all)) (headings_told list (All-tail IsName name (columns_in list) all))
+
+few_fits : (n : ℕ) → n ≤ row_limit → FitsSigned w128 (pos n)
+few_fits n few = omega (arith, few)
+
+-- what items say of rows
+module _ (headers : List Header) (rows : List Row) (few : length rows ≤ row_limit) (are : All (IsRow headers) rows) where
+  values_fit : (place : Option ℕ) (xs : List Row) → All (IsRow headers) xs → All (λ value. is_in_range value ≡ true) (map (λ row. value_from row place) xs)
+  values_fit place [] all = All-nil (λ value. is_in_range value ≡ true)
+  values_fit place (x ∷ xs) all =
+      let row = All-head (IsRow headers) x xs all in
+      All-cons (λ value. is_in_range value ≡ true) (value_from x place) (map (λ r. value_from r place) xs) (place_fits x place row.integers) (values_fit place xs (All-tail (IsRow headers) x xs all))
+
+  said_fits : (one : SelectItem) → IsCell (said_of headers rows one)
+  said_fits (item.Column name) = tt
+  said_fits item.CountRows = few_fits (length rows) few
+  said_fits (item.Function f name) =
+      let values = map (λ row. value_from row (place_of headers name)) rows in
+      folded_fits f values (omega (arith, few, length-map rows (λ row. value_from row (place_of headers name)))) (values_fit (place_of headers name) rows are)
+
+  lines_told_by : (b : Bool) (list : List SelectItem) → All (All IsCell) (if b then map (said_of headers rows) list ∷ [] else map (line_of headers (columns_in list)) rows)
+  lines_told_by true list =
+      All-cons (All IsCell) (map (said_of headers rows) list) [] (All-map IsCell (said_of headers rows) list (everywhere (λ one. IsCell (said_of headers rows one)) list said_fits)) (All-nil (All IsCell))
+  lines_told_by false list = lines_fit headers (columns_in list) rows are
 
 -- each statement
 
 selects : (there : Option Table) (items : ItemsTree) (condition : Option ConditionTree) → ((table : Table) → there ≡ Some table → IsTable table × HaveNames table.headers)
-    → first_that_holds (over there (λ table. select_tests (shown_columns table.headers items) condition table)) ≡ None → IsReply (Rows (answer (table_or_none there) items condition))
+    → first_that_holds (over there (λ table. select_tests (shown_items table.headers items) condition table)) ≡ None → IsReply (Rows (answer (table_or_none there) items condition))
 selects None items condition is none = cc
 selects (Some table) items condition is none =
-    let list = shown_columns table.headers items in
+    let list = shown_items table.headers items in
     let p = none_holds (select_tests list condition table) none in
-    let t = is table refl in (
-      All-map IsHeading (λ name. Column name) list (shown_names table.headers items p.0 t.1),
-      lines_fit table.headers list (filter (is_found table.headers condition) table.rows) (All-filter (is_found table.headers condition) (IsRow table.headers) table.rows t.0.rows),
+    let t = is table refl in
+    let rows = found_rows table condition in (
+      headings_told list (names_there table.headers (columns_in list) p.0 t.1),
+      lines_told_by table.headers rows (omega (arith, few_found table condition, t.0.few)) (All-filter (is_found table.headers condition) (IsRow table.headers) table.rows t.0.rows) (has_functions list) list,
     )
 
 counts : (there : Option Table) (listed : Option (List (List ℕ))) (rows : List Row) → first_that_holds (over there (λ table. insert_tests (target_columns table.headers listed) rows table)) ≡ None → length rows < 2 ^ 64
@@ -125,9 +166,6 @@ counts (Some table) listed rows none =
     let few = ltb-false row_limit (length table.rows + length rows) p.1.1.1.1.0 in omega (arith, few)
 
 -- a list of tables
-few_fits : (n : ℕ) → n ≤ row_limit → FitsSigned w128 (pos n)
-few_fits n few = omega (arith, few)
-
 lines_told : (store : Store) → All (λ entry. IsTable entry.1) store → AreNamed store → All (All IsCell) (map table_line store)
 lines_told [] are named = All-nil (All IsCell)
 lines_told (entry ∷ store) are named =

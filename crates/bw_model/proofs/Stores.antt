@@ -5,20 +5,22 @@ use Rattle.std.specs.Str.{bytes_eq}
 use Rattle.std.proofs.lemmas.Bool.{ltb-false, true≢false}
 use Rattle.std.proofs.lemmas.List.{set-get_or}
 use Rattle.std.proofs.lemmas.List.Quantifiers.{position-Some}
-use Rattle.bw_sql.specs.Tree.{ConditionTree, StatementTree, create_table, delete, insert, rebuild, update}
+use Rattle.bw_sql.specs.Tree.{ConditionTree, ItemsTree, StatementTree, create_table, delete, insert, rebuild, select, update}
 use Rattle.bw_sql.specs.declared.tree.LayoutChoice.{LayoutChoice}
 use Rattle.bw_sql.specs.declared.tree.SetClause.{SetClause}
 use Rattle.bw_sql.specs.declared.tree.ColumnDefinition.{ColumnDefinition}
 use Rattle.bw_model.specs.Changes.{with_choices, with_updates, without_found}
 use Rattle.bw_model.specs.Condition.{found_rows}
 use Rattle.bw_model.specs.Insert.{target_columns, with_rows}
-use Rattle.bw_model.specs.Refusals.{Tests, chosen_columns, create_tests, delete_tests, first_that_holds, insert_tests, over, rebuild_tests, tests_of, update_tests}
+use Rattle.bw_model.specs.Refusals.{Tests, chosen_columns, create_tests, delete_tests, first_that_holds, insert_tests, over, rebuild_tests, select_tests, tests_of, update_tests}
+use Rattle.bw_model.specs.Answers.{Shown}
+use Rattle.bw_model.specs.Select.{answer, shown_items}
 use Rattle.bw_model.specs.Step.{carried_out, outcome_of, refused_or, table_or_none, with_table}
 use Rattle.bw_model.specs.Store.{Header, Row, Store, Table, header_of, names, table_of}
 use Rattle.bw_model.specs.declared.refusal.Refusal.{Refusal}
 use Rattle.bw_model.specs.declared.refusal.Refusal.TheVariants.{NoSuchTable}
 use Rattle.bw_model.specs.declared.reply.Reply.{Reply}
-use Rattle.bw_model.specs.declared.reply.Reply.TheVariants.{Count, Done, Refused}
+use Rattle.bw_model.specs.declared.reply.Reply.TheVariants.{Count, Done, Refused, Rows}
 use Rattle.bw_model.proofs.Names.{names_of_definitions}
 
 -- the tests of CREATE, from the names of the columns that it makes
@@ -149,3 +151,12 @@ module _ (store : Store) (name : List ℕ) (choices : List LayoutChoice) where
 
   pub not_rebuilt : table_of store name ≡ None → ◌≡◌ {A = Reply × Store} (Refused NoSuchTable, store) (outcome_of store (rebuild name choices))
   not_rebuilt = no_table store name (rebuild name choices) (rebuild_tests (chosen_columns choices)) (λ table. Done) (with_choices choices) refl refl
+
+-- what a SELECT shows
+pub selected : (store : Store) (items : ItemsTree) (name : List ℕ) (condition : Option ConditionTree) (table : Table) (shows : Shown)
+    → table_of store name ≡ Some table → first_that_holds (select_tests (shown_items table.headers items) condition table) ≡ None → shows ≡ answer table items condition
+    → ◌≡◌ {A = Reply × Store} (Rows shows, store) (outcome_of store (select items name condition))
+selected store items name condition table shows there none is =
+    let same : shows ≡ answer (table_or_none (table_of store name)) items condition = is ∙ ap (λ o. answer (table_or_none o) items condition) (sym there) in
+    (λ j. (Rows (same j), store))
+    ∙ sym (outcome_is store (select items name condition) None (ap (λ o. first_that_holds (over o (λ t. select_tests (shown_items t.headers items) condition t))) there ∙ none))

@@ -8,9 +8,10 @@ use Rattle.bw_sql.specs.Tree.{ConditionTree, ConditionTrees, StatementTree, amon
 use Rattle.bw_sql.specs.declared.tree.LayoutChoice.{LayoutChoice}
 use Rattle.bw_sql.specs.declared.tree.Operand.{Operand}
 use Rattle.bw_sql.specs.declared.tree.Operand.TheVariants.{Column, Constant}
+use Rattle.bw_sql.specs.declared.tree.SelectItem.{SelectItem}
 use Rattle.bw_sql.specs.declared.tree.SetClause.{SetClause}
 use Rattle.bw_model.specs.Insert.{target_columns}
-use Rattle.bw_model.specs.Select.{shown_columns}
+use Rattle.bw_model.specs.Select.{columns_in, is_mixed, shown_items}
 use Rattle.bw_model.specs.Store.{Header, Row, Store, Table, Value, are_distinct, column_limit, place_of, row_limit, table_limit, table_of}
 use Rattle.bw_model.specs.declared.refusal.Refusal.{Refusal}
 use Rattle.bw_model.specs.declared.refusal.Refusal.TheVariants as refusal
@@ -142,11 +143,12 @@ rebuild_tests columns table =
     ∷ (refusal.ColumnNamedTwice, not (are_distinct columns))
     ∷ []
 
-abbrev pub select_tests : List (List ℕ) → Option ConditionTree → Table → Tests
-select_tests columns condition table =
-    (refusal.NoSuchColumn, list_any (is_missing table.headers) columns)
+abbrev pub select_tests : List SelectItem → Option ConditionTree → Table → Tests
+select_tests list condition table =
+    (refusal.NoSuchColumn, list_any (is_missing table.headers) (columns_in list))
     ∷ (refusal.NoSuchColumn, condition_misses table.headers condition)
     ∷ (refusal.OverLimit, lists_too_long condition)
+    ∷ (refusal.MixedItems, is_mixed list)
     ∷ []
 
 -- a statement's tests
@@ -158,4 +160,4 @@ tests_of store (insert name listed rows) = over (table_of store name) (λ table.
 tests_of store (update name sets condition) = over (table_of store name) (λ table. update_tests sets condition table)
 tests_of store (delete name condition) = over (table_of store name) (λ table. delete_tests condition table)
 tests_of store (rebuild name choices) = over (table_of store name) (λ table. rebuild_tests (chosen_columns choices) table)
-tests_of store (select items name condition) = over (table_of store name) (λ table. select_tests (shown_columns table.headers items) condition table)
+tests_of store (select items name condition) = over (table_of store name) (λ table. select_tests (shown_items table.headers items) condition table)

@@ -12,6 +12,7 @@ mod refusal;
 mod refusals;
 mod reply;
 mod select;
+mod set_functions;
 mod steps;
 mod store;
 mod texts;
@@ -27,7 +28,7 @@ pub use laws::{
 };
 pub use refusal::Refusal;
 pub use reply::Reply;
-pub use select::answer_of;
+pub use select::{answer_of, heading_of};
 pub use steps::step;
 pub use store::{Header, Row, Store, Table};
 pub use texts::reply_text;

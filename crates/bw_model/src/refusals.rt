@@ -3,12 +3,14 @@
 ghost use Rattle.std.specs.Prelude.{◌≡◌, ◌==◌, ◌||◌, length, nat_le, nat_lt, option_map};
 ghost use Rattle.std.specs.List.{list_all, list_any};
 ghost use Rattle.bw_model.specs.Refusals.{condition_misses, create_tests, first_that_holds, has_long_list, delete_tests, insert_tests, is_in_range, is_missing, lists_too_long, may_be_set, names_missing, operand_is_missing, rebuild_tests, select_tests, set_columns, update_tests};
+ghost use Rattle.bw_model.specs.Select.{columns_in, is_column, is_mixed};
 ghost use Rattle.bw_model.specs.Store.{column_limit, table_limit};
 ghost use Rattle.bw_sql.specs.Tree.{condition_of};
 
 use crate::refusal::Refusal;
+use crate::select::{has_functions, is_column};
 use crate::store::{Header, Row, Table, are_distinct, place_of, table_of};
-use bw_sql::{Condition, Name, Operand, SetClause, Value};
+use bw_sql::{Condition, Name, Operand, SelectItem, SetClause, Value};
 
 /// The most columns that a table has.
 const COLUMN_LIMIT: usize = 64;
@@ -228,22 +230,36 @@ pub(crate) fn rebuild_tests(columns: &[Name], table: &Table) -> [Test; 2]
     ]
 }
 
-/// The tests of SELECT over a table.
+/// The tests of SELECT over a table, of which its items name these columns.
 pub(crate) fn select_tests(
     columns: &[Name],
+    list: &[SelectItem],
     condition: &Option<Condition>,
     table: &Table,
-) -> [Test; 3]
-    ensures { result ≡ select_tests columns.now (option_map condition_of condition.now) table.now }
+) -> [Test; 4]
+    requires { columns.now ≡ columns_in list.now }
+    ensures { result ≡ select_tests list.now (option_map condition_of condition.now) table.now }
 {
+    let headers = table.headers();
     [
-        (Refusal::NoSuchColumn, misses_any(table.headers(), columns)),
-        (
-            Refusal::NoSuchColumn,
-            condition_misses(table.headers(), condition),
-        ),
+        (Refusal::NoSuchColumn, misses_any(headers, columns)),
+        (Refusal::NoSuchColumn, condition_misses(headers, condition)),
         (Refusal::OverLimit, lists_too_long(condition)),
+        (Refusal::MixedItems, is_mixed(list)),
     ]
+}
+
+/// Whether columns are asked for beside set functions.
+fn is_mixed(list: &[SelectItem]) -> bool
+    ensures { result ≡ is_mixed list.now }
+{
+    has_functions(list) && has_columns(list)
+}
+
+fn has_columns(list: &[SelectItem]) -> bool
+    ensures { result ≡ list_any is_column list.now }
+{
+    list.iter().any(is_column)
 }
 
 fn misses_any(headers: &[Header], columns: &[Name]) -> bool

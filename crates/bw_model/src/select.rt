@@ -1,33 +1,104 @@
 //! What a SELECT answers.
 
-ghost use Rattle.std.specs.Prelude.{◌≡◌, ◌<◌, IfOk, OnOk, length, map, option_map};
+ghost use Rattle.std.specs.Prelude.{◌≡◌, ◌<◌, [], ◌∷◌, ◌++◌, IfOk, OnOk, length, map, option_map};
 ghost use Rattle.bw_model.specs.Answers.{AreWholeLines};
-ghost use Rattle.bw_model.specs.Select.{answer, line_of, shown, shown_columns};
-ghost use Rattle.bw_model.specs.declared.answer.Heading.TheVariants.{Column};
+ghost use Rattle.bw_model.specs.Select.{answer, columns_in, function_heading, has_functions, heading_of, is_column, line_of, lines_for, said_of, shown, shown_items};
 ghost use Rattle.bw_sql.specs.Rows.{joined};
 ghost use Rattle.bw_sql.specs.Tree.{condition_of, items_of};
+ghost use Rattle.bw_sql.specs.declared.tree.SelectItem.TheVariants.{Column};
 
 use crate::answer::{Answer, Cell, Heading};
 use crate::condition::found_rows;
-use crate::insert::copied;
+use crate::set_functions::folded_at;
 use crate::store::{Header, Row, Table, names, place_of, value_from};
-use bw_sql::{Condition, Name, SelectItems, Value};
+use bw_sql::{Condition, Name, SelectItem, SelectItems, SetFunction, Value};
 use std::alloc::{AllocError, Global};
 
-/// The columns that are shown: `*` is all columns in order.
-pub(crate) fn shown_columns(
+/// The items that are shown: `*` is all columns in order.
+pub(crate) fn shown_items(
     alloc: Global,
     headers: &[Header],
     items: &SelectItems,
-) -> Result<Vec<Name>, AllocError>
+) -> Result<Vec<SelectItem>, AllocError>
     requires { 0 < length headers.now }
-    ensures columns { IfOk result (λ columns. columns.items ≡ shown_columns headers.now (items_of items.now)) }
-    ensures some { IfOk result (λ columns. 0 < length columns.items) }
+    ensures items { IfOk result (λ list. list.items ≡ shown_items headers.now (items_of items.now)) }
+    ensures some { IfOk result (λ list. 0 < length list.items) }
 {
     match items {
-        SelectItems::All => names(alloc, headers),
-        SelectItems::Columns(list) => copied(alloc, list.as_slice()),
+        SelectItems::All => columns_shown(alloc, names(alloc, headers)?),
+        SelectItems::List(list) => copied(alloc, list.as_slice()),
     }
+}
+
+/// Each of these columns as an item.
+fn columns_shown(alloc: Global, list: Vec<Name>) -> Result<Vec<SelectItem>, AllocError>
+    ensures { IfOk result (λ items. items.items ≡ map (λ name. Column name) list.items) }
+{
+    let mut items = Vec::new(alloc);
+    for name in list {
+        items.push(SelectItem::Column(name))?;
+    }
+    Ok(items)
+}
+
+/// The same items.
+fn copied(alloc: Global, items: &[SelectItem]) -> Result<Vec<SelectItem>, AllocError>
+    ensures { IfOk result (λ list. list.items ≡ items.now) }
+{
+    let mut list = Vec::new(alloc);
+    for item in items {
+        list.push(copied_item(alloc, item)?)?;
+    }
+    Ok(list)
+}
+
+fn copied_item(alloc: Global, item: &SelectItem) -> Result<SelectItem, AllocError>
+    ensures { IfOk result (λ same. same ≡ item.now) }
+{
+    Ok(match item {
+        SelectItem::Column(name) => SelectItem::Column(name.try_clone(alloc)?),
+        SelectItem::CountRows => SelectItem::CountRows,
+        SelectItem::Function(function, name) => {
+            SelectItem::Function(*function, name.try_clone(alloc)?)
+        }
+    })
+}
+
+/// Puts the column that an item names last.
+fn put_column(alloc: Global, columns: &mut Vec<Name>, item: &SelectItem) -> Result<(), AllocError>
+    ensures { OnOk result (columns.new.items ≡ columns.old.items ++ columns_in (item.now ∷ [])) }
+{
+    match item {
+        SelectItem::Column(name) | SelectItem::Function(_, name) => {
+            columns.push(name.try_clone(alloc)?)?;
+            Ok(())
+        }
+        SelectItem::CountRows => Ok(()),
+    }
+}
+
+/// The columns that items name.
+pub(crate) fn columns_in(alloc: Global, list: &[SelectItem]) -> Result<Vec<Name>, AllocError>
+    ensures { IfOk result (λ columns. columns.items ≡ columns_in list.now) }
+{
+    let mut columns = Vec::new(alloc);
+    for item in list {
+        put_column(alloc, &mut columns, item)?;
+    }
+    Ok(columns)
+}
+
+pub(crate) fn is_column(item: &SelectItem) -> bool
+    ensures { result ≡ is_column item.now }
+{
+    matches!(item, SelectItem::Column(_))
+}
+
+/// Whether set functions are asked for.
+pub(crate) fn has_functions(list: &[SelectItem]) -> bool
+    ensures { result ≡ has_functions list.now }
+{
+    list.iter().any(|item| !is_column(item))
 }
 
 pub(crate) fn shown(value: Value) -> Cell
@@ -70,18 +141,93 @@ fn lines_of(
     Ok(cells)
 }
 
-/// The columns' names, each as a heading.
-fn headings_of(alloc: Global, list: Vec<Name>) -> Result<Vec<Heading>, AllocError>
-    ensures { IfOk result (λ headings. headings.items ≡ map (λ name. Column name) list.items) }
+/// What an item says of these rows.
+fn said_of(
+    alloc: Global,
+    headers: &[Header],
+    rows: &[&Row],
+    item: &SelectItem,
+) -> Result<Cell, AllocError>
+    ensures { IfOk result (λ cell. cell ≡ said_of headers.now (map (λ row. row.now) rows.now) item.now) }
+{
+    match item {
+        SelectItem::Column(_) => Ok(Cell::Null),
+        SelectItem::CountRows => Ok(Cell::Number(rows.len() as i128)),
+        SelectItem::Function(function, name) => {
+            folded_at(alloc, *function, rows, place_of(headers, name))
+        }
+    }
+}
+
+/// What each item says of these rows.
+fn said_of_each(
+    alloc: Global,
+    headers: &[Header],
+    list: &[SelectItem],
+    rows: &[&Row],
+) -> Result<Vec<Cell>, AllocError>
+    ensures { IfOk result (λ cells. cells.items ≡ map (said_of headers.now (map (λ row. row.now) rows.now)) list.now) }
+{
+    let mut cells = Vec::new(alloc);
+    for item in list {
+        cells.push(said_of(alloc, headers, rows, item)?)?;
+    }
+    Ok(cells)
+}
+
+/// What the items show of these rows, line after line.
+fn cells_for(
+    alloc: Global,
+    headers: &[Header],
+    list: &[SelectItem],
+    rows: &[&Row],
+) -> Result<Vec<Cell>, AllocError>
+    ensures { IfOk result (λ cells. cells.items ≡ joined (lines_for headers.now list.now (map (λ row. row.now) rows.now))) }
+{
+    if has_functions(list) {
+        said_of_each(alloc, headers, list, rows)
+    } else {
+        let columns = columns_in(alloc, list)?;
+        lines_of(alloc, headers, &columns, rows)
+    }
+}
+
+/// The heading of a set function of a column.
+fn function_heading(function: SetFunction, name: Name) -> Heading
+    ensures { result ≡ function_heading function name }
+{
+    match function {
+        SetFunction::Count => Heading::Count(name),
+        SetFunction::Sum => Heading::Sum(name),
+        SetFunction::Min => Heading::Min(name),
+        SetFunction::Max => Heading::Max(name),
+        SetFunction::Median => Heading::Median(name),
+    }
+}
+
+/// The heading of an item.
+pub fn heading_of(item: SelectItem) -> Heading
+    ensures { result ≡ heading_of item }
+{
+    match item {
+        SelectItem::Column(name) => Heading::Column(name),
+        SelectItem::CountRows => Heading::CountRows,
+        SelectItem::Function(function, name) => function_heading(function, name),
+    }
+}
+
+/// The headings of these items.
+fn headings_of(alloc: Global, list: Vec<SelectItem>) -> Result<Vec<Heading>, AllocError>
+    ensures { IfOk result (λ headings. headings.items ≡ map heading_of list.items) }
 {
     let mut headings = Vec::new(alloc);
-    for name in list {
-        headings.push(Heading::Column(name))?;
+    for item in list {
+        headings.push(heading_of(item))?;
     }
     Ok(headings)
 }
 
-/// A line for each found row, in the order of the rows.
+/// A line for each found row, in the order of the rows, or one line of set functions of them.
 pub fn answer_of(
     alloc: Global,
     table: &Table,
@@ -91,9 +237,9 @@ pub fn answer_of(
     ensures { IfOk result (λ shows. shows ≡ answer table.now (items_of items.now) (option_map condition_of condition.now)) }
 {
     let headers = table.headers();
-    let list = shown_columns(alloc, headers, items)?;
+    let list = shown_items(alloc, headers, items)?;
     let rows = found_rows(alloc, table, condition)?;
-    let cells = lines_of(alloc, headers, &list, &rows)?;
+    let cells = cells_for(alloc, headers, &list, &rows)?;
     let headings = headings_of(alloc, list)?;
     Ok(Answer::new(headings, cells))
 }

@@ -17,7 +17,7 @@ use crate::listing::listing_of;
 use crate::refusal::Refusal;
 use crate::refusals::{create_tests, first_that_holds, insert_tests, select_tests};
 use crate::reply::Reply;
-use crate::select::{answer_of, shown_columns};
+use crate::select::{answer_of, columns_in, shown_items};
 use crate::store::{Header, Row, Store, Table, names, place_of_table, table_of};
 use bw_sql::{
     ColumnDefinition, CreateTable, Delete, Insert, Name, NameList, Rebuild, Select, Statement,
@@ -156,8 +156,14 @@ fn select(alloc: Global, tables: &[(Name, Table)], query: &Select) -> Result<Rep
     let Some(table) = table_of(tables, &query.table) else {
         return Ok(Reply::Refused(Refusal::NoSuchTable));
     };
-    let columns = shown_columns(alloc, table.headers(), &query.items)?;
-    if let Some(refusal) = first_that_holds(&select_tests(&columns, &query.condition, table)) {
+    let list = shown_items(alloc, table.headers(), &query.items)?;
+    let columns = columns_in(alloc, &list)?;
+    if let Some(refusal) = first_that_holds(&select_tests(
+        &columns,
+        &list,
+        &query.condition,
+        table,
+    )) {
         return Ok(Reply::Refused(refusal));
     }
     let shows = answer_of(alloc, table, &query.items, &query.condition)?;

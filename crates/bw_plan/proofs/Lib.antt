@@ -8,6 +8,7 @@ pub mod Operanding
 pub mod Places
 pub mod PlanLaws
 pub mod SetLaws
+pub mod Selecting
 pub mod Shrinking
 pub mod Spending
 pub mod Tests

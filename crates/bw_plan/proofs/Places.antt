@@ -9,9 +9,11 @@ use Rattle.std.proofs.lemmas.Simd.{map-map}
 use Rattle.std.proofs.lemmas.Slice.Eq.{bytes_eq-Decides}
 use Rattle.bw_model.specs.Insert.{row_for}
 use Rattle.bw_model.specs.Refusals.{first_that_holds, is_missing}
-use Rattle.bw_model.specs.Select.{line_of, shown}
+use Rattle.bw_model.specs.Select.{columns_in, line_of, shown}
+use Rattle.bw_sql.specs.declared.tree.SelectItem.TheVariants.{Column}
+use Rattle.bw_model.proofs.Items.{columns_of_names}
 use Rattle.bw_model.specs.Store.{AreHeaders, Header, Row, Value, are_distinct, names, place_of, value_at, value_from}
-use Rattle.bw_plan.specs.Checks.{listed_tests, shown_tests, value_tests}
+use Rattle.bw_plan.specs.Checks.{listed_tests, value_tests}
 use Rattle.bw_model.proofs.Names.{are_distinct-push, bytes_eq-comm, map-push}
 use Rattle.bw_plan.proofs.Names.{are_distinct_front}
 use Rattle.bw_model.proofs.Passing.{neither}
@@ -127,10 +129,14 @@ none_missing headers valid =
 pub some_names : (headers : List Header) → AreHeaders headers → 0 < length (names headers)
 some_names headers valid = omega (arith, length-map headers (λ h. h.name), valid.some)
 
--- all columns in order pass the tests on a list
-pub all_shown : (headers : List Header) → AreHeaders headers → first_that_holds (shown_tests headers (names headers)) ≡ None
-all_shown headers valid = no_test _ _ _ (none_missing headers valid)
+-- all columns in order, as items
+pub none_missing_item : (headers : List Header) → AreHeaders headers → list_any (is_missing headers) (columns_in (map (λ name. Column name) (names headers))) ≡ false
+none_missing_item headers valid = ap (list_any (is_missing headers)) (columns_of_names (names headers)) ∙ none_missing headers valid
 
+pub some_items : (headers : List Header) → AreHeaders headers → 0 < length (map (λ name. Column name) (names headers))
+some_items headers valid = omega (arith, length-map (names headers) (λ name. Column name), some_names headers valid)
+
+-- all columns in order pass the tests on a list
 pub all_listed : (headers : List Header) → AreHeaders headers → first_that_holds (listed_tests headers (names headers)) ≡ None
 all_listed headers valid = no_test _ _ _ (none_missing headers valid) ∙ no_test _ _ _ (ap not valid.distinct)
 

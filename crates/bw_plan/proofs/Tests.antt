@@ -9,7 +9,7 @@ use Rattle.bw_model.specs.Refusals.{Tests, first_that_holds, is_in_range}
 use Rattle.bw_model.specs.Store.{Row}
 use Rattle.bw_model.specs.declared.refusal.Refusal.{Refusal}
 use Rattle.bw_model.proofs.Passing.{if_none, widths}
-use Rattle.bw_plan.specs.Checks.{Answers, MayRefuse, value_tests}
+use Rattle.bw_plan.specs.Checks.{Answers, Decides, MayRefuse, value_tests}
 
 if_some : (b : Bool) (x y : Refusal) (r s : Option Refusal) → (r ≡ Some y → s ≡ Some y) → (if b then Some x else r) ≡ Some y → (if b then Some x else s) ≡ Some y
 if_some true x y r s h e = e
@@ -39,6 +39,15 @@ decides_right a b e none first = inr (first-append_none a b none ∙ first)
 pub passed_on : {T : Type 0} (tests : Tests) (r : Result T Refusal) (P : T → Type 0) (x : Refusal) → MayRefuse tests x → IsErrAnd r (λ e. e ≡ x) → Answers tests r P
 passed_on tests (Ok y) P x may h = absurd h
 passed_on tests (Err e) P x may h = subst (MayRefuse tests) (sym h) may
+
+pub decided_on : {T : Type 0} (tests : Tests) (r : Result T Refusal) (P : T → Type 0) (x : Refusal) → first_that_holds tests ≡ Some x → IsErrAnd r (λ e. e ≡ x) → Decides tests r P
+decided_on tests (Ok y) P x first h = absurd h
+decided_on tests (Err e) P x first h = subst (λ y. first_that_holds tests ≡ Some y) (sym h) first
+
+-- the last tests decide where none of the others holds
+pub decided_last : {T : Type 0} (a b c : Tests) (r : Result T Refusal) (P : T → Type 0) → first_that_holds a ≡ None → first_that_holds b ≡ None → Decides c r P → Decides (a ++ b ++ c) r P
+decided_last a b c (Ok y) P none also last = (first-append_both (a ++ b) c (first-append_both a b none also) last.0, last.1)
+decided_last a b c (Err e) P none also last = first-append_none (a ++ b) c (first-append_both a b none also) ∙ last
 
 -- other tests of which the same one is first
 pub answers_same : {T : Type 0} (a b : Tests) (r : Result T Refusal) (P Q : T → Type 0) → first_that_holds a ≡ first_that_holds b → ((x : T) → first_that_holds a ≡ None → P x → Q x) → Answers a r P → Answers b r Q

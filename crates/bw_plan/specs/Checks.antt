@@ -2,8 +2,10 @@
 use Rattle.std.specs.Prelude.{◌≡◌, ◌⊎◌, ◌==◌, ℕ, List, [], ◌∷◌, Option, Some, None, Result, MatchResult, length, nat_lt, not}
 use Rattle.std.specs.List.{list_all, list_any}
 use Rattle.bw_sql.specs.Tree.{ConditionTree}
+use Rattle.bw_sql.specs.declared.tree.SelectItem.{SelectItem}
 use Rattle.bw_sql.specs.declared.tree.SetClause.{SetClause}
 use Rattle.bw_model.specs.Refusals.{Tests, condition_misses, first_that_holds, is_in_range, is_missing, lists_too_long, may_be_set, operand_is_missing, set_columns}
+use Rattle.bw_model.specs.Select.{is_mixed}
 use Rattle.bw_model.specs.Store.{Header, Row, are_distinct}
 use Rattle.bw_model.specs.declared.refusal.Refusal.{Refusal}
 use Rattle.bw_model.specs.declared.refusal.Refusal.TheVariants as refusal
@@ -25,6 +27,9 @@ shown_tests headers columns = (refusal.NoSuchColumn, list_any (is_missing header
 
 abbrev pub condition_tests : List Header → Option ConditionTree → Tests
 condition_tests headers condition = (refusal.NoSuchColumn, condition_misses headers condition) ∷ (refusal.OverLimit, lists_too_long condition) ∷ []
+
+abbrev pub mixed_tests : List SelectItem → Tests
+mixed_tests list = (refusal.MixedItems, is_mixed list) ∷ []
 
 -- of an UPDATE of a table of these columns
 abbrev pub set_tests : List Header → List SetClause → Option ConditionTree → Tests

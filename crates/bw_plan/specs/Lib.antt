@@ -3,5 +3,6 @@ pub mod Columns
 pub mod Costs
 pub mod Operands
 pub mod Plans
+pub mod Selections
 pub mod Sets
 pub mod Words

@@ -20,4 +20,4 @@ pub use headers::{Headers, header_for};
 pub use insertion::resolve_insert;
 pub use plan::{Predicate, RowCondition, Source};
 pub use resolution::plans_keep_truth;
-pub use selection::{SelectPlan, resolve_select};
+pub use selection::{FunctionPlan, SelectPlan, ShownPlan, resolve_select};

@@ -1,35 +1,53 @@
 //! SELECT: its columns as places in a row, and its condition over places.
 
-ghost use Rattle.std.specs.Prelude.{◌≡◌, ◌++◌, ◌<◌, IfOk, Some, false, length, map, option_map};
+ghost use Rattle.std.specs.Prelude.{List, ◌≡◌, ◌++◌, ◌∷◌, [], ◌<◌, IfOk, OnOk, Some, false, length, map, option_map, true};
 ghost use Rattle.std.specs.List.{list_any};
-ghost use Rattle.bw_model.specs.Refusals.{is_missing};
-ghost use Rattle.bw_model.specs.Select.{shown_columns};
-ghost use Rattle.bw_model.specs.Store.{AreHeaders, names, place_of};
-ghost use Rattle.bw_plan.specs.Checks.{Answers, Decides, condition_tests, shown_tests};
+ghost use Rattle.bw_model.specs.Refusals.{first_that_holds, is_missing, select_tests};
+ghost use Rattle.bw_model.specs.Select.{columns_in, has_functions, is_column, is_mixed, shown_items};
+ghost use Rattle.bw_model.specs.Store.{AreHeaders, Header, names, place_of};
+ghost use Rattle.bw_plan.specs.Checks.{Answers, Decides, condition_tests, mixed_tests, shown_tests};
 ghost use Rattle.bw_plan.specs.Plans.{plan_of, planned};
+ghost use Rattle.bw_plan.specs.Selections.{ShowsBy, is_unplaced, placed_item};
 ghost use Rattle.bw_sql.specs.Tree.{condition_of, items_of};
 
 use crate::headers::Headers;
-use crate::insertion::lacks_any;
 use crate::plan::RowCondition;
 use crate::resolution::{check_condition, placed};
 use bw_model::Refusal;
-use bw_sql::{Condition, Name, SelectItems};
+use bw_sql::{Condition, SelectItem, SelectItems, SetFunction};
 use std::alloc::{AllocError, Global};
+
+/// A set function whose column is a place in a row.
+#[derive(Clone, Copy, Debug, PartialEq, Eq)]
+pub enum FunctionPlan {
+    /// How many rows are found.
+    CountRows,
+    /// Of the values at this place that are not NULL.
+    Of(SetFunction, usize),
+}
+
+/// What a SELECT shows.
+#[derive(Debug, Drop)]
+pub enum ShownPlan {
+    /// The values at these places, a line for each found row.
+    Columns(Vec<usize>),
+    /// These functions of the found rows, in one line.
+    Functions(Vec<FunctionPlan>),
+}
 
 /// A SELECT whose columns are places in a row.
 #[derive(Debug, Drop)]
 pub struct SelectPlan {
-    /// The places of the columns that are shown, in the order in which they are.
-    pub places: Vec<usize>,
+    /// What is shown, in the order in which it is.
+    pub shown: ShownPlan,
     /// Which rows are found; without a condition every row is.
     pub condition: Option<RowCondition>,
 }
 
-/// The places of a SELECT's columns in a table of these columns, and its condition over places. It is
-/// refused, in this order, where a column that is to be shown isn't there, where one of the condition
-/// isn't there, and where an IN list has more than 1,000 entries. All of this is found before any
-/// memory is asked for.
+/// What a SELECT shows of a table of these columns, by their places, and its condition over places. It is
+/// refused, in this order, where a column that it shows or folds isn't there, where one of the condition
+/// isn't there, where an IN list has more than 1,000 entries, and where columns stand beside set functions.
+/// All of this is found before any memory is asked for.
 pub fn resolve_select(
     alloc: Global,
     headers: &Headers<'_>,
@@ -37,21 +55,35 @@ pub fn resolve_select(
     condition: &Option<Condition>,
 ) -> Result<SelectPlan, Refusal>
     requires valid { AreHeaders headers.now }
-    ensures some { 0 < length (shown_columns headers.now (items_of items.now)) }
-    ensures plan { let columns = shown_columns headers.now (items_of items.now) in let found = option_map condition_of condition.now in Answers (shown_tests headers.now columns ++ condition_tests headers.now found) result (λ plan. (map (λ place. Some place) plan.places.items ≡ map (place_of headers.now) columns) × (option_map plan_of plan.condition ≡ option_map (planned headers.now) found)) }
+    ensures some { 0 < length (shown_items headers.now (items_of items.now)) }
+    ensures plan { let list = shown_items headers.now (items_of items.now) in let found = option_map condition_of condition.now in Answers (shown_tests headers.now (columns_in list) ++ condition_tests headers.now found ++ mixed_tests list) result (λ plan. ShowsBy headers.now list plan.shown × (option_map plan_of plan.condition ≡ option_map (planned headers.now) found)) }
+{
+    check_select(headers, items, condition)?;
+    let shown = shown_plan(alloc, headers, items)?;
+    let condition = plan_if_any(alloc, headers, condition)?;
+    Ok(SelectPlan { shown, condition })
+}
+
+/// Refuses a SELECT for its first reason.
+fn check_select(
+    headers: &Headers<'_>,
+    items: &SelectItems,
+    condition: &Option<Condition>,
+) -> Result<(), Refusal>
+    requires valid { AreHeaders headers.now }
+    ensures some { 0 < length (shown_items headers.now (items_of items.now)) }
+    ensures tests { let list = shown_items headers.now (items_of items.now) in Decides (shown_tests headers.now (columns_in list) ++ condition_tests headers.now (option_map condition_of condition.now) ++ mixed_tests list) result (λ _. Unit {0}) }
 {
     check_items(headers, items)?;
     check_condition(headers, condition)?;
-    let places = places_of(alloc, headers, items)?;
-    let condition = plan_if_any(alloc, headers, condition)?;
-    Ok(SelectPlan { places, condition })
+    check_mixed(items)
 }
 
-/// Refuses columns to be shown that aren't there.
+/// Refuses columns that aren't there.
 fn check_items(headers: &Headers<'_>, items: &SelectItems) -> Result<(), Refusal>
     requires { AreHeaders headers.now }
-    ensures some { 0 < length (shown_columns headers.now (items_of items.now)) }
-    ensures tests { Decides (shown_tests headers.now (shown_columns headers.now (items_of items.now))) result (λ _. Unit {0}) }
+    ensures some { 0 < length (shown_items headers.now (items_of items.now)) }
+    ensures tests { Decides (shown_tests headers.now (columns_in (shown_items headers.now (items_of items.now)))) result (λ _. Unit {0}) }
 {
     if lacks_shown(headers, items) {
         return Err(Refusal::NoSuchColumn);
@@ -59,16 +91,70 @@ fn check_items(headers: &Headers<'_>, items: &SelectItems) -> Result<(), Refusal
     Ok(())
 }
 
-/// Whether a column that is to be shown isn't there.
+/// Whether a column that is shown or folded isn't there.
 fn lacks_shown(headers: &Headers<'_>, items: &SelectItems) -> bool
     requires { AreHeaders headers.now }
-    ensures some { 0 < length (shown_columns headers.now (items_of items.now)) }
-    ensures lacks { result ≡ list_any (is_missing headers.now) (shown_columns headers.now (items_of items.now)) }
+    ensures some { 0 < length (shown_items headers.now (items_of items.now)) }
+    ensures lacks { result ≡ list_any (is_missing headers.now) (columns_in (shown_items headers.now (items_of items.now))) }
 {
     match items {
         SelectItems::All => false,
-        SelectItems::Columns(names) => lacks_any(headers, names.as_slice()),
+        SelectItems::List(list) => lacks_column(headers, list.as_slice()),
     }
+}
+
+/// Whether one of the items names a column that isn't there.
+fn lacks_column(headers: &Headers<'_>, list: &[SelectItem]) -> bool
+    ensures { result ≡ list_any (λ item. list_any (is_missing headers.now) (columns_in (item ∷ []))) list.now }
+{
+    list.iter().any(|item| lacks_its_column(headers, item))
+}
+
+fn lacks_its_column(headers: &Headers<'_>, item: &SelectItem) -> bool
+    ensures { result ≡ list_any (is_missing headers.now) (columns_in (item.now ∷ [])) }
+{
+    match item {
+        SelectItem::Column(name) | SelectItem::Function(_, name) => headers.place(name).is_none(),
+        SelectItem::CountRows => false,
+    }
+}
+
+/// Refuses columns beside set functions.
+fn check_mixed(items: &SelectItems) -> Result<(), Refusal>
+    ensures { (headers : List Header) → Decides (mixed_tests (shown_items headers (items_of items.now))) result (λ _. Unit {0}) }
+{
+    if is_mixed(items) {
+        return Err(Refusal::MixedItems);
+    }
+    Ok(())
+}
+
+#[tactic(auto, using(crate::proofs::Selecting::columns_unmixed))]
+fn is_mixed(items: &SelectItems) -> bool
+    ensures { (headers : List Header) → result ≡ is_mixed (shown_items headers (items_of items.now)) }
+{
+    match items {
+        SelectItems::All => false,
+        SelectItems::List(list) => has_functions(list.as_slice()) && has_columns(list.as_slice()),
+    }
+}
+
+fn is_column(item: &SelectItem) -> bool
+    ensures { result ≡ is_column item.now }
+{
+    matches!(item, SelectItem::Column(_))
+}
+
+fn has_functions(list: &[SelectItem]) -> bool
+    ensures { result ≡ has_functions list.now }
+{
+    list.iter().any(|item| !is_column(item))
+}
+
+fn has_columns(list: &[SelectItem]) -> bool
+    ensures { result ≡ list_any is_column list.now }
+{
+    list.iter().any(is_column)
 }
 
 /// The condition over places, where there is one.
@@ -85,18 +171,36 @@ pub(crate) fn plan_if_any(
     }
 }
 
-/// The places of the columns that are shown.
-fn places_of(
+/// What is shown, where every column is there and none stands beside a set function.
+fn shown_plan(
     alloc: Global,
     headers: &Headers<'_>,
     items: &SelectItems,
-) -> Result<Vec<usize>, AllocError>
-    requires { list_any (is_missing headers.now) (shown_columns headers.now (items_of items.now)) ≡ false }
-    ensures { IfOk result (λ places. map (λ place. Some place) places.items ≡ map (place_of headers.now) (shown_columns headers.now (items_of items.now))) }
+) -> Result<ShownPlan, AllocError>
+    requires there { list_any (is_missing headers.now) (columns_in (shown_items headers.now (items_of items.now))) ≡ false }
+    requires apart { is_mixed (shown_items headers.now (items_of items.now)) ≡ false }
+    ensures { IfOk result (ShowsBy headers.now (shown_items headers.now (items_of items.now))) }
 {
     match items {
-        SelectItems::All => all_places(alloc, headers),
-        SelectItems::Columns(names) => places_of_names(alloc, headers, names.as_slice()),
+        SelectItems::All => Ok(ShownPlan::Columns(all_places(alloc, headers)?)),
+        SelectItems::List(list) => listed_plan(alloc, headers, list.as_slice()),
+    }
+}
+
+/// What a list shows.
+fn listed_plan(
+    alloc: Global,
+    headers: &Headers<'_>,
+    list: &[SelectItem],
+) -> Result<ShownPlan, AllocError>
+    requires there { list_any (is_missing headers.now) (columns_in list.now) ≡ false }
+    requires apart { is_mixed list.now ≡ false }
+    ensures { IfOk result (ShowsBy headers.now list.now) }
+{
+    if has_functions(list) {
+        Ok(ShownPlan::Functions(functions_in(alloc, headers, list)?))
+    } else {
+        Ok(ShownPlan::Columns(places_in(alloc, headers, list)?))
     }
 }
 
@@ -111,21 +215,71 @@ fn all_places(alloc: Global, headers: &Headers<'_>) -> Result<Vec<usize>, AllocE
     Ok(places)
 }
 
-/// The places of these columns, each of which is there.
-fn places_of_names(
+/// Puts the place of the column that an item names last.
+fn put_place(
+    places: &mut Vec<usize>,
+    headers: &Headers<'_>,
+    item: &SelectItem,
+) -> Result<(), AllocError>
+    requires { list_any (is_missing headers.now) (columns_in (item.now ∷ [])) ≡ false }
+    ensures { OnOk result (map (λ place. Some place) places.new.items ≡ map (λ place. Some place) places.old.items ++ map (place_of headers.now) (columns_in (item.now ∷ []))) }
+{
+    match item {
+        SelectItem::Column(name) | SelectItem::Function(_, name) => {
+            let Some(place) = headers.place(name) else {
+                unreachable!()
+            };
+            places.push(place)?;
+        }
+        SelectItem::CountRows => {}
+    }
+    Ok(())
+}
+
+/// The places of the columns that items name, each of which is there.
+fn places_in(
     alloc: Global,
     headers: &Headers<'_>,
-    names: &[Name],
+    list: &[SelectItem],
 ) -> Result<Vec<usize>, AllocError>
-    requires { list_any (is_missing headers.now) names.now ≡ false }
-    ensures { IfOk result (λ places. map (λ place. Some place) places.items ≡ map (place_of headers.now) names.now) }
+    requires { list_any (is_missing headers.now) (columns_in list.now) ≡ false }
+    ensures { IfOk result (λ places. map (λ place. Some place) places.items ≡ map (place_of headers.now) (columns_in list.now)) }
 {
-    let mut places = Vec::with_capacity(alloc, names.len())?;
-    for name in names {
-        let Some(place) = headers.place(name) else {
-            unreachable!()
-        };
-        places.push(place)?;
+    let mut places = Vec::with_capacity(alloc, list.len())?;
+    for item in list {
+        put_place(&mut places, headers, item)?;
     }
     Ok(places)
+}
+
+/// A set function with the place of its column, where there is such a column.
+fn placed_item(headers: &Headers<'_>, item: &SelectItem) -> Option<FunctionPlan>
+    ensures { result ≡ placed_item headers.now item.now }
+{
+    match item {
+        SelectItem::Column(_) => None,
+        SelectItem::CountRows => Some(FunctionPlan::CountRows),
+        SelectItem::Function(function, name) => {
+            Some(FunctionPlan::Of(*function, headers.place(name)?))
+        }
+    }
+}
+
+/// The set functions of a list, of which each column is there.
+fn functions_in(
+    alloc: Global,
+    headers: &Headers<'_>,
+    list: &[SelectItem],
+) -> Result<Vec<FunctionPlan>, AllocError>
+    requires { list_any (is_unplaced headers.now) list.now ≡ false }
+    ensures { IfOk result (λ functions. map (λ f. Some f) functions.items ≡ map (placed_item headers.now) list.now) }
+{
+    let mut functions = Vec::with_capacity(alloc, list.len())?;
+    for item in list {
+        let Some(function) = placed_item(headers, item) else {
+            unreachable!()
+        };
+        functions.push(function)?;
+    }
+    Ok(functions)
 }

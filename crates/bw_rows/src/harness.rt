@@ -89,6 +89,28 @@ pub(crate) fn check_pieces<R: Abort + AllocGlobal>(
     check_script(rt, script.as_str(), replies);
 }
 
+/// How a column may be laid.
+const LAYINGS: [&str; 8] = [
+    "USING P OFFSET",
+    "USING V OFFSET",
+    "USING H OFFSET",
+    "USING S OFFSET",
+    "USING P DICTIONARY",
+    "USING V DICTIONARY",
+    "USING H DICTIONARY",
+    "USING S DICTIONARY",
+];
+
+/// Checks that a script gets these replies however the columns are laid at which it says `{using}`.
+pub(crate) fn check_layings<R: Abort + AllocGlobal>(rt: &R, script: &str, replies: &str) {
+    for laying in LAYINGS {
+        let laid = script
+            .replace(rt.alloc(), "{using}", laying)
+            .expect(rt, "memory");
+        check_script(rt, laid.as_str(), replies);
+    }
+}
+
 /// Pieces, each so many times, one behind the other.
 pub(crate) fn joined<R: Abort + AllocGlobal>(rt: &R, pieces: &[(&str, usize)]) -> String {
     let mut text = String::new(rt.alloc());

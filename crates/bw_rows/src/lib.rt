@@ -9,6 +9,8 @@ mod changes;
 #[cfg(test)]
 mod conditions;
 #[cfg(test)]
+mod functions;
+#[cfg(test)]
 mod harness;
 #[cfg(test)]
 mod large;

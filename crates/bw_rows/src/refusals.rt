@@ -50,8 +50,8 @@ fn of_what_is_no_statement_yet(rt: HostRuntime) {
     check_examples(
         &rt,
         &[(
-            "CREATE TABLE t (a INT); SELECT COUNT(*) FROM t; LOAD t FROM 'f'; SAVE t TO 'f'; SELECT a FROM t",
-            "ok\nerror 10: syntax error\nerror 10: syntax error\nerror 10: syntax error\nerror 10: syntax error\n",
+            "CREATE TABLE t (a INT); LOAD t FROM 'f'; SAVE t TO 'f'; SELECT a FROM t",
+            "ok\nerror 10: syntax error\nerror 10: syntax error\nerror 10: syntax error\n",
         )],
     );
 }

@@ -7,7 +7,8 @@ use Rattle.bw_sql.specs.Reading.{choice_list_at, column_list_at, condition_at, c
 use Rattle.bw_sql.specs.declared.terminal.StatementWord.TheVariants.{Rebuild, Tables}
 use Rattle.bw_sql.proofs.ChangesComplete.{choices_read, sets_read, sets_shorter}
 use Rattle.bw_sql.proofs.ConditionsComplete.{condition_reads}
-use Rattle.bw_sql.proofs.ListsComplete.{columns_read, items_read, items_shorter, names_read, names_shorter, rows_read}
+use Rattle.bw_sql.proofs.ItemsComplete.{items_read, items_shorter}
+use Rattle.bw_sql.proofs.ListsComplete.{columns_read, names_read, names_shorter, rows_read}
 use Rattle.bw_sql.proofs.WordLemmas.{statement_word_of-spelling}
 
 -- a statement is read, with enough fuel

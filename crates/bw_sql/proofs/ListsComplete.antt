@@ -7,9 +7,8 @@ use Rattle.bw_sql.specs.declared.terminal.Terminal.TheVariants as t
 use Rattle.bw_sql.specs.declared.tree.LayoutWord.{LayoutWord}
 use Rattle.bw_sql.specs.declared.tree.KindWord.{KindWord}
 use Rattle.bw_sql.specs.declared.tree.ColumnDefinition.{ColumnDefinition}
-use Rattle.bw_sql.specs.Tree.{ItemsTree, columns}
-use Rattle.bw_sql.specs.Grammar.{ListOf, last, next, NamePart, name, LiteralPart, number, plus, minus, ValuePart, null_value, literal_value, RowPart, row, TypePart, integer, int, UsingPart, no_layout, using_layout, KindPart, no_kind, kind, ColumnPart, column, ItemsPart, star, some_columns}
-use Rattle.bw_sql.specs.Reading.{Read, after_comma, after_type, column_at, columns_at, items_at, kind_at, layout_at, literal_at, more_at, name_at, names_at, negative, number_at, parts_at, positive, row_at, rows_at, using_at, value_at, values_at, with_first}
+use Rattle.bw_sql.specs.Grammar.{ListOf, last, next, NamePart, name, LiteralPart, number, plus, minus, ValuePart, null_value, literal_value, RowPart, row, TypePart, integer, int, UsingPart, no_layout, using_layout, KindPart, no_kind, kind, ColumnPart, column}
+use Rattle.bw_sql.specs.Reading.{Read, after_comma, after_type, column_at, columns_at, kind_at, layout_at, literal_at, more_at, name_at, names_at, negative, number_at, parts_at, positive, row_at, rows_at, using_at, value_at, values_at, with_first}
 use Rattle.bw_sql.proofs.WordLemmas.{kind_of-spelling, layout_of-spelling}
 
 module _ {A : Type 0} (after : List Terminal → Option (List Terminal)) (read : List Terminal → Read A) where
@@ -36,7 +35,7 @@ module _ {A : Type 0} (One : List Terminal → A → List Terminal → Type 0) (
   list_shorter (next {x} {xs} {ts} {mid} {rest} d ds) = let less = shorter ts (t.Symbol s.Comma ∷ mid) x d in omega (arith, list_shorter {ts = mid} ds)
 
 -- anything may follow
-abbrev Anything : List Terminal → Type 0
+abbrev pub Anything : List Terminal → Type 0
 Anything rest = Unit {0}
 
 name_reads : (ts rest : List Terminal) (x : List ℕ) → NamePart ts x rest → name_at ts ≡ Some (x, rest)
@@ -156,18 +155,3 @@ pub columns_read : {ts rest : List Terminal} {xs : List ColumnDefinition} → Li
 unfolding columns_at
 columns_read {ts} {rest} d n h =
     list_reads ColumnPart column_at EndsColumn n comma_ends (λ ts rest x e ends _. column_reads ts rest x e ends) column_shorter d (close_ends rest) refl n h h
-
--- a list of names doesn't begin with a star
-names_first : {ts rest : List Terminal} {names : List (List ℕ)} (n : ℕ) → ListOf NamePart ts names rest → names_at n ts ≡ Some (names, rest) → items_at n ts ≡ Some (columns names, rest)
-unfolding items_at
-names_first n (last name) e = rw e refl
-names_first n (next name ds) e = rw e refl
-
-pub items_read : {ts rest : List Terminal} {x : ItemsTree} → ItemsPart ts x rest → after_comma rest ≡ None → (n : ℕ) → length ts < n → items_at n ts ≡ Some (x, rest)
-unfolding items_at
-items_read star stops n h = refl
-items_read (some_columns d) stops n h = names_first n d (names_read d stops n h)
-
-pub items_shorter : {ts rest : List Terminal} {x : ItemsTree} → ItemsPart ts x rest → length rest < length ts
-items_shorter star = omega arith
-items_shorter (some_columns d) = names_shorter d

@@ -4,11 +4,12 @@ use Rattle.bw_lex.specs.declared.token.Symbol.TheVariants as s
 use Rattle.bw_sql.specs.declared.keyword.Keyword.TheVariants as k
 use Rattle.bw_sql.specs.declared.terminal.Terminal.{Terminal}
 use Rattle.bw_sql.specs.declared.terminal.Terminal.TheVariants as t
-use Rattle.bw_sql.specs.Tree.{ConditionTree, ItemsTree, all_columns, columns, StatementTree, create_table, insert, select}
-use Rattle.bw_sql.specs.Grammar.{ListOf, NamePart, RowPart, ColumnPart, ItemsPart, star, some_columns, ConditionPart, Spells, creates, inserts, inserts_into, selects, selects_where}
+use Rattle.bw_sql.specs.Tree.{ConditionTree, ItemsTree, StatementTree, create_table, insert, select}
+use Rattle.bw_sql.specs.Grammar.{ListOf, NamePart, RowPart, ColumnPart, ItemsPart, ConditionPart, Spells, creates, inserts, inserts_into, selects, selects_where}
 use Rattle.bw_sql.specs.Reading.{after_close, after_from, after_into, after_open, after_table, after_values, column_list_at, columns_at, condition_at, create_at, ended, filter_at, insert_at, items_at, name_at, names_at, rows_at, select_at, statement_at, whole_at}
 use Rattle.bw_sql.proofs.ChangesSound.{IsStatement, delete_sound, drop_sound, spelled, update_sound, worded_sound}
 use Rattle.bw_sql.proofs.ConditionsSound.{condition_sound}
+use Rattle.bw_sql.proofs.ItemsSound.{items_sound}
 use Rattle.bw_sql.proofs.ListsSound.{IsSound, after_from-is, closes, after_into-is, after_open-is, after_table-is, after_values-is, answers_once, bound, columns_sound, mapped, moved, name_is, name_sound, names_sound, rows_sound}
 
 create_sound : (n : ℕ) (ts : List Terminal) → (tree : StatementTree) (rest : List Terminal) → create_at n ts ≡ Some (tree, rest) → IsStatement (t.Keyword k.Create ∷ ts) tree rest
@@ -46,11 +47,6 @@ insert_sound n ts tree rest h nothing =
     after_into-is ts a.0 a.1 ∙ ap (λ l. t.Keyword k.Into ∷ l) (name_is a.0 b.0.0 b.0.1 (name_sound a.0 b.0.0 b.0.1 b.1)) in
     spelled (t.Keyword k.Insert) ts _ (insert b.0.0 c.0.0 e.0.0) tree front f.0
     (list_part_sound n b.0.1 c.0.0 c.0.1 d.0 b.0.0 e.0.0 c.1 (after_values-is c.0.1 d.0 d.1) (subst (ListOf RowPart d.0 e.0.0) (f.1 ∙ nothing) (rows_sound n d.0 e.0.0 e.0.1 e.1)))
-
-items_sound : (n : ℕ) → IsSound ItemsPart (items_at n)
-unfolding items_at
-items_sound n (t.Symbol s.Star ∷ ts) x rest h = moved ItemsPart (t.Symbol s.Star ∷ ts) all_columns x ts rest star h
-items_sound n ts x rest h = mapped columns ItemsPart ts (names_at n ts) x rest h (λ names reads. some_columns (names_sound n ts names rest reads))
 
 filter_sound : (n : ℕ) (ts us vs : List Terminal) (items : ItemsTree) (table : List ℕ) (filter : Option ConditionTree) → ItemsPart ts items (t.Keyword k.From ∷ t.Name table ∷ us) → filter_at n us ≡ Some (filter, vs) → vs ≡ [] → Spells (t.Keyword k.Select ∷ ts) (select items table filter)
 unfolding filter_at

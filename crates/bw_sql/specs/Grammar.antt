@@ -17,8 +17,11 @@ use Rattle.bw_sql.specs.declared.tree.TruthWord.TheVariants.{True, False, Unknow
 use Rattle.bw_sql.specs.declared.tree.ColumnDefinition.{ColumnDefinition}
 use Rattle.bw_sql.specs.declared.tree.LayoutChoice.{LayoutChoice}
 use Rattle.bw_sql.specs.declared.tree.SetClause.{SetClause}
-use Rattle.bw_sql.specs.Words.{kind_spelling, layout_spelling}
-use Rattle.bw_sql.specs.Tree.{ConditionTree, among, between, comparison, each_of, negated, null, some_of, tested, trees_of, ItemsTree, all_columns, columns, StatementTree, create_table, delete, drop_table, insert, list_tables, rebuild, select, update}
+use Rattle.bw_sql.specs.declared.tree.SelectItem.{SelectItem}
+use Rattle.bw_sql.specs.declared.tree.SelectItem.TheVariants as items
+use Rattle.bw_sql.specs.declared.tree.SetFunction.{SetFunction}
+use Rattle.bw_sql.specs.Words.{function_word, kind_spelling, layout_spelling}
+use Rattle.bw_sql.specs.Tree.{ConditionTree, among, between, comparison, each_of, negated, null, some_of, tested, trees_of, ItemsTree, all_columns, listed, StatementTree, create_table, delete, drop_table, insert, list_tables, rebuild, select, update}
 
 -- one {, one}
 pub data ListOf {A : Type 0} (One : List Terminal → A → List Terminal → Type 0) : List Terminal → List A → List Terminal → Type 0 where
@@ -63,10 +66,17 @@ pub data ColumnPart : List Terminal → ColumnDefinition → List Terminal → T
   column : {word : List ℕ} {l : Option LayoutWord} {d : Option KindWord} {ts us vs rest : List Terminal} →
       TypePart ts us → UsingPart us l vs → KindPart vs d rest → ColumnPart (t.Name word ∷ ts) (record { name = word; layout = l; kind = d }) rest
 
--- items = * | name {, name}
+-- item = name | COUNT ( * ) | function ( name )
+pub data ItemPart : List Terminal → SelectItem → List Terminal → Type 0 where
+  column_item : {word : List ℕ} {rest : List Terminal} → ItemPart (t.Name word ∷ rest) (items.Column word) rest
+  count_rows : {rest : List Terminal} → ItemPart (t.Keyword k.Count ∷ t.Symbol s.Open ∷ t.Symbol s.Star ∷ t.Symbol s.Close ∷ rest) items.CountRows rest
+  function_item : {f : SetFunction} {word : List ℕ} {rest : List Terminal} →
+      ItemPart (t.Keyword (function_word f) ∷ t.Symbol s.Open ∷ t.Name word ∷ t.Symbol s.Close ∷ rest) (items.Function f word) rest
+
+-- items = * | item {, item}
 pub data ItemsPart : List Terminal → ItemsTree → List Terminal → Type 0 where
   star : {rest : List Terminal} → ItemsPart (t.Symbol s.Star ∷ rest) all_columns rest
-  some_columns : {names : List (List ℕ)} {ts rest : List Terminal} → ListOf NamePart ts names rest → ItemsPart ts (columns names) rest
+  some_items : {list : List SelectItem} {ts rest : List Terminal} → ListOf ItemPart ts list rest → ItemsPart ts (listed list) rest
 
 -- operand = value | name
 pub data OperandPart : List Terminal → Operand → List Terminal → Type 0 where

@@ -20,8 +20,12 @@ use Rattle.bw_sql.specs.Grammar.{all_of, any_of}
 use Rattle.bw_sql.specs.declared.tree.ColumnDefinition.{ColumnDefinition}
 use Rattle.bw_sql.specs.declared.tree.LayoutChoice.{LayoutChoice}
 use Rattle.bw_sql.specs.declared.tree.SetClause.{SetClause}
-use Rattle.bw_sql.specs.Words.{kind_of, layout_of, statement_word_of}
-use Rattle.bw_sql.specs.Tree.{ConditionTree, among, between, comparison, negated, null, tested, ItemsTree, all_columns, columns, StatementTree, create_table, delete, drop_table, insert, list_tables, rebuild, select, update}
+use Rattle.bw_sql.specs.declared.tree.SelectItem.{SelectItem}
+use Rattle.bw_sql.specs.declared.tree.SelectItem.TheVariants as items
+use Rattle.bw_sql.specs.declared.tree.SetFunction.{SetFunction}
+use Rattle.bw_sql.specs.declared.tree.SetFunction.TheVariants.{Count}
+use Rattle.bw_sql.specs.Words.{function_of, kind_of, layout_of, statement_word_of}
+use Rattle.bw_sql.specs.Tree.{ConditionTree, among, between, comparison, negated, null, tested, ItemsTree, all_columns, listed, StatementTree, create_table, delete, drop_table, insert, list_tables, rebuild, select, update}
 
 -- what is read, and the terminals after it; none is a syntax error
 abbrev pub Read : Type 0 → Type 0
@@ -234,9 +238,28 @@ insert_at n ts =
     after_into ts >>= λ us. name_at us >>= λ name. column_list_at n name.1 >>= λ names. after_values names.1 >>= λ vs.
     rows_at n vs >>= λ rows. Some (insert name.0 names.0 rows.0, rows.1)
 
+unfoldable pub function_at : List Terminal → Read SetFunction
+function_at (t.Keyword word ∷ ts) = with_rest (function_of word) ts
+function_at _ = None
+
+-- what a set function is of
+unfoldable pub argument_at : SetFunction → List Terminal → Read SelectItem
+argument_at Count (t.Symbol s.Star ∷ ts) = Some (items.CountRows, ts)
+argument_at f ts = map_first (items.Function f) (name_at ts)
+
+unfoldable pub function_item_at : List Terminal → Read SelectItem
+function_item_at ts = function_at ts >>= λ f. after_open f.1 >>= λ us. argument_at f.0 us >>= λ item. closed item.0 (after_close item.1)
+
+unfoldable pub item_at : List Terminal → Read SelectItem
+item_at (t.Name word ∷ ts) = Some (items.Column word, ts)
+item_at ts = function_item_at ts
+
+unfoldable pub item_list_at : ℕ → List Terminal → Read (List SelectItem)
+item_list_at n ts = parts_at after_comma item_at n ts
+
 unfoldable pub items_at : ℕ → List Terminal → Read ItemsTree
 items_at n (t.Symbol s.Star ∷ ts) = Some (all_columns, ts)
-items_at n ts = map_first columns (names_at n ts)
+items_at n ts = map_first listed (item_list_at n ts)
 
 unfoldable pub operand_at : List Terminal → Read Operand
 operand_at (t.Name name ∷ ts) = Some (Column name, ts)

@@ -11,6 +11,7 @@ use Rattle.bw_sql.specs.declared.tree.TruthWord.{TruthWord}
 use Rattle.bw_sql.specs.declared.tree.ColumnDefinition.{ColumnDefinition}
 use Rattle.bw_sql.specs.declared.tree.LayoutChoice.{LayoutChoice}
 use Rattle.bw_sql.specs.declared.tree.SetClause.{SetClause}
+use Rattle.bw_sql.specs.declared.tree.SelectItem.{SelectItem}
 use Rattle.bw_sql.specs.declared.tree.SelectItems.{SelectItems}
 use Rattle.bw_sql.specs.declared.tree.SelectItems.TheVariants as items
 use Rattle.bw_sql.specs.declared.tree.Statement.{Statement}
@@ -37,7 +38,7 @@ trees_of (c ∷ cs) = more c (trees_of cs)
 
 pub data ItemsTree : Type 0 where
   all_columns : ItemsTree
-  columns : List (List ℕ) → ItemsTree
+  listed : List SelectItem → ItemsTree
 
 pub data StatementTree : Type 0 where
   create_table : (table : List ℕ) → List ColumnDefinition → StatementTree
@@ -70,7 +71,7 @@ conditions_in parts = map condition_of parts.items
 
 abbrev pub items_of : SelectItems → ItemsTree
 items_of items.All = all_columns
-items_of (items.Columns names) = columns names
+items_of (items.List list) = listed list
 
 -- the statement that a Rust value holds
 abbrev pub statement_of : Statement → StatementTree

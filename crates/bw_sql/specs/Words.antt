@@ -7,6 +7,10 @@ use Rattle.bw_sql.specs.declared.tree.LayoutWord.{LayoutWord}
 use Rattle.bw_sql.specs.declared.tree.LayoutWord.TheVariants.{P, V, H, S}
 use Rattle.bw_sql.specs.declared.tree.KindWord.{KindWord}
 use Rattle.bw_sql.specs.declared.tree.KindWord.TheVariants.{Offset, Dictionary}
+use Rattle.bw_sql.specs.declared.keyword.Keyword.{Keyword}
+use Rattle.bw_sql.specs.declared.keyword.Keyword.TheVariants as k
+use Rattle.bw_sql.specs.declared.tree.SetFunction.{SetFunction}
+use Rattle.bw_sql.specs.declared.tree.SetFunction.TheVariants.{Count, Sum, Min, Max, Median}
 
 -- how a layout is spelled
 abbrev pub layout_spelling : LayoutWord → List ℕ
@@ -37,3 +41,20 @@ kind_of word = if bytes_eq word (codes "OFFSET") then Some Offset else (if bytes
 
 unfoldable pub statement_word_of : List ℕ → Option StatementWord
 statement_word_of word = if bytes_eq word (codes "TABLES") then Some Tables else (if bytes_eq word (codes "REBUILD") then Some Rebuild else None)
+
+-- the reserved word of a set function
+abbrev pub function_word : SetFunction → Keyword
+function_word Count = k.Count
+function_word Sum = k.Sum
+function_word Min = k.Min
+function_word Max = k.Max
+function_word Median = k.Median
+
+-- the set function of a reserved word
+unfoldable pub function_of : Keyword → Option SetFunction
+function_of k.Count = Some Count
+function_of k.Sum = Some Sum
+function_of k.Min = Some Min
+function_of k.Max = Some Max
+function_of k.Median = Some Median
+function_of _ = None

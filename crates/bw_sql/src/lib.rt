@@ -4,12 +4,14 @@
 
 mod changes;
 mod condition;
+mod item_list;
 mod keyword;
 mod limits;
 mod name;
 mod name_list;
 mod parser;
 mod rows;
+mod select_list;
 mod statement_text;
 mod terminal;
 mod tree;
@@ -18,6 +20,7 @@ pub use bw_lex::{
     CompareOp, Part, Span, SqlFault, Symbol, Token, TokenKind, one_reading, one_splitting, parts,
     tokens,
 };
+pub use item_list::ItemList;
 pub use keyword::Keyword;
 pub use name::Name;
 pub use name_list::NameList;
@@ -25,5 +28,6 @@ pub use rows::ValueRows;
 pub use statement_text::{LONGEST_STATEMENT, names_are_names, one_statement, statement};
 pub use tree::{
     ColumnDefinition, Condition, CreateTable, Delete, Insert, KindWord, LayoutChoice, LayoutWord,
-    Operand, Rebuild, Select, SelectItems, SetClause, Statement, TruthWord, Update, Value,
+    Operand, Rebuild, Select, SelectItem, SelectItems, SetClause, SetFunction, Statement,
+    TruthWord, Update, Value,
 };

@@ -6,7 +6,7 @@ ghost use Rattle.bw_sql.specs.Grammar.{Spells};
 ghost use Rattle.bw_sql.specs.Reading as reading;
 ghost use Rattle.bw_sql.specs.Reading.{Gives, GivesAll, GivesRow};
 ghost use Rattle.bw_sql.specs.Statements.{IsParseFault};
-ghost use Rattle.bw_sql.specs.Tree.{condition_of, items_of, statement_of};
+ghost use Rattle.bw_sql.specs.Tree.{condition_of, statement_of};
 
 use crate::keyword::Keyword;
 use crate::name::Name;
@@ -14,8 +14,8 @@ use crate::name_list::NameList;
 use crate::rows::ValueRows;
 use crate::terminal::Terminal;
 use crate::tree::{
-    ColumnDefinition, Condition, CreateTable, Insert, KindWord, LayoutWord, Select, SelectItems,
-    Statement, Value,
+    ColumnDefinition, Condition, CreateTable, Insert, KindWord, LayoutWord, Select, Statement,
+    Value,
 };
 use bw_lex::{SqlFault, Symbol};
 use std::alloc::Global;
@@ -363,20 +363,6 @@ impl<'a> Parser<'a> {
             columns,
             rows,
         }))
-    }
-
-    // items = * | name {, name}
-    #[tactic(auto, unfolding(crate::specs::Reading::items_at))]
-    fn items(&mut self) -> Result<SelectItems, SqlFault>
-        ensures shorter { OnOk result (length self.new.rest.now < length self.old.rest.now) }
-        ensures read { (n : ℕ) → length self.old.rest.now < n
-            → Gives items_of result self.new.rest.now (reading.items_at n self.old.rest.now) }
-    {
-        if self.eat(Symbol::Star) {
-            Ok(SelectItems::All)
-        } else {
-            Ok(SelectItems::Columns(self.names()?))
-        }
     }
 
     // [WHERE cond]

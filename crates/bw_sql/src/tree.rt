@@ -1,5 +1,6 @@
 //! Statement trees.
 
+use crate::item_list::ItemList;
 use crate::name::Name;
 use crate::name_list::NameList;
 use crate::rows::ValueRows;
@@ -113,7 +114,27 @@ pub struct Select {
 pub enum SelectItems {
     /// `*`: every column.
     All,
-    Columns(NameList),
+    List(ItemList),
+}
+
+/// An item of a select list.
+#[derive(Debug, Drop)]
+pub enum SelectItem {
+    Column(Name),
+    /// `COUNT(*)`: how many rows are found.
+    CountRows,
+    /// `function(column)`.
+    Function(SetFunction, Name),
+}
+
+/// A function of the values of a column that are not NULL, in the found rows.
+#[derive(Clone, Copy, Debug, PartialEq, Eq)]
+pub enum SetFunction {
+    Count,
+    Sum,
+    Min,
+    Max,
+    Median,
 }
 
 /// A condition on a row. A run of AND or of OR is one list.

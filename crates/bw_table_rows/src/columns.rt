@@ -30,7 +30,8 @@ fn check_values<R: Abort>(rt: &R, values: &[Option<i64>])
     }
 }
 
-fn column_of<R: Abort + AllocGlobal>(
+/// A column of at most 1,000 values.
+pub(crate) fn column_of<R: Abort + AllocGlobal>(
     rt: &R,
     values: &[Option<i64>],
     layout: Layout,

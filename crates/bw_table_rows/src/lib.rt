@@ -1,5 +1,5 @@
-//! Worked examples as tests of columns and tables, each call that may want memory seen answering, and random changes beside a plain
-//! list of rows.
+//! Worked examples as tests of columns and tables, each call that may want memory seen answering, random changes beside a plain
+//! list of rows, and set functions of random columns beside a plain fold.
 #![tactic(auto)]
 
 #[cfg(test)]
@@ -10,5 +10,7 @@ mod examples;
 mod harness;
 #[cfg(test)]
 mod random;
+#[cfg(test)]
+mod set_functions;
 #[cfg(test)]
 mod units;

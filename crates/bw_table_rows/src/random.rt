@@ -7,16 +7,23 @@ use std::process::Abort;
 
 type Row = [Cell; 3];
 
-const LAYOUTS: [Layout; 4] = [Layout::P, Layout::V, Layout::H, Layout::S];
+pub(crate) const LAYOUTS: [Layout; 4] = [Layout::P, Layout::V, Layout::H, Layout::S];
 
 /// Numbers by shifts and exclusive or (Marsaglia's xorshift).
 #[derive(Drop)]
-struct Random {
+pub(crate) struct Random {
     state: u64,
 }
 
 impl Random {
-    fn next(&mut self) -> u64 {
+    /// The same numbers each time.
+    pub(crate) fn new() -> Random {
+        Random {
+            state: 0x9e37_79b9_7f4a_7c15,
+        }
+    }
+
+    pub(crate) fn next(&mut self) -> u64 {
         self.state ^= self.state << 13;
         self.state ^= self.state >> 7;
         self.state ^= self.state << 17;
@@ -188,9 +195,7 @@ fn check_changes<R: Abort + AllocGlobal>(rt: &R, random: &mut Random, changes: u
 
 #[test]
 fn random_changes(rt: HostRuntime) {
-    let mut random = Random {
-        state: 0x9e37_79b9_7f4a_7c15,
-    };
+    let mut random = Random::new();
     for _ in 0..50 {
         check_changes(&rt, &mut random, 100);
     }

@@ -4,7 +4,8 @@ ghost use Rattle.std.specs.Prelude.{length, vec_len, ℕ, ◌-◌, ◌/◌, ◌<
 ghost use Rattle.bw_mask.specs.Masks.{SameShape, bit_of, len as mask_len, row_at};
 ghost use Rattle.bw_vertical.specs.Storage.{AreGroups, HasSegment, KeepsSizes, code_of, groups_of, is_set, lists};
 
-use crate::storage::{put_word, word_at};
+use crate::rows::put_lanes;
+use crate::storage::{plane_at, put_word, word_at};
 use bw_mask::Mask;
 
 /// The code of row j.
@@ -58,7 +59,7 @@ pub(crate) fn put_plane(groups: &[Vec<[u64; 4]>], k: usize, i: usize, len: usize
     ensures shape { SameShape out.new out.old }
     ensures rows { (j : ℕ) → row_at out.new j ≡ is_set k (lists groups.now) (k - 1 - i) j }
 {
-    for w in 0..len.div_ceil(64) {
-        out.put_word(w, word_at(groups, k, k - 1 - i, w));
+    for q in 0..len.div_ceil(256) {
+        put_lanes(out, q, plane_at(groups, k, q, k - 1 - i));
     }
 }

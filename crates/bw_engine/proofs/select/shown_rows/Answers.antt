@@ -1,31 +1,39 @@
-use Rattle.std.proofs.Common.{◌∙◌, ap, map, option_map}
+use Rattle.std.proofs.Common.{◌∙◌, ap, arith, length, option_map, sym}
 use Rattle.std.proofs.lemmas.List.{length-map}
 use Rattle.bw_sql.specs.Tree.{condition_of, items_of}
 use Rattle.bw_mask.specs.Masks.{row_at}
-use Rattle.bw_model.specs.Cells.{shown_all}
-use Rattle.bw_model.specs.Select.{line_of, shown_columns}
+use Rattle.bw_model.specs.Select.{heading_of, lines_for, shown_items}
 use Rattle.bw_model.specs.declared.reply.Reply.TheVariants.{Rows}
 use Rattle.bw_plan.specs.Columns.{columns_of, words_of}
 use Rattle.bw_plan.specs.Plans.{plan_of}
 use Rattle.bw_engine.specs.Found.{rows_where}
 use Rattle.bw_engine.specs.Stores.{rows_of_slots, table_in}
+use Rattle.bw_engine.proofs.Folding.{lines_are, shown_within, width_is}
 use Rattle.bw_engine.proofs.LiveLaws.{where_condition}
-use Rattle.bw_engine.proofs.Shows.{answer_is, lines_answer, places_inside, shown_values, whole_answer}
+use Rattle.bw_engine.proofs.Shows.{answer_is}
 use Rattle.bw_engine.proofs.select.shown_rows.Goals as goal
 
-pub found_values-requires-clause-places : goal.found_values-requires-clause-places
-found_values-requires-clause-places c =
+pub shown_answer-requires-clause-places : goal.shown_answer-requires-clause-places
+shown_answer-requires-clause-places c =
     let table = c.args.table.now in
     let told = rw c.headers-headers.ensures.value at c.in_ok-plan.ensures.plan in
-    rw (c.as_slice.ensures.value, c.stored.ensures) (places_inside (columns_of table.headers) (length-map table.headers words_of) (shown_columns (columns_of table.headers) (items_of c.args.items)) c.in_ok-plan.plan.places.items told.1.0)
+    shown_within (columns_of table.headers) _ (length-map table.headers words_of) (shown_items (columns_of table.headers) (items_of c.args.items)) c.in_ok-plan.plan.shown told.1.0
 
-pub of_values-requires : goal.of_values-requires
-of_values-requires c =
+pub shown_answer-requires-clause-some : goal.shown_answer-requires-clause-some
+shown_answer-requires-clause-some c =
     let table = c.args.table.now in
-    let list = shown_columns (columns_of table.headers) (items_of c.args.items) in
+    let list = shown_items (columns_of table.headers) (items_of c.args.items) in
+    let headed = rw c.headers-headers.ensures.value at c.in_ok-headings.ensures in
+    let some = rw c.headers-headers.ensures.value at c.resolve_select.ensures.some in
+    omega (arith, some, ap length headed, length-map list heading_of)
+
+pub shown_answer-requires-clause-wide : goal.shown_answer-requires-clause-wide
+shown_answer-requires-clause-wide c =
+    let table = c.args.table.now in
+    let list = shown_items (columns_of table.headers) (items_of c.args.items) in
+    let headed = rw c.headers-headers.ensures.value at c.in_ok-headings.ensures in
     let told = rw c.headers-headers.ensures.value at c.in_ok-plan.ensures.plan in
-    whole_answer (columns_of table.headers) list c.in_ok-plan.plan.places.items c.in_ok-headings.headings.items (shown_all c.in_ok-values.values.items) (rows_where (row_at c.in_ok-found.found) (rows_of_slots table.slots))
-    (rw c.headers-headers.ensures.value at c.resolve_select.ensures.some) told.1.0 (rw c.headers-headers.ensures.value at c.in_ok-headings.ensures) (shown_values c.in_ok-plan.plan.places.items (rows_where (row_at c.in_ok-found.found) (rows_of_slots table.slots)) c.in_ok-values.values.items (rw (c.as_slice.ensures.value, c.stored.ensures) at c.in_ok-values.ensures))
+    ap length headed ∙ length-map list heading_of ∙ sym (width_is (columns_of table.headers) list c.in_ok-plan.plan.shown told.1.0)
 
 pub returns : goal.returns
 returns c =
@@ -33,12 +41,12 @@ returns c =
     let headers = columns_of table.headers in
     let condition = option_map condition_of c.args.condition.now in
     let plan = option_map plan_of c.in_ok-plan.plan.condition in
-    let list = shown_columns headers (items_of c.args.items) in
+    let list = shown_items headers (items_of c.args.items) in
     let told = rw c.headers-headers.ensures.value at c.in_ok-plan.ensures.plan in
     let headed = rw c.headers-headers.ensures.value at c.in_ok-headings.ensures in
-    let lines = lines_answer headers list c.in_ok-plan.plan.places.items c.in_ok-headings.headings.items (shown_all c.in_ok-values.values.items) (rows_where (row_at c.in_ok-found.found) (rows_of_slots table.slots))
-    (rw c.headers-headers.ensures.value at c.resolve_select.ensures.some) told.1.0 headed (shown_values c.in_ok-plan.plan.places.items (rows_where (row_at c.in_ok-found.found) (rows_of_slots table.slots)) c.in_ok-values.values.items (rw (c.as_slice.ensures.value, c.stored.ensures) at c.in_ok-values.ensures)) in (
+    let rows = rows_where (row_at c.in_ok-found.found) (rows_of_slots table.slots) in (
       told.0,
-      ap (λ shows. Rows shows) (answer_is (table_in table) (items_of c.args.items) condition c.of_values.result (c.of_values.ensures.headings ∙ headed)
-          (c.of_values.ensures.lines ∙ lines ∙ ap (map (line_of headers list)) (where_condition headers condition plan told.1.1 table.slots c.in_ok-found.found c.in_ok-found.ensures.found))),
+      ap (λ shows. Rows shows) (answer_is (table_in table) (items_of c.args.items) condition _ (c.in_ok-shown_answer.ensures.headings ∙ headed)
+          (c.in_ok-shown_answer.ensures.lines ∙ lines_are headers list c.in_ok-plan.plan.shown rows told.1.0
+          ∙ ap (lines_for headers list) (where_condition headers condition plan told.1.1 table.slots c.in_ok-found.found c.in_ok-found.ensures.found))),
     )

@@ -13,4 +13,4 @@ returns c =
     answer_is c.args.table.now c.in_ok-list.list.items _ _ _ c.in_ok-list.ensures.some c.in_ok-headings.ensures
     (rw (c.headers-headers.ensures.value, c.deref.ensures.value, c.deref-2.ensures.value) at c.in_ok-cells.ensures)
     (items_of c.args.items.now) (option_map condition_of c.args.condition.now) c.new.result
-    (rw c.headers-headers.ensures.value at c.in_ok-list.ensures.columns) c.in_ok-rows.ensures c.new.ensures.headings c.new.ensures.lines
+    (rw c.headers-headers.ensures.value at c.in_ok-list.ensures.items) c.in_ok-rows.ensures c.new.ensures.headings c.new.ensures.lines

@@ -1,0 +1,171 @@
+-- The sum of codes, one plane more.
+use Rattle.std.proofs.Common.{None, Option, Some, map, pos, suc, take, unwrap_or, subst, sym, w32, w64, zero, zero-add, ℤ, ◌+ℤ◌, ◌*ℤ◌, Bool, get_or, ◌&&◌, List, [], pow_pos, add-one, ap, arith, cond, count_by, false, length, refl, sum, sum_by, true, ℕ, ◌%◌, ◌*◌, ◌+◌, ◌/◌, ◌<◌, ◌^◌, ◌≡◌, ◌≤◌, ◌∙◌, ◌∷◌}
+use Rattle.std.proofs.Math.Nat.{div-add-mod, mul-le-mul_right, pow-le-pow_right, mul-le-mul, mul-le-mul_left, mod-eq_of_lt, mod-lt, pow-suc}
+use Rattle.std.proofs.lemmas.List.Elements.{All-head, All-tail}
+use Rattle.std.proofs.lemmas.List.Sums.{count_by-le-length, sum_by-cons}
+use Rattle.std.proofs.lemmas.Nat.{mod-mul-add}
+use Rattle.std.proofs.lemmas.Nat.Bits.{bit_at-lt}
+use Rattle.std.specs.Int.{bit_at, w128}
+use Rattle.std.specs.List.{items_where_true}
+use Rattle.std.proofs.lemmas.Int.{fits_signed_from_abs, ints, to_z-of_z, unsigned_abs-mul}
+use Rattle.std.proofs.Math.IntN.{*ℤ_comm, suc_ℤ-*ℤ, zero-*ℤ}
+use Rattle.std.specs.Prelude.{All, FitsSigned, if◌then◌else◌, unsigned_abs}
+use mir.Val.{of_z, to_z}
+use Rattle.bw_code.specs.declared.encoding.Encoding.TheVariants as by
+use Rattle.bw_code.specs.declared.offset.Offset.{Offset}
+use Rattle.bw_code.proofs.Codes.{code_back}
+use Rattle.bw_code.specs.Encodings.{IsEncoding}
+use Rattle.bw_code.specs.declared.encoding.Encoding.{Encoding}
+use Rattle.bw_column.specs.Codes.{IsCoded, code_for}
+use Rattle.bw_column.specs.Values.{value_at}
+use Rattle.bw_model.specs.SetFunctions
+use Rattle.bw_model.specs.SetFunctions.{known, total}
+use Rattle.bw_aggregate.proofs.KnownValues.{AreCoded, coded_all}
+use Rattle.bw_mask.specs.Masks.{bit_of}
+use Rattle.bw_aggregate.specs.Chosen.{value_in}
+use Rattle.bw_aggregate.proofs.Counting.{common, common_at, common_len, count_cons, count_mask, length_chosen}
+
+-- the lowest i bits
+abbrev pub low : ℕ → ℕ → ℕ
+low i code = code % 2 ^ i
+
+-- one bit more of a number
+low-split : (c p : ℕ) → 0 < p → c % (p * 2) ≡ c % p + p * (c / p % 2)
+low-split c p some =
+    let rest : c % p < p = mod-lt c some in
+    let top : p * (c / p % 2) ≤ p * 1 = mul-le-mul_left p (omega arith) in
+    let small : p * (c / p % 2) + c % p < p * 2 = omega arith in
+    let halves : c / p ≡ c / p / 2 * 2 + c / p % 2 = omega arith in
+    let whole : c ≡ c / p / 2 * (p * 2) + (p * (c / p % 2) + c % p) = omega (arith, div-add-mod c p, ap (λ y. p * y) halves) in
+    ap (λ y. y % (p * 2)) whole ∙ mod-mul-add (c / p / 2) (p * 2) (p * (c / p % 2) + c % p) small ∙ omega arith
+
+low-more : (i code : ℕ) → low (i + 1) code ≡ low i code + 2 ^ i * cond (bit_of code i) 1 0
+low-more i code =
+    let bit : ◌≡◌ {A = ℕ} (cond (bit_of code i) 1 0) (bit_at code i) = grind (arith, bit_at-lt code i) in
+    rw (add-one i, pow-suc 2 i, bit) (low-split code (2 ^ i) (pow_pos i))
+
+pub sum-more : (i : ℕ) (codes : List ℕ) → sum_by (low (i + 1)) codes ≡ sum_by (low i) codes + 2 ^ i * count_by (λ c. bit_of c i) codes
+sum-more i [] = omega arith
+sum-more i (c ∷ codes) =
+    let rest = sum-more i codes in
+    let one = low-more i c in
+    omega (arith, sum_by-cons (low (i + 1)) c codes, sum_by-cons (low i) c codes, ap (λ n. 2 ^ i * n) (count_cons (λ x. bit_of x i) c codes))
+
+pub sum-none : (codes : List ℕ) → sum_by (low 0) codes ≡ 0
+sum-none [] = refl
+sum-none (c ∷ codes) = let rest = sum-none codes in omega (arith, sum_by-cons (low 0) c codes)
+
+pub sum-bound : (i : ℕ) (codes : List ℕ) → sum_by (low i) codes ≤ length codes * 2 ^ i
+sum-bound i [] = omega arith
+sum-bound i (c ∷ codes) =
+    let rest = sum-bound i codes in
+    let one = mod-lt c (pow_pos i) in
+    omega (arith, sum_by-cons (low i) c codes)
+
+-- codes of k bits are their lowest k bits
+pub sum-all : (k : ℕ) (rows : List Bool) (codes : List ℕ) → All (λ c. c < 2 ^ k) codes → sum_by (low k) (items_where_true rows codes) ≡ sum (items_where_true rows codes)
+sum-all k [] codes all = refl
+sum-all k (b ∷ rows) [] all = refl
+sum-all k (true ∷ rows) (c ∷ codes) all =
+    let rest = sum-all k rows codes (All-tail (λ x. x < 2 ^ k) c codes all) in
+    let same = mod-eq_of_lt (All-head (λ x. x < 2 ^ k) c codes all) in
+    omega (arith, sum_by-cons (low k) c (items_where_true rows codes), sum_by-cons (λ x. x) c (items_where_true rows codes))
+sum-all k (false ∷ rows) (c ∷ codes) all = sum-all k rows codes (All-tail (λ x. x < 2 ^ k) c codes all)
+
+-- the rows of plane i are those whose code has bit i
+pub plane_count : (rows plane : List Bool) (codes : List ℕ) (i : ℕ) → length rows ≡ length codes → ((r : ℕ) → get_or plane r false ≡ bit_of (get_or codes r 0) i)
+    → count_by (λ b. b) (common rows plane) ≡ count_by (λ c. bit_of c i) (items_where_true rows codes)
+plane_count rows plane codes i e bits =
+    count_mask (common rows plane) rows codes (λ c. bit_of c i) (common_len rows plane ∙ e) e
+    (λ r. common_at rows plane r ∙ ap (λ b. get_or rows r false && b) (bits r))
+
+pub few_chosen : (rows : List Bool) (codes : List ℕ) → length rows ≡ length codes → length (items_where_true rows codes) ≤ length codes
+few_chosen rows codes e = omega (arith, length_chosen rows codes e, count_by-le-length (λ (b : Bool). b) rows)
+
+-- so many rows in plane i, and the sum so far, are small
+pub small_sum : (i n total : ℕ) (codes : List ℕ) → i < 64 → n ≤ 2 ^ 24 → length codes ≤ 2 ^ 24 → total ≡ sum_by (low i) codes → (n * 2 ^ i < 2 ^ 88) × (total < 2 ^ 88)
+small_sum i n total codes low_i few long e =
+    let p : 2 ^ i ≤ 2 ^ 63 = pow-le-pow_right {n = 2} (omega arith) {i = i} {j = 63} (omega arith) in
+    let one : n * 2 ^ i ≤ 2 ^ 24 * 2 ^ i = mul-le-mul_right (2 ^ i) few in
+    let two : length codes * 2 ^ i ≤ 2 ^ 24 * 2 ^ i = mul-le-mul_right (2 ^ i) long in
+    let three = sum-bound i codes in
+    (omega arith, omega arith)
+
+pub whole_sum : (i total : ℕ) (codes : List ℕ) → i ≤ 64 → length codes ≤ 2 ^ 24 → total ≡ sum_by (low i) codes → total < 2 ^ 89
+whole_sum i total codes low_i long e =
+    let p : 2 ^ i ≤ 2 ^ 64 = pow-le-pow_right {n = 2} (omega arith) {i = i} {j = 64} low_i in
+    let two : length codes * 2 ^ i ≤ 2 ^ 24 * 2 ^ i = mul-le-mul_right (2 ^ i) long in
+    let three = sum-bound i codes in
+    omega arith
+
+-- none of the sums wraps
+pub based-sum : (base : ℤ) (n codes : ℕ) → FitsSigned w64 base → n ≤ 2 ^ 24 → codes < 2 ^ 89
+    → to_z w128 (of_z w128 (to_z w128 (of_z w128 (to_z w128 (of_z w128 base) *ℤ to_z w128 n)) +ℤ to_z w128 codes)) ≡ (pos n *ℤ base) +ℤ pos codes
+based-sum base n codes fits few small =
+    let first : to_z w128 (of_z w128 base) ≡ base = omega (arith, ints) in
+    let second : to_z w128 n ≡ pos n = omega (arith, ints) in
+    let third : to_z w128 codes ≡ pos codes = omega (arith, ints) in
+    let abs : unsigned_abs base ≤ 2 ^ 63 = omega (arith, ints, fits) in
+    let both : unsigned_abs base * n ≤ 2 ^ 63 * 2 ^ 24 = mul-le-mul abs few in
+    let wide : unsigned_abs (base *ℤ pos n) ≤ 2 ^ 63 * 2 ^ 24 = omega (arith, unsigned_abs-mul base (pos n)) in
+    let product : FitsSigned w128 (base *ℤ pos n) = fits_signed_from_abs w128 (base *ℤ pos n) (omega arith) in
+    rw (first, second, third, to_z-of_z w128 (base *ℤ pos n) product, *ℤ_comm (pos n) base) (omega (arith, ints, wide))
+
+-- ---- the values
+
+pub sum_is : (values : List ℤ) → 0 < length values → SetFunctions.sum values ≡ Some (total values)
+sum_is [] some = absurd (omega (arith, some))
+sum_is (x ∷ xs) some = refl
+
+pub sum_none : (values : List ℤ) → length values ≡ 0 → SetFunctions.sum values ≡ None
+sum_none [] none = refl
+sum_none (x ∷ xs) none = absurd (omega (arith, none))
+
+-- so many bases as values, and the sum of the codes, that of a null being 0
+pub total_offset : (o : Offset) (rows : List Bool) (values : List (Option ℤ)) → AreCoded (by.Offset o) values
+    → total (known (items_where_true rows values)) ≡ (pos (length (known (items_where_true rows values))) *ℤ o.base) +ℤ pos (sum (items_where_true rows (map (code_for (by.Offset o)) values)))
+total_offset o [] values coded = let none = zero-*ℤ o.base in rw none (omega (arith, ints))
+total_offset o (b ∷ rows) [] coded = let none = zero-*ℤ o.base in rw none (omega (arith, ints))
+total_offset o (true ∷ rows) (Some x ∷ values) coded =
+    let rest = known (items_where_true rows values) in
+    let code = code_for (by.Offset o) (Some x) in
+    let codes = items_where_true rows (map (code_for (by.Offset o)) values) in
+    let back : o.base +ℤ pos code ≡ x = code_back (by.Offset o) tt x code (coded 0 x refl) in
+    let more : pos (suc (length rest)) *ℤ o.base ≡ (pos (length rest) *ℤ o.base) +ℤ o.base = suc_ℤ-*ℤ (pos (length rest)) o.base in
+    ap (λ t. x +ℤ t) (total_offset o rows values (λ r. coded (suc r))) ∙ rw (more, sum_by-cons (λ c. c) code codes) (omega (arith, ints, back))
+total_offset o (true ∷ rows) (None ∷ values) coded =
+    let codes = items_where_true rows (map (code_for (by.Offset o)) values) in
+    total_offset o rows values (λ r. coded (suc r)) ∙ rw (sum_by-cons (λ c. c) 0 codes, zero-add (sum codes)) refl
+total_offset o (false ∷ rows) (v ∷ values) coded = total_offset o rows values (λ r. coded (suc r))
+
+pub total_more : (rows : List Bool) (values : List (Option ℤ)) (r : ℕ) → r < length rows → r < length values
+    → total (known (items_where_true (take (suc r) rows) (take (suc r) values))) ≡ total (known (items_where_true (take r rows) (take r values))) +ℤ value_in rows values r
+total_more [] values r a b = absurd (omega (arith, a))
+total_more (m ∷ rows) [] r a b = absurd (omega (arith, b))
+total_more (true ∷ rows) (Some x ∷ values) zero a b = omega (arith, ints)
+total_more (true ∷ rows) (None ∷ values) zero a b = omega (arith, ints)
+total_more (false ∷ rows) (v ∷ values) zero a b = omega (arith, ints)
+total_more (true ∷ rows) (Some x ∷ values) (suc r) a b =
+    let rest = total_more rows values r (omega (arith, a)) (omega (arith, b)) in
+    ap (λ t. x +ℤ t) rest ∙ omega (arith, ints)
+total_more (true ∷ rows) (None ∷ values) (suc r) a b = total_more rows values r (omega (arith, a)) (omega (arith, b))
+total_more (false ∷ rows) (v ∷ values) (suc r) a b = total_more rows values r (omega (arith, a)) (omega (arith, b))
+
+-- one value of 32 bits more does not wrap
+pub added : (sum value : ℤ) (r : ℕ) → unsigned_abs sum ≤ r * 2 ^ 31 → r < 2 ^ 24 → FitsSigned w32 value
+    → (to_z w128 (of_z w128 (sum +ℤ to_z w128 (of_z w128 (to_z w64 (of_z w64 value))))) ≡ sum +ℤ value) × (unsigned_abs (sum +ℤ value) ≤ (r + 1) * 2 ^ 31)
+added sum value r small few fits =
+    let first : to_z w64 (of_z w64 value) ≡ value = omega (arith, ints, fits) in
+    let second : to_z w128 (of_z w128 value) ≡ value = omega (arith, ints, fits) in
+    let most : unsigned_abs value ≤ 2 ^ 31 = omega (arith, ints, fits) in
+    let whole : unsigned_abs sum ≤ 2 ^ 55 = omega (arith, small, few) in
+    (rw (first, second) (omega (arith, ints, most, whole)), omega (arith, ints, most, small))
+
+-- the sum of values that have codes by an offset
+pub sum_offset : (e : Encoding) (o : Offset) → by.Offset o ≡ e → (rows : List Bool) (values : List (Option ℤ)) → All (IsCoded e) values → (count codes : ℕ)
+    → count ≡ length (known (items_where_true rows values)) → 0 < count → codes ≡ sum (items_where_true rows (map (code_for e) values))
+    → Some ((pos count *ℤ o.base) +ℤ pos codes) ≡ SetFunctions.sum (known (items_where_true rows values))
+sum_offset e o is rows values all count codes many some sums =
+    let coded = subst (λ (d : Encoding). AreCoded d values) (sym is) (coded_all e (subst IsEncoding is tt) values all) in
+    let here : codes ≡ sum (items_where_true rows (map (code_for (by.Offset o)) values)) = sums ∙ ap (λ (d : Encoding). sum (items_where_true rows (map (code_for d) values))) (sym is) in
+    rw (many, here) (ap Some (sym (total_offset o rows values coded)) ∙ sym (sum_is (known (items_where_true rows values)) (omega (arith, many, some))))

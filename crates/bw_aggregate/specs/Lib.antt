@@ -1,0 +1,2 @@
+pub mod Chosen
+pub mod Descents

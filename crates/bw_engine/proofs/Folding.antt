@@ -1,0 +1,130 @@
+-- What set functions by places say is what the select list says.
+use Rattle.std.proofs.Common.{◌≡◌, ◌∙◌, ◌+◌, ◌++◌, ◌<◌, Bool, List, None, Option, Some, [], ◌∷◌, ap, arith, count_by, false, get_or, length, map, option_map, refl, subst, sym, take, true, ℕ, ℤ}
+use Rattle.std.proofs.lemmas.List.{length-map, map-append, take_more}
+use Rattle.std.proofs.lemmas.List.Elements.{All-cons, All-nil}
+use Rattle.std.specs.List.{All, items_where_true}
+use Rattle.bw_mask.specs.Masks.{MaskRows, len, row_at}
+use Rattle.bw_table.specs.Slots.{Slot, column_of, slot_column}
+use Rattle.bw_sql.specs.declared.tree.SelectItem.{SelectItem}
+use Rattle.bw_sql.specs.declared.tree.SelectItem.TheVariants as item
+use Rattle.bw_sql.specs.declared.tree.SetFunction.{SetFunction}
+use Rattle.bw_sql.specs.declared.tree.SetFunction.TheVariants.{Count, Sum, Min, Max, Median}
+use Rattle.bw_model.specs.Select.{columns_in, folded, lines_for, said_of, shown}
+use Rattle.bw_model.specs.SetFunctions.{known}
+use Rattle.bw_model.specs.Store.{Header, Row, place_of, value_at, value_from}
+use Rattle.bw_model.proofs.Items.{columns_only}
+use Rattle.bw_plan.specs.Selections.{ShowsBy, placed_item}
+use Rattle.bw_plan.specs.declared.selection.FunctionPlan.{FunctionPlan}
+use Rattle.bw_plan.specs.declared.selection.FunctionPlan.TheVariants as function
+use Rattle.bw_plan.specs.declared.selection.ShownPlan.{ShownPlan}
+use Rattle.bw_plan.specs.declared.selection.ShownPlan.TheVariants as plans
+use Rattle.bw_plan.proofs.Places.{line_by_places}
+use Rattle.bw_plan.proofs.SetLaws.{place_inside}
+use Rattle.bw_engine.specs.Folds.{IsShownWithin, IsWithin, lines_by, number_by, number_of, plan_width}
+use Rattle.bw_engine.specs.Found.{rows_where}
+use Rattle.bw_engine.specs.Stores.{rows_of_slots}
+use Rattle.bw_engine.proofs.FoundLaws.{counted}
+use Rattle.bw_engine.proofs.SetRows.{same_value}
+use Rattle.bw_engine.proofs.Shows.{places_inside}
+
+folded_is : (f : SetFunction) (values : List ℤ) → shown (number_of f values) ≡ folded f values
+folded_is Count values = refl
+folded_is Sum values = refl
+folded_is Min values = refl
+folded_is Max values = refl
+folded_is Median values = refl
+
+abbrev rest_of : {A : Type 0} → List A → List A
+rest_of [] = []
+rest_of (x ∷ xs) = xs
+
+some_same : {A : Type 0} (x y : A) → Some x ≡ Some y → x ≡ y
+some_same x y e = cc
+
+module _ (headers : List Header) where
+  -- a function of the column at the place of its name
+  placed_says : (rows : List Row) (f : SetFunction) (name : List ℕ) (place : Option ℕ) (plan : FunctionPlan) → place_of headers name ≡ place → Some plan ≡ option_map (function.Of f) place
+      → shown (number_by rows plan) ≡ said_of headers rows (item.Function f name)
+  placed_says rows f name None plan at is = cc
+  placed_says rows f name (Some p) plan at is =
+      ap (λ o. shown (number_by rows o)) (some_same plan (function.Of f p) is)
+      ∙ folded_is f (known (map (λ row. value_at row p) rows))
+      ∙ ap (λ o. folded f (known (map (λ row. value_from row o) rows))) (sym at)
+
+  item_says : (rows : List Row) (one : SelectItem) (plan : FunctionPlan) → Some plan ≡ placed_item headers one → shown (number_by rows plan) ≡ said_of headers rows one
+  item_says rows (item.Column name) plan is = cc
+  item_says rows item.CountRows plan is = ap (λ o. shown (number_by rows o)) (some_same plan function.CountRows is)
+  item_says rows (item.Function f name) plan is = placed_says rows f name (place_of headers name) plan refl is
+
+  functions_say : (rows : List Row) (list : List SelectItem) (functions : List FunctionPlan) → map (λ f. Some f) functions ≡ map (placed_item headers) list
+      → map (λ f. shown (number_by rows f)) functions ≡ map (said_of headers rows) list
+  functions_say rows [] [] e = refl
+  functions_say rows [] (f ∷ functions) e = absurd (omega (arith, ap length e))
+  functions_say rows (one ∷ list) [] e = absurd (omega (arith, ap length e))
+  functions_say rows (one ∷ list) (f ∷ functions) e =
+      ap (λ c. c ∷ map (λ g. shown (number_by rows g)) functions) (item_says rows one f (ap (λ l. get_or l 0 None) e))
+      ∙ ap (λ l. said_of headers rows one ∷ l) (functions_say rows list functions (ap rest_of e))
+
+  -- each of their columns is there
+  placed_within : (n : ℕ) → length headers ≡ n → (f : SetFunction) (name : List ℕ) (place : Option ℕ) (plan : FunctionPlan) → place_of headers name ≡ place → Some plan ≡ option_map (function.Of f) place → IsWithin n plan
+  placed_within n count f name None plan at is = cc
+  placed_within n count f name (Some p) plan at is =
+      let inside : p < n = omega (arith, place_inside headers name p at, count) in
+      subst (IsWithin n) (sym (some_same plan (function.Of f p) is)) inside
+
+  item_within : (n : ℕ) → length headers ≡ n → (one : SelectItem) (plan : FunctionPlan) → Some plan ≡ placed_item headers one → IsWithin n plan
+  item_within n count (item.Column name) plan is = cc
+  item_within n count item.CountRows plan is = subst (IsWithin n) (sym (some_same plan function.CountRows is)) tt
+  item_within n count (item.Function f name) plan is = placed_within n count f name (place_of headers name) plan refl is
+
+  functions_within : (n : ℕ) → length headers ≡ n → (list : List SelectItem) (functions : List FunctionPlan) → map (λ f. Some f) functions ≡ map (placed_item headers) list → All (IsWithin n) functions
+  functions_within n count list [] e = All-nil (IsWithin n)
+  functions_within n count [] (f ∷ functions) e = absurd (omega (arith, ap length e))
+  functions_within n count (one ∷ list) (f ∷ functions) e =
+      All-cons (IsWithin n) f functions (item_within n count one f (ap (λ l. get_or l 0 None) e)) (functions_within n count list functions (ap rest_of e))
+
+  -- what a plan shows of rows is what the list shows
+  pub lines_are : (list : List SelectItem) (plan : ShownPlan) (rows : List Row) → ShowsBy headers list plan → lines_by plan rows ≡ lines_for headers list rows
+  lines_are list (plans.Columns places) rows by =
+      rw by.0 (λ j. map (λ row. line_by_places headers (columns_in list) places.items row by.1 j) rows)
+  lines_are list (plans.Functions functions) rows by = rw by.0 (ap (λ line. line ∷ []) (functions_say rows list functions.items by.1))
+
+  pub width_is : (list : List SelectItem) (plan : ShownPlan) → ShowsBy headers list plan → plan_width plan ≡ length list
+  width_is list (plans.Columns places) by =
+      sym (length-map places.items (λ place. Some place)) ∙ ap length by.1 ∙ length-map (columns_in list) (place_of headers) ∙ columns_only list by.0
+  width_is list (plans.Functions functions) by = sym (length-map functions.items (λ f. Some f)) ∙ ap length by.1 ∙ length-map list (placed_item headers)
+
+  pub shown_within : (n : ℕ) → length headers ≡ n → (list : List SelectItem) (plan : ShownPlan) → ShowsBy headers list plan → IsShownWithin n plan
+  shown_within n count list (plans.Columns places) by = places_inside headers count (columns_in list) places.items by.1
+  shown_within n count list (plans.Functions functions) by = functions_within n count list functions.items by.1
+
+-- the values of a column in the rows that are found
+where_true : (place : ℕ) (bits : List Bool) (rows : List Row) → length bits ≡ length rows → items_where_true bits (column_of rows place) ≡ map (λ row. value_at row place) (rows_where (λ i. get_or bits i false) rows)
+where_true place [] [] same = refl
+where_true place [] (row ∷ rows) same = absurd (omega (arith, same))
+where_true place (b ∷ bits) [] same = absurd (omega (arith, same))
+where_true place (true ∷ bits) (row ∷ rows) same =
+    ap (λ v. v ∷ items_where_true bits (column_of rows place)) (same_value row place)
+    ∙ ap (λ l. value_at row place ∷ l) (where_true place bits rows (omega (arith, same)))
+where_true place (false ∷ bits) (row ∷ rows) same = where_true place bits rows (omega (arith, same))
+
+module _ (slots : List Slot) (found : MaskRows) (long : len found ≡ length slots) where
+  same_count : length found.rows ≡ length (rows_of_slots slots)
+  same_count = long ∙ sym (length-map slots (λ (slot : Slot). slot.row))
+
+  pub chosen_found : (place : ℕ) → known (items_where_true found.rows (slot_column slots place)) ≡ known (map (λ row. value_at row place) (rows_where (row_at found) (rows_of_slots slots)))
+  chosen_found place = ap known (where_true place found.rows (rows_of_slots slots) same_count)
+
+  pub found_rows_count : count_by (λ row. row) found.rows ≡ length (rows_where (row_at found) (rows_of_slots slots))
+  found_rows_count = counted found.rows (rows_of_slots slots) same_count
+
+-- one number more
+pub numbers_more : {A B : Type 0} (f : A → B) (xs : List A) (i : ℕ) (d : A) (ys more : List B) (y : B) → i < length xs → ys ≡ map f (take i xs) → more ≡ ys ++ y ∷ [] → y ≡ f (get_or xs i d) → more ≡ map f (take (i + 1) xs)
+numbers_more f xs i d ys more y low so_far grown is =
+    grown ∙ ap (λ l. l ++ y ∷ []) so_far ∙ ap (λ n. map f (take i xs) ++ n ∷ []) is
+    ∙ sym (ap (map f) (take_more xs i d low) ∙ map-append f (take i xs) (get_or xs i d ∷ []))
+
+-- the cells of numbers
+pub shown_numbers : {A : Type 0} (f : A → Option ℤ) (xs : List A) → map shown (map f xs) ≡ map (λ x. shown (f x)) xs
+shown_numbers f [] = refl
+shown_numbers f (x ∷ xs) = ap (λ l. shown (f x) ∷ l) (shown_numbers f xs)

@@ -1,0 +1,13 @@
+use Rattle.bw_mask.specs.Masks.{row_at}
+use Rattle.bw_plan.specs.declared.selection.FunctionPlan.TheVariants as function
+use Rattle.bw_engine.specs.Folds.{number_by}
+use Rattle.bw_engine.specs.Found.{rows_where}
+use Rattle.bw_engine.specs.Stores.{rows_of_slots}
+use Rattle.bw_engine.proofs.Folding.{numbers_more}
+use Rattle.bw_engine.proofs.folded.numbers.Goals as goal
+
+pub loop-i-preserved : goal.loop-i-preserved
+loop-i-preserved c =
+    let said = number_by (rows_where (row_at c.args.found.now) (rows_of_slots c.args.table.now.slots)) in
+    numbers_more said c.args.functions.now c.loop-i.i function.CountRows c.loop-i.numbers.items c.push.new.self.items c.in_ok-number.number c.loop-i-test.true c.loop-i.invariant c.in_ok-push.ensures.items
+    (c.in_ok-number.ensures function.CountRows)

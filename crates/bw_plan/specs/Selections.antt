@@ -1,0 +1,24 @@
+-- What a SELECT shows, with places for names.
+use Rattle.std.specs.Prelude.{Bool, List, None, Option, Some, false, is_some, map, not, option_map, true, ℕ, ◌≡◌}
+use Rattle.bw_sql.specs.declared.tree.SelectItem.{SelectItem}
+use Rattle.bw_sql.specs.declared.tree.SelectItem.TheVariants as item
+use Rattle.bw_model.specs.Select.{columns_in, has_functions}
+use Rattle.bw_model.specs.Store.{Header, place_of}
+use Rattle.bw_plan.specs.declared.selection.FunctionPlan.{FunctionPlan}
+use Rattle.bw_plan.specs.declared.selection.FunctionPlan.TheVariants as function
+use Rattle.bw_plan.specs.declared.selection.ShownPlan.{ShownPlan}
+use Rattle.bw_plan.specs.declared.selection.ShownPlan.TheVariants as shown
+
+-- a set function with the place of its column, where there is such a column
+abbrev pub placed_item : List Header → SelectItem → Option FunctionPlan
+placed_item headers item.CountRows = Some function.CountRows
+placed_item headers (item.Function f name) = option_map (function.Of f) (place_of headers name)
+placed_item headers (item.Column name) = None
+
+abbrev pub is_unplaced : List Header → SelectItem → Bool
+is_unplaced headers item = not (is_some (placed_item headers item))
+
+-- columns by their places, or where the list has set functions, these
+abbrev pub ShowsBy : List Header → List SelectItem → ShownPlan → Type 0
+ShowsBy headers list (shown.Columns places) = (has_functions list ≡ false) × (map (λ place. Some place) places.items ≡ map (place_of headers) (columns_in list))
+ShowsBy headers list (shown.Functions functions) = (has_functions list ≡ true) × (map (λ f. Some f) functions.items ≡ map (placed_item headers) list)

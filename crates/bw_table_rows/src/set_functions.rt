@@ -1,0 +1,243 @@
+//! Set functions of random columns, and a plain fold over the values of the same rows beside them.
+
+ghost use Rattle.std.specs.Prelude.{length, ◌≡◌};
+ghost use Rattle.bw_mask.specs.Masks.{len};
+
+use crate::columns::column_of;
+use crate::random::{LAYOUTS, Random};
+use bw_aggregate::{count, max, median, min, sum};
+use bw_code::{Kind, Layout};
+use bw_column::Column;
+use bw_mask::Mask;
+use std::process::Abort;
+
+/// COUNT, SUM, MIN, MAX and MEDIAN.
+type Answers = (u64, Option<i128>, Option<i64>, Option<i64>, Option<i64>);
+
+/// Numbers of rows at which words and segments of the layouts end, or just don't.
+const LENGTHS: [usize; 16] = [
+    0, 1, 2, 31, 32, 33, 63, 64, 65, 255, 256, 257, 511, 512, 513, 600,
+];
+
+/// How many of 64 values are not null.
+const KNOWN_IN_64: [u64; 5] = [64, 56, 32, 4, 0];
+
+/// How many of 64 rows are chosen.
+const CHOSEN_IN_64: [u64; 8] = [0, 2, 8, 32, 32, 56, 64, 64];
+
+/// True so many times in 64.
+fn happens(random: &mut Random, times: u64) -> bool {
+    (random.next() >> 8 & 63) < times
+}
+
+/// Up to 600 rows, about half the time where something ends.
+fn drawn_length(random: &mut Random) -> usize {
+    let word = random.next() >> 8;
+    if happens(random, 32) {
+        LENGTHS[word as usize & 15]
+    } else {
+        (word % 601) as usize
+    }
+}
+
+/// A code of so many bits whose highest bit is set.
+fn drawn_top(random: &mut Random, width: u32) -> u64 {
+    let below = !(u64::MAX << (width % 64));
+    (random.next() | !(below >> 1)) & below
+}
+
+/// A least value at which this top code still stands for an integer, as its distance from the least integer: where the
+/// integers begin, where they end for it, or between.
+fn drawn_base(random: &mut Random, top: u64) -> u64 {
+    let last = 0xffff_ffff ^ (top & 0xffff_ffff);
+    match random.next() >> 8 & 3 {
+        0 => 0,
+        1 => last,
+        _ => (random.next() & 0x7fff_ffff).min(last),
+    }
+}
+
+/// 0 at the first place, `top` in the middle, and some of the bits of `top` elsewhere.
+fn drawn_code(random: &mut Random, top: u64, place: usize, length: usize) -> u64 {
+    let word = random.next() >> 8;
+    if place == 0 {
+        0
+    } else if place == length / 2 {
+        top
+    } else {
+        word & top
+    }
+}
+
+/// Null, or the integer at this distance from the least one.
+fn cell(is_known: bool, distance: u64) -> Option<i64> {
+    if is_known {
+        Some((distance & 0xffff_ffff) as i64 - 0x8000_0000)
+    } else {
+        None
+    }
+}
+
+/// Values whose distances from the least have some of the bits of a top code and no others. Where one is known, 0 and the
+/// top code are known too, half a column apart, so that an offset's codes have so many bits.
+fn drawn_values<R: Abort + AllocGlobal>(
+    rt: &R,
+    random: &mut Random,
+    width: u32,
+    length: usize,
+    known: u64,
+) -> Vec<Option<i64>> {
+    let top = drawn_top(random, width);
+    let base = drawn_base(random, top);
+    let turn = (random.next() >> 8 & 1023) as usize;
+    let mut values = Vec::new(rt.alloc());
+    for row in 0..length {
+        let place = row.wrapping_add(turn) % length;
+        let code = drawn_code(random, top, place, length);
+        let is_end = place == 0 || place == length / 2;
+        let is_known = known > 0 && is_end || happens(random, known);
+        values
+            .push(cell(is_known, base.wrapping_add(code)))
+            .expect(rt, "memory");
+    }
+    values
+}
+
+fn drawn_rows<R: Abort + AllocGlobal>(rt: &R, random: &mut Random, length: usize) -> Vec<bool> {
+    let times = CHOSEN_IN_64[(random.next() >> 8) as usize & 7];
+    let mut chosen = Vec::new(rt.alloc());
+    for _ in 0..length {
+        chosen.push(happens(random, times)).expect(rt, "memory");
+    }
+    chosen
+}
+
+fn mask_of<R: Abort + AllocGlobal>(rt: &R, chosen: &[bool]) -> Mask {
+    let mut rows = Mask::filled(rt.alloc(), chosen.len(), false).expect(rt, "memory");
+    for row in 0..chosen.len() {
+        assert!(rt; row < rows.len());
+        rows.set(row, chosen[row]);
+    }
+    rows
+}
+
+/// The values of the chosen rows that are not null.
+fn chosen_values<R: Abort + AllocGlobal>(
+    rt: &R,
+    values: &[Option<i64>],
+    chosen: &[bool],
+) -> Vec<i64> {
+    let mut known = Vec::new(rt.alloc());
+    for (value, is_chosen) in values.iter().zip(chosen) {
+        if let Some(x) = value
+            && *is_chosen
+        {
+            known.push(*x).expect(rt, "memory");
+        }
+    }
+    known
+}
+
+fn total<R: Abort>(rt: &R, values: &[i64]) -> i128 {
+    let mut total: i128 = 0;
+    for x in values {
+        total = total.checked_add(i128::from(*x)).expect(rt, "a sum");
+    }
+    total
+}
+
+/// The least and the greatest of a value and others.
+fn ends(first: i64, others: &[i64]) -> (i64, i64) {
+    let (mut least, mut greatest) = (first, first);
+    for x in others {
+        least = least.min(*x);
+        greatest = greatest.max(*x);
+    }
+    (least, greatest)
+}
+
+/// The answers from the values themselves, which are sorted for it.
+fn folded<R: Abort>(rt: &R, values: &mut Vec<i64>) -> Answers {
+    let Some(first) = values.first().copied() else {
+        return (0, None, None, None, None);
+    };
+    let (least, greatest) = ends(first, values);
+    values.sort_unstable();
+    // Entry ceil(n / 2), counted from 1.
+    let middle = values.len().div_ceil(2).saturating_sub(1);
+    (
+        values.len() as u64,
+        Some(total(rt, values)),
+        Some(least),
+        Some(greatest),
+        values.get(middle).copied(),
+    )
+}
+
+/// The answers of the functions.
+fn answered<R: Abort + AllocGlobal>(rt: &R, column: &Column, rows: &Mask) -> Answers
+    requires { len rows.now ≡ length column.now.values }
+{
+    (
+        count(column, rows),
+        sum(rt.alloc(), column, rows).expect(rt, "memory"),
+        min(rt.alloc(), column, rows).expect(rt, "memory"),
+        max(rt.alloc(), column, rows).expect(rt, "memory"),
+        median(rt.alloc(), column, rows).expect(rt, "memory"),
+    )
+}
+
+/// Checks the functions of some rows of a column that has these values.
+fn check_rows<R: Abort + AllocGlobal>(
+    rt: &R,
+    random: &mut Random,
+    column: &Column,
+    values: &[Option<i64>],
+) {
+    let chosen = drawn_rows(rt, random, values.len());
+    let rows = mask_of(rt, &chosen);
+    let mut known = chosen_values(rt, values, &chosen);
+    let wanted = folded(rt, &mut known);
+    assert!(rt; rows.len() == column.len());
+    let (layout, kind, length) = (column.layout(), column.kind(), column.len());
+    assert_eq!(rt;
+        answered(rt, column, &rows),
+        wanted,
+        "{layout:?} {kind:?}, {length} rows"
+    );
+}
+
+/// Checks a column of this share of known values, whose codes have so many bits if it is an offset.
+fn check_column<R: Abort + AllocGlobal>(
+    rt: &R,
+    random: &mut Random,
+    way: (Layout, Kind),
+    width: u32,
+    known: u64,
+) {
+    let length = drawn_length(random);
+    let values = drawn_values(rt, random, width, length, known);
+    let column = column_of(rt, &values, way.0, way.1);
+    if way.1 == Kind::Offset && known > 0 && length > 1 {
+        assert_eq!(rt; column.encoding().width(), width);
+    }
+    check_rows(rt, random, &column, &values);
+}
+
+/// Checks columns of each width, with and without nulls.
+fn check_widths<R: Abort + AllocGlobal>(rt: &R, random: &mut Random, layout: Layout, kind: Kind) {
+    for width in 1..33 {
+        for known in KNOWN_IN_64 {
+            check_column(rt, random, (layout, kind), width, known);
+        }
+    }
+}
+
+#[test]
+fn random_columns(rt: HostRuntime) {
+    let mut random = Random::new();
+    for layout in LAYOUTS {
+        check_widths(&rt, &mut random, layout, Kind::Offset);
+        check_widths(&rt, &mut random, layout, Kind::Dictionary);
+    }
+}
