@@ -96,6 +96,9 @@ STRIKES = [
     Strike("bw_engine::found::true_slots", (Clause("bw_plan/src/evaluation.rt", "evaluate", "truths", "result"),)),
     Strike("bw_column::storage::Codes::get", (of_every_column("get", "code", "result"),)),
     Strike("bw_column::column::Column::get", (of_column("get", "storage.rt", "code", "result"),)),
+    Strike("bw_column::storage::Codes::plane", (of_every_column("plane", "rows", "out.new"),)),
+    Strike("bw_column::column::Column::plane", (of_column("plane", "storage.rt", "rows", "out.new"),)),
+    Strike("bw_aggregate::summary::walk_down", (of_column("plane", "column.rt", "rows", "out.new"),)),
     Strike("bw_table::table::Table::fetch", (of_column("get", "column.rt", "is", "result"),)),
     Strike("bw_engine::shown::fetch_row", (Clause("bw_table/src/table.rt", "fetch", "", "result"),)),
 ]

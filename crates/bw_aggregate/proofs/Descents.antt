@@ -1,6 +1,6 @@
 -- The codes that begin with the bits found so far, one plane further.
 use Rattle.std.proofs.Common.{Bool, inl, inr, pow_pos, List, [], add-one, ap, arith, cond, count_by, false, get_or, length, nat_le, nat_lt, not, refl, sym, true, ℕ, ◌%◌, ◌&&◌, ◌*◌, ◌+◌, ◌-◌, ◌/◌, ◌<◌, ◌==◌, ◌^◌, ◌≡◌, ◌≤◌, ◌∙◌, ◌∷◌}
-use Rattle.std.proofs.Math.Nat.{mul-le-mul_left, pow-le-pow_right, div-div-eq-div-mul, div-eq_of_lt, div-one, pow-suc}
+use Rattle.std.proofs.Math.Nat.{mul-le-mul_left, div-div-eq-div-mul, div-eq_of_lt, div-one, pow-suc}
 use Rattle.std.proofs.lemmas.Bool.Decides.{nat_tests}
 use Rattle.bw_mask.specs.Masks.{bit_of}
 use Rattle.bw_aggregate.specs.Descents.{IsNthCode, IsRest, Passes, front}
@@ -11,7 +11,7 @@ use Rattle.std.proofs.lemmas.List.{get_or_past}
 use Rattle.std.specs.List.{items_where_true}
 use Rattle.std.specs.Prelude.{All}
 
-front-half : (i code : ℕ) → front (i + 1) code ≡ front i code / 2
+pub front-half : (i code : ℕ) → front (i + 1) code ≡ front i code / 2
 front-half i code = rw (add-one i, pow-suc 2 i) (sym (div-div-eq-div-mul code (2 ^ i) 2))
 
 begins_zero : (x q : ℕ) → (x == q * 2) ≡ (not (x % 2 == 1) && (x / 2 == q))

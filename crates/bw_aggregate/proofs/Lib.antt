@@ -6,3 +6,4 @@ pub mod SortedValues
 pub mod Steps
 pub mod Sums
 pub mod Values
+pub mod Walking

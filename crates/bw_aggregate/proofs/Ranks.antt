@@ -1,5 +1,5 @@
 -- Entry n of the sorted values is the one that has n values at most below it, and more than n not above it.
-use Rattle.std.proofs.Common.{Bool, List, [], ap, arith, cond, count_by, false, length, inl, inr, refl, suc, sym, true, zero, ℕ, ℤ, ◌+◌, ◌<◌, ◌<ℤ◌, ◌≡◌, ◌≤◌, ◌≤ℤ◌, ◌∙◌, ◌∷◌, None, Some, Option, int_le}
+use Rattle.std.proofs.Common.{Bool, List, [], ap, arith, cond, count_by, false, length, refl, suc, sym, true, zero, ℕ, ℤ, ◌+◌, ◌<◌, ◌<ℤ◌, ◌≡◌, ◌≤◌, ◌≤ℤ◌, ◌∙◌, ◌∷◌, None, Some, int_le}
 use Rattle.std.proofs.lemmas.Int.{by_lt_z, ints}
 use Rattle.std.specs.Prelude.{int_lt, slice_get}
 use Rattle.bw_model.specs.SetFunctions.{put_in, sorted}

@@ -1,5 +1,5 @@
 -- Entries of the sorted values of some rows, by the codes of those that are not null.
-use Rattle.std.proofs.Common.{Bool, List, None, Option, Some, ap, arith, count_by, inl, inr, length, map, subst, sym, w32, w64, ℕ, ℤ, ◌<◌, ◌≡◌, ◌∙◌}
+use Rattle.std.proofs.Common.{Bool, List, None, Option, Some, ap, arith, count_by, inl, inr, length, map, subst, sym, w32, w64, ℕ, ℤ, ◌≡◌, ◌∙◌}
 use Rattle.std.proofs.lemmas.Bool.{cases_lt}
 use Rattle.std.proofs.lemmas.Int.{ints}
 use Rattle.std.proofs.lemmas.List.{get_or_past, length-map}

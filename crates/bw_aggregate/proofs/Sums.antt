@@ -1,15 +1,14 @@
 -- The sum of codes, one plane more.
-use Rattle.std.proofs.Common.{None, Option, Some, map, pos, suc, take, unwrap_or, subst, sym, w32, w64, zero, zero-add, ℤ, ◌+ℤ◌, ◌*ℤ◌, Bool, get_or, ◌&&◌, List, [], pow_pos, add-one, ap, arith, cond, count_by, false, length, refl, sum, sum_by, true, ℕ, ◌%◌, ◌*◌, ◌+◌, ◌/◌, ◌<◌, ◌^◌, ◌≡◌, ◌≤◌, ◌∙◌, ◌∷◌}
-use Rattle.std.proofs.Math.Nat.{div-add-mod, mul-le-mul_right, pow-le-pow_right, mul-le-mul, mul-le-mul_left, mod-eq_of_lt, mod-lt, pow-suc}
+use Rattle.std.proofs.Common.{None, Option, Some, map, pos, suc, take, subst, sym, w32, w64, zero, zero-add, ℤ, ◌+ℤ◌, ◌*ℤ◌, Bool, get_or, ◌&&◌, List, [], ap, arith, cond, count_by, false, length, refl, sum, sum_by, true, ℕ, ◌%◌, ◌*◌, ◌+◌, ◌/◌, ◌<◌, ◌^◌, ◌≡◌, ◌≤◌, ◌∙◌, ◌∷◌}
+use Rattle.std.proofs.Math.Nat.{div-eq_of_lt, div-le_self, div-one, mul-le-mul}
 use Rattle.std.proofs.lemmas.List.Elements.{All-head, All-tail}
 use Rattle.std.proofs.lemmas.List.Sums.{count_by-le-length, sum_by-cons}
-use Rattle.std.proofs.lemmas.Nat.{mod-mul-add}
 use Rattle.std.proofs.lemmas.Nat.Bits.{bit_at-lt}
 use Rattle.std.specs.Int.{bit_at, w128}
 use Rattle.std.specs.List.{items_where_true}
 use Rattle.std.proofs.lemmas.Int.{fits_signed_from_abs, ints, to_z-of_z, unsigned_abs-mul}
 use Rattle.std.proofs.Math.IntN.{*ℤ_comm, suc_ℤ-*ℤ, zero-*ℤ}
-use Rattle.std.specs.Prelude.{All, FitsSigned, if◌then◌else◌, unsigned_abs}
+use Rattle.std.specs.Prelude.{All, FitsSigned, IfSome, unsigned_abs}
 use mir.Val.{of_z, to_z}
 use Rattle.bw_code.specs.declared.encoding.Encoding.TheVariants as by
 use Rattle.bw_code.specs.declared.offset.Offset.{Offset}
@@ -17,60 +16,14 @@ use Rattle.bw_code.proofs.Codes.{code_back}
 use Rattle.bw_code.specs.Encodings.{IsEncoding}
 use Rattle.bw_code.specs.declared.encoding.Encoding.{Encoding}
 use Rattle.bw_column.specs.Codes.{IsCoded, code_for}
-use Rattle.bw_column.specs.Values.{value_at}
 use Rattle.bw_model.specs.SetFunctions
 use Rattle.bw_model.specs.SetFunctions.{known, total}
 use Rattle.bw_aggregate.proofs.KnownValues.{AreCoded, coded_all}
 use Rattle.bw_mask.specs.Masks.{bit_of}
+use Rattle.bw_aggregate.specs.Descents.{front}
+use Rattle.bw_aggregate.proofs.Descents.{front-half}
 use Rattle.bw_aggregate.specs.Chosen.{value_in}
 use Rattle.bw_aggregate.proofs.Counting.{common, common_at, common_len, count_cons, count_mask, length_chosen}
-
--- the lowest i bits
-abbrev pub low : ℕ → ℕ → ℕ
-low i code = code % 2 ^ i
-
--- one bit more of a number
-low-split : (c p : ℕ) → 0 < p → c % (p * 2) ≡ c % p + p * (c / p % 2)
-low-split c p some =
-    let rest : c % p < p = mod-lt c some in
-    let top : p * (c / p % 2) ≤ p * 1 = mul-le-mul_left p (omega arith) in
-    let small : p * (c / p % 2) + c % p < p * 2 = omega arith in
-    let halves : c / p ≡ c / p / 2 * 2 + c / p % 2 = omega arith in
-    let whole : c ≡ c / p / 2 * (p * 2) + (p * (c / p % 2) + c % p) = omega (arith, div-add-mod c p, ap (λ y. p * y) halves) in
-    ap (λ y. y % (p * 2)) whole ∙ mod-mul-add (c / p / 2) (p * 2) (p * (c / p % 2) + c % p) small ∙ omega arith
-
-low-more : (i code : ℕ) → low (i + 1) code ≡ low i code + 2 ^ i * cond (bit_of code i) 1 0
-low-more i code =
-    let bit : ◌≡◌ {A = ℕ} (cond (bit_of code i) 1 0) (bit_at code i) = grind (arith, bit_at-lt code i) in
-    rw (add-one i, pow-suc 2 i, bit) (low-split code (2 ^ i) (pow_pos i))
-
-pub sum-more : (i : ℕ) (codes : List ℕ) → sum_by (low (i + 1)) codes ≡ sum_by (low i) codes + 2 ^ i * count_by (λ c. bit_of c i) codes
-sum-more i [] = omega arith
-sum-more i (c ∷ codes) =
-    let rest = sum-more i codes in
-    let one = low-more i c in
-    omega (arith, sum_by-cons (low (i + 1)) c codes, sum_by-cons (low i) c codes, ap (λ n. 2 ^ i * n) (count_cons (λ x. bit_of x i) c codes))
-
-pub sum-none : (codes : List ℕ) → sum_by (low 0) codes ≡ 0
-sum-none [] = refl
-sum-none (c ∷ codes) = let rest = sum-none codes in omega (arith, sum_by-cons (low 0) c codes)
-
-pub sum-bound : (i : ℕ) (codes : List ℕ) → sum_by (low i) codes ≤ length codes * 2 ^ i
-sum-bound i [] = omega arith
-sum-bound i (c ∷ codes) =
-    let rest = sum-bound i codes in
-    let one = mod-lt c (pow_pos i) in
-    omega (arith, sum_by-cons (low i) c codes)
-
--- codes of k bits are their lowest k bits
-pub sum-all : (k : ℕ) (rows : List Bool) (codes : List ℕ) → All (λ c. c < 2 ^ k) codes → sum_by (low k) (items_where_true rows codes) ≡ sum (items_where_true rows codes)
-sum-all k [] codes all = refl
-sum-all k (b ∷ rows) [] all = refl
-sum-all k (true ∷ rows) (c ∷ codes) all =
-    let rest = sum-all k rows codes (All-tail (λ x. x < 2 ^ k) c codes all) in
-    let same = mod-eq_of_lt (All-head (λ x. x < 2 ^ k) c codes all) in
-    omega (arith, sum_by-cons (low k) c (items_where_true rows codes), sum_by-cons (λ x. x) c (items_where_true rows codes))
-sum-all k (false ∷ rows) (c ∷ codes) all = sum-all k rows codes (All-tail (λ x. x < 2 ^ k) c codes all)
 
 -- the rows of plane i are those whose code has bit i
 pub plane_count : (rows plane : List Bool) (codes : List ℕ) (i : ℕ) → length rows ≡ length codes → ((r : ℕ) → get_or plane r false ≡ bit_of (get_or codes r 0) i)
@@ -82,21 +35,50 @@ plane_count rows plane codes i e bits =
 pub few_chosen : (rows : List Bool) (codes : List ℕ) → length rows ≡ length codes → length (items_where_true rows codes) ≤ length codes
 few_chosen rows codes e = omega (arith, length_chosen rows codes e, count_by-le-length (λ (b : Bool). b) rows)
 
--- so many rows in plane i, and the sum so far, are small
-pub small_sum : (i n total : ℕ) (codes : List ℕ) → i < 64 → n ≤ 2 ^ 24 → length codes ≤ 2 ^ 24 → total ≡ sum_by (low i) codes → (n * 2 ^ i < 2 ^ 88) × (total < 2 ^ 88)
-small_sum i n total codes low_i few long e =
-    let p : 2 ^ i ≤ 2 ^ 63 = pow-le-pow_right {n = 2} (omega arith) {i = i} {j = 63} (omega arith) in
-    let one : n * 2 ^ i ≤ 2 ^ 24 * 2 ^ i = mul-le-mul_right (2 ^ i) few in
-    let two : length codes * 2 ^ i ≤ 2 ^ 24 * 2 ^ i = mul-le-mul_right (2 ^ i) long in
-    let three = sum-bound i codes in
-    (omega arith, omega arith)
+-- ---- the codes without their lowest i bits
 
-pub whole_sum : (i total : ℕ) (codes : List ℕ) → i ≤ 64 → length codes ≤ 2 ^ 24 → total ≡ sum_by (low i) codes → total < 2 ^ 89
-whole_sum i total codes low_i long e =
-    let p : 2 ^ i ≤ 2 ^ 64 = pow-le-pow_right {n = 2} (omega arith) {i = i} {j = 64} low_i in
-    let two : length codes * 2 ^ i ≤ 2 ^ 24 * 2 ^ i = mul-le-mul_right (2 ^ i) long in
-    let three = sum-bound i codes in
-    omega arith
+front-more : (i code : ℕ) → front i code ≡ 2 * front (i + 1) code + cond (bit_of code i) 1 0
+front-more i code =
+    let bit : ◌≡◌ {A = ℕ} (cond (bit_of code i) 1 0) (bit_at code i) = grind (arith, bit_at-lt code i) in
+    let half = front-half i code in
+    let halves : front i code ≡ front i code / 2 * 2 + front i code % 2 = omega arith in
+    omega (arith, half, halves, bit)
+
+-- one plane more
+pub fronts-more : (i : ℕ) (codes : List ℕ) → sum_by (front i) codes ≡ 2 * sum_by (front (i + 1)) codes + count_by (λ c. bit_of c i) codes
+fronts-more i [] = omega arith
+fronts-more i (c ∷ codes) =
+    let rest = fronts-more i codes in
+    let one = front-more i c in
+    omega (arith, sum_by-cons (front i) c codes, sum_by-cons (front (i + 1)) c codes, count_cons (λ x. bit_of x i) c codes)
+
+-- codes of k bits, without these
+pub fronts-none : (k : ℕ) (codes : List ℕ) → All (λ c. c < 2 ^ k) codes → sum_by (front k) codes ≡ 0
+fronts-none k [] all = refl
+fronts-none k (c ∷ codes) all =
+    let rest = fronts-none k codes (All-tail (λ x. x < 2 ^ k) c codes all) in
+    let none : front k c ≡ 0 = div-eq_of_lt (All-head (λ x. x < 2 ^ k) c codes all) in
+    omega (arith, sum_by-cons (front k) c codes)
+
+pub fronts-all : (codes : List ℕ) → sum_by (front 0) codes ≡ sum codes
+fronts-all [] = refl
+fronts-all (c ∷ codes) =
+    let rest = fronts-all codes in
+    let one : front 0 c ≡ c = div-one c in
+    omega (arith, sum_by-cons (front 0) c codes, sum_by-cons (λ x. x) c codes)
+
+-- a sum of nothing, where it is asked for
+pub sum_begun : (o : Option ℕ) (sum : ℕ) → IfSome o (λ s. s ≡ 0) → sum ≡ 0 → IfSome o (λ s. s ≡ sum)
+sum_begun None sum none is = none
+sum_begun (Some s) sum none is = none ∙ sym is
+
+pub fronts-bound : (i k : ℕ) (codes : List ℕ) → All (λ c. c < 2 ^ k) codes → sum_by (front i) codes ≤ length codes * 2 ^ k
+fronts-bound i k [] all = omega arith
+fronts-bound i k (c ∷ codes) all =
+    let rest = fronts-bound i k codes (All-tail (λ x. x < 2 ^ k) c codes all) in
+    let one : c < 2 ^ k = All-head (λ x. x < 2 ^ k) c codes all in
+    let less : front i c ≤ c = div-le_self c (2 ^ i) in
+    omega (arith, sum_by-cons (front i) c codes)
 
 -- none of the sums wraps
 pub based-sum : (base : ℤ) (n codes : ℕ) → FitsSigned w64 base → n ≤ 2 ^ 24 → codes < 2 ^ 89
@@ -116,10 +98,6 @@ based-sum base n codes fits few small =
 pub sum_is : (values : List ℤ) → 0 < length values → SetFunctions.sum values ≡ Some (total values)
 sum_is [] some = absurd (omega (arith, some))
 sum_is (x ∷ xs) some = refl
-
-pub sum_none : (values : List ℤ) → length values ≡ 0 → SetFunctions.sum values ≡ None
-sum_none [] none = refl
-sum_none (x ∷ xs) none = absurd (omega (arith, none))
 
 -- so many bases as values, and the sum of the codes, that of a null being 0
 pub total_offset : (o : Offset) (rows : List Bool) (values : List (Option ℤ)) → AreCoded (by.Offset o) values

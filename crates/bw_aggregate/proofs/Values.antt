@@ -1,17 +1,17 @@
 -- From codes to the values that they stand for, which are in the same order.
-use Rattle.std.proofs.Common.{Bool, List, Some, [], ap, arith, count_by, length, map, nat_le, nat_lt, pos, refl, sum, sym, true, ℕ, ℤ, ◌+ℤ◌, ◌*ℤ◌, ◌<◌, ◌<ℤ◌, ◌==◌, ◌≡◌, ◌≤◌, ◌≤ℤ◌, ◌∙◌, ◌∷◌, int_le, cond, false, inl, inr, not, subst, suc, ◌+◌}
+use Rattle.std.proofs.Common.{Bool, List, Some, [], ap, arith, count_by, length, map, nat_le, nat_lt, pos, refl, sum, sym, true, ℕ, ℤ, ◌+ℤ◌, ◌*ℤ◌, ◌<◌, ◌==◌, ◌≡◌, ◌∙◌, ◌∷◌, int_le, cond, false, inl, inr, not, subst, suc, ◌+◌}
 use Rattle.std.proofs.lemmas.Bool.{cases_eq, cases_lt}
 use Rattle.std.proofs.lemmas.Bool.Decides.{nat_tests}
-use Rattle.std.proofs.lemmas.Int.{by_lt_z, ints}
+use Rattle.std.proofs.lemmas.Int.{ints}
 use Rattle.std.proofs.lemmas.List.Elements.{All-head, All-tail}
 use Rattle.std.proofs.lemmas.List.Sums.{sum_by-cons}
-use Rattle.std.proofs.Math.IntN.{*ℤ_comm, suc_ℤ-*ℤ, zero-*ℤ}
+use Rattle.std.proofs.Math.IntN.{suc_ℤ-*ℤ, zero-*ℤ}
 use Rattle.std.specs.Prelude.{All, int_lt}
 use Rattle.bw_code.specs.Encodings.{IsEncoding, code_of, value_of}
 use Rattle.bw_code.specs.declared.encoding.Encoding.{Encoding}
-use Rattle.bw_code.proofs.Codes.{code_back, value_less}
+use Rattle.bw_code.proofs.Codes.{value_less}
 use Rattle.bw_model.specs.SetFunctions.{total}
-use Rattle.bw_aggregate.proofs.Counting.{count_cons, count_no, count_yes}
+use Rattle.bw_aggregate.proofs.Counting.{count_cons, count_no}
 use Rattle.bw_aggregate.specs.Descents.{IsNthCode}
 use Rattle.bw_aggregate.proofs.Ranks.{IsRanked}
 

@@ -1,5 +1,5 @@
 -- The descent to entry n of some sorted codes, from the top plane down (O'Neil and Quass, SIGMOD 1997).
-use Rattle.std.specs.Prelude.{Bool, List, false, count_by, length, nat_le, nat_lt, slice_index_or, ℕ, ◌&&◌, ◌*◌, ◌+◌, ◌/◌, ◌<◌, ◌==◌, ◌^◌, ◌≡◌, ◌≤◌}
+use Rattle.std.specs.Prelude.{Bool, List, false, count_by, nat_le, nat_lt, slice_index_or, ℕ, ◌&&◌, ◌*◌, ◌+◌, ◌/◌, ◌<◌, ◌==◌, ◌^◌, ◌≡◌, ◌≤◌}
 use Rattle.std.specs.List.{items_where_true}
 use Rattle.bw_aggregate.specs.declared.descent.Descent.{Descent}
 

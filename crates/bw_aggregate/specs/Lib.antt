@@ -1,2 +1,4 @@
 pub mod Chosen
 pub mod Descents
+pub mod Summaries
+pub mod Walks

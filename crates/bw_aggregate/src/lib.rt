@@ -2,9 +2,11 @@
 #![tactic(auto)]
 
 mod descent;
-mod entries;
 mod known;
 mod set_functions;
+mod summary;
 mod totals;
+mod walks;
 
 pub use set_functions::{count, max, median, min, sum};
+pub use summary::{Asked, Summary, summarize};

@@ -12,21 +12,6 @@ use bw_column::Column;
 use bw_mask::Mask;
 use std::alloc::{AllocError, Global};
 
-/// The sum of the codes of the rows: 2^i for each row that is in plane i.
-pub(crate) fn sum_of_codes(alloc: Global, column: &Column, rows: &Mask) -> Result<u128, AllocError>
-    requires { len rows.now ≡ length column.now.values }
-    ensures small { IfOk result (λ total. total < 2 ^ 89) }
-    ensures value { IfOk result (λ total. total ≡ sum (items_where_true rows.now.rows (codes_for column.now.encoding column.now.values))) }
-{
-    let mut plane = Mask::filled(alloc, column.len(), false)?;
-    let mut total = 0;
-    'planes: for i in 0..column.encoding().width() {
-        column.plane(i, &mut plane);
-        total += (rows.count_both(&plane) as u128) << i;
-    }
-    Ok(total)
-}
-
 /// So many bases, and the sum of the codes.
 pub(crate) fn based_total(base: i64, count: usize, codes: u128) -> i128
     requires few { count ≤ 2 ^ 24 }

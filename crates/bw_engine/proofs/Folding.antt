@@ -1,5 +1,5 @@
 -- What set functions by places say is what the select list says.
-use Rattle.std.proofs.Common.{◌≡◌, ◌∙◌, ◌+◌, ◌++◌, ◌<◌, Bool, List, None, Option, Some, [], ◌∷◌, ap, arith, count_by, false, get_or, length, map, option_map, refl, subst, sym, take, true, ℕ, ℤ}
+use Rattle.std.proofs.Common.{◌≡◌, ◌∙◌, ◌+◌, ◌++◌, ◌<◌, Bool, List, None, Option, Some, [], ◌∷◌, ap, arith, count_by, false, get_or, length, map, option_map, pos, refl, subst, suc, sym, take, true, zero, ℕ, ℤ}
 use Rattle.std.proofs.lemmas.List.{length-map, map-append, take_more}
 use Rattle.std.proofs.lemmas.List.Elements.{All-cons, All-nil}
 use Rattle.std.specs.List.{All, items_where_true}
@@ -20,7 +20,10 @@ use Rattle.bw_plan.specs.declared.selection.ShownPlan.{ShownPlan}
 use Rattle.bw_plan.specs.declared.selection.ShownPlan.TheVariants as plans
 use Rattle.bw_plan.proofs.Places.{line_by_places}
 use Rattle.bw_plan.proofs.SetLaws.{place_inside}
-use Rattle.bw_engine.specs.Folds.{IsShownWithin, IsWithin, lines_by, number_by, number_of, plan_width}
+use Rattle.bw_aggregate.specs.Summaries.{IsSummary}
+use Rattle.bw_aggregate.specs.declared.summary.Asked.{Asked}
+use Rattle.bw_aggregate.specs.declared.summary.Summary.{Summary}
+use Rattle.bw_engine.specs.Folds.{AskFor, IsShownWithin, IsWithin, lines_by, number_by, number_of, plan_width, told_by}
 use Rattle.bw_engine.specs.Found.{rows_where}
 use Rattle.bw_engine.specs.Stores.{rows_of_slots}
 use Rattle.bw_engine.proofs.FoundLaws.{counted}
@@ -128,3 +131,18 @@ numbers_more f xs i d ys more y low so_far grown is =
 pub shown_numbers : {A : Type 0} (f : A → Option ℤ) (xs : List A) → map shown (map f xs) ≡ map (λ x. shown (f x)) xs
 shown_numbers f [] = refl
 shown_numbers f (x ∷ xs) = ap (λ l. shown (f x) ∷ l) (shown_numbers f xs)
+
+-- a summary in which each function of a column is asked for tells each of them
+pub tells_all : (functions : List FunctionPlan) (place : ℕ) (asked : Asked) (summary : Summary) (values : List ℤ) → AskFor functions place asked → IsSummary asked values summary
+    → (f : SetFunction) (i : ℕ) (d : FunctionPlan) → i < length functions → get_or functions i d ≡ function.Of f place → told_by f summary ≡ number_of f values
+tells_all functions place asked summary values asks is Count i d low at = ap (λ n. Some (pos n)) is.count
+tells_all functions place asked summary values asks is Sum i d low at = is.sum (asks.sum i d low at)
+tells_all functions place asked summary values asks is Min i d low at = is.least (asks.least i d low at)
+tells_all functions place asked summary values asks is Max i d low at = is.greatest (asks.greatest i d low at)
+tells_all functions place asked summary values asks is Median i d low at = is.median (asks.median i d low at)
+
+-- an entry that is there, whatever stands for one that isn't
+pub same_entry : {A : Type 0} (xs : List A) (i : ℕ) (d e : A) → i < length xs → get_or xs i d ≡ get_or xs i e
+same_entry [] i d e low = absurd (omega (arith, low))
+same_entry (x ∷ xs) zero d e low = refl
+same_entry (x ∷ xs) (suc i) d e low = same_entry xs i d e (omega (arith, low))

@@ -1,5 +1,8 @@
 -- What set functions whose columns are places say of rows.
-use Rattle.std.specs.Prelude.{All, List, Option, Some, [], length, map, pos, ⊤, ℕ, ℤ, ◌<◌, ◌∷◌}
+use Rattle.std.specs.Prelude.{All, Bool, List, Option, Some, [], length, map, pos, slice_index_or, true, ⊤, ℕ, ℤ, ◌<◌, ◌≡◌, ◌∷◌}
+use Rattle.bw_aggregate.specs.declared.summary.Asked.{Asked}
+use Rattle.bw_aggregate.specs.declared.summary.Summary.{Summary}
+use Rattle.bw_engine.specs.declared.folded.ColumnSummary.{ColumnSummary}
 use Rattle.bw_sql.specs.declared.tree.SetFunction.{SetFunction}
 use Rattle.bw_sql.specs.declared.tree.SetFunction.TheVariants.{Count, Sum, Min, Max, Median}
 use Rattle.bw_model.specs.SetFunctions.{greatest, known, least, median, sum}
@@ -22,6 +25,29 @@ number_of Median values = median values
 abbrev pub number_by : List Row → FunctionPlan → Option ℤ
 number_by rows function.CountRows = Some (pos (length rows))
 number_by rows (function.Of f place) = number_of f (known (map (λ row. value_at row place) rows))
+
+-- what a summary tells of a set function
+abbrev pub told_by : SetFunction → Summary → Option ℤ
+told_by Count summary = Some (pos summary.count)
+told_by Sum summary = summary.sum
+told_by Min summary = summary.least
+told_by Max summary = summary.greatest
+told_by Median summary = summary.median
+
+-- a summary of the column at a place tells each of the functions that is of this column
+abbrev pub Tells : List Row → List FunctionPlan → ColumnSummary → Type 0
+Tells rows functions column = (f : SetFunction) (i : ℕ) (d : FunctionPlan) → i < length functions → slice_index_or functions i d ≡ function.Of f column.place
+    → told_by f column.summary ≡ number_of f (known (map (λ row. value_at row column.place) rows))
+
+-- where a function is one of them, it is asked for
+abbrev pub IsAskedIf : List FunctionPlan → FunctionPlan → Bool → Type 0
+IsAskedIf functions f asked = (i : ℕ) (d : FunctionPlan) → i < length functions → slice_index_or functions i d ≡ f → asked ≡ true
+
+pub record AskFor (functions : List FunctionPlan) (place : ℕ) (asked : Asked) : Type 0 where
+  pub sum : IsAskedIf functions (function.Of Sum place) asked.sum
+  pub least : IsAskedIf functions (function.Of Min place) asked.least
+  pub greatest : IsAskedIf functions (function.Of Max place) asked.greatest
+  pub median : IsAskedIf functions (function.Of Median place) asked.median
 
 -- its column is there
 abbrev pub IsWithin : ℕ → FunctionPlan → Type 0

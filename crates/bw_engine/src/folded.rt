@@ -1,16 +1,15 @@
 //! What set functions say of the found slots.
 
-ghost use Rattle.std.specs.Prelude.{All, IfOk, IfSome, length, map, pos, slice_index_or, take, ◌<◌, ◌≡◌};
-ghost use Rattle.bw_aggregate.specs.Chosen.{chosen};
+ghost use Rattle.std.specs.List.{Contains};
+ghost use Rattle.std.specs.Prelude.{All, IfOk, IfSome, OnOk, length, map, slice_index_or, ◌<◌, ◌≡◌};
 ghost use Rattle.bw_mask.specs.Masks.{len, row_at};
-ghost use Rattle.bw_engine.specs.Folds.{IsWithin, number_by, number_of};
-ghost use Rattle.bw_plan.specs.declared.selection.FunctionPlan.{FunctionPlan as Function};
+ghost use Rattle.bw_engine.specs.Folds.{AskFor, IsAskedIf, IsWithin, Tells, number_by, told_by};
 ghost use Rattle.bw_engine.specs.Found.{rows_where};
 ghost use Rattle.bw_engine.specs.Stores.{rows_of_slots};
 ghost use Rattle.bw_model.specs.Select.{shown};
+ghost use Rattle.bw_plan.specs.declared.selection.FunctionPlan.{FunctionPlan as Function};
 
-use bw_aggregate::{count, max, median, min, sum};
-use bw_column::Column;
+use bw_aggregate::{Asked, Summary, summarize};
 use bw_mask::Mask;
 use bw_model::Cell;
 use bw_plan::FunctionPlan;
@@ -18,23 +17,103 @@ use bw_sql::{Name, SetFunction};
 use bw_table::Table;
 use std::alloc::{AllocError, Global};
 
-/// What a set function says of a column's values in the found rows; `None` is NULL.
-fn folded(
-    alloc: Global,
-    function: SetFunction,
-    column: &Column,
-    found: &Mask,
-) -> Result<Option<i128>, AllocError>
-    requires { len found.now ≡ length column.now.values }
-    ensures { IfOk result (λ number. number ≡ number_of function (chosen column.now found.now)) }
+/// What was asked of the column at a place.
+#[derive(Clone, Copy)]
+struct ColumnSummary {
+    place: usize,
+    summary: Summary,
+}
+
+/// Whether a set function is one of these.
+fn is_asked(functions: &[FunctionPlan], function: FunctionPlan) -> bool
+    ensures { IsAskedIf functions.now function result }
 {
-    Ok(match function {
-        SetFunction::Count => Some(i128::from(count(column, found))),
-        SetFunction::Sum => sum(alloc, column, found)?,
-        SetFunction::Min => wide(min(alloc, column, found)?),
-        SetFunction::Max => wide(max(alloc, column, found)?),
-        SetFunction::Median => wide(median(alloc, column, found)?),
-    })
+    for i in 0..functions.len() {
+        if functions[i] == function {
+            return true;
+        }
+    }
+    false
+}
+
+/// What is asked of the column at a place.
+fn asked_of(functions: &[FunctionPlan], place: usize) -> Asked
+    ensures { AskFor functions.now place result }
+{
+    Asked {
+        sum: is_asked(functions, FunctionPlan::Of(SetFunction::Sum, place)),
+        least: is_asked(functions, FunctionPlan::Of(SetFunction::Min, place)),
+        greatest: is_asked(functions, FunctionPlan::Of(SetFunction::Max, place)),
+        median: is_asked(functions, FunctionPlan::Of(SetFunction::Median, place)),
+    }
+}
+
+/// All that is asked of the column at a place, of its values in the found slots.
+fn column_summary(
+    alloc: Global,
+    table: &Table<Name>,
+    functions: &[FunctionPlan],
+    place: usize,
+    found: &Mask,
+) -> Result<ColumnSummary, AllocError>
+    requires found { len found.now ≡ length table.now.slots }
+    requires place { place < length table.now.headers }
+    ensures place { IfOk result (λ column. column.place ≡ place) }
+    ensures tells { IfOk result (Tells (rows_where (row_at found.now) (rows_of_slots table.now.slots)) functions.now) }
+{
+    let asked = asked_of(functions, place);
+    let summary = summarize(alloc, table.column(place), found, asked)?;
+    Ok(ColumnSummary { place, summary })
+}
+
+/// The summary of the column at a place, where there is one.
+fn summary_among(columns: &[ColumnSummary], place: usize) -> Option<ColumnSummary>
+    ensures place { IfSome result (λ column. column.place ≡ place) }
+    ensures one { IfSome result (Contains columns.now) }
+{
+    for i in 0..columns.len() {
+        if columns[i].place == place {
+            return Some(columns[i]);
+        }
+    }
+    None
+}
+
+/// All that is asked of the column at a place. Each column is folded once: what was told of it is kept.
+fn summary_of(
+    alloc: Global,
+    table: &Table<Name>,
+    functions: &[FunctionPlan],
+    place: usize,
+    columns: &mut Vec<ColumnSummary>,
+    found: &Mask,
+) -> Result<ColumnSummary, AllocError>
+    requires found { len found.now ≡ length table.now.slots }
+    requires place { place < length table.now.headers }
+    requires told { All (Tells (rows_where (row_at found.now) (rows_of_slots table.now.slots)) functions.now) columns.old.items }
+    ensures place { IfOk result (λ column. column.place ≡ place) }
+    ensures tells { IfOk result (Tells (rows_where (row_at found.now) (rows_of_slots table.now.slots)) functions.now) }
+    ensures told { OnOk result (All (Tells (rows_where (row_at found.now) (rows_of_slots table.now.slots)) functions.now) columns.new.items) }
+{
+    if let Some(column) = summary_among(columns, place) {
+        return Ok(column);
+    }
+    let column = column_summary(alloc, table, functions, place, found)?;
+    columns.push(column)?;
+    Ok(column)
+}
+
+/// What a summary tells of a set function; `None` is NULL.
+fn told_by(function: SetFunction, summary: &Summary) -> Option<i128>
+    ensures { result ≡ told_by function summary.now }
+{
+    match function {
+        SetFunction::Count => Some(summary.count as i128),
+        SetFunction::Sum => summary.sum,
+        SetFunction::Min => wide(summary.least),
+        SetFunction::Max => wide(summary.greatest),
+        SetFunction::Median => wide(summary.median),
+    }
 }
 
 /// The same number in more bits.
@@ -44,55 +123,28 @@ fn wide(value: Option<i64>) -> Option<i128>
     value.map(i128::from)
 }
 
-/// What a set function says of the found slots.
+/// What function i says of the found slots.
 fn number(
     alloc: Global,
     table: &Table<Name>,
-    function: FunctionPlan,
-    found: &Mask,
-) -> Result<Option<i128>, AllocError>
-    requires found { len found.now ≡ length table.now.slots }
-    requires place { IsWithin (length table.now.headers) function }
-    ensures { IfOk result (λ number. number ≡ number_by (rows_where (row_at found.now) (rows_of_slots table.now.slots)) function) }
-{
-    match function {
-        FunctionPlan::CountRows => Ok(Some(found.count() as i128)),
-        FunctionPlan::Of(function, place) => folded(alloc, function, table.column(place), found),
-    }
-}
-
-/// The first place before place i at which the same function stands.
-fn same_before(functions: &[FunctionPlan], i: usize) -> Option<usize>
-    requires { i < length functions.now }
-    ensures { IfSome result (λ k. (k < i) × ((d : Function) → slice_index_or functions.now k d ≡ slice_index_or functions.now i d)) }
-{
-    for k in 0..i {
-        if functions[k] == functions[i] {
-            return Some(k);
-        }
-    }
-    None
-}
-
-/// What function i says of the found slots. What the functions before it say is known, so one that is asked for twice
-/// is computed once.
-fn number_at(
-    alloc: Global,
-    table: &Table<Name>,
     functions: &[FunctionPlan],
-    numbers: &[Option<i128>],
-    found: &Mask,
     i: usize,
+    columns: &mut Vec<ColumnSummary>,
+    found: &Mask,
 ) -> Result<Option<i128>, AllocError>
     requires found { len found.now ≡ length table.now.slots }
     requires places { All (IsWithin (length table.now.headers)) functions.now }
     requires inside { i < length functions.now }
-    requires before { numbers.now ≡ map (number_by (rows_where (row_at found.now) (rows_of_slots table.now.slots))) (take i functions.now) }
-    ensures { IfOk result (λ number. (d : Function) → number ≡ number_by (rows_where (row_at found.now) (rows_of_slots table.now.slots)) (slice_index_or functions.now i d)) }
+    requires told { All (Tells (rows_where (row_at found.now) (rows_of_slots table.now.slots)) functions.now) columns.old.items }
+    ensures number { IfOk result (λ number. (d : Function) → number ≡ number_by (rows_where (row_at found.now) (rows_of_slots table.now.slots)) (slice_index_or functions.now i d)) }
+    ensures told { OnOk result (All (Tells (rows_where (row_at found.now) (rows_of_slots table.now.slots)) functions.now) columns.new.items) }
 {
-    match same_before(functions, i) {
-        Some(same) => Ok(numbers[same]),
-        None => number(alloc, table, functions[i], found),
+    match functions[i] {
+        FunctionPlan::CountRows => Ok(Some(found.count() as i128)),
+        FunctionPlan::Of(function, place) => {
+            let column = summary_of(alloc, table, functions, place, columns, found)?;
+            Ok(told_by(function, &column.summary))
+        }
     }
 }
 
@@ -107,9 +159,10 @@ fn numbers(
     requires places { All (IsWithin (length table.now.headers)) functions.now }
     ensures { IfOk result (λ numbers. numbers.items ≡ map (number_by (rows_where (row_at found.now) (rows_of_slots table.now.slots))) functions.now) }
 {
+    let mut columns = Vec::new(alloc);
     let mut numbers = Vec::with_capacity(alloc, functions.len())?;
     for i in 0..functions.len() {
-        let number = number_at(alloc, table, functions, &numbers, found, i)?;
+        let number = number(alloc, table, functions, i, &mut columns, found)?;
         numbers.push(number)?;
     }
     Ok(numbers)

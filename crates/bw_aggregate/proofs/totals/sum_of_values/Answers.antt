@@ -1,4 +1,4 @@
-use Rattle.std.proofs.Common.{add-one, ap, arith, length, sym, take, ◌+ℤ◌, ◌<◌, ◌^◌, ◌≡◌, ◌∙◌}
+use Rattle.std.proofs.Common.{add-one, ap, arith, length, sym, take, ◌+ℤ◌, ◌<◌, ◌^◌, ◌∙◌}
 use Rattle.std.specs.Int.{w128}
 use Rattle.std.specs.List.{items_where_true}
 use Rattle.bw_model.specs.SetFunctions.{known, total}

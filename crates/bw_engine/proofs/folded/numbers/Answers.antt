@@ -9,5 +9,9 @@ use Rattle.bw_engine.proofs.folded.numbers.Goals as goal
 pub loop-i-preserved : goal.loop-i-preserved
 loop-i-preserved c =
     let said = number_by (rows_where (row_at c.args.found.now) (rows_of_slots c.args.table.now.slots)) in
-    numbers_more said c.args.functions.now c.loop-i.i function.CountRows c.loop-i.numbers.items c.push.new.self.items c.in_ok-number.number c.loop-i-test.true c.loop-i.invariant c.in_ok-push.ensures.items
-    (c.in_ok-number.ensures function.CountRows)
+    record {
+      numbers =
+          numbers_more said c.args.functions.now c.loop-i.i function.CountRows c.loop-i.numbers.items c.push.new.self.items c.in_ok-number.number c.loop-i-test.true c.loop-i.invariant.numbers c.in_ok-push.ensures.items
+          (c.in_ok-number.ensures.number function.CountRows);
+      told = c.in_ok-number.ensures.told;
+    }

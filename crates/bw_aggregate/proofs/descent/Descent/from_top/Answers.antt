@@ -1,4 +1,4 @@
-use Rattle.std.proofs.Common.{arith, ◌*◌, ◌+◌, ◌^◌, ◌≤◌, sym}
+use Rattle.std.proofs.Common.{arith, ◌^◌, ◌≤◌, sym}
 use Rattle.std.proofs.Math.Nat.{pow-le-pow_right}
 use Rattle.std.specs.List.{items_where_true}
 use Rattle.bw_aggregate.proofs.Descents.{all_begin, all_chosen, descent_start}
