@@ -1,5 +1,5 @@
 -- What the walks come to, when they have passed all planes.
-use Rattle.std.proofs.Common.{Bool, List, None, Option, Some, [], ap, arith, count_by, false, get_or, is_some, length, map, option_map, refl, subst, sum, sum_by, sym, true, ℕ, ℤ, ◌&&◌, ◌*◌, ◌+◌, ◌-◌, ◌/◌, ◌<◌, ◌^◌, ◌≡◌, ◌≤◌, ◌∙◌, ◌∷◌}
+use Rattle.std.proofs.Common.{Bool, List, None, Option, Some, [], ap, arith, count_by, false, get_or, is_some, length, map, option_map, refl, subst, sum, sum_by, sym, true, ℕ, ℤ, ◌&&◌, ◌*◌, ◌+◌, ◌-◌, ◌/◌, ◌<◌, ◌^◌, ◌||◌, ◌≡◌, ◌≤◌, ◌∙◌, ◌∷◌}
 use Rattle.std.proofs.Math.Nat.{mul-le-mul, pow-le-pow_right}
 use Rattle.std.proofs.lemmas.Bool.{true≢false}
 use Rattle.std.specs.List.{items_where_true}
@@ -8,6 +8,7 @@ use Rattle.bw_code.specs.Encodings.{IsCode, IsEncoding, value_of, width}
 use Rattle.bw_code.specs.declared.encoding.Encoding.{Encoding}
 use Rattle.bw_column.specs.Codes.{IsCoded, code_for}
 use Rattle.bw_column.specs.Values.{IsNullOrInteger, value_at}
+use Rattle.bw_model.proofs.Passing.{neither}
 use Rattle.bw_model.specs.SetFunctions
 use Rattle.bw_model.specs.SetFunctions.{known, sorted}
 use Rattle.bw_aggregate.specs.Descents.{LeadsTo, front}
@@ -102,3 +103,20 @@ module _ (e : Encoding) (sound : IsEncoding e) (keep rows : List Bool) (values :
 -- the codes of a column fit its width
 pub fit_by : (e : Encoding) → IsEncoding e → (values : List (Option ℤ)) → All (IsCoded e) values → (bits : ℕ) → bits ≡ width e → All (λ code. code < 2 ^ bits) (map (code_for e) values)
 fit_by e sound values all bits is = subst (λ k. All (λ code. code < 2 ^ k) (map (code_for e) values)) (sym is) (codes_low e sound values all)
+
+-- where nothing is asked for, nothing is to be told
+none_if : {A : Type 0} (o : Option A) (P : A → Type 0) → is_some o ≡ false → IfSome o P
+none_if None P e = tt
+none_if (Some x) P e = absurd (true≢false e)
+
+pub none_on_way : (need : List Bool) (codes : List ℕ) (i : ℕ) (walks : Walks) → (((is_some walks.sum || is_some walks.least) || is_some walks.greatest) || is_some walks.median) ≡ false → AreOnWay need codes i walks
+none_on_way need codes i walks e =
+    let three = neither _ (is_some walks.median) e in
+    let two = neither _ (is_some walks.greatest) three.0 in
+    let one = neither (is_some walks.sum) (is_some walks.least) two.0 in
+    record {
+      sum = none_if walks.sum _ one.0;
+      least = none_if walks.least _ one.1;
+      greatest = none_if walks.greatest _ two.1;
+      median = none_if walks.median _ three.1;
+    }

@@ -86,7 +86,8 @@ pub fn summarize(
     })
 }
 
-/// Takes the walks down all planes of the column's codes, from the top.
+/// Takes the walks down all planes of the column's codes, from the top. Where nothing is asked for, no plane is looked at.
+#[tactic(auto, using(crate::proofs::Walking::none_on_way))]
 fn walk_down(column: &Column, bits: u32, rows: &Mask, walks: &mut Walks, plane: &mut Mask)
     requires bits { bits ≡ width column.now.encoding }
     requires narrow { bits ≤ 64 }
@@ -99,6 +100,9 @@ fn walk_down(column: &Column, bits: u32, rows: &Mask, walks: &mut Walks, plane: 
     ensures asked { (asked : Asked) → AskFor asked walks.old → AskFor asked walks.new }
     ensures leads { AreOnWay rows.now.rows (codes_for column.now.encoding column.now.values) 0 walks.new }
 {
+    if !walks.are_asked() {
+        return;
+    }
     'planes: for i in (0..bits).rev() {
         column.plane(i, plane);
         walks.step(rows, plane);

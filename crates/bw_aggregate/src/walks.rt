@@ -1,6 +1,6 @@
 //! The ways down to what is asked of some rows' codes, all in one pass over the planes.
 
-ghost use Rattle.std.specs.Prelude.{All, Bool, IfOk, IfSome, List, false, is_some, length, option_map, slice_index_or, sum_by, ℕ, ◌+◌, ◌-◌, ◌/◌, ◌<◌, ◌^◌, ◌≡◌, ◌≤◌};
+ghost use Rattle.std.specs.Prelude.{All, Bool, IfOk, IfSome, List, false, is_some, length, option_map, slice_index_or, sum_by, ℕ, ◌+◌, ◌-◌, ◌/◌, ◌<◌, ◌^◌, ◌||◌, ◌≡◌, ◌≤◌};
 ghost use Rattle.std.specs.List.{items_where_true};
 ghost use Rattle.bw_mask.specs.Masks.{bit_of, len, row_at};
 ghost use Rattle.bw_aggregate.specs.Descents.{LeadsTo, front};
@@ -38,6 +38,16 @@ impl Walks {
             greatest,
             median,
         })
+    }
+
+    /// Whether anything is asked for.
+    pub(crate) fn are_asked(&self) -> bool
+        ensures { result ≡ (((is_some self.now.sum || is_some self.now.least) || is_some self.now.greatest) || is_some self.now.median) }
+    {
+        self.sum.is_some()
+            || self.least.is_some()
+            || self.greatest.is_some()
+            || self.median.is_some()
     }
 
     /// One plane down.
