@@ -113,8 +113,10 @@ fn drawn_rows<R: Abort + AllocGlobal>(rt: &R, random: &mut Random, length: usize
 }
 
 fn mask_of<R: Abort + AllocGlobal>(rt: &R, chosen: &[bool]) -> Mask {
-    let mut rows = Mask::filled(rt.alloc(), chosen.len(), false).expect(rt, "memory");
-    for row in 0..chosen.len() {
+    let length = chosen.len();
+    assert!(rt; length < 1_000);
+    let mut rows = Mask::filled(rt.alloc(), length, false).expect(rt, "memory");
+    for row in 0..length {
         assert!(rt; row < rows.len());
         rows.set(row, chosen[row]);
     }
