@@ -2,6 +2,7 @@ pub mod Counting
 pub mod Descents
 pub mod KnownValues
 pub mod Ranks
+pub mod RowsMore
 pub mod SortedValues
 pub mod Steps
 pub mod Sums

@@ -13,7 +13,7 @@ use Rattle.bw_model.specs.SetFunctions
 use Rattle.bw_model.specs.SetFunctions.{known, sorted}
 use Rattle.bw_aggregate.specs.Descents.{LeadsTo, front}
 use Rattle.bw_aggregate.specs.Summaries.{IsSummary}
-use Rattle.bw_aggregate.specs.Walks.{AreOnWay, AskFor, CanStep, IsCodeSum, IsCounted}
+use Rattle.bw_aggregate.specs.Walks.{AreOnWay, CanStep, IsCodeSum, IsCounted}
 use Rattle.bw_aggregate.specs.declared.descent.Descent.{Descent}
 use Rattle.bw_aggregate.specs.declared.summary.Asked.{Asked}
 use Rattle.bw_aggregate.specs.declared.walks.Walks.{Walks}
@@ -79,7 +79,7 @@ module _ (e : Encoding) (sound : IsEncoding e) (keep rows : List Bool) (values :
   code_told integers (Some d) n leads = is_code e sound keep rows values a b each all integers n d.code (descent_end (items_where_true keep (map (code_for e) values)) n d.nth d.code leads.rest)
 
   -- all that was asked for
-  module _ (asked : Asked) (walks : Walks) (by : AskFor asked walks) (leads : AreOnWay keep (map (code_for e) values) 0 walks) (count : ℕ) (counted : count ≡ count_by (λ row. row) keep) where
+  module _ (asked : Asked) (walks : Walks) (by_least : is_some walks.least ≡ asked.least) (by_greatest : is_some walks.greatest ≡ asked.greatest) (by_median : is_some walks.median ≡ asked.median) (leads : AreOnWay keep (map (code_for e) values) 0 walks) (count : ℕ) (counted : count ≡ count_by (λ row. row) keep) where
     abbrev told : List ℤ
     told = known (items_where_true rows values)
 
@@ -95,9 +95,9 @@ module _ (e : Encoding) (sound : IsEncoding e) (keep rows : List Bool) (values :
         record {
           count = counted ∙ count_known keep rows values a b each;
           sum = sums;
-          least = λ h. entry_at walks.least 0 0 least is_least refl (by.least ∙ h) leads.least;
-          greatest = λ h. entry_at walks.greatest _ (length told - 1) greatest is_greatest (ap (λ n. n - 1) many_codes) (by.greatest ∙ h) leads.greatest;
-          median = λ h. entry_at walks.median _ ((length told - 1) / 2) median is_median (ap (λ n. (n - 1) / 2) many_codes) (by.median ∙ h) leads.median;
+          least = λ h. entry_at walks.least 0 0 least is_least refl (by_least ∙ h) leads.least;
+          greatest = λ h. entry_at walks.greatest _ (length told - 1) greatest is_greatest (ap (λ n. n - 1) many_codes) (by_greatest ∙ h) leads.greatest;
+          median = λ h. entry_at walks.median _ ((length told - 1) / 2) median is_median (ap (λ n. (n - 1) / 2) many_codes) (by_median ∙ h) leads.median;
         }
 
 -- the codes of a column fit its width

@@ -3,6 +3,7 @@
 
 mod descent;
 mod known;
+mod runs;
 mod set_functions;
 mod summary;
 mod totals;

@@ -12,9 +12,10 @@ ghost use Rattle.bw_aggregate.specs.Walks.{AreCounted, AreOnWay, AskFor, IsCodeS
 
 use crate::descent::Descent;
 use crate::known::known_rows;
-use crate::totals::{based_total, sum_of_values};
+use crate::runs::{code_sum, sum_of_values};
+use crate::totals::based_total;
 use crate::walks::Walks;
-use bw_code::Encoding;
+use bw_code::{Encoding, Layout};
 use bw_column::Column;
 use bw_mask::Mask;
 use std::alloc::{AllocError, Global};
@@ -74,12 +75,16 @@ pub fn summarize(
     }
     let encoding = column.encoding();
     let bits = encoding.width();
-    let mut walks = Walks::begin(&known, asked, count)?;
+    let walked = Asked {
+        sum: asked.sum && adds_by_planes(column),
+        ..asked
+    };
+    let mut walks = Walks::begin(&known, walked, count)?;
     let mut plane = Mask::filled(alloc, column.len(), false)?;
     walk_down(column, bits, &known, &mut walks, &mut plane);
     Ok(Summary {
         count,
-        sum: sum_told(column, &known, count, walks.sum),
+        sum: sum_told(column, &known, count, asked.sum, walks.sum),
         least: value_told(encoding, walks.least),
         greatest: value_told(encoding, walks.greatest),
         median: value_told(encoding, walks.median),
@@ -109,33 +114,63 @@ fn walk_down(column: &Column, bits: u32, rows: &Mask, walks: &mut Walks, plane: 
     }
 }
 
-/// The sum of the values of the rows, where that of their codes was asked for.
-fn sum_told(column: &Column, rows: &Mask, count: usize, codes: Option<u128>) -> Option<i128>
+/// Whether the sum is told by counts of planes. A dictionary's codes don't tell it, and codes that lie as numbers are
+/// added up for less than their planes cost.
+fn adds_by_planes(column: &Column) -> bool {
+    match column.encoding() {
+        Encoding::Offset(_) => matches!(column.layout(), Layout::V | Layout::S),
+        Encoding::Dictionary(_) => false,
+    }
+}
+
+/// The sum of the values of the rows, where it is asked for.
+fn sum_told(
+    column: &Column,
+    rows: &Mask,
+    count: usize,
+    asked: bool,
+    codes: Option<u128>,
+) -> Option<i128>
     requires len { len rows.now ≡ length column.now.values }
     requires few { count ≤ 2 ^ 24 }
     requires count { count ≡ length (chosen column.now rows.now) }
     requires some { 0 < count }
     requires codes { IfSome codes (IsCodeSum (items_where_true rows.now.rows (codes_for column.now.encoding column.now.values))) }
-    ensures { is_some codes ≡ true → result ≡ sum (chosen column.now rows.now) }
+    ensures { asked ≡ true → result ≡ sum (chosen column.now rows.now) }
 {
-    match codes {
-        Some(codes) => Some(sum_from(column, rows, count, codes)),
-        None => None,
+    if asked {
+        Some(sum_from(column, rows, count, codes))
+    } else {
+        None
     }
 }
 
-/// The sum of the values of the rows, of which there is one at least, from that of their codes.
-fn sum_from(column: &Column, rows: &Mask, count: usize, codes: u128) -> i128
+/// The sum of the values of the rows, of which there is one at least. That of their codes may be known.
+fn sum_from(column: &Column, rows: &Mask, count: usize, codes: Option<u128>) -> i128
     requires len { len rows.now ≡ length column.now.values }
     requires few { count ≤ 2 ^ 24 }
     requires count { count ≡ length (chosen column.now rows.now) }
     requires some { 0 < count }
-    requires codes { IsCodeSum (items_where_true rows.now.rows (codes_for column.now.encoding column.now.values)) codes }
+    requires codes { IfSome codes (IsCodeSum (items_where_true rows.now.rows (codes_for column.now.encoding column.now.values))) }
     ensures { Some result ≡ sum (chosen column.now rows.now) }
 {
     match column.encoding() {
-        Encoding::Offset(offset) => based_total(offset.base, count, codes),
+        Encoding::Offset(offset) => {
+            based_total(offset.base, count, known_or_read(column, rows, codes))
+        }
         Encoding::Dictionary(_) => sum_of_values(column, rows),
+    }
+}
+
+/// The sum of the codes of the rows, if it isn't known yet.
+fn known_or_read(column: &Column, rows: &Mask, codes: Option<u128>) -> u128
+    requires len { len rows.now ≡ length column.now.values }
+    requires codes { IfSome codes (IsCodeSum (items_where_true rows.now.rows (codes_for column.now.encoding column.now.values))) }
+    ensures { IsCodeSum (items_where_true rows.now.rows (codes_for column.now.encoding column.now.values)) result }
+{
+    match codes {
+        Some(codes) => codes,
+        None => code_sum(column, rows),
     }
 }
 

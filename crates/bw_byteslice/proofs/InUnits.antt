@@ -2,7 +2,7 @@
 use Rattle.std.proofs.Common.{List, [], ap, arith, drop, get_or, inl, inr, length, map, refl, sym, take, ℕ, ◌%◌, ◌*◌, ◌+◌, ◌-◌, ◌/◌, ◌<◌, ◌^◌, ◌≡◌, ◌≤◌, ◌∙◌}
 use Rattle.std.proofs.Math.Nat.{div-lt_iff_lt-mul, mod-eq-sub-div-mul, mul-le-mul_right}
 use Rattle.std.proofs.lemmas.Bool.{cases_lt}
-use Rattle.std.proofs.lemmas.List.{get_or-drop, get_or-map, get_or-take, get_or_past, length-map, length-take}
+use Rattle.std.proofs.lemmas.List.{get_or-drop, get_or-map, get_or-take, get_or_past, length-map}
 use Rattle.std.proofs.lemmas.Nat.{div-mul-add, mod-mul-add}
 use Rattle.bw_code.proofs.Lists.{made_at, made_len}
 use Rattle.bw_byteslice.specs.Slices.{AreBytes, AreStored, byte_in, code_in, number_in, segments_of, shift_of, slices_of}

@@ -1,10 +1,11 @@
 -- 32 rows as the bits of a word.
-use Rattle.std.proofs.Common.{Bool, List, get_or, ap, arith, bit_or, inl, inr, eqb, false, not, refl, sym, true, ℕ, ◌%◌, ◌*◌, ◌+◌, ◌-◌, ◌/◌, ◌<◌, ◌^◌, ◌≡◌, ◌≤◌, ◌||◌, ◌∙◌}
+use Rattle.std.proofs.Common.{Bool, List, get_or, ap, arith, bit_or, inl, inr, eqb, false, not, refl, subst, sym, true, ℕ, ◌%◌, ◌*◌, ◌+◌, ◌-◌, ◌/◌, ◌<◌, ◌^◌, ◌≡◌, ◌≤◌, ◌||◌, ◌∙◌}
 use Rattle.std.proofs.Math.Nat.{mul-le-mul_right}
 use Rattle.std.proofs.lemmas.Bool.{cases_lt, eq-eqb, ne_eqb}
+use Rattle.std.proofs.lemmas.List.{get_or_past}
 use Rattle.std.proofs.lemmas.Nat.{shr-shr}
 use Rattle.std.proofs.lemmas.Nat.Bits.{bit_at-lt, bit_at-zero, bit_at_above, bit_at_cat_low, same_from_bits_below}
-use Rattle.bw_mask.specs.Masks.{bit_of, row_in}
+use Rattle.bw_mask.specs.Masks.{MaskRows, bit_of, len, row_at, row_in}
 use Rattle.bw_mask.proofs.Bits.{bit_below_shl, bit_of_or, bit_of_shl, bit_of_zero}
 use Rattle.bw_code.specs.Units.{some_below, sum_below}
 use Rattle.bw_byteslice.specs.Slices.{segments_of}
@@ -72,4 +73,25 @@ sum_by_twos n words f count none =
     elim (cases_lt (segments_of n) (2 * words)) [
       | inl l ↦ let one : 2 * words ≡ segments_of n + 1 = omega (arith, count, l) in ap (λ k. sum_below k f) one ∙ omega (arith, sum_more (segments_of n) f, none l)
       | inr h ↦ let same : 2 * words ≡ segments_of n = omega (arith, count, h) in ap (λ k. sum_below k f) same
+    ]
+
+-- n rows of a word are put behind those before
+pub word_put : (old new : MaskRows) (wanted : ℕ → Bool) (w n word : ℕ) → n ≤ 64 → len new ≡ len old
+    → ((j : ℕ) → len old ≤ j → wanted j ≡ false)
+    → ((j : ℕ) → j < 64 * w → row_at old j ≡ wanted j)
+    → ((r : ℕ) → r < n → bit_of word r ≡ wanted (64 * w + r))
+    → ((r : ℕ) → r < 64 → 64 * w + r < len old → row_at new (64 * w + r) ≡ bit_of word r)
+    → ((j : ℕ) → (64 * w ≤ j → 64 * w + 64 ≤ j) → row_at new j ≡ row_at old j)
+    → (j : ℕ) → j < 64 * w + n → row_at new j ≡ wanted j
+word_put old new wanted w n word few same past before bits inside outside j h =
+    elim (cases_lt j (64 * w)) [
+      | inl l ↦ outside j (λ up. absurd (omega (arith, l, up))) ∙ before j l
+      | inr l ↦
+          let r = j - 64 * w in
+          let at : 64 * w + r ≡ j = omega (arith, l) in
+          let within : r < n = omega (arith, l, h) in
+          elim (cases_lt j (len old)) [
+            | inl there ↦ subst (λ x. row_at new x ≡ wanted x) at (inside r (omega (arith, within, few)) (omega (arith, at, there)) ∙ bits r within)
+            | inr gone ↦ get_or_past new.rows j false (omega (arith, gone, same)) ∙ sym (past j gone)
+          ]
     ]

@@ -1,9 +1,10 @@
 //! Planes of bits off slices.
 
-ghost use Rattle.std.specs.Prelude.{length, slice_index, ℕ, ◌*◌, ◌<◌, ◌^◌, ◌≡◌, ◌≤◌};
+ghost use Rattle.std.specs.Prelude.{length, slice_index, ℕ, ◌*◌, ◌+◌, ◌<◌, ◌^◌, ◌≡◌, ◌≤◌};
 ghost use Rattle.bw_mask.specs.Masks.{SameShape, bit_of, len, row_at};
 ghost use Rattle.bw_byteslice.specs.Slices.{segments_of};
 
+use crate::rows::{joined, low_half};
 use crate::source::bytes_at;
 use bw_mask::Mask;
 use std::simd::prelude::*;
@@ -18,6 +19,17 @@ fn rows_with_bit(bytes: &[u8; 32], i: u32) -> u64
         .to_bitmask()
 }
 
+/// Bit r says whether byte 64 w + r has bit i.
+fn word_with_bit(slice: &[u8], w: usize, i: u32) -> u64
+    requires bit { i < 8 }
+    requires there { 64 * w + 64 ≤ length slice.now }
+    ensures { (r : ℕ) → r < 64 → bit_of result r ≡ bit_of (slice_index slice.now (64 * w + r)) i }
+{
+    let low = rows_with_bit(&bytes_at(slice, 2 * w), i);
+    let high = rows_with_bit(&bytes_at(slice, 2 * w + 1), i);
+    joined(low_half(low), low_half(high))
+}
+
 /// `out` becomes the rows whose byte has bit i.
 pub(crate) fn put_rows(slice: &[u8], i: u32, out: &mut Mask)
     requires bit { i < 8 }
@@ -27,8 +39,13 @@ pub(crate) fn put_rows(slice: &[u8], i: u32, out: &mut Mask)
     ensures shape { SameShape out.new out.old }
     ensures rows { (r : ℕ) → row_at out.new r ≡ bit_of (slice_index slice.now r) i }
 {
-    for q in 0..slice.len() / 32 {
-        let found = rows_with_bit(&bytes_at(slice, q), i);
-        out.put_bits(32 * q, 32, found);
+    let words = slice.len() / 64;
+    for w in 0..words {
+        out.put_word(w, word_with_bit(slice, w, i));
+    }
+    // An odd segment is half a word, and there are no rows behind it.
+    if slice.len() % 64 > 0 {
+        let found = rows_with_bit(&bytes_at(slice, 2 * words), i);
+        out.put_word(words, found);
     }
 }

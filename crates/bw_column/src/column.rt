@@ -104,6 +104,7 @@ impl Column {
     pub fn storage(&self) -> Storage<'_>
         ensures layout { lent_layout result ≡ self.now.layout }
         ensures width { (lent_list result).width ≡ width self.now.encoding }
+        ensures narrow { (lent_list result).width ≤ 32 }
         ensures codes { (lent_list result).codes ≡ codes_for self.now.encoding self.now.values }
     {
         self.codes.lent()

@@ -74,8 +74,10 @@ pub fn count_and_words(a: &[u64], b: &[u64]) -> u64
     requires few { length a.now ≤ 2 ^ 56 }
     ensures { result ≡ sum_by (λ p. count_ones (bit_and p.0 p.1)) (zip a.now b.now) }
 {
-    a.iter()
-        .zip(b)
-        .map(|(x, y)| (*x & *y).count_ones() as u64)
-        .sum()
+    // By the places: a loop over both slices at once ends at two ends, and takes twice as long.
+    let mut total = 0;
+    'words: for i in 0..a.len() {
+        total += u64::from((a[i] & b[i]).count_ones());
+    }
+    total
 }

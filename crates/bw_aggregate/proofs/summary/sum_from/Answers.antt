@@ -12,4 +12,4 @@ returns-in-Offset c =
     let whole : to_z w128 (of_z w128 c.based_total.result) ≡ c.based_total.result = omega (arith, ints, c.based_total.type_inv) in
     let base : to_z w64 (of_z w64 offset.base) ≡ offset.base = search (arith, ints, to_z-of_z) in
     rw (whole, c.based_total.ensures, base) (
-    sum_offset column.encoding offset (sym c.in-Offset.is ∙ c.encoding.ensures.is) c.args.rows.now.rows column.values c.encoding.ensures.coded c.args.count c.args.codes c.requires.count c.requires.some c.requires.codes.is)
+    sum_offset column.encoding offset (sym c.in-Offset.is ∙ c.encoding.ensures.is) c.args.rows.now.rows column.values c.encoding.ensures.coded c.args.count c.known_or_read.result c.requires.count c.requires.some c.known_or_read.ensures.is)

@@ -4,6 +4,7 @@ use Rattle.bw_code.specs.Encodings.{width}
 use Rattle.bw_column.specs.Codes.{code_for, codes_for}
 use Rattle.bw_model.specs.SetFunctions.{sum}
 use Rattle.bw_aggregate.specs.Chosen.{chosen}
+use Rattle.bw_aggregate.specs.declared.summary.Asked.{Asked}
 use Rattle.bw_aggregate.proofs.KnownValues.{count_known}
 use Rattle.bw_aggregate.proofs.Walking.{are_told, code_told, fit_by, known_again, many_codes, nothing_told, same_values, sum_whole}
 use Rattle.bw_aggregate.proofs.summary.summarize.Goals as goal
@@ -78,7 +79,8 @@ returns c =
     let keep = c.in_ok-known.known.rows in
     let rows = c.args.rows.now.rows in
     let same : length keep ≡ length column.values = known.len ∙ c.requires in
-    let asked = c.walk_down.ensures.asked c.args.asked c.in_ok-walks.ensures.asked in
-    let sums : c.args.asked.sum ≡ true → c.sum_told.result ≡ sum (chosen column c.args.rows.now) = λ a. c.sum_told.ensures (asked.sum ∙ a) ∙ ap sum (same_values column.encoding e.sound keep rows column.values same c.requires known.each e.coded) in
-    are_told column.encoding e.sound keep rows column.values same c.requires known.each e.coded c.args.asked c.walk_down.new.walks asked c.walk_down.ensures.leads c.count-count.result c.count-count.ensures.rows c.sum_told.result sums
+    let walked : Asked = record { sum = c.if-asked.walked; least = c.args.asked.least; greatest = c.args.asked.greatest; median = c.args.asked.median } in
+    let asked = c.walk_down.ensures.asked walked c.in_ok-walks.ensures.asked in
+    let sums : c.args.asked.sum ≡ true → c.sum_told.result ≡ sum (chosen column c.args.rows.now) = λ a. c.sum_told.ensures a ∙ ap sum (same_values column.encoding e.sound keep rows column.values same c.requires known.each e.coded) in
+    are_told column.encoding e.sound keep rows column.values same c.requires known.each e.coded c.args.asked c.walk_down.new.walks asked.least asked.greatest asked.median c.walk_down.ensures.leads c.count-count.result c.count-count.ensures.rows c.sum_told.result sums
     c.value_told.result (rw e.is at c.value_told.ensures) c.value_told-2.result (rw e.is at c.value_told-2.ensures) c.value_told-3.result (rw e.is at c.value_told-3.ensures)

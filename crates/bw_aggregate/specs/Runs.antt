@@ -1,0 +1,18 @@
+-- Sums of the codes and of the values of the rows in front of a place, and runs of rows behind it.
+use Rattle.std.specs.Prelude.{Bool, List, Option, false, length, slice_index_or, sum, take, ℕ, ℤ, ◌+◌, ◌<◌, ◌≡◌, ◌≤◌}
+use Rattle.std.specs.List.{items_where_true}
+use Rattle.bw_mask.specs.Masks.{bit_of}
+use Rattle.bw_model.specs.SetFunctions.{known, total}
+
+-- the sum of the codes of the rows in front of place n that are in
+abbrev pub code_sum : List Bool → List ℕ → ℕ → ℕ
+code_sum rows codes n = sum (items_where_true (take n rows) (take n codes))
+
+-- the sum of the values of these rows
+abbrev pub value_total : List Bool → List (Option ℤ) → ℕ → ℤ
+value_total rows values n = total (known (items_where_true (take n rows) (take n values)))
+
+-- of so many rows, n from a place on are there, and the bits of a word say which of them are in
+pub record IsRun (rows : List Bool) (at n word : ℕ) : Type 0 where
+  pub inside : at + n ≤ length rows
+  pub bits : (i : ℕ) → i < n → slice_index_or rows (at + i) false ≡ bit_of word i

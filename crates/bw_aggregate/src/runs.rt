@@ -1,0 +1,158 @@
+//! Sums over runs of 64 rows, for layouts and kinds whose planes don't tell them, or cost more.
+
+ghost use Rattle.std.specs.Prelude.{All, Bool, FitsSigned, List, Option, drop, if◌then◌else◌, length, pos, slice_index, take, unsigned_abs, unwrap_or, ℕ, ℤ, ◌*◌, ◌+◌, ◌+ℤ◌, ◌<◌, ◌^◌, ◌≡◌, ◌≤◌};
+ghost use Rattle.std.specs.Int.{w32};
+ghost use Rattle.std.specs.List.{items_where_true};
+ghost use Rattle.bw_mask.specs.Masks.{bit_of, len};
+ghost use Rattle.bw_code.specs.Columns.{count};
+ghost use Rattle.bw_column.specs.Codes.{codes_for};
+ghost use Rattle.bw_column.specs.Values.{IsNullOrInteger, value_at};
+ghost use Rattle.bw_model.specs.SetFunctions.{total};
+ghost use Rattle.bw_aggregate.specs.Chosen.{chosen};
+ghost use Rattle.bw_aggregate.specs.Runs.{IsRun, code_sum, value_total};
+ghost use Rattle.bw_aggregate.specs.Walks.{IsCodeSum};
+
+use bw_code::CodeColumn;
+use bw_column::{Column, Storage};
+use bw_mask::Mask;
+
+/// Whether row i of a run is in.
+#[tactic(auto, using(bw_mask::proofs::Bits::bit_test))]
+fn is_in(rows: u64, i: usize) -> bool
+    requires { i < 64 }
+    ensures { result ≡ bit_of rows i }
+{
+    rows >> i & 1 == 1
+}
+
+/// The code of row i of a run; 0 where the row isn't in.
+fn code_in(codes: &[u64], rows: u64, i: usize) -> u64
+    requires few { length codes.now ≤ 64 }
+    requires there { i < length codes.now }
+    ensures { result ≡ (if bit_of rows i then slice_index codes.now i else 0) }
+{
+    if is_in(rows, i) { codes[i] } else { 0 }
+}
+
+/// The sum of the codes of a run's rows that are in.
+fn sum_in(codes: &[u64], rows: u64) -> u64
+    requires few { length codes.now ≤ 64 }
+    requires narrow { All (λ code. code < 2 ^ 32) codes.now }
+    ensures sum { (need : List Bool) (all : List ℕ) (at : ℕ) → length need ≡ length all → codes.now ≡ take (length codes.now) (drop at all) → IsRun need at (length codes.now) rows
+        → code_sum need all (at + length codes.now) ≡ code_sum need all at + result }
+    ensures small { result ≤ 64 * 2 ^ 32 }
+{
+    let mut sum = 0;
+    'codes: for i in 0..codes.len() {
+        sum += code_in(codes, rows, i);
+    }
+    sum
+}
+
+/// The sum of the codes of those of n rows from `at` on that are in. Where none is, no code is looked at.
+fn sum_at<C: CodeColumn>(column: &C, at: usize, n: usize, rows: u64) -> u64
+    requires narrow { (C.seen column.now).width ≤ 32 }
+    requires few { n ≤ 64 }
+    requires inside { at + n ≤ count (C.seen column.now) }
+    ensures sum { (need : List Bool) → length need ≡ count (C.seen column.now) → IsRun need at n rows
+        → code_sum need (C.seen column.now).codes (at + n) ≡ code_sum need (C.seen column.now).codes at + result }
+    ensures small { result ≤ 64 * 2 ^ 32 }
+{
+    if rows == 0 {
+        return 0;
+    }
+    let mut run = [0; 64];
+    let codes = &mut run[..n];
+    column.read(at, codes);
+    sum_in(codes, rows)
+}
+
+/// The sum of the codes of the rows, read in runs.
+fn sum_of_codes<C: CodeColumn>(column: &C, rows: &Mask) -> u128
+    requires narrow { (C.seen column.now).width ≤ 32 }
+    requires len { len rows.now ≡ count (C.seen column.now) }
+    ensures { IsCodeSum (items_where_true rows.now.rows (C.seen column.now).codes) result }
+{
+    let mut sum = 0;
+    'runs: for q in 0..column.len().div_ceil(64) {
+        let at = 64 * q;
+        let n = (column.len() - at).min(64);
+        sum += u128::from(sum_at(column, at, n, rows.bits(at, 64)));
+    }
+    sum
+}
+
+/// The sum of the codes of the rows, a null's being 0.
+pub(crate) fn code_sum(column: &Column, rows: &Mask) -> u128
+    requires { len rows.now ≡ length column.now.values }
+    ensures { IsCodeSum (items_where_true rows.now.rows (codes_for column.now.encoding column.now.values)) result }
+{
+    match column.storage() {
+        Storage::P(codes) => sum_of_codes(codes, rows),
+        Storage::V(codes) => sum_of_codes(codes, rows),
+        Storage::H(codes) => sum_of_codes(codes, rows),
+        Storage::S(codes) => sum_of_codes(codes, rows),
+    }
+}
+
+/// The value of row i of a run; 0 where it is null, and where the row isn't in.
+fn value_in(values: &[Option<i64>], rows: u64, i: usize) -> i64
+    requires few { length values.now ≤ 64 }
+    requires there { i < length values.now }
+    requires integer { IsNullOrInteger (value_at values.now i) }
+    ensures is { result ≡ (if bit_of rows i then unwrap_or (value_at values.now i) (pos 0) else pos 0) }
+    ensures integer { FitsSigned w32 result }
+{
+    if is_in(rows, i) {
+        values[i].unwrap_or(0)
+    } else {
+        0
+    }
+}
+
+/// The sum of the values of a run's rows that are in.
+fn total_in(values: &[Option<i64>], rows: u64) -> i64
+    requires few { length values.now ≤ 64 }
+    requires integers { All IsNullOrInteger values.now }
+    ensures total { (need : List Bool) (all : List (Option ℤ)) (at : ℕ) → length need ≡ length all → values.now ≡ take (length values.now) (drop at all) → IsRun need at (length values.now) rows
+        → value_total need all (at + length values.now) ≡ value_total need all at +ℤ result }
+    ensures small { unsigned_abs result ≤ 64 * 2 ^ 31 }
+{
+    let mut total = 0;
+    'values: for i in 0..values.len() {
+        total += value_in(values, rows, i);
+    }
+    total
+}
+
+/// The sum of the values of those of n rows from `at` on that are in. Where none is, no value is looked at.
+fn total_at(column: &Column, at: usize, n: usize, rows: u64) -> i64
+    requires few { n ≤ 64 }
+    requires inside { at + n ≤ length column.now.values }
+    requires integers { All IsNullOrInteger column.now.values }
+    ensures total { (need : List Bool) → length need ≡ length column.now.values → IsRun need at n rows
+        → value_total need column.now.values (at + n) ≡ value_total need column.now.values at +ℤ result }
+    ensures small { unsigned_abs result ≤ 64 * 2 ^ 31 }
+{
+    if rows == 0 {
+        return 0;
+    }
+    let mut run = [None; 64];
+    let values = &mut run[..n];
+    column.read(at, values);
+    total_in(values, rows)
+}
+
+/// The sum of the values of the rows, read in runs.
+pub(crate) fn sum_of_values(column: &Column, rows: &Mask) -> i128
+    requires { len rows.now ≡ length column.now.values }
+    ensures { result ≡ total (chosen column.now rows.now) }
+{
+    let mut total = 0;
+    'runs: for q in 0..column.len().div_ceil(64) {
+        let at = 64 * q;
+        let n = (column.len() - at).min(64);
+        total += i128::from(total_at(column, at, n, rows.bits(at, 64)));
+    }
+    total
+}
