@@ -1,8 +1,9 @@
--- What a field says: NULL, or an INTEGER by an optional sign and digits.
-use Rattle.std.specs.Prelude.{Bool, Err, List, Ok, None, Option, Result, Some, [], codes, if◌then◌else◌, neg_ℤ, nat_le, not, pos, ℕ, ℤ, ◌&&◌, ◌*◌, ◌+◌, ◌-◌, ◌==◌, ◌||◌, ◌∷◌, false, true, length}
+-- What a field of a CSV file says: NULL, or an INTEGER by an optional sign and digits.
+use Rattle.std.specs.Prelude.{Bool, Err, List, Ok, None, Option, Result, Some, [], codes, if◌then◌else◌, neg_ℤ, nat_le, not, pos, ℕ, ℤ, ◌&&◌, ◌==◌, ◌||◌, ◌∷◌, false, true, length}
 use Rattle.std.specs.Char.{is_ascii_digit}
 use Rattle.std.specs.List.{list_all}
 use Rattle.std.specs.Str.{str_eq_ignore_ascii_case}
+use Rattle.std.specs.Str.Parse.{digits_value}
 use Rattle.bw_csvload.specs.declared.fault.FieldFault.{FieldFault}
 use Rattle.bw_csvload.specs.declared.fault.FieldFault.TheVariants.{NotInteger, Range}
 
@@ -24,11 +25,6 @@ without_sign (b ∷ bytes) = if (b == 43) || (b == 45) then bytes else b ∷ byt
 abbrev pub are_digits : List ℕ → Bool
 are_digits text = not (length text == 0) && list_all is_ascii_digit text
 
--- the number that digits write after those of n
-abbrev pub digits_after : ℕ → List ℕ → ℕ
-digits_after n [] = n
-digits_after n (d ∷ digits) = digits_after (n * 10 + (d - 48)) digits
-
 -- an INTEGER of this size, if there is one
 abbrev pub integer_of : Bool → ℕ → Result (Option ℤ) FieldFault
 integer_of true size = if nat_le size 2147483648 then Ok (Some (neg_ℤ (pos size))) else Err Range
@@ -38,5 +34,5 @@ integer_of false size = if nat_le size 2147483647 then Ok (Some (pos size)) else
 abbrev pub cell_of : List ℕ → Result (Option ℤ) FieldFault
 cell_of text =
     if is_null text then Ok None
-    else if are_digits (without_sign text) then integer_of (is_minus text) (digits_after 0 (without_sign text))
+    else if are_digits (without_sign text) then integer_of (is_minus text) (digits_value 10 (without_sign text))
     else Err NotInteger

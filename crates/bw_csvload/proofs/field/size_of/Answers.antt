@@ -8,5 +8,5 @@ loop-digit-preserved c =
     record {
       small = omega arith;
       digits = rest_digits c.args.digits.now at.digit-index c.loop-digit-test.true at.invariant.digits;
-      goes_on = rw (c.min-size.ensures, c.from.ensures) (next_digit c.args.digits.now at.digit-index at.size c.loop-digit-test.true ∙ at.invariant.goes_on);
+      goes_on = rw (c.min-size.ensures, c.from.ensures) (next_digit c.args.digits.now at.digit-index c.loop-digit-test.true at.invariant.digits at.size ∙ at.invariant.goes_on);
     }
