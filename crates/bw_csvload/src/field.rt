@@ -1,9 +1,7 @@
 //! What a field of a file says.
 
-ghost use Rattle.std.specs.Prelude.{◌≡◌, true, min};
-ghost use Rattle.std.specs.List.{list_all};
-ghost use Rattle.std.specs.Char.{is_ascii_digit};
-ghost use Rattle.std.specs.Str.Parse.{digits_value};
+ghost use Rattle.std.specs.Prelude.{◌≡◌};
+ghost use Rattle.bw_csvload.specs.Sizes.{size_of};
 ghost use Rattle.bw_csvload.specs.Fields.{cell_of, is_minus, is_null, without_sign};
 
 use crate::fault::FieldFault;
@@ -16,10 +14,13 @@ pub(crate) fn cell(text: &[u8]) -> Result<Option<i32>, FieldFault>
         return Ok(None);
     }
     let digits = without_sign(text);
-    if digits.is_empty() || !all_digits(digits) {
+    if digits.is_empty() {
         return Err(FieldFault::NotInteger);
     }
-    let size = size_of(digits) as i64;
+    let Some(size) = size_of(digits) else {
+        return Err(FieldFault::NotInteger);
+    };
+    let size = size as i64;
     let number = if is_minus(text) { -size } else { size };
     match i32::try_from(number) {
         Ok(number) => Ok(Some(number)),
@@ -54,22 +55,17 @@ fn without_sign(text: &[u8]) -> &[u8]
     }
 }
 
-/// Whether there is nothing but digits.
-fn all_digits(text: &[u8]) -> bool
-    ensures { result ≡ list_all is_ascii_digit text.now }
-{
-    text.iter().all(|byte| byte.is_ascii_digit())
-}
-
-/// The number that the digits write, or 2147483649 where it is greater. That is outside INTEGER with
-/// either sign, so digits of any number can be read in one number of 64 bits.
-fn size_of(digits: &[u8]) -> u64
-    requires { list_all is_ascii_digit digits.now ≡ true }
-    ensures { result ≡ min (digits_value 10 digits.now) 2147483649 }
+/// The number that the text writes, or 2147483649 where it is greater; `None` where not each byte is
+/// a digit. That number is outside INTEGER with either sign, so that 64 bits hold what any digits say.
+fn size_of(text: &[u8]) -> Option<u64>
+    ensures { result ≡ size_of text.now }
 {
     let mut size = 0;
-    for digit in digits {
-        size = (size * 10 + u64::from(*digit - b'0')).min(2_147_483_649);
+    for byte in text {
+        if !byte.is_ascii_digit() {
+            return None;
+        }
+        size = (size * 10 + u64::from(*byte - b'0')).min(2_147_483_649);
     }
-    size
+    Some(size)
 }

@@ -1,12 +1,12 @@
-use Rattle.std.proofs.Common.{arith, ◌∙◌}
-use Rattle.bw_csvload.proofs.Digits.{next_digit, rest_digits}
+use Rattle.std.proofs.Common.{arith, sym, ◌∙◌}
+use Rattle.bw_csvload.proofs.Digits.{next_digit}
 use Rattle.bw_csvload.proofs.field.size_of.Goals as goal
 
-pub loop-digit-preserved : goal.loop-digit-preserved
-loop-digit-preserved c =
-    let at = c.loop-digit in
+pub loop-byte-preserved : goal.loop-byte-preserved
+loop-byte-preserved c =
+    let at = c.loop-byte in
+    let more = next_digit c.args.text.now at.byte-index c.loop-byte-test.true at.size (sym c.is_ascii_digit.ensures.value ∙ c.if-not-is_ascii_digit.false) in
     record {
       small = omega arith;
-      digits = rest_digits c.args.digits.now at.digit-index c.loop-digit-test.true at.invariant.digits;
-      goes_on = rw (c.min-size.ensures, c.from.ensures) (next_digit c.args.digits.now at.digit-index c.loop-digit-test.true at.invariant.digits at.size ∙ at.invariant.goes_on);
+      goes_on = rw (c.min-size.ensures, c.from.ensures) (more ∙ at.invariant.goes_on);
     }
