@@ -1,10 +1,15 @@
 //! What a field of a file says.
 
 ghost use Rattle.std.specs.Prelude.{◌≡◌};
+ghost use Rattle.std.specs.Char.{is_ascii_digit};
+ghost use Rattle.std.specs.List.{list_all};
 ghost use Rattle.bw_csvload.specs.Sizes.{size_of};
 ghost use Rattle.bw_csvload.specs.Fields.{cell_of, is_minus, is_null, without_sign};
 
 use crate::fault::FieldFault;
+
+/// The first size that no INTEGER has, with either sign.
+const TOO_LARGE: u64 = 2_147_483_649;
 
 /// What a field says: NULL, or an INTEGER.
 pub(crate) fn cell(text: &[u8]) -> Result<Option<i32>, FieldFault>
@@ -55,17 +60,28 @@ fn without_sign(text: &[u8]) -> &[u8]
     }
 }
 
-/// The number that the text writes, or 2147483649 where it is greater; `None` where not each byte is
-/// a digit. That number is outside INTEGER with either sign, so that 64 bits hold what any digits say.
+/// The number that the text writes, or `TOO_LARGE` where it is greater; `None` where not each byte is
+/// a digit.
 fn size_of(text: &[u8]) -> Option<u64>
     ensures { result ≡ size_of text.now }
 {
     let mut size = 0;
-    for byte in text {
-        if !byte.is_ascii_digit() {
+    for i in 0..text.len() {
+        if !text[i].is_ascii_digit() {
             return None;
         }
-        size = (size * 10 + u64::from(*byte - b'0')).min(2_147_483_649);
+        size = size * 10 + u64::from(text[i] - b'0');
+        // Further digits would only make it greater, so that they need no number that holds them.
+        if size >= TOO_LARGE {
+            return all_digits(&text[i + 1..]).then_some(TOO_LARGE);
+        }
     }
     Some(size)
+}
+
+/// Whether there is nothing but digits.
+fn all_digits(text: &[u8]) -> bool
+    ensures { result ≡ list_all is_ascii_digit text.now }
+{
+    text.iter().all(|byte| byte.is_ascii_digit())
 }
