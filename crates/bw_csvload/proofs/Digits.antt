@@ -1,0 +1,40 @@
+-- A number of digits, read until it is too large for an INTEGER.
+use Rattle.std.proofs.Common.{List, [], add-one, ap, arith, drop, drop-cons, get_or, length, min, refl, suc, sym, take, true, ℕ, ◌<◌, ◌*◌, ◌+◌, ◌-◌, ◌≡◌, ◌∙◌, ◌∷◌, ◌≤◌}
+use Rattle.std.proofs.lemmas.Bool.Decides.{nat_tests}
+use Rattle.std.proofs.lemmas.List.{take_rest}
+use Rattle.std.proofs.lemmas.Str.{digit_value_digit}
+use Rattle.std.specs.Bool.{then_some}
+use Rattle.std.specs.Char.{digit_value, is_ascii_digit}
+use Rattle.std.specs.Int.{IsInRange}
+use Rattle.std.specs.List.{list_all}
+use Rattle.std.specs.Str.Parse.{digits_value_after}
+use Rattle.bw_csvload.specs.Sizes.{size_after, too_large}
+
+-- digits never make a number less
+digits-grow : (digits : List ℕ) (n : ℕ) → n ≤ digits_value_after 10 n digits
+digits-grow [] n = omega arith
+digits-grow (d ∷ digits) n = let more = digits-grow digits (n * 10 + digit_value d) in omega arith
+
+-- what is too large stays so
+size_after-large : (text : List ℕ) (n : ℕ) → too_large ≤ n → size_after n text ≡ then_some (list_all is_ascii_digit text) too_large
+size_after-large text n large =
+    let most : min (digits_value_after 10 n text) too_large ≡ too_large = omega (arith, digits-grow text n) in
+    ap (λ k. then_some (list_all is_ascii_digit text) k) most
+
+digit : (c : ℕ) → is_ascii_digit c ≡ true → digit_value c ≡ c - 48
+digit c h = let inside : IsInRange 48 57 c = grind (arith, nat_tests, h) in omega (arith, digit_value_digit c inside)
+
+-- a digit, taken from the front of what is left
+pub next_digit : (xs : List ℕ) (i size : ℕ) → i < length xs → is_ascii_digit (get_or xs i 0) ≡ true
+    → size_after (size * 10 + (get_or xs i 0 - 48)) (drop (i + 1) xs) ≡ size_after size (drop i xs)
+next_digit xs i size there is =
+    let more : size_after (size * 10 + digit_value (get_or xs i 0)) (drop (suc i) xs) ≡ size_after size (get_or xs i 0 ∷ drop (suc i) xs) = rw is refl in
+    rw (add-one i) (ap (λ d. size_after (size * 10 + d) (drop (suc i) xs)) (sym (digit (get_or xs i 0) is))
+    ∙ more
+    ∙ ap (size_after size) (sym (drop-cons xs i 0 there)))
+
+-- a digit that makes it too large
+pub last_digit : (xs : List ℕ) (i size : ℕ) → i < length xs → is_ascii_digit (get_or xs i 0) ≡ true → too_large ≤ size * 10 + (get_or xs i 0 - 48)
+    → then_some (list_all is_ascii_digit (take (length xs - (i + 1)) (drop (i + 1) xs))) too_large ≡ size_after size (drop i xs)
+last_digit xs i size there is large =
+    rw (take_rest xs (i + 1)) (sym (size_after-large (drop (i + 1) xs) (size * 10 + (get_or xs i 0 - 48)) large) ∙ next_digit xs i size there is)

@@ -1,0 +1,87 @@
+//! What a field of a file says.
+
+ghost use Rattle.std.specs.Prelude.{◌≡◌};
+ghost use Rattle.std.specs.Char.{is_ascii_digit};
+ghost use Rattle.std.specs.List.{list_all};
+ghost use Rattle.bw_csvload.specs.Sizes.{size_of};
+ghost use Rattle.bw_csvload.specs.Fields.{cell_of, is_minus, is_null, without_sign};
+
+use crate::fault::FieldFault;
+
+/// The first size that no INTEGER has, with either sign.
+const TOO_LARGE: u64 = 2_147_483_649;
+
+/// What a field says: NULL, or an INTEGER.
+pub(crate) fn cell(text: &[u8]) -> Result<Option<i32>, FieldFault>
+    ensures { result ≡ cell_of text.now }
+{
+    if is_null(text) {
+        return Ok(None);
+    }
+    let digits = without_sign(text);
+    if digits.is_empty() {
+        return Err(FieldFault::NotInteger);
+    }
+    let Some(size) = size_of(digits) else {
+        return Err(FieldFault::NotInteger);
+    };
+    let size = size as i64;
+    let number = if is_minus(text) { -size } else { size };
+    match i32::try_from(number) {
+        Ok(number) => Ok(Some(number)),
+        Err(_) => Err(FieldFault::Range),
+    }
+}
+
+/// Whether the text is nothing, or NULL in any case.
+fn is_null(text: &[u8]) -> bool
+    ensures { result ≡ is_null text.now }
+{
+    text.is_empty() || text.eq_ignore_ascii_case(b"NULL")
+}
+
+/// Whether the text begins with a minus.
+fn is_minus(text: &[u8]) -> bool
+    ensures { result ≡ is_minus text.now }
+{
+    match text {
+        [first, ..] => *first == b'-',
+        [] => false,
+    }
+}
+
+/// The text without the sign that it begins with, if there is one.
+fn without_sign(text: &[u8]) -> &[u8]
+    ensures { result.now ≡ without_sign text.now }
+{
+    match text {
+        [b'+' | b'-', rest @ ..] => rest,
+        _ => text,
+    }
+}
+
+/// The number that the text writes, or `TOO_LARGE` where it is greater; `None` where not each byte is
+/// a digit.
+fn size_of(text: &[u8]) -> Option<u64>
+    ensures { result ≡ size_of text.now }
+{
+    let mut size = 0;
+    for i in 0..text.len() {
+        if !text[i].is_ascii_digit() {
+            return None;
+        }
+        size = size * 10 + u64::from(text[i] - b'0');
+        // Further digits would only make it greater, so that they need no number that holds them.
+        if size >= TOO_LARGE {
+            return all_digits(&text[i + 1..]).then_some(TOO_LARGE);
+        }
+    }
+    Some(size)
+}
+
+/// Whether there is nothing but digits.
+fn all_digits(text: &[u8]) -> bool
+    ensures { result ≡ list_all is_ascii_digit text.now }
+{
+    text.iter().all(|byte| byte.is_ascii_digit())
+}
