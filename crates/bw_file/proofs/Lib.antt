@@ -1,0 +1,6 @@
+pub mod Agree
+pub mod Fronts
+pub mod Joined
+pub mod Lengths
+pub mod Places
+pub mod Words
