@@ -73,3 +73,14 @@ spelled bytes rest t h front heads columns =
       bytes_are = sym (take-append-drop 14 bytes) ∙ ap (λ xs. xs ++ drop 14 bytes) front
           ∙ ap (λ xs. front_bytes (length t.headers) t.rows ++ xs) (all ∙ heads ∙ ap (λ xs. flat_map header_bytes t.headers ++ xs) columns);
     }
+
+-- what was read after the front, where the bytes spell a table
+pub told_headers : (bytes : List ℕ) (t : Table) (hs : List ColumnHeader) (rest : List ℕ) (n : ℕ) → Spells bytes t → n ≡ length t.headers
+    → (length hs ≡ n) × (take (length bytes - 14) (drop 14 bytes) ≡ flat_map header_bytes hs ++ rest) → (hs ≡ t.headers) × (rest ≡ flat_map column_bytes t.columns)
+told_headers bytes t hs rest n s many read =
+    headers-first hs t.headers rest (flat_map column_bytes t.columns) (read.0 ∙ many) (sym read.1 ∙ told_rest bytes t s)
+
+pub told_size : (t : Table) (rest : List ℕ) (columns rows size : ℕ) → IsTable t → columns ≡ length t.headers → rows ≡ t.rows → size ≡ column_size rows
+    → rest ≡ flat_map column_bytes t.columns → length rest ≡ columns * size
+told_size t rest columns rows size h many few is e =
+    ap length e ∙ length-columns t.rows t.columns h.long ∙ ap (λ k. k * column_size t.rows) (h.wide ∙ sym many) ∙ ap (λ k. columns * column_size k) (sym few) ∙ ap (λ k. columns * k) (sym is)

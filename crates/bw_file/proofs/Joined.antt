@@ -1,7 +1,7 @@
 -- Parts of a file that follow one another are told apart.
 use Rattle.std.proofs.Common.{List, Option, [], add-one, ap, append_assoc, arith, drop, drop-cons, get_or, length, map, refl, subst, sym, take, take-append-drop, ℕ, ℤ, ◌*◌, ◌+◌, ◌++◌, ◌-◌, ◌<◌, ◌^◌, ◌≡◌, ◌≤◌, ◌∙◌, ◌∷◌}
 use Rattle.std.proofs.lemmas.Grind.{flat_map-append}
-use Rattle.std.proofs.lemmas.List.{drop-append-le, drop_all, length-append, length-drop, length-map, length-take, take-append-le, take_all}
+use Rattle.std.proofs.lemmas.List.{append-nil, get_or-map, length-append, length-map, length-take, take-append-le, take_all, take_more}
 use Rattle.std.proofs.lemmas.List.Elements.{All-get_or, All-head, All-tail, All-take}
 use Rattle.std.proofs.Math.Nat.{mul-le-mul_right}
 use Rattle.std.specs.List.{flat_map}
@@ -137,6 +137,16 @@ column_next n i cs read rest bytes h long all all' so_far whole =
     let left = columns-rest n read (take i cs) rest (column_bytes one ++ after) (omega (arith, length-take i cs)) all' (All-take (λ c. length c ≡ n) i cs all) (sym so_far ∙ whole ∙ cut column_bytes cs i [] h) in
     let size : length (column_bytes one) ≡ column_size n = length-column_bytes one ∙ ap column_size (All-get_or (λ c. length c ≡ n) cs i [] h all) in
     ap (take (column_size n)) left ∙ take-append-le (column_size n) (column_bytes one) after (omega arith) ∙ take_all (column_size n) (column_bytes one) (omega arith)
+
+-- one part more
+module _ {A B : Type 0} (g : B → A) (xs : List B) (i : ℕ) (x : B) (there : i < length xs) (is : x ≡ get_or xs i x) where
+  pub piece_at : (d : A) → get_or (map g xs) i d ≡ g x
+  piece_at d = get_or-map g xs i x d there ∙ ap g (sym is)
+
+  pub piece_more : (f : A → List ℕ) → flat_map f (take (i + 1) (map g xs)) ≡ flat_map f (take i (map g xs)) ++ f (g x)
+  piece_more f =
+      ap (flat_map f) (take_more (map g xs) i (g x) (omega (arith, length-map xs g)) ∙ ap (λ y. take i (map g xs) ++ y ∷ []) (piece_at (g x)))
+      ∙ flat_map-append f (take i (map g xs)) (g x ∷ []) ∙ ap (λ ys. flat_map f (take i (map g xs)) ++ ys) (append-nil (f (g x)))
 
 -- a column is within what is left
 pub column_within : (i width size left : ℕ) → i < width → left + i * size ≡ width * size → size ≤ left

@@ -1,4 +1,5 @@
 pub mod Agree
+pub mod Distinct
 pub mod Fronts
 pub mod Joined
 pub mod Lengths

@@ -1,8 +1,8 @@
 //! A column as bytes, and back.
 
-ghost use Rattle.std.specs.Prelude.{All, IfOk, IfSome, List, None, OnOk, Option, length, map, ◌*◌, ◌++◌, ◌≡◌, ◌≤◌, ℤ};
+ghost use Rattle.std.specs.Prelude.{All, IfOk, IfSome, List, None, OnOk, Option, length, map, true, ◌*◌, ◌++◌, ◌≡◌, ◌≤◌, ℤ};
 ghost use Rattle.std.specs.List.{flat_map};
-ghost use Rattle.bw_file.specs.Cells.{cells_of, column_bytes, column_size, row_limit, IsCell};
+ghost use Rattle.bw_file.specs.Cells.{cell_bytes, cells_of, column_bytes, column_size, presence_bytes, presence_size, row_limit, IsCell};
 
 use crate::cells::{are_cells, read_cells, write_cells};
 use crate::presence::{are_presence, write_presence};
@@ -97,9 +97,24 @@ fn read_column(
     let (present, words) = bytes.split_at(rows.div_ceil(8));
     let cells = read_cells(alloc, present, words, rows)?;
     // What was read is the column if it is spelled so: spare bits and the cells at nulls are looked at here.
-    if are_presence(present, &cells) && are_cells(words, &cells) {
+    if is_spelled(present, words, &cells) {
         Ok(Some(cells))
     } else {
         Ok(None)
+    }
+}
+
+/// Whether these are the bits and the cells of the column.
+fn is_spelled(present: &[u8], words: &[u8], cells: &[Option<i32>]) -> bool
+    requires few { length cells.now ≤ row_limit }
+    requires present { length present.now ≡ presence_size (length cells.now) }
+    requires words { length words.now ≡ 4 * length cells.now }
+    ensures same { result ≡ true → present.now ++ words.now ≡ column_bytes cells.now }
+    ensures told { All IsCell cells.now → present.now ≡ presence_bytes (presence_size (length cells.now)) cells.now → words.now ≡ flat_map cell_bytes cells.now → result ≡ true }
+{
+    if are_presence(present, cells) {
+        are_cells(words, cells)
+    } else {
+        false
     }
 }

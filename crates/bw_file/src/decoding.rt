@@ -8,7 +8,7 @@ ghost use Rattle.bw_file.specs.declared.fault.FileFault.TheVariants.{NotTable};
 use crate::column::{column_size, read_columns};
 use crate::fault::FileFault;
 use crate::front::read_counts;
-use crate::headers::{have_distinct_names, read_headers};
+use crate::headers::{has_name_twice, read_headers};
 use crate::parts::TableParts;
 use std::alloc::Global;
 
@@ -25,7 +25,7 @@ pub fn decode(alloc: Global, bytes: &[u8]) -> Result<TableParts, FileFault>
     let Some((headers, rest)) = found else {
         return Err(FileFault::NotTable);
     };
-    if !have_distinct_names(&headers) {
+    if has_name_twice(&headers) {
         return Err(FileFault::NotTable);
     }
     if rest.len() != counts.columns * column_size(counts.rows) {

@@ -51,8 +51,9 @@ pub(crate) fn read_counts(bytes: &[u8]) -> Option<Counts>
         return None;
     }
     // Mark and version are looked at here.
-    if &bytes[..14] != front(columns, rows).as_slice() {
-        return None;
+    if &bytes[..14] == front(columns, rows).as_slice() {
+        Some(Counts { columns, rows })
+    } else {
+        None
     }
-    Some(Counts { columns, rows })
 }

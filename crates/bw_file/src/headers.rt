@@ -1,6 +1,6 @@
 //! The headers of columns as bytes, and back.
 
-ghost use Rattle.std.specs.Prelude.{All, IfOk, IfSome, List, None, OnOk, Some, length, map, ◌*◌, ◌++◌, ◌+◌, ◌≡◌, ◌≤◌, ℕ, ◌↔◌};
+ghost use Rattle.std.specs.Prelude.{All, IfOk, IfSome, List, None, OnOk, Some, length, map, not, ◌*◌, ◌++◌, ◌+◌, ◌≡◌, ◌≤◌, ℕ, ◌↔◌};
 ghost use Rattle.std.specs.List.{flat_map, list_any, sum_by};
 ghost use Rattle.std.specs.Str.{bytes_eq};
 ghost use Rattle.bw_sql.specs.Names.{are_distinct, IsName};
@@ -158,23 +158,21 @@ fn read_header<'a>(
     Ok(Some((ColumnHeader { name, layout, kind }, after)))
 }
 
-/// Whether no name stands twice.
-pub(crate) fn have_distinct_names(headers: &[ColumnHeader]) -> bool
-    ensures { result ≡ are_distinct (map (λ header. header.name) headers.now) }
+/// Whether two headers have one name.
+pub(crate) fn has_name_twice(headers: &[ColumnHeader]) -> bool
+    ensures { result ≡ not (are_distinct (map (λ header. header.name) headers.now)) }
 {
-    let mut rest = headers;
-    'names: while let [first, after @ ..] = rest {
-        if has_name(after, &first.name) {
-            return false;
+    'names: for i in 0..headers.len() {
+        if has_name(&headers[i + 1..], &headers[i].name) {
+            return true;
         }
-        rest = after;
     }
-    true
+    false
 }
 
 /// Whether one of the headers has this name.
 fn has_name(headers: &[ColumnHeader], name: &Name) -> bool
-    ensures { result ≡ list_any (bytes_eq name.now) (map (λ header. header.name) headers.now) }
+    ensures { result ≡ list_any (λ header. bytes_eq name.now header.name) headers.now }
 {
     headers.iter().any(|header| name == &header.name)
 }

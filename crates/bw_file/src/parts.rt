@@ -39,7 +39,7 @@ impl TableParts {
         requires headers { AreHeaders headers.items }
         requires few { rows ≤ row_limit }
         requires wide { length columns.items ≡ length headers.items }
-        requires long { All (λ column. length (cells_of column) ≡ rows) columns.items }
+        requires long { All (λ cells. length cells ≡ rows) (map cells_of columns.items) }
         ensures { result ≡ record { headers = headers.items; rows = rows; columns = map cells_of columns.items } }
     {
         have_names(&headers);
@@ -102,8 +102,8 @@ fn have_names(headers: &[ColumnHeader])
 fn have_cells(columns: &[Vec<Option<i32>>])
     ensures { All (All IsCell) (map cells_of columns.now) }
 {
-    for column in columns {
-        are_cells(column);
+    'columns: for i in 0..columns.len() {
+        are_cells(&columns[i]);
     }
 }
 
@@ -111,8 +111,8 @@ fn have_cells(columns: &[Vec<Option<i32>>])
 fn are_cells(cells: &[Option<i32>])
     ensures { All IsCell cells.now }
 {
-    for cell in cells {
-        is_cell(*cell);
+    'cells: for i in 0..cells.len() {
+        is_cell(cells[i]);
     }
 }
 

@@ -3,5 +3,5 @@ use Rattle.std.specs.Prelude.{All}
 use Rattle.bw_file.specs.Cells.{IsCell}
 use Rattle.bw_file.proofs.parts.are_cells.Given as goal
 
-abbrev pub invariant-loop-cell : goal.invariant-loop-cell
-invariant-loop-cell l = All IsCell (take l.cell-index l.cells)
+abbrev pub invariant-cells : goal.invariant-cells
+invariant-cells l = All IsCell (take l.i l.cells)
