@@ -1,5 +1,5 @@
 -- What a test of all rows tells, row by row.
-use Rattle.std.proofs.Common.{Bool, ap, arith, nat_eq, refl, true, false, ℕ, ◌&&◌, ◌+◌, ◌<◌, ◌≡◌, ◌∙◌, sym}
+use Rattle.std.proofs.Common.{Bool, arith, nat_eq, refl, true, false, ℕ, ◌&&◌, ◌+◌, ◌<◌, ◌≡◌, ◌∙◌}
 use Rattle.std.proofs.lemmas.Bool.Decides.{nat_tests}
 use borrow.Author.Count.{below_more}
 

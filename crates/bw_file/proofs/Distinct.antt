@@ -1,5 +1,5 @@
 -- Names of headers of which none stands twice.
-use Rattle.std.proofs.Common.{Bool, List, [], add-one, ap, drop, drop-cons, get_or, length, map, not, arith, false, length-drop, refl, suc, sym, take, true, ℕ, ◌&&◌, ◌+◌, ◌-◌, ◌<◌, ◌||◌, ◌≡◌, ◌∙◌, ◌∷◌}
+use Rattle.std.proofs.Common.{Bool, List, [], add-one, ap, drop, drop-cons, get_or, length, map, not, arith, false, length-drop, refl, sym, take, true, ℕ, ◌&&◌, ◌+◌, ◌-◌, ◌<◌, ◌||◌, ◌≡◌, ◌∙◌, ◌∷◌}
 use Rattle.std.proofs.lemmas.Bool.{true≢false}
 use Rattle.std.proofs.lemmas.List.{take_all}
 use Rattle.std.specs.List.{list_any}

@@ -1,7 +1,7 @@
 -- What the front of a file tells.
-use Rattle.std.proofs.Common.{List, Option, ap, arith, drop, length, refl, subst, sym, take, ℕ, ℤ, ◌*◌, ◌+◌, ◌++◌, ◌-◌, ◌^◌, ◌≡◌, ◌≤◌, ◌∙◌}
+use Rattle.std.proofs.Common.{List, Option, ap, arith, drop, length, subst, sym, take, ℕ, ℤ, ◌*◌, ◌++◌, ◌-◌, ◌≡◌, ◌≤◌, ◌∙◌}
 use Rattle.std.proofs.lemmas.List.{length-append, length-drop, take-append-drop, take_all}
-use Rattle.std.specs.List.{flat_map, sum_by}
+use Rattle.std.specs.List.{flat_map}
 use Rattle.std.specs.Prelude.{All}
 use Rattle.byteorder.specs.Endian.{little_bytes, little_number}
 use Rattle.byteorder.specs.Numbers.{little_number-reads_back}

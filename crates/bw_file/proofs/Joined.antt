@@ -1,5 +1,5 @@
 -- Parts of a file that follow one another are told apart.
-use Rattle.std.proofs.Common.{List, Option, [], add-one, ap, append_assoc, arith, drop, drop-cons, get_or, length, map, refl, subst, sym, take, take-append-drop, ℕ, ℤ, ◌*◌, ◌+◌, ◌++◌, ◌-◌, ◌<◌, ◌^◌, ◌≡◌, ◌≤◌, ◌∙◌, ◌∷◌}
+use Rattle.std.proofs.Common.{List, Option, [], add-one, ap, append_assoc, arith, drop, drop-cons, get_or, length, map, refl, sym, take, take-append-drop, ℕ, ℤ, ◌*◌, ◌+◌, ◌++◌, ◌<◌, ◌^◌, ◌≡◌, ◌≤◌, ◌∙◌, ◌∷◌}
 use Rattle.std.proofs.lemmas.Grind.{flat_map-append}
 use Rattle.std.proofs.lemmas.List.{append-nil, get_or-map, length-append, length-map, length-take, take-append-le, take_all, take_more}
 use Rattle.std.proofs.lemmas.List.Elements.{All-get_or, All-head, All-tail, All-take}

@@ -1,9 +1,9 @@
 -- How long the parts of a file are.
-use Rattle.std.proofs.Common.{ap, sym, ◌∙◌, Bool, List, [], arith, length, refl, true, ℕ, ◌&&◌, ◌*◌, ◌+◌, ◌++◌, ◌≡◌, ◌≤◌, ◌∷◌, nat_le, false, IsTrue}
+use Rattle.std.proofs.Common.{ap, sym, ◌∙◌, List, [], arith, length, refl, ℕ, ◌+◌, ◌≡◌, ◌≤◌, ◌∷◌}
 use Rattle.std.proofs.lemmas.List.{length-append}
 use Rattle.std.proofs.lemmas.List.Sums.{sum_by-cons}
-use Rattle.std.specs.List.{flat_map, list_all, sum_by}
-use Rattle.bw_sql.specs.Names.{IsName, begins_with_letter, is_name, is_name_byte}
+use Rattle.std.specs.List.{flat_map, sum_by}
+use Rattle.bw_sql.specs.Names.{IsName, is_name}
 use Rattle.bw_file.specs.Headers.{header_bytes, kind_number, layout_number}
 use Rattle.bw_file.specs.declared.header.ColumnHeader.{ColumnHeader}
 use Rattle.std.proofs.lemmas.Grind.{common_steps}

@@ -8,6 +8,7 @@ ghost use Rattle.bw_file.specs.Table.{column_limit, Table};
 use byteorder::{ByteOrder, LittleEndian};
 
 const COLUMN_LIMIT: usize = 64;
+
 const ROW_LIMIT: usize = 16_777_216;
 
 /// How many columns and how many rows a table has.

@@ -1,4 +1,4 @@
-use Rattle.std.proofs.Common.{None, nat_eq, ◌&&◌, ap, arith, drop, get_or, length, length-drop, sym, take, ℕ, ◌*◌, ◌-◌, ◌<◌, ◌≡◌, ◌∙◌}
+use Rattle.std.proofs.Common.{None, nat_eq, ◌&&◌, ap, arith, drop, get_or, length, length-drop, sym, ℕ, ◌*◌, ◌-◌, ◌≡◌, ◌∙◌}
 use Rattle.std.proofs.lemmas.List.{take_all}
 use Rattle.byteorder.specs.Endian.{little_number}
 use Rattle.bw_file.specs.Cells.{cell_number}
@@ -17,7 +17,7 @@ rows-preserved c =
     record {
       same = λ agree. agree_more f g c.rows.i c.cell_number.result c.rows.agree inv.same c.cell_number.ensures (sym (ap (λ x. c.rows.agree && nat_eq x c.cell_number.result) read) ∙ agree);
       told = λ all e. agree_still c.rows.agree c.read_u32.result c.cell_number.result (inv.told all e)
-      (read ∙ ap (λ xs. little_number 4 (drop at xs)) e ∙ number_at c.args.cells.now c.rows.i all c.rows-test.true ∙ sym c.cell_number.ensures);
+          (read ∙ ap (λ xs. little_number 4 (drop at xs)) e ∙ number_at c.args.cells.now c.rows.i all c.rows-test.true ∙ sym c.cell_number.ensures);
     }
 
 pub returns-clause-same : goal.returns-clause-same

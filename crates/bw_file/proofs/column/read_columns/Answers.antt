@@ -1,4 +1,4 @@
-use Rattle.std.proofs.Common.{List, Option, [], ap, append_assoc, arith, drop, get_or, length, map, sym, take, take-append-drop, ℤ, ◌*◌, ◌+◌, ◌++◌, ◌<◌, ◌≡◌, ◌∙◌, ◌∷◌}
+use Rattle.std.proofs.Common.{[], ap, append_assoc, arith, drop, get_or, length, map, sym, take, take-append-drop, ◌++◌, ◌<◌, ◌≡◌, ◌∙◌, ◌∷◌}
 use Rattle.std.proofs.lemmas.List.{flat_map_more, length-append, length-map, map-append}
 use Rattle.std.proofs.lemmas.List.Elements.{All-append, All-cons, All-get_or, All-nil}
 use Rattle.std.specs.List.{flat_map}

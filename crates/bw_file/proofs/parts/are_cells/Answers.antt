@@ -1,4 +1,4 @@
-use Rattle.std.proofs.Common.{None, arith, length, subst, take}
+use Rattle.std.proofs.Common.{None, arith, subst}
 use Rattle.std.specs.Prelude.{All}
 use Rattle.std.proofs.lemmas.List.{take_all}
 use Rattle.std.proofs.lemmas.List.Elements.{All-more}

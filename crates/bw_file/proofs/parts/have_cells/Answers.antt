@@ -1,4 +1,4 @@
-use Rattle.std.proofs.Common.{[], arith, length, map, subst, sym, take, ◌<◌, ◌∙◌}
+use Rattle.std.proofs.Common.{[], arith, length, map, subst, sym, ◌<◌, ◌∙◌}
 use Rattle.std.specs.Prelude.{All}
 use Rattle.std.proofs.lemmas.List.{length-map, take_all}
 use Rattle.std.proofs.lemmas.List.Elements.{All-more}

@@ -1,4 +1,4 @@
-use Rattle.std.proofs.Common.{ap, arith, drop, get_or, length, sym, take, ℕ, ◌*◌, ◌<◌, ◌≡◌, ◌∙◌}
+use Rattle.std.proofs.Common.{ap, arith, drop, get_or, length, sym, take, ◌*◌, ◌<◌, ◌∙◌}
 use Rattle.bw_file.specs.Cells.{presence_byte, presence_size}
 use Rattle.bw_file.proofs.Agree.{agree_more, agree_still}
 use Rattle.bw_file.proofs.Places.{byte-presence_bytes, presence-by_bytes}
@@ -11,7 +11,7 @@ eights-preserved c =
     record {
       same = agree_more (λ k. get_or c.args.present.now k 0) (λ k. presence_byte (take 8 (drop (k * 8) c.args.cells.now))) c.eights.i c.presence_of_eight.result c.eights.agree inv.same c.presence_of_eight.ensures;
       told = λ e. agree_still c.eights.agree (get_or c.args.present.now c.eights.i 0) c.presence_of_eight.result (inv.told e)
-      (ap (λ xs. get_or xs c.eights.i 0) e ∙ byte-presence_bytes (presence_size (length c.args.cells.now)) c.args.cells.now c.eights.i there ∙ sym c.presence_of_eight.ensures);
+          (ap (λ xs. get_or xs c.eights.i 0) e ∙ byte-presence_bytes (presence_size (length c.args.cells.now)) c.args.cells.now c.eights.i there ∙ sym c.presence_of_eight.ensures);
     }
 
 pub returns-clause-same : goal.returns-clause-same

@@ -1,8 +1,6 @@
-use Rattle.std.proofs.Common.{◌∙◌, subst}
-use Rattle.std.specs.Prelude.{All, map}
+use Rattle.std.proofs.Common.{◌∙◌}
 use Rattle.std.proofs.lemmas.List.{length-map}
-use Rattle.bw_sql.specs.Names.{IsName}
-use Rattle.bw_file.specs.Cells.{IsCell, cells_of}
+use Rattle.bw_file.specs.Cells.{cells_of}
 use Rattle.bw_file.proofs.parts.TableParts.new.Goals as goal
 
 pub invariant_of-result : goal.invariant_of-result
