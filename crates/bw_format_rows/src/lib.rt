@@ -1,5 +1,7 @@
-//! Worked examples as tests of the formats that tables are read from.
+//! Worked examples as tests of the formats in which tables come and go.
 #![tactic(auto)]
 
 #[cfg(test)]
 mod csv_rows;
+#[cfg(test)]
+mod table_files;

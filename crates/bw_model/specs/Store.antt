@@ -1,7 +1,8 @@
 -- What a store holds: tables in the order in which they were made, each with its columns and its rows (SQL-92, tables).
-use Rattle.std.specs.Prelude.{◌<◌, ◌≤◌, ℕ, ℤ, Bool, true, ◌&&◌, not, List, [], ◌∷◌, Option, Some, None, map, length, position, slice_get, if◌then◌else◌, IsTrue}
-use Rattle.std.specs.List.{list_any}
+use Rattle.std.specs.Prelude.{◌<◌, ◌≤◌, ℕ, ℤ, List, [], ◌∷◌, Option, Some, None, map, length, position, slice_get, if◌then◌else◌, IsTrue}
 use Rattle.std.specs.Str.{bytes_eq}
+-- no name stands twice in the list
+pub use Rattle.bw_sql.specs.Names.{are_distinct}
 use Rattle.bw_sql.specs.declared.tree.ColumnDefinition.{ColumnDefinition}
 use Rattle.bw_sql.specs.declared.tree.LayoutWord.{LayoutWord}
 use Rattle.bw_sql.specs.declared.tree.LayoutWord.TheVariants.{V}
@@ -30,11 +31,6 @@ Store = List (List ℕ × Table)
 
 abbrev pub names : List Header → List (List ℕ)
 names headers = map (λ h. h.name) headers
-
--- no name stands twice in the list
-abbrev pub are_distinct : List (List ℕ) → Bool
-are_distinct [] = true
-are_distinct (name ∷ rest) = not (list_any (bytes_eq name) rest) && are_distinct rest
 
 abbrev pub column_limit : ℕ
 column_limit = 64

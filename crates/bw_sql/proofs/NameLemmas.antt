@@ -41,3 +41,14 @@ word_is_name (b ∷ bytes) word short free =
     let all = bytes_up (b ∷ bytes) (both _ _ (is_word_letter b word.0) word.1) in
     let few : nat_le (length (map to_ascii_uppercase (b ∷ bytes))) 128 ≡ true = rw (length-map (b ∷ bytes) to_ascii_uppercase) (le-leb (length (b ∷ bytes)) 128 short) in
     both _ _ (both _ _ (both _ _ first all) few) (rw free refl)
+
+same_byte : (b : ℕ) → is_name_byte b ≡ true → to_ascii_uppercase b ≡ b
+same_byte b h = grind (arith, common_steps)
+
+-- what a name is made of is in upper case
+pub name_is_upper : (bytes : List ℕ) → list_all is_name_byte bytes ≡ true → map to_ascii_uppercase bytes ≡ bytes
+name_is_upper [] h = refl
+name_is_upper (b ∷ bytes) h =
+    let first = same_byte b (and_left (is_name_byte b) (list_all is_name_byte bytes) h) in
+    let rest = name_is_upper bytes (and_right (is_name_byte b) (list_all is_name_byte bytes) h) in
+    cc

@@ -1,6 +1,6 @@
 -- Names and reserved words: SQL-92's regular identifiers, of at most 128 bytes, kept in upper case.
-use Rattle.std.specs.Prelude.{ℕ, Bool, false, ◌&&◌, ◌||◌, ◌==◌, nat_le, List, [], ◌∷◌, length, codes, IsTrue, Option, Some, None, is_none, if◌then◌else◌}
-use Rattle.std.specs.List.{list_all}
+use Rattle.std.specs.Prelude.{ℕ, Bool, true, false, not, ◌&&◌, ◌||◌, ◌==◌, nat_le, List, [], ◌∷◌, length, codes, IsTrue, Option, Some, None, is_none, if◌then◌else◌}
+use Rattle.std.specs.List.{list_all, list_any}
 use Rattle.std.specs.Char.{is_ascii_uppercase, is_ascii_digit}
 use Rattle.std.specs.Str.{bytes_eq}
 use Rattle.bw_sql.specs.declared.keyword.Keyword.{Keyword}
@@ -42,3 +42,8 @@ is_name bytes = begins_with_letter bytes && list_all is_name_byte bytes && nat_l
 
 abbrev pub IsName : List ℕ → Type 0
 IsName bytes = IsTrue (is_name bytes)
+
+-- no name stands twice in the list
+abbrev pub are_distinct : List (List ℕ) → Bool
+are_distinct [] = true
+are_distinct (name ∷ rest) = not (list_any (bytes_eq name) rest) && are_distinct rest

@@ -22,7 +22,7 @@ pub use bw_lex::{
 };
 pub use item_list::ItemList;
 pub use keyword::Keyword;
-pub use name::Name;
+pub use name::{Name, is_name};
 pub use name_list::NameList;
 pub use rows::ValueRows;
 pub use statement_text::{LONGEST_STATEMENT, names_are_names, one_statement, statement};

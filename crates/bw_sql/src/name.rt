@@ -1,14 +1,16 @@
 //! Names of tables and columns.
 
 ghost use Rattle.std.specs.Prelude.{◌≡◌, IfOk, map, nat_eq};
+ghost use Rattle.std.specs.List.{list_all};
 ghost use Rattle.std.specs.Char.{to_ascii_uppercase};
 ghost use Rattle.std.specs.Cmp.Lexicographic.{pointwise, nat_list_eq_equiv};
 ghost use Rattle.std.specs.Cmp.{partial_equiv_from_equiv};
 ghost use Rattle.std.specs.Cmp.Rules.{hashing};
 ghost use Rattle.std.specs.Hash as fed;
 ghost use Rattle.std.proofs.Common.{rules};
-ghost use Rattle.bw_sql.specs.Names.{IsName};
+ghost use Rattle.bw_sql.specs.Names.{IsName, begins_with_letter, is_name, is_name_byte};
 
+use crate::keyword::reserved_word;
 use std::alloc::{AllocError, Global};
 use std::fmt;
 use std::hash::{Hash, Hasher};
@@ -32,7 +34,45 @@ impl Model for Name {
     ghost invariant = { λ name. IsName name.bytes.items };
 }
 
+/// Whether these bytes are a name as it stands, in upper case.
+#[tactic(auto, unfolding(crate::specs::Names::is_name), using(crate::proofs::NameLemmas::name_is_upper))]
+pub fn is_name(word: &[u8]) -> bool
+    ensures { result ≡ is_name word.now }
+{
+    begins_with_letter(word)
+        && all_name_bytes(word)
+        && word.len() <= 128
+        && reserved_word(word).is_none()
+}
+
+// Whether the first byte is a capital letter.
+fn begins_with_letter(word: &[u8]) -> bool
+    ensures { result ≡ begins_with_letter word.now }
+{
+    match word {
+        [first, ..] => first.is_ascii_uppercase(),
+        [] => false,
+    }
+}
+
+// Whether each byte is a capital letter, a digit or _.
+fn all_name_bytes(word: &[u8]) -> bool
+    ensures { result ≡ list_all is_name_byte word.now }
+{
+    word.iter()
+        .all(|byte| byte.is_ascii_uppercase() || byte.is_ascii_digit() || *byte == b'_')
+}
+
 impl Name {
+    /// The name that these bytes are.
+    pub fn from_bytes(alloc: Global, bytes: &[u8]) -> Result<Name, AllocError>
+        requires { IsName bytes.now }
+        ensures { IfOk result (λ name. name ≡ bytes.now) }
+    {
+        let bytes = Vec::from_slice(alloc, bytes)?;
+        Ok(Name { bytes })
+    }
+
     /// The name that a word in any case spells.
     pub fn from_word(alloc: Global, word: &[u8]) -> Result<Name, AllocError>
         requires { IsName (map to_ascii_uppercase word.now) }

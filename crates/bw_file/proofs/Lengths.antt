@@ -1,0 +1,23 @@
+-- How long the parts of a file are.
+use Rattle.std.proofs.Common.{ap, sym, ◌∙◌, List, [], arith, length, refl, ℕ, ◌+◌, ◌≡◌, ◌≤◌, ◌∷◌}
+use Rattle.std.proofs.lemmas.List.{length-append}
+use Rattle.std.proofs.lemmas.List.Sums.{sum_by-cons}
+use Rattle.std.specs.List.{flat_map, sum_by}
+use Rattle.bw_sql.specs.Names.{IsName, is_name}
+use Rattle.bw_file.specs.Headers.{header_bytes, kind_number, layout_number}
+use Rattle.bw_file.specs.declared.header.ColumnHeader.{ColumnHeader}
+use Rattle.std.proofs.lemmas.Grind.{common_steps}
+
+-- a name has at most 128 bytes
+pub name_short : (name : List ℕ) → IsName name → length name ≤ 128
+unfolding is_name
+name_short name h = grind (arith, common_steps)
+
+pub length-headers : (headers : List ColumnHeader) → length (flat_map header_bytes headers) ≡ sum_by (λ header. 3 + length header.name) headers
+length-headers [] = refl
+length-headers (h ∷ headers) =
+    let numbers = layout_number h.layout ∷ kind_number h.kind ∷ [] in
+    let one : length (header_bytes h) ≡ 3 + length h.name = omega (arith, length-append h.name numbers) in
+    let rest = length-headers headers in
+    let both : length (flat_map header_bytes (h ∷ headers)) ≡ length (header_bytes h) + length (flat_map header_bytes headers) = length-append (header_bytes h) (flat_map header_bytes headers) in
+    both ∙ ap (λ n. n + length (flat_map header_bytes headers)) one ∙ ap (λ n. 3 + length h.name + n) rest ∙ sym (sum_by-cons (λ (x : ColumnHeader). 3 + length x.name) h headers)

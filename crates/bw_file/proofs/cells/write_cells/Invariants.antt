@@ -1,0 +1,8 @@
+use Rattle.std.proofs.Common.{take, ◌*◌, ◌≡◌}
+use Rattle.std.specs.List.{flat_map}
+use Rattle.bw_file.specs.Cells.{cell_bytes}
+use Rattle.bw_file.proofs.cells.write_cells.Given as goal
+
+-- the cells so far are written
+abbrev pub invariant-rows : goal.invariant-rows
+invariant-rows l = take (4 * l.i) l.out ≡ flat_map cell_bytes (take l.i l.cells)

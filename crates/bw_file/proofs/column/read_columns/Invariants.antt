@@ -1,0 +1,13 @@
+use Rattle.std.proofs.Common.{length, map, ◌*◌, ◌+◌, ◌++◌, ◌≡◌}
+use Rattle.std.specs.List.{flat_map}
+use Rattle.std.specs.Prelude.{All}
+use Rattle.bw_file.specs.Cells.{cells_of, column_bytes}
+use Rattle.bw_file.proofs.column.read_columns.Given as goal
+
+abbrev pub invariant-columns : goal.invariant-columns
+invariant-columns l = record {
+  count : length l.columns.items ≡ l.i;
+  left : length l.rest + l.i * l.size ≡ l.count * l.size;
+  long : All (λ cells. length cells ≡ l.rows) (map cells_of l.columns.items);
+  bytes : l.fn.bytes ≡ flat_map column_bytes (map cells_of l.columns.items) ++ l.rest;
+}

@@ -1,0 +1,5 @@
+pub mod Cells
+pub mod Format
+pub mod Headers
+pub mod Reading
+pub mod Table

@@ -1,0 +1,178 @@
+//! The headers of columns as bytes, and back.
+
+ghost use Rattle.std.specs.Prelude.{All, IfOk, IfSome, List, None, OnOk, Some, length, map, not, ◌*◌, ◌++◌, ◌+◌, ◌≡◌, ◌≤◌, ℕ, ◌↔◌};
+ghost use Rattle.std.specs.List.{flat_map, list_any, sum_by};
+ghost use Rattle.std.specs.Str.{bytes_eq};
+ghost use Rattle.bw_sql.specs.Names.{are_distinct, IsName};
+ghost use Rattle.bw_sql.specs.declared.tree.KindWord.{KindWord};
+ghost use Rattle.bw_sql.specs.declared.tree.LayoutWord.{LayoutWord};
+ghost use Rattle.bw_file.specs.Headers.{header_bytes, kind_number, layout_number};
+ghost use Rattle.bw_file.specs.Table.{column_limit};
+ghost use Rattle.bw_file.specs.declared.header.ColumnHeader.{ColumnHeader};
+
+use crate::header::ColumnHeader;
+use bw_sql::{KindWord, LayoutWord, Name, is_name};
+use std::alloc::{AllocError, Global};
+
+/// How many bytes the headers have.
+pub(crate) fn headers_size(headers: &[ColumnHeader]) -> u64
+    requires { length headers.now ≤ column_limit }
+    ensures size { result ≡ sum_by (λ header. 3 + length header.name) headers.now }
+    ensures bound { result ≤ 131 * length headers.now }
+{
+    let mut size = 0;
+    'headers: for i in 0..headers.len() {
+        size += 3 + name_length(&headers[i].name);
+    }
+    size
+}
+
+/// How many bytes the name has.
+#[tactic(auto, using(crate::proofs::Lengths::name_short))]
+fn name_length(name: &Name) -> u64
+    ensures value { result ≡ length name.now }
+    ensures short { result ≤ 128 }
+{
+    name.as_bytes().len() as u64
+}
+
+/// Puts the bytes of headers last.
+pub(crate) fn put_headers(bytes: &mut Vec<u8>, headers: &[ColumnHeader]) -> Result<(), AllocError>
+    ensures { OnOk result (bytes.new.items ≡ bytes.old.items ++ flat_map header_bytes headers.now) }
+{
+    'headers: for i in 0..headers.len() {
+        put_header(bytes, &headers[i])?;
+    }
+    Ok(())
+}
+
+/// Puts the bytes of a header last.
+fn put_header(bytes: &mut Vec<u8>, header: &ColumnHeader) -> Result<(), AllocError>
+    ensures { OnOk result (bytes.new.items ≡ bytes.old.items ++ header_bytes header.now) }
+{
+    bytes.push(name_length(&header.name) as u8)?;
+    bytes.extend_from_slice(header.name.as_bytes())?;
+    bytes.push(layout_number(header.layout))?;
+    bytes.push(kind_number(header.kind))?;
+    Ok(())
+}
+
+fn layout_number(layout: LayoutWord) -> u8
+    ensures { result ≡ layout_number layout }
+{
+    match layout {
+        LayoutWord::P => 0,
+        LayoutWord::V => 1,
+        LayoutWord::H => 2,
+        LayoutWord::S => 3,
+    }
+}
+
+fn kind_number(kind: KindWord) -> u8
+    ensures { result ≡ kind_number kind }
+{
+    match kind {
+        KindWord::Offset => 0,
+        KindWord::Dictionary => 1,
+    }
+}
+
+/// The layout of this number.
+fn layout_of(number: u8) -> Option<LayoutWord>
+    ensures found { IfSome result (λ layout. number ≡ layout_number layout) }
+    ensures none { result ≡ None → (layout : LayoutWord) → number ≡ layout_number layout → ⊥ }
+{
+    match number {
+        0 => Some(LayoutWord::P),
+        1 => Some(LayoutWord::V),
+        2 => Some(LayoutWord::H),
+        3 => Some(LayoutWord::S),
+        _ => None,
+    }
+}
+
+/// The kind of this number.
+fn kind_of(number: u8) -> Option<KindWord>
+    ensures found { IfSome result (λ kind. number ≡ kind_number kind) }
+    ensures none { result ≡ None → (kind : KindWord) → number ≡ kind_number kind → ⊥ }
+{
+    match number {
+        0 => Some(KindWord::Offset),
+        1 => Some(KindWord::Dictionary),
+        _ => None,
+    }
+}
+
+/// So many headers that stand first, and the bytes after them; `None` if no headers stand there.
+pub(crate) fn read_headers<'a>(
+    alloc: Global,
+    bytes: &'a [u8],
+    count: usize,
+) -> Result<Option<(Vec<ColumnHeader>, &'a [u8])>, AllocError>
+    ensures headers { IfOk result (λ found. IfSome found (λ f. (length f.0.items ≡ count) × (bytes.entry.now ≡ flat_map header_bytes f.0.items ++ f.1.now))) }
+    ensures none { IfOk result (λ found. found ≡ None → (headers : List ColumnHeader) (tail : List ℕ) → length headers ≡ count → All (λ header. IsName header.name) headers
+        → bytes.entry.now ≡ flat_map header_bytes headers ++ tail → ⊥) }
+{
+    let mut headers = Vec::with_capacity(alloc, count)?;
+    let mut rest = bytes;
+    'headers: for i in 0..count {
+        let found = read_header(alloc, rest)?;
+        let Some((header, after)) = found else {
+            return Ok(None);
+        };
+        headers.push(header)?;
+        rest = after;
+    }
+    Ok(Some((headers, rest)))
+}
+
+/// The header that stands first, and the bytes after it; `None` if none stands there.
+fn read_header<'a>(
+    alloc: Global,
+    bytes: &'a [u8],
+) -> Result<Option<(ColumnHeader, &'a [u8])>, AllocError>
+    ensures header { IfOk result (λ found. IfSome found (λ f. bytes.entry.now ≡ header_bytes f.0 ++ f.1.now)) }
+    ensures none { IfOk result (λ found. found ≡ None → (header : ColumnHeader) (tail : List ℕ) → IsName header.name → bytes.entry.now ≡ header_bytes header ++ tail → ⊥) }
+{
+    let [size, rest @ ..] = bytes else {
+        return Ok(None);
+    };
+    let size = usize::from(*size);
+    if rest.len() < size {
+        return Ok(None);
+    }
+    let (name, numbers) = rest.split_at(size);
+    let [layout, kind, after @ ..] = numbers else {
+        return Ok(None);
+    };
+    let Some(layout) = layout_of(*layout) else {
+        return Ok(None);
+    };
+    let Some(kind) = kind_of(*kind) else {
+        return Ok(None);
+    };
+    if !is_name(name) {
+        return Ok(None);
+    }
+    let name = Name::from_bytes(alloc, name)?;
+    Ok(Some((ColumnHeader { name, layout, kind }, after)))
+}
+
+/// Whether two headers have one name.
+pub(crate) fn has_name_twice(headers: &[ColumnHeader]) -> bool
+    ensures { result ≡ not (are_distinct (map (λ header. header.name) headers.now)) }
+{
+    'names: for i in 0..headers.len() {
+        if has_name(&headers[i + 1..], &headers[i].name) {
+            return true;
+        }
+    }
+    false
+}
+
+/// Whether one of the headers has this name.
+fn has_name(headers: &[ColumnHeader], name: &Name) -> bool
+    ensures { result ≡ list_any (λ header. bytes_eq name.now header.name) headers.now }
+{
+    headers.iter().any(|header| name == &header.name)
+}
