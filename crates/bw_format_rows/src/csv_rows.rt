@@ -119,7 +119,10 @@ fn cells_of_one_column(rt: HostRuntime) {
         (&b"\"NULL\"\n"[..], None),
         (&b"-2147483648"[..], Some(i32::MIN)),
         (&b"2147483647"[..], Some(i32::MAX)),
-        (&b"+0000000000000000000000000000000002147483647"[..], Some(i32::MAX)),
+        (
+            &b"+0000000000000000000000000000000002147483647"[..],
+            Some(i32::MAX),
+        ),
         (&b"-0"[..], Some(0)),
         (&b"\"1\"2"[..], Some(12)),
         (&b"\"-3\"\r\n"[..], Some(-3)),
@@ -153,10 +156,7 @@ fn fields_that_are_no_integer(rt: HostRuntime) {
     // The digits before the last are outside INTEGER by themselves.
     let mut long = [b'9'; 100];
     long[99] = b'x';
-    assert_eq!(rt;
-        fault(&rt, &long, 1, Row),
-        Some(CsvFault::NotInteger(1, 1))
-    );
+    assert_eq!(rt; fault(&rt, &long, 1, Row), Some(CsvFault::NotInteger(1, 1)));
 }
 
 #[test]
