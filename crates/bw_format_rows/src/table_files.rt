@@ -107,14 +107,14 @@ fn a_wrong_byte_is_no_table(rt: HostRuntime) {
 // With any byte in any place, the bytes spell no table or the one that is spelled so.
 #[test]
 fn each_byte_in_each_place(rt: HostRuntime) {
-    let mut tables = 0;
+    let mut tables: u32 = 0;
     for at in 0..31 {
         for byte in 0..=255 {
             let bytes = changed(at, byte);
             match decode(rt.alloc(), &bytes) {
                 Ok(parts) => {
                     check_spelled(&rt, &parts, &bytes);
-                    tables += 1;
+                    tables = tables.wrapping_add(1);
                 }
                 Err(fault) => assert_eq!(rt; fault, FileFault::NotTable),
             }
