@@ -5,7 +5,6 @@ use Rattle.std.proofs.lemmas.List.Sums.{sum_by-cons}
 use Rattle.bw_mask.specs.Masks.{rows_of}
 use Rattle.bw_mask.proofs.Views.{rows_are, rows_clean, rows_len}
 use Rattle.std.specs.List.{items_where_true}
-use Rattle.bw_aggregate.specs.Descents.{Passes}
 
 module _ {A : Type 0} where
   pub count_cons : (p : A → Bool) (x : A) (xs : List A) → count_by p (x ∷ xs) ≡ cond (p x) 1 0 + count_by p xs
@@ -37,7 +36,7 @@ module _ {A : Type 0} where
 
 -- so many rows are in as there are chosen codes that pass
 pub count_mask : (mask need : List Bool) (codes : List ℕ) (p : ℕ → Bool) → length mask ≡ length codes → length need ≡ length codes
-    → Passes mask need codes p → count_by (λ b. b) mask ≡ count_by p (items_where_true need codes)
+    → ((r : ℕ) → get_or mask r false ≡ (get_or need r false && p (get_or codes r 0))) → count_by (λ b. b) mask ≡ count_by p (items_where_true need codes)
 count_mask [] [] codes p a b each = refl
 count_mask [] (n ∷ need) [] p a b each = refl
 count_mask [] (n ∷ need) (c ∷ codes) p a b each = absurd (omega arith)
@@ -59,26 +58,6 @@ length_chosen need codes e =
     and_true true = refl
     and_true false = refl
 
--- rows that are parted by a test
-pub count_parts : (xs zs ws : List Bool) (p : ℕ → Bool) → length zs ≡ length xs → length ws ≡ length xs → ((r : ℕ) → get_or zs r false ≡ (get_or xs r false && p r))
-    → ((r : ℕ) → get_or ws r false ≡ (get_or xs r false && not (p r))) → count_by (λ b. b) xs ≡ count_by (λ b. b) zs + count_by (λ b. b) ws
-count_parts [] [] [] p a b here away = refl
-count_parts [] [] (w ∷ ws) p a b here away = absurd (omega (arith, b))
-count_parts [] (z ∷ zs) ws p a b here away = absurd (omega (arith, a))
-count_parts (x ∷ xs) [] ws p a b here away = absurd (omega (arith, a))
-count_parts (x ∷ xs) (z ∷ zs) [] p a b here away = absurd (omega (arith, b))
-count_parts (x ∷ xs) (z ∷ zs) (w ∷ ws) p a b here away =
-    let rest = count_parts xs zs ws (λ r. p (suc r)) (omega (arith, a)) (omega (arith, b)) (λ r. here (suc r)) (λ r. away (suc r)) in
-    let split = parted x (p 0) in
-    let first : ◌≡◌ {A = ℕ} (cond z 1 0) (cond (x && p 0) 1 0) = ap (λ c. cond {A = ℕ} c 1 0) (here 0) in
-    let second : ◌≡◌ {A = ℕ} (cond w 1 0) (cond (x && not (p 0)) 1 0) = ap (λ c. cond {A = ℕ} c 1 0) (away 0) in
-    omega (arith, rest, split, first, second, count_cons (λ (c : Bool). c) x xs, count_cons (λ (c : Bool). c) z zs, count_cons (λ (c : Bool). c) w ws)
-  where
-    parted : (x p : Bool) → ◌≡◌ {A = ℕ} (cond x 1 0) (cond (x && p) 1 0 + cond (x && not p) 1 0)
-    parted true true = refl
-    parted true false = refl
-    parted false p = refl
-
 -- the rows that are in both of two lists
 module _ (left plane : List Bool) where
   abbrev pub common : List Bool
@@ -89,19 +68,3 @@ module _ (left plane : List Bool) where
 
   pub common_at : (r : ℕ) → get_or common r false ≡ (get_or left r false && get_or plane r false)
   common_at r = rows_clean (length left) (λ j. get_or left j false && get_or plane j false) (λ j h. ap (λ b. b && get_or plane j false) (get_or_past left j false h)) r
-
-  -- as many as in any list of them
-  pub common_is : (xs : List Bool) → length xs ≡ length left → ((r : ℕ) → get_or xs r false ≡ (get_or left r false && get_or plane r false)) → common ≡ xs
-  common_is xs e each = rows_are (length left) (λ r. get_or left r false && get_or plane r false) xs e (λ r h. each r)
-
-  pub common_few : count_by (λ b. b) common ≤ count_by (λ b. b) left
-  common_few =
-      let test = λ (r : ℕ). get_or left r false && not (get_or plane r false) in
-      let away = rows_of (length left) test in
-      let parts = count_parts left common away (λ r. get_or plane r false) common_len (rows_len (length left) test) common_at
-      (rows_clean (length left) test (λ j h. ap (λ b. b && not (get_or plane j false)) (get_or_past left j false h))) in
-      omega (arith, parts)
-
-  pub common_away : (xs : List Bool) → length xs ≡ length left → ((r : ℕ) → get_or xs r false ≡ (get_or left r false && not (get_or plane r false)))
-      → count_by (λ b. b) xs ≡ count_by (λ b. b) left - count_by (λ b. b) common
-  common_away xs e each = let parts = count_parts left common xs (λ r. get_or plane r false) common_len e common_at each in omega (arith, parts)

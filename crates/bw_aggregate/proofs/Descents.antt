@@ -1,10 +1,11 @@
 -- The codes that begin with the bits found so far, one plane further.
-use Rattle.std.proofs.Common.{Bool, inl, inr, pow_pos, List, [], add-one, ap, arith, cond, count_by, false, get_or, length, nat_le, nat_lt, not, refl, sym, true, ℕ, ◌%◌, ◌&&◌, ◌*◌, ◌+◌, ◌-◌, ◌/◌, ◌<◌, ◌==◌, ◌^◌, ◌≡◌, ◌≤◌, ◌∙◌, ◌∷◌}
-use Rattle.std.proofs.Math.Nat.{mul-le-mul_left, div-div-eq-div-mul, div-eq_of_lt, div-one, pow-suc}
+use Rattle.std.proofs.Common.{Bool, inl, inr, pow_pos, List, [], add-one, ap, arith, cond, count_by, false, get_or, if◌then◌else◌, length, nat_le, nat_lt, not, refl, subst, sym, true, ℕ, ◌%◌, ◌&&◌, ◌*◌, ◌+◌, ◌-◌, ◌/◌, ◌<◌, ◌==◌, ◌^◌, ◌≡◌, ◌≤◌, ◌∙◌, ◌∷◌}
+use Rattle.std.proofs.Math.Nat.{div-div-eq-div-mul, div-eq_of_lt, div-one, mul-le-mul_left, pow-le-pow_right, pow-suc}
 use Rattle.std.proofs.lemmas.Bool.Decides.{nat_tests}
 use Rattle.bw_mask.specs.Masks.{bit_of}
-use Rattle.bw_aggregate.specs.Descents.{IsNthCode, IsRest, Passes, front}
-use Rattle.bw_aggregate.proofs.Counting.{count_no, count_same, count_split, count_yes}
+use Rattle.bw_aggregate.specs.Descents.{BeginsAll, IsNthCode, IsRest, begin_count, end_of, front, next}
+use Rattle.bw_aggregate.specs.Planes.{has_bit}
+use Rattle.bw_aggregate.proofs.Counting.{count_all, count_cons, count_no, count_same, count_split, count_yes}
 use Rattle.std.proofs.lemmas.List.Elements.{All-cons, All-get_or, All-head, All-nil, All-tail}
 use Rattle.std.proofs.lemmas.Bool.{cases_lt}
 use Rattle.std.proofs.lemmas.List.{get_or_past}
@@ -75,70 +76,129 @@ descent_end codes n left found d =
     let up_to = count_split (λ c. nat_lt c found) (λ c. c == found) (λ c. nat_le c found) codes (λ c. grind (arith, nat_tests)) in
     record { below = omega arith; upto = omega arith; there = omega arith }
 
--- which rows are left, by whether a row is needed, begins so, and has the bit
-pub plane_rows : (need bit begins : Bool) → (bit && (need && begins)) ≡ (need && (bit && begins))
-plane_rows true true b = refl
-plane_rows true false b = refl
-plane_rows false true b = refl
-plane_rows false false b = refl
+-- the codes that go on with a bit are those that have it and began as before
+pub begins_next : (i found c : ℕ) (bit : Bool) → (front i c == next found bit) ≡ (has_bit i bit c && (front (i + 1) c == found))
+begins_next i found c true = begins_one (front i c) found ∙ ap (λ x. bit_of c i && (x == found)) (sym (front-half i c))
+begins_next i found c false = begins_zero (front i c) found ∙ ap (λ x. not (bit_of c i) && (x == found)) (sym (front-half i c))
 
-pub zero_rows : (need bit begins : Bool) → ((need && begins) && not (need && (bit && begins))) ≡ (need && (not bit && begins))
-zero_rows true true true = refl
-zero_rows true true false = refl
-zero_rows true false true = refl
-zero_rows true false false = refl
-zero_rows false bit begins = refl
+turned : (a b : Bool) → (a && b) ≡ (b && a)
+turned true true = refl
+turned true false = refl
+turned false true = refl
+turned false false = refl
 
-pub one_rows : (need bit begins : Bool) → ((need && begins) && (need && (bit && begins))) ≡ (need && (bit && begins))
-one_rows true true true = refl
-one_rows true true false = refl
-one_rows true false true = refl
-one_rows true false false = refl
-one_rows false bit begins = refl
+turned_in : (a b p : Bool) → (a && (b && p)) ≡ ((b && a) && p)
+turned_in true true p = refl
+turned_in true false p = refl
+turned_in false true p = refl
+turned_in false false p = refl
 
--- the rows that are left at a plane
-module _ (need : List Bool) (codes : List ℕ) (left plane : List Bool) (i found : ℕ) (begins : Passes left need codes (λ c. front (i + 1) c == found)) where
-  left_at : (r : ℕ) → get_or left r false ≡ (get_or need r false && (front i (get_or codes r 0) / 2 == found))
-  left_at r = begins r ∙ ap (λ x. get_or need r false && (x == found)) (front-half i (get_or codes r 0))
-
-  -- those with the bit
-  pub one_passes : ((r : ℕ) → get_or plane r false ≡ (bit_of (get_or codes r 0) i && get_or left r false)) → Passes plane need codes (λ c. front i c == found * 2 + 1)
-  one_passes each r =
-      let code = get_or codes r 0 in
-      each r ∙ ap (λ b. bit_of code i && b) (left_at r) ∙ plane_rows (get_or need r false) (bit_of code i) (front i code / 2 == found)
-      ∙ ap (λ b. get_or need r false && b) (sym (begins_one (front i code) found))
-
-  module _ (ones : Passes plane need codes (λ c. front i c == found * 2 + 1)) (new : List Bool) where
-    one_at : (r : ℕ) → get_or plane r false ≡ (get_or need r false && (bit_of (get_or codes r 0) i && (front i (get_or codes r 0) / 2 == found)))
-    one_at r = ones r ∙ ap (λ b. get_or need r false && b) (begins_one (front i (get_or codes r 0)) found)
-
-    -- those without it
-    pub without_bit : ((r : ℕ) → get_or new r false ≡ (get_or left r false && not (get_or plane r false))) → Passes new need codes (λ c. front i c == found * 2)
-    without_bit each r =
-        let code = get_or codes r 0 in
-        each r ∙ ap (λ b. b && not (get_or plane r false)) (left_at r) ∙ ap (λ b. (get_or need r false && (front i code / 2 == found)) && not b) (one_at r)
-        ∙ zero_rows (get_or need r false) (bit_of code i) (front i code / 2 == found) ∙ ap (λ b. get_or need r false && b) (sym (begins_zero (front i code) found))
-
-    pub with_bit : ((r : ℕ) → get_or new r false ≡ (get_or left r false && get_or plane r false)) → Passes new need codes (λ c. front i c == found * 2 + 1)
-    with_bit each r =
-        let code = get_or codes r 0 in
-        each r ∙ ap (λ b. b && get_or plane r false) (left_at r) ∙ ap (λ b. (get_or need r false && (front i code / 2 == found)) && b) (one_at r)
-        ∙ one_rows (get_or need r false) (bit_of code i) (front i code / 2 == found) ∙ ap (λ b. get_or need r false && b) (sym (begins_one (front i code) found))
-
--- all needed rows begin with nothing
-pub all_begin : (need : List Bool) (codes : List ℕ) (k : ℕ) → All (λ c. c < 2 ^ k) codes → length need ≡ length codes → Passes need need codes (λ c. front k c == 0)
-all_begin need codes k below e r =
-    elim (cases_lt r (length codes)) [
-      | inl there ↦
-          let small : front k (get_or codes r 0) ≡ 0 = div-eq_of_lt (All-get_or (λ c. c < 2 ^ k) codes r 0 there below) in
-          let it : (front k (get_or codes r 0) == 0) ≡ true = ap (λ y. y == 0) small in
-          rw it (and_true (get_or need r false))
-      | inr past ↦ let none = get_or_past need r false (omega arith) in rw none refl
-    ]
+count_fewer : (p q : ℕ → Bool) (xs : List ℕ) → count_by (λ c. p c && q c) xs ≤ count_by p xs
+count_fewer p q [] = omega arith
+count_fewer p q (x ∷ xs) =
+    let rest = count_fewer p q xs in
+    omega (arith, count_cons (λ c. p c && q c) x xs, count_cons p x xs, one (p x) (q x))
   where
-    and_true : (b : Bool) → b ≡ (b && true)
-    and_true true = refl
-    and_true false = refl
+    one : (a b : Bool) → cond {A = ℕ} (a && b) 1 0 ≤ cond a 1 0
+    one true true = omega arith
+    one true false = omega arith
+    one false b = omega arith
+
+-- the rows that are left, counted by any test of their codes
+module _ (held : List ℕ) (i found : ℕ) (counted : (ℕ → Bool) → ℕ) (left : (p : ℕ → Bool) → counted p ≡ count_by (λ c. (front (i + 1) c == found) && p c) held) where
+  -- those with the bit
+  pub narrowed : (bit : Bool) (p : ℕ → Bool) → counted (λ c. has_bit i bit c && p c) ≡ count_by (λ c. (front i c == next found bit) && p c) held
+  narrowed bit p =
+      left (λ c. has_bit i bit c && p c)
+      ∙ count_same (λ c. (front (i + 1) c == found) && (has_bit i bit c && p c)) (λ c. (front i c == next found bit) && p c) held
+      (λ c. turned_in (front (i + 1) c == found) (has_bit i bit c) (p c) ∙ ap (λ b. b && p c) (sym (begins_next i found c bit)))
+
+  pub with_bit : (bit : Bool) → counted (has_bit i bit) ≡ begin_count held i (next found bit)
+  with_bit bit =
+      left (has_bit i bit)
+      ∙ count_same (λ c. (front (i + 1) c == found) && has_bit i bit c) (λ c. front i c == next found bit) held
+      (λ c. turned (front (i + 1) c == found) (has_bit i bit c) ∙ sym (begins_next i found c bit))
+
+  -- where none goes on with a bit, all go on with the other
+  pub passed : (bit : Bool) → begin_count held i (next found bit) ≡ 0 → (p : ℕ → Bool) → counted p ≡ count_by (λ c. (front i c == next found (not bit)) && p c) held
+  passed bit none p =
+      let here = λ (c : ℕ). (front i c == next found bit) && p c in
+      let there = λ (c : ℕ). (front i c == next found (not bit)) && p c in
+      let fewer : count_by here held ≤ begin_count held i (next found bit) = count_fewer (λ c. front i c == next found bit) p held in
+      let split = count_split here there (λ c. (front (i + 1) c == found) && p c) held
+      (λ c. parts (front (i + 1) c == found) (bit_of c i) (p c) bit (begins_next i found c bit) (begins_next i found c (not bit))) in
+      omega (arith, left p, none, fewer, split)
+    where
+      parts : (a b p bit : Bool) {x y : Bool} → x ≡ ((if bit then b else not b) && a) → y ≡ ((if not bit then b else not b) && a)
+          → ◌≡◌ {A = ℕ} (cond (a && p) 1 0) (cond (x && p) 1 0 + cond (y && p) 1 0)
+      parts true true true true e f = rw (e, f) refl
+      parts true true true false e f = rw (e, f) refl
+      parts true true false true e f = rw (e, f) refl
+      parts true true false false e f = rw (e, f) refl
+      parts true false true true e f = rw (e, f) refl
+      parts true false true false e f = rw (e, f) refl
+      parts true false false true e f = rw (e, f) refl
+      parts true false false false e f = rw (e, f) refl
+      parts false true p true e f = rw (e, f) refl
+      parts false true p false e f = rw (e, f) refl
+      parts false false p true e f = rw (e, f) refl
+      parts false false p false e f = rw (e, f) refl
+
+-- above the top plane all codes begin with nothing
+module _ (k : ℕ) (held : List ℕ) (begins : BeginsAll k held) where
+  pub all_begin : (p : ℕ → Bool) → count_by p held ≡ count_by (λ c. (front k c == 0) && p c) held
+  all_begin p = over held begins.below
+    where
+      over : (xs : List ℕ) → All (λ c. c < 2 ^ k) xs → count_by p xs ≡ count_by (λ c. (front k c == 0) && p c) xs
+      over [] all = refl
+      over (x ∷ xs) all =
+          let small : front k x ≡ 0 = div-eq_of_lt (All-head (λ c. c < 2 ^ k) x xs all) in
+          let it : ((front k x == 0) && p x) ≡ p x = ap (λ y. (y == 0) && p x) small in
+          let same : ◌≡◌ {A = ℕ} (cond ((front k x == 0) && p x) 1 0) (cond (p x) 1 0) = ap (λ b. cond {A = ℕ} b 1 0) it in
+          let rest = over xs (All-tail (λ c. c < 2 ^ k) x xs all) in
+          omega (arith, same, rest, count_cons p x xs, count_cons (λ c. (front k c == 0) && p c) x xs)
+
+  pub begin_all : begin_count held k 0 ≡ length held
+  begin_all =
+      sym (count_same (λ c. (front k c == 0) && true) (λ c. front k c == 0) held (λ c. and_true (front k c == 0)))
+      ∙ sym (all_begin (λ c. true)) ∙ count_all held
+    where
+      and_true : (b : Bool) → (b && true) ≡ b
+      and_true true = refl
+      and_true false = refl
+
+  pub small_start : (0 + 1) * 2 ^ k ≤ 2 ^ 64
+  small_start = let most : 2 ^ k ≤ 2 ^ 64 = pow-le-pow_right {n = 2} (omega arith) {i = k} {j = 64} begins.narrow in omega (arith, most)
+
+  pub rest_start : (n : ℕ) → n < length held → IsRest held n k n 0
+  rest_start n low = descent_start held n k begins.below low
+
+  pub end_start : (last : Bool) → 0 < length held → IsRest held (end_of last (length held)) k (end_of last (begin_count held k 0)) 0
+  end_start true some = rw begin_all (rest_start (length held - 1) (omega (arith, some)))
+  end_start false some = rest_start 0 some
+
+-- the first of the codes, or the last, goes on with the bit that is wanted where one does, and with the other where none does
+module _ (held : List ℕ) (i found : ℕ) where
+  pub end_kept : (last : Bool) → 0 < begin_count held i (next found last) → IsRest held (end_of last (length held)) (i + 1) (end_of last (begin_count held (i + 1) found)) found
+      → IsRest held (end_of last (length held)) i (end_of last (begin_count held i (next found last))) (next found last)
+  end_kept true some d =
+      let parts = both held 0 i 0 found in
+      let rest : begin_count held (i + 1) found - 1 - begin_count held i (found * 2) ≡ begin_count held i (found * 2 + 1) - 1 = omega (arith, parts, some) in
+      subst (λ k. IsRest held (length held - 1) i k (found * 2 + 1)) rest
+      (go_one held (length held - 1) i (begin_count held (i + 1) found - 1) found d (omega (arith, parts, some)))
+  end_kept false some d = go_zero held 0 i 0 found d some
+
+  pub end_passed : (last : Bool) → begin_count held i (next found last) ≡ 0 → IsRest held (end_of last (length held)) (i + 1) (end_of last (begin_count held (i + 1) found)) found
+      → IsRest held (end_of last (length held)) i (end_of last (begin_count held i (next found (not last)))) (next found (not last))
+  end_passed true none d =
+      let parts = both held 0 i 0 found in
+      let there = d.there in
+      let rest : begin_count held (i + 1) found - 1 ≡ begin_count held i (found * 2) - 1 = omega (arith, parts, none) in
+      subst (λ k. IsRest held (length held - 1) i k (found * 2)) rest
+      (go_zero held (length held - 1) i (begin_count held (i + 1) found - 1) found d (omega (arith, parts, none, there)))
+  end_passed false none d =
+      let rest : 0 - begin_count held i (found * 2) ≡ 0 = omega (arith, none) in
+      subst (λ k. IsRest held 0 i k (found * 2 + 1)) rest (go_one held 0 i 0 found d (omega (arith, none)))
 
 -- a code that was found is small
 pub small_code : (found i : ℕ) → (found + 1) * 2 ^ i ≤ 2 ^ 64 → found < 2 ^ 64
@@ -152,8 +212,9 @@ small_room found i h =
     let one : (found + 1) * 1 ≤ (found + 1) * 2 ^ i = mul-le-mul_left (found + 1) (pow_pos i) in
     omega arith
 
-pub small_next : (found i : ℕ) → (found + 1) * 2 ^ (i + 1) ≤ 2 ^ 64 → ((found * 2 + 1) + 1) * 2 ^ i ≤ 2 ^ 64
-small_next found i h = let g = rw (add-one i, pow-suc 2 i) at h in omega arith
+pub small_next : (found i : ℕ) (bit : Bool) → (found + 1) * 2 ^ (i + 1) ≤ 2 ^ 64 → (next found bit + 1) * 2 ^ i ≤ 2 ^ 64
+small_next found i true h = let g = rw (add-one i, pow-suc 2 i) at h in omega arith
+small_next found i false h = let g = rw (add-one i, pow-suc 2 i) at h in omega arith
 
 pub all_chosen : (k : ℕ) (rows : List Bool) (codes : List ℕ) → All (λ c. c < 2 ^ k) codes → All (λ c. c < 2 ^ k) (items_where_true rows codes)
 all_chosen k [] codes all = All-nil (λ c. c < 2 ^ k)

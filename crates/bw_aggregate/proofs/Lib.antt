@@ -1,10 +1,13 @@
 pub mod Counting
 pub mod Descents
+pub mod Fronts
 pub mod KnownValues
+pub mod LeftRows
+pub mod Marks
+pub mod Parts
 pub mod Ranks
 pub mod RowsMore
 pub mod SortedValues
-pub mod Steps
 pub mod Sums
 pub mod Values
 pub mod Walking

@@ -23,62 +23,10 @@ use Rattle.bw_mask.specs.Masks.{bit_of}
 use Rattle.bw_aggregate.specs.Descents.{front}
 use Rattle.bw_aggregate.proofs.Descents.{front-half}
 use Rattle.bw_aggregate.specs.Chosen.{value_in}
-use Rattle.bw_aggregate.proofs.Counting.{common, common_at, common_len, count_cons, count_mask, length_chosen}
-
--- the rows of plane i are those whose code has bit i
-pub plane_count : (rows plane : List Bool) (codes : List ℕ) (i : ℕ) → length rows ≡ length codes → ((r : ℕ) → get_or plane r false ≡ bit_of (get_or codes r 0) i)
-    → count_by (λ b. b) (common rows plane) ≡ count_by (λ c. bit_of c i) (items_where_true rows codes)
-plane_count rows plane codes i e bits =
-    count_mask (common rows plane) rows codes (λ c. bit_of c i) (common_len rows plane ∙ e) e
-    (λ r. common_at rows plane r ∙ ap (λ b. get_or rows r false && b) (bits r))
+use Rattle.bw_aggregate.proofs.Counting.{count_cons, length_chosen}
 
 pub few_chosen : (rows : List Bool) (codes : List ℕ) → length rows ≡ length codes → length (items_where_true rows codes) ≤ length codes
 few_chosen rows codes e = omega (arith, length_chosen rows codes e, count_by-le-length (λ (b : Bool). b) rows)
-
--- ---- the codes without their lowest i bits
-
-front-more : (i code : ℕ) → front i code ≡ 2 * front (i + 1) code + cond (bit_of code i) 1 0
-front-more i code =
-    let bit : ◌≡◌ {A = ℕ} (cond (bit_of code i) 1 0) (bit_at code i) = grind (arith, bit_at-lt code i) in
-    let half = front-half i code in
-    let halves : front i code ≡ front i code / 2 * 2 + front i code % 2 = omega arith in
-    omega (arith, half, halves, bit)
-
--- one plane more
-pub fronts-more : (i : ℕ) (codes : List ℕ) → sum_by (front i) codes ≡ 2 * sum_by (front (i + 1)) codes + count_by (λ c. bit_of c i) codes
-fronts-more i [] = omega arith
-fronts-more i (c ∷ codes) =
-    let rest = fronts-more i codes in
-    let one = front-more i c in
-    omega (arith, sum_by-cons (front i) c codes, sum_by-cons (front (i + 1)) c codes, count_cons (λ x. bit_of x i) c codes)
-
--- codes of k bits, without these
-pub fronts-none : (k : ℕ) (codes : List ℕ) → All (λ c. c < 2 ^ k) codes → sum_by (front k) codes ≡ 0
-fronts-none k [] all = refl
-fronts-none k (c ∷ codes) all =
-    let rest = fronts-none k codes (All-tail (λ x. x < 2 ^ k) c codes all) in
-    let none : front k c ≡ 0 = div-eq_of_lt (All-head (λ x. x < 2 ^ k) c codes all) in
-    omega (arith, sum_by-cons (front k) c codes)
-
-pub fronts-all : (codes : List ℕ) → sum_by (front 0) codes ≡ sum codes
-fronts-all [] = refl
-fronts-all (c ∷ codes) =
-    let rest = fronts-all codes in
-    let one : front 0 c ≡ c = div-one c in
-    omega (arith, sum_by-cons (front 0) c codes, sum_by-cons (λ x. x) c codes)
-
--- a sum of nothing, where it is asked for
-pub sum_begun : (o : Option ℕ) (sum : ℕ) → IfSome o (λ s. s ≡ 0) → sum ≡ 0 → IfSome o (λ s. s ≡ sum)
-sum_begun None sum none is = none
-sum_begun (Some s) sum none is = none ∙ sym is
-
-pub fronts-bound : (i k : ℕ) (codes : List ℕ) → All (λ c. c < 2 ^ k) codes → sum_by (front i) codes ≤ length codes * 2 ^ k
-fronts-bound i k [] all = omega arith
-fronts-bound i k (c ∷ codes) all =
-    let rest = fronts-bound i k codes (All-tail (λ x. x < 2 ^ k) c codes all) in
-    let one : c < 2 ^ k = All-head (λ x. x < 2 ^ k) c codes all in
-    let less : front i c ≤ c = div-le_self c (2 ^ i) in
-    omega (arith, sum_by-cons (front i) c codes)
 
 -- none of the sums wraps
 pub based-sum : (base : ℤ) (n codes : ℕ) → FitsSigned w64 base → n ≤ 2 ^ 24 → codes < 2 ^ 89

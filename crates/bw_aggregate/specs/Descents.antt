@@ -1,26 +1,47 @@
 -- The descent to entry n of some sorted codes, from the top plane down (O'Neil and Quass, SIGMOD 1997).
-use Rattle.std.specs.Prelude.{Bool, List, false, count_by, nat_le, nat_lt, slice_index_or, ℕ, ◌&&◌, ◌*◌, ◌+◌, ◌/◌, ◌<◌, ◌==◌, ◌^◌, ◌≡◌, ◌≤◌}
-use Rattle.std.specs.List.{items_where_true}
-use Rattle.bw_aggregate.specs.declared.descent.Descent.{Descent}
+use Rattle.std.specs.Prelude.{Bool, List, All, count_by, if◌then◌else◌, length, nat_le, nat_lt, sum, ℕ, ◌&&◌, ◌*◌, ◌+◌, ◌-◌, ◌/◌, ◌<◌, ◌==◌, ◌^◌, ◌≡◌, ◌≤◌}
+use Rattle.bw_aggregate.specs.Left.{left_count}
+use Rattle.bw_aggregate.specs.declared.segments.Left.{Left}
 
 -- the code without its lowest i bits
 abbrev pub front : ℕ → ℕ → ℕ
 front i code = code / 2 ^ i
 
--- the rows of a mask are the needed ones whose code passes the test
-abbrev pub Passes : List Bool → List Bool → List ℕ → (ℕ → Bool) → Type 0
-Passes mask need codes p = (i : ℕ) → slice_index_or mask i false ≡ (slice_index_or need i false && p (slice_index_or codes i 0))
+-- bits, and one more
+abbrev pub next : ℕ → Bool → ℕ
+next found bit = if bit then found * 2 + 1 else found * 2
+
+-- the rows have these codes, in whichever order: each test passes as many of both
+abbrev pub Holds : List ℕ → List ℕ → Left → Type 0
+Holds codes held left = (p : ℕ → Bool) → left_count codes p left ≡ count_by p held
+
+-- these are codes of k bits
+pub record BeginsAll (k : ℕ) (held : List ℕ) : Type 0 where
+  pub below : All (λ code. code < 2 ^ k) held
+  pub narrow : k ≤ 64
+
+abbrev pub IsSmall : List ℕ → Type 0
+IsSmall held = sum held < 2 ^ 89
+
+-- how many codes begin with the bits found so far, above the lowest i bits
+abbrev pub begin_count : List ℕ → ℕ → ℕ → ℕ
+begin_count held i found = count_by (λ c. front i c == found) held
 
 -- n counts so many codes below those that begin with the bits found so far, and the rest among these
-pub record IsRest (codes : List ℕ) (n i rest found : ℕ) : Type 0 where
-  pub below : count_by (λ c. nat_lt (front i c) found) codes + rest ≡ n
-  pub there : rest < count_by (λ c. front i c == found) codes
+pub record IsRest (held : List ℕ) (n i rest found : ℕ) : Type 0 where
+  pub below : count_by (λ c. nat_lt (front i c) found) held + rest ≡ n
+  pub there : rest < begin_count held i found
 
--- with i planes to go, it is on its way to entry n of the codes of the needed rows
-pub record LeadsTo (need : List Bool) (codes : List ℕ) (n i : ℕ) (descent : Descent) : Type 0 where
-  pub left : Passes descent.left.rows need codes (λ c. front i c == descent.code)
-  pub small : (descent.code + 1) * 2 ^ i ≤ 2 ^ 64
-  pub rest : IsRest (items_where_true need codes) n i descent.nth descent.code
+-- with i planes to go, the rows that are left are those whose code begins with the bits found so far, and entry n of the codes
+-- is entry `nth` of theirs
+pub record LeadsTo (codes held : List ℕ) (n i : ℕ) (rows : Left) (nth found : ℕ) : Type 0 where
+  pub left : (p : ℕ → Bool) → left_count codes p rows ≡ count_by (λ c. (front i c == found) && p c) held
+  pub small : (found + 1) * 2 ^ i ≤ 2 ^ 64
+  pub rest : IsRest held n i nth found
+
+-- the first entry of so many, or the last
+abbrev pub end_of : Bool → ℕ → ℕ
+end_of last count = if last then count - 1 else 0
 
 -- n codes at most are below, more than n are not above, and it is one of them
 pub record IsNthCode (codes : List ℕ) (n code : ℕ) : Type 0 where

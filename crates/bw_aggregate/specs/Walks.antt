@@ -1,38 +1,35 @@
 -- The ways down to what is asked of codes, all of them in one pass over the planes from the top.
-use Rattle.std.specs.Prelude.{Bool, IfSome, List, count_by, is_some, length, sum, sum_by, ℕ, ◌-◌, ◌/◌, ◌<◌, ◌^◌, ◌≡◌, ◌≤◌}
-use Rattle.std.specs.List.{items_where_true}
-use Rattle.bw_aggregate.specs.Descents.{LeadsTo, front}
+use Rattle.std.specs.Prelude.{Bool, IfSome, List, None, Option, Some, false, is_some, length, sum, sum_by, true, ℕ, ◌-◌, ◌/◌, ◌<◌, ◌^◌, ◌≡◌, ◌≤◌}
+use Rattle.bw_aggregate.specs.Descents.{Holds, IsNthCode, IsSmall, LeadsTo, begin_count, end_of, front}
+use Rattle.bw_aggregate.specs.declared.code_sum.CodeSum.{CodeSum}
 use Rattle.bw_aggregate.specs.declared.descent.Descent.{Descent}
+use Rattle.bw_aggregate.specs.declared.extreme.Extreme.{Extreme}
+use Rattle.bw_aggregate.specs.declared.found.Found.{Found}
 use Rattle.bw_aggregate.specs.declared.summary.Asked.{Asked}
 use Rattle.bw_aggregate.specs.declared.walks.Walks.{Walks}
 
--- how many rows are left is known
-pub record IsCounted (rows : ℕ) (descent : Descent) : Type 0 where
-  pub len : length descent.left.rows ≡ rows
-  pub count : descent.count ≡ count_by (λ row. row) descent.left.rows
+-- with i planes to go, it is on its way to entry n of the codes
+pub record IsDescent (codes held : List ℕ) (n i : ℕ) (descent : Descent) : Type 0 where
+  pub leads : LeadsTo codes held n i descent.left descent.nth descent.code
+  pub count : descent.count ≡ begin_count held i descent.code
 
--- one plane more may be looked at
-pub record CanStep (rows : ℕ) (descent : Descent) : Type 0 where
-  pub counted : IsCounted rows descent
-  pub room : descent.code < 2 ^ 63
+-- to the first of the sorted codes, or to the last
+pub record IsExtreme (codes held : List ℕ) (last : Bool) (i : ℕ) (extreme : Extreme) : Type 0 where
+  pub wanted : extreme.wanted ≡ last
+  pub leads : LeadsTo codes held (end_of last (length held)) i extreme.left (end_of last (begin_count held i extreme.code)) extreme.code
 
-pub record AreCounted (rows : ℕ) (walks : Walks) : Type 0 where
-  pub least : IfSome walks.least (IsCounted rows)
-  pub greatest : IfSome walks.greatest (IsCounted rows)
-  pub median : IfSome walks.median (IsCounted rows)
+-- the sum of the codes without their lowest i bits
+pub record IsSumTo (codes held : List ℕ) (i : ℕ) (so_far : CodeSum) : Type 0 where
+  pub rows : Holds codes held so_far.rows
+  pub sum : so_far.sum ≡ sum_by (front i) held
+  pub small : IsSmall held
 
-pub record CanAllStep (rows : ℕ) (walks : Walks) : Type 0 where
-  pub sum : IfSome walks.sum (λ sum. sum ≤ 2 ^ 96)
-  pub least : IfSome walks.least (CanStep rows)
-  pub greatest : IfSome walks.greatest (CanStep rows)
-  pub median : IfSome walks.median (CanStep rows)
-
--- with i planes to go: the sum of the codes of the needed rows without their lowest i bits, and each descent to its entry
-pub record AreOnWay (need : List Bool) (codes : List ℕ) (i : ℕ) (walks : Walks) : Type 0 where
-  pub sum : IfSome walks.sum (λ sum. sum ≡ sum_by (front i) (items_where_true need codes))
-  pub least : IfSome walks.least (LeadsTo need codes 0 i)
-  pub greatest : IfSome walks.greatest (LeadsTo need codes (length (items_where_true need codes) - 1) i)
-  pub median : IfSome walks.median (LeadsTo need codes ((length (items_where_true need codes) - 1) / 2) i)
+-- with i planes to go, each is on its way
+pub record AreOnWay (codes held : List ℕ) (i : ℕ) (walks : Walks) : Type 0 where
+  pub sum : IfSome walks.sum (IsSumTo codes held i)
+  pub least : IfSome walks.least (IsExtreme codes held false i)
+  pub greatest : IfSome walks.greatest (IsExtreme codes held true i)
+  pub median : IfSome walks.median (IsDescent codes held ((length held - 1) / 2) i)
 
 -- a walk for each that is asked for
 pub record AskFor (asked : Asked) (walks : Walks) : Type 0 where
@@ -45,3 +42,29 @@ pub record AskFor (asked : Asked) (walks : Walks) : Type 0 where
 pub record IsCodeSum (codes : List ℕ) (total : ℕ) : Type 0 where
   pub small : total < 2 ^ 89
   pub is : total ≡ sum codes
+
+-- what was asked for, and nothing else
+pub record AnswersTo (asked : Asked) (found : Found) : Type 0 where
+  pub sum : is_some found.sum ≡ asked.sum
+  pub least : is_some found.least ≡ asked.least
+  pub greatest : is_some found.greatest ≡ asked.greatest
+  pub median : is_some found.median ≡ asked.median
+
+-- each is that of the codes
+pub record AreFound (codes : List ℕ) (found : Found) : Type 0 where
+  pub sum : IfSome found.sum (IsCodeSum codes)
+  pub least : IfSome found.least (IsNthCode codes (end_of false (length codes)))
+  pub greatest : IfSome found.greatest (IsNthCode codes (end_of true (length codes)))
+  pub median : IfSome found.median (IsNthCode codes ((length codes - 1) / 2))
+
+-- all but the median are asked of one, and the median of the other
+pub record AsksTheRest (asked ends middle : Asked) : Type 0 where
+  pub sum : ends.sum ≡ asked.sum
+  pub least : ends.least ≡ asked.least
+  pub greatest : ends.greatest ≡ asked.greatest
+  pub median : middle.median ≡ asked.median
+
+-- of no codes nothing is found
+abbrev pub IsFound : Asked → List ℕ → Option Found → Type 0
+IsFound asked codes None = length codes ≡ 0
+IsFound asked codes (Some found) = AnswersTo asked found × AreFound codes found

@@ -1,61 +1,71 @@
 //! The descent to one entry of some sorted codes, a plane a step.
 
-ghost use Rattle.std.specs.Prelude.{◌≡◌, ◌+◌, ◌<◌, ◌≤◌, ◌^◌, All, Bool, List, count_by, length, slice_index_or, ℕ};
-ghost use Rattle.std.specs.List.{items_where_true};
-ghost use Rattle.bw_mask.specs.Masks.{bit_of, len, row_at};
+ghost use Rattle.std.specs.Prelude.{Bool, List, if◌then◌else◌, length, true, ℕ, ◌*◌, ◌+◌, ◌<◌, ◌^◌, ◌≡◌, ◌≤◌};
+ghost use Rattle.std.specs.List.{All};
+ghost use Rattle.bw_aggregate.specs.Descents.{BeginsAll, Holds, next};
+ghost use Rattle.bw_aggregate.specs.Left.{left_count};
+ghost use Rattle.bw_aggregate.specs.Planes.{IsPlane};
 
-use bw_mask::Mask;
+use crate::plane::Plane;
+use crate::segments::Left;
 
 /// The way down to one entry of the sorted codes of some rows. Above each plane, the rows that are left are those whose
 /// code begins with the bits found so far, and the entry is looked for among them.
 #[derive(Drop)]
 pub(crate) struct Descent {
-    left: Mask,
+    left: Left,
     /// How many rows are left.
     count: usize,
     /// Which of their sorted codes it is.
     nth: usize,
     /// The bits found so far.
-    pub(crate) code: u64,
+    code: u64,
+}
+
+/// The bits found so far, and one more.
+pub(crate) fn with_bit(code: u64, bit: bool) -> u64
+    ensures { code < 2 ^ 63 → result ≡ next code bit }
+{
+    code.wrapping_mul(2).wrapping_add(u64::from(bit))
 }
 
 impl Descent {
-    ghost use Rattle.bw_aggregate.specs.Descents.{LeadsTo};
+    ghost use Rattle.bw_aggregate.specs.Walks.{IsDescent};
 
     /// Above the top plane, where all the rows are left.
-    pub(crate) fn from_top(rows: Mask, nth: usize) -> Descent
-        ensures len { len result.left ≡ len rows }
-        ensures count { result.count ≡ count_by (λ row. row) result.left.rows }
-        ensures leads { (codes : List ℕ) (k : ℕ) → length codes ≡ len rows → All (λ code. code < 2 ^ k) codes → k ≤ 64 → nth < length (items_where_true rows.rows codes) → LeadsTo rows.rows codes nth k result }
+    pub(crate) fn from_top(left: Left, count: usize, nth: usize) -> Descent
+        ensures { (codes held : List ℕ) (k : ℕ) → Holds codes held left → BeginsAll k held → count ≡ length held → nth < count → IsDescent codes held nth k result }
     {
         Descent {
-            count: rows.count(),
-            left: rows,
+            left,
+            count,
             nth,
             code: 0,
         }
     }
 
     /// One plane down.
-    pub(crate) fn step(&mut self, plane: &Mask)
-        requires len { len self.old.left ≡ len plane.now }
-        requires count { self.old.count ≡ count_by (λ row. row) self.old.left.rows }
-        requires room { self.old.code < 2 ^ 63 }
-        ensures len { len self.new.left ≡ len self.old.left }
-        ensures count { self.new.count ≡ count_by (λ row. row) self.new.left.rows }
-        ensures leads { (need : List Bool) (codes : List ℕ) (n i : ℕ) → length need ≡ length codes → len plane.now ≡ length codes → ((r : ℕ) → row_at plane.now r ≡ bit_of (slice_index_or codes r 0) i) → LeadsTo need codes n (i + 1) self.old → LeadsTo need codes n i self.new }
+    pub(crate) fn step(&mut self, plane: &Plane)
+        ensures { (codes held : List ℕ) (n i : ℕ) → IsPlane codes i plane.now → IsDescent codes held n (i + 1) self.old → IsDescent codes held n i self.new }
     {
-        let ones = self.left.count_both(plane);
-        let zeros = self.count - ones;
-        self.code *= 2;
+        let ones = self.left.count_in(plane);
+        let zeros = self.count.saturating_sub(ones);
         if self.nth < zeros {
-            self.left.andnot_in(plane);
+            self.left.keep(plane, false);
             self.count = zeros;
+            self.code = with_bit(self.code, false);
         } else {
-            self.left.and_in(plane);
+            self.left.keep(plane, true);
             self.count = ones;
             self.nth -= zeros;
-            self.code += 1;
+            self.code = with_bit(self.code, true);
         }
+    }
+
+    /// The code that it came to.
+    pub(crate) fn code(&self) -> u64
+        ensures { result ≡ self.now.code }
+    {
+        self.code
     }
 }

@@ -1,20 +1,19 @@
-//! What set functions say of a column's values in some rows, by one pass over its planes.
+//! What set functions say of a column's values in some rows.
 
-ghost use Rattle.std.specs.Prelude.{All, IfOk, IfSome, Some, is_some, length, option_map, true, ◌<◌, ◌^◌, ◌≡◌, ◌≤◌};
+ghost use Rattle.std.specs.Prelude.{IfOk, IfSome, Some, length, option_map, true, ◌<◌, ◌^◌, ◌||◌, ◌≡◌, ◌≤◌};
 ghost use Rattle.std.specs.List.{items_where_true};
-ghost use Rattle.bw_code.specs.Encodings.{IsCode, value_of, width};
+ghost use Rattle.bw_code.specs.Encodings.{IsCode, value_of};
 ghost use Rattle.bw_column.specs.Codes.{codes_for};
 ghost use Rattle.bw_mask.specs.Masks.{len};
 ghost use Rattle.bw_model.specs.SetFunctions.{sum};
 ghost use Rattle.bw_aggregate.specs.Chosen.{chosen};
 ghost use Rattle.bw_aggregate.specs.Summaries.{IsSummary};
-ghost use Rattle.bw_aggregate.specs.Walks.{AreCounted, AreOnWay, AskFor, IsCodeSum};
+ghost use Rattle.bw_aggregate.specs.Walks.{IsCodeSum};
 
-use crate::descent::Descent;
 use crate::known::known_rows;
+use crate::planes::{found_by_planes, segments_of};
 use crate::runs::{code_sum, sum_of_values};
 use crate::totals::based_total;
-use crate::walks::Walks;
 use bw_code::{Encoding, Layout};
 use bw_column::Column;
 use bw_mask::Mask;
@@ -37,6 +36,13 @@ impl Asked {
         greatest: false,
         median: false,
     };
+
+    /// Whether anything but the number is asked for.
+    pub(crate) fn asks(&self) -> bool
+        ensures { result ≡ (((self.now.sum || self.now.least) || self.now.greatest) || self.now.median) }
+    {
+        self.sum || self.least || self.greatest || self.median
+    }
 }
 
 /// What was asked of the values of some rows that are not NULL. Of no values, and where it wasn't asked for, each but the
@@ -52,7 +58,17 @@ pub struct Summary {
     pub median: Option<i64>,
 }
 
-/// What is asked of the values of the rows that are not NULL. Each plane of the column is looked at once.
+impl Summary {
+    const OF_NONE: Summary = Summary {
+        count: 0,
+        sum: None,
+        least: None,
+        greatest: None,
+        median: None,
+    };
+}
+
+/// What is asked of the values of the rows that are not NULL.
 pub fn summarize(
     alloc: Global,
     column: &Column,
@@ -63,62 +79,34 @@ pub fn summarize(
     ensures { IfOk result (IsSummary asked (chosen column.now rows.now)) }
 {
     let known = known_rows(column, rows)?;
-    let count = known.count();
-    if count == 0 {
-        return Ok(Summary {
-            count,
-            sum: None,
-            least: None,
-            greatest: None,
-            median: None,
-        });
-    }
-    let encoding = column.encoding();
-    let bits = encoding.width();
     let walked = Asked {
         sum: asked.sum && adds_by_planes(column),
         ..asked
     };
-    let mut walks = Walks::begin(&known, walked, count)?;
-    let mut plane = Mask::filled(alloc, column.len(), false)?;
-    walk_down(column, bits, &known, &mut walks, &mut plane);
-    Ok(Summary {
-        count,
-        sum: sum_told(column, &known, count, asked.sum, walks.sum),
-        least: value_told(encoding, walks.least),
-        greatest: value_told(encoding, walks.greatest),
-        median: value_told(encoding, walks.median),
-    })
-}
-
-/// Takes the walks down all planes of the column's codes, from the top. Where nothing is asked for, no plane is looked at.
-#[tactic(auto, using(crate::proofs::Walking::none_on_way))]
-fn walk_down(column: &Column, bits: u32, rows: &Mask, walks: &mut Walks, plane: &mut Mask)
-    requires bits { bits ≡ width column.now.encoding }
-    requires narrow { bits ≤ 64 }
-    requires few { length column.now.values ≤ 2 ^ 24 }
-    requires len { len rows.now ≡ length column.now.values }
-    requires plane { len plane.old ≡ length column.now.values }
-    requires below { All (λ code. code < 2 ^ bits) (codes_for column.now.encoding column.now.values) }
-    requires counted { AreCounted (length column.now.values) walks.old }
-    requires leads { AreOnWay rows.now.rows (codes_for column.now.encoding column.now.values) bits walks.old }
-    ensures asked { (asked : Asked) → AskFor asked walks.old → AskFor asked walks.new }
-    ensures leads { AreOnWay rows.now.rows (codes_for column.now.encoding column.now.values) 0 walks.new }
-{
-    if !walks.are_asked() {
-        return;
+    let count = known.count();
+    if count == 0 {
+        return Ok(Summary::OF_NONE);
     }
-    'planes: for i in (0..bits).rev() {
-        column.plane(i, plane);
-        walks.step(rows, plane);
+    let encoding = column.encoding();
+    let segments = segments_of(column.len());
+    let found = found_by_planes(alloc, column, &known, segments, walked)?;
+    match found {
+        Some(found) => Ok(Summary {
+            count,
+            sum: sum_told(column, &known, count, asked.sum, found.sum),
+            least: value_told(encoding, found.least),
+            greatest: value_told(encoding, found.greatest),
+            median: value_told(encoding, found.median),
+        }),
+        None => Ok(Summary::OF_NONE),
     }
 }
 
-/// Whether the sum is told by counts of planes. A dictionary's codes don't tell it, and codes that lie as numbers are
-/// added up for less than their planes cost.
+/// Whether the sum is told by counts of planes. A dictionary's codes don't tell it, and codes that lie otherwise are added
+/// up for less than copies of their planes cost.
 fn adds_by_planes(column: &Column) -> bool {
     match column.encoding() {
-        Encoding::Offset(_) => matches!(column.layout(), Layout::V | Layout::S),
+        Encoding::Offset(_) => column.layout() == Layout::V,
         Encoding::Dictionary(_) => false,
     }
 }
@@ -174,13 +162,13 @@ fn known_or_read(column: &Column, rows: &Mask, codes: Option<u128>) -> u128
     }
 }
 
-/// The value of the code that a descent came to.
-fn value_told(encoding: &Encoding, descent: Option<Descent>) -> Option<i64>
-    requires { IfSome descent (λ descent. IsCode encoding.now descent.code) }
-    ensures { result ≡ option_map (λ descent. value_of encoding.now descent.code) descent }
+/// The value of a code that was found.
+fn value_told(encoding: &Encoding, code: Option<u64>) -> Option<i64>
+    requires { IfSome code (IsCode encoding.now) }
+    ensures { result ≡ option_map (value_of encoding.now) code }
 {
-    match descent {
-        Some(descent) => Some(encoding.decode(descent.code)),
+    match code {
+        Some(code) => Some(encoding.decode(code)),
         None => None,
     }
 }

@@ -1,43 +1,38 @@
-use Rattle.std.proofs.Common.{arith, count_by, refl, ◌-◌, ◌≡◌, ◌≤◌, ◌∙◌}
-use Rattle.bw_aggregate.proofs.Counting.{common, common_away, common_few, common_is}
-use Rattle.bw_aggregate.proofs.Descents.{small_next}
-use Rattle.bw_aggregate.proofs.Steps.{one_left, one_rest, zero_left, zero_rest}
+use Rattle.std.proofs.Common.{Bool, arith, false, subst, sym, true, ℕ, ◌*◌, ◌+◌, ◌-◌, ◌≡◌, ◌≤◌, ◌∙◌}
+use Rattle.bw_aggregate.specs.Descents.{IsRest, begin_count, next}
+use Rattle.bw_aggregate.specs.Left.{left_count}
+use Rattle.bw_aggregate.proofs.Descents.{both, go_one, go_zero, narrowed, small_next, small_room, with_bit}
 use Rattle.bw_aggregate.proofs.descent.Descent.step.Goals as goal
 
-pub overflow_sub-zeros : goal.overflow_sub-zeros
-overflow_sub-zeros c = omega (arith, c.count_both-ones.ensures.rows, c.requires.count, common_few c.args.self.now.left.rows c.args.plane.now.rows)
-
-pub returns-then-self-zeros-clause-count : goal.returns-then-self-zeros-clause-count
-returns-then-self-zeros-clause-count c =
-    let away = common_away c.args.self.now.left.rows c.args.plane.now.rows c.andnot_in.new.self.rows c.andnot_in.ensures.shape.0 c.andnot_in.ensures.rows in
-    omega (arith, away, c.count_both-ones.ensures.rows, c.requires.count)
-
-pub returns-else-self-zeros-clause-count : goal.returns-else-self-zeros-clause-count
-returns-else-self-zeros-clause-count c =
-    let same = common_is c.args.self.now.left.rows c.args.plane.now.rows c.and_in.new.self.rows c.and_in.ensures.shape.0 c.and_in.ensures.rows in
-    c.count_both-ones.ensures.rows ∙ rw same refl
-
-pub returns-then-self-zeros-clause-leads : goal.returns-then-self-zeros-clause-leads
-returns-then-self-zeros-clause-leads c need codes n i same wide bits leads =
+pub returns-then-self-zeros : goal.returns-then-self-zeros
+returns-then-self-zeros c codes held n i plane on =
     let old = c.args.self.now in
-    let long = c.requires.len ∙ wide in
-    let next = small_next old.code i leads.small in
-    record {
-      left = zero_left need codes n i old.nth old.code old.left.rows c.args.plane.now.rows same long bits leads.left leads.rest c.andnot_in.new.self.rows c.andnot_in.ensures.rows;
-      small = omega (arith, next);
-      rest = zero_rest need codes n i old.nth old.code old.left.rows c.args.plane.now.rows same long bits leads.left leads.rest
-          (omega (arith, c.count_both-ones.ensures.rows, c.requires.count, c.if-self-zeros.true));
-    }
+    let leads = on.leads in
+    let ones = c.count_in-ones.ensures.is codes i plane ∙ with_bit held i old.code (λ p. left_count codes p old.left) leads.left true in
+    let parts = both held 0 i 0 old.code in
+    let code : c.with_bit-self.result ≡ next old.code false = c.with_bit-self.ensures (small_room old.code i leads.small) in
+    rw code (record {
+      leads = record {
+        left = λ p. c.keep.ensures codes i plane p ∙ narrowed held i old.code (λ p. left_count codes p old.left) leads.left false p;
+        small = small_next old.code i false leads.small;
+        rest = go_zero held n i old.nth old.code leads.rest (omega (arith, ones, parts, on.count, c.if-self-zeros.true));
+      };
+      count = omega (arith, ones, parts, on.count);
+    })
 
-pub returns-else-self-zeros-clause-leads : goal.returns-else-self-zeros-clause-leads
-returns-else-self-zeros-clause-leads c need codes n i same wide bits leads =
+pub returns-else-self-zeros : goal.returns-else-self-zeros
+returns-else-self-zeros c codes held n i plane on =
     let old = c.args.self.now in
-    let long = c.requires.len ∙ wide in
-    let zeros : c.args.self.now.count - c.count_both-ones.result ≡ count_by (λ b. b) old.left.rows - count_by (λ b. b) (common old.left.rows c.args.plane.now.rows) =
-    omega (arith, c.count_both-ones.ensures.rows, c.requires.count) in
-    let high : count_by (λ b. b) old.left.rows - count_by (λ b. b) (common old.left.rows c.args.plane.now.rows) ≤ old.nth = omega (arith, zeros, c.if-self-zeros.false) in
-    rw zeros (record {
-      left = one_left need codes n i old.nth old.code old.left.rows c.args.plane.now.rows same long bits leads.left leads.rest c.and_in.new.self.rows c.and_in.ensures.rows;
-      small = small_next old.code i leads.small;
-      rest = one_rest need codes n i old.nth old.code old.left.rows c.args.plane.now.rows same long bits leads.left leads.rest high;
+    let leads = on.leads in
+    let ones = c.count_in-ones.ensures.is codes i plane ∙ with_bit held i old.code (λ p. left_count codes p old.left) leads.left true in
+    let parts = both held 0 i 0 old.code in
+    let code : c.with_bit-self-else-self-zeros.result ≡ next old.code true = c.with_bit-self-else-self-zeros.ensures (small_room old.code i leads.small) in
+    let zeros : c.saturating_sub-zeros.result ≡ begin_count held i (next old.code false) = omega (arith, ones, parts, on.count, c.saturating_sub-zeros.ensures) in
+    rw (code, zeros) (record {
+      leads = record {
+        left = λ p. c.keep-else-self-zeros.ensures codes i plane p ∙ narrowed held i old.code (λ p. left_count codes p old.left) leads.left true p;
+        small = small_next old.code i true leads.small;
+        rest = go_one held n i old.nth old.code leads.rest (omega (arith, zeros, c.if-self-zeros.false));
+      };
+      count = ones;
     })

@@ -1,0 +1,28 @@
+use Rattle.std.proofs.Common.{[], ap, arith, get_or, min, subst, ℕ, ◌%◌, ◌*◌, ◌+◌, ◌-◌, ◌/◌, ◌<◌, ◌≡◌, ◌∙◌}
+use Rattle.bw_mask.specs.Masks.{bit_of, row_in}
+use Rattle.bw_vertical.specs.Storage.{planes_in}
+use Rattle.bw_aggregate.specs.Walks.{AreOnWay}
+use Rattle.bw_aggregate.proofs.planes.walk_in_place.Goals as goal
+
+pub planes-preserved : goal.planes-preserved
+planes-preserved c =
+    let codes = c.args.codes.now in
+    let width = codes.width in
+    let i = c.planes.i in
+    let below : i < width = omega (arith, c.planes-test.true, c.width-width.ensures.width) in
+    let many : c.min.result ≡ planes_in width (i / 4) = omega (arith, c.min.ensures, c.width-width.ensures.width) in
+    let within : i % 4 < planes_in width (i / 4) = omega (arith, below) in
+    let bit : width - 1 - (4 * (i / 4) + i % 4) ≡ width - (i + 1) = omega arith in
+    let next : width - i ≡ width - (i + 1) + 1 = omega (arith, below) in
+    record {
+      asked = λ asked h. c.step.ensures.asked asked (c.planes.invariant.asked asked h);
+      leads = λ held on.
+          c.step.ensures.leads codes.codes held (width - (i + 1))
+          (λ r.
+          let place : 256 * (r / 256) + r % 256 ≡ r = omega arith in
+          ap (λ m. row_in (get_or c.group.result.now (r / 256 * m + i % 4) []) (r % 256)) many
+          ∙ c.group.ensures.rows (r / 256) (i % 4) (r % 256) within (omega arith)
+          ∙ ap (λ x. bit_of (get_or codes.codes x 0) (width - 1 - (4 * (i / 4) + i % 4))) place
+          ∙ ap (bit_of (get_or codes.codes r 0)) bit)
+          (subst (λ k. AreOnWay codes.codes held k c.planes.walks) next (c.planes.invariant.leads held on));
+    }

@@ -1,0 +1,18 @@
+-- A plane has one bit of each row's code.
+use Rattle.std.specs.Prelude.{Bool, List, [], if◌then◌else◌, not, slice_index, slice_index_or, ℕ, ◌%◌, ◌*◌, ◌+◌, ◌/◌, ◌≡◌}
+use Rattle.bw_mask.specs.Masks.{bit_of, row_in}
+use Rattle.bw_aggregate.specs.declared.plane.Plane.{Plane}
+use Rattle.bw_aggregate.specs.declared.plane.Plane.TheVariants.{Copied, InPlace}
+
+-- whether a row is in the plane
+abbrev pub is_in : Plane → ℕ → Bool
+is_in (InPlace plane) r = row_in (slice_index_or plane.group.now (r / 256 * plane.count + plane.at) []) (r % 256)
+is_in (Copied words) r = row_in words.now r
+
+-- it has bit i of each code
+abbrev pub IsPlane : List ℕ → ℕ → Plane → Type 0
+IsPlane codes i plane = (r : ℕ) → is_in plane r ≡ bit_of (slice_index codes r) i
+
+-- whether bit i of a code is this
+abbrev pub has_bit : ℕ → Bool → ℕ → Bool
+has_bit i bit code = if bit then bit_of code i else not (bit_of code i)

@@ -1,0 +1,61 @@
+//! 256 rows as four words of 64.
+
+ghost use Rattle.std.specs.Prelude.{if◌then◌else◌, length, nat_lt, not, slice_index, ℕ, ◌&&◌, ◌*◌, ◌+◌, ◌<◌, ◌≡◌, ◌≤◌};
+ghost use Rattle.bw_mask.specs.Masks.{row_in};
+ghost use Rattle.bw_aggregate.specs.Marks.{marked};
+
+use std::simd::prelude::*;
+
+/// Word i, and 0 past the last.
+fn word_at(words: &[u64], i: usize) -> u64
+    ensures { result ≡ slice_index words.now i }
+{
+    if i < words.len() { words[i] } else { 0 }
+}
+
+/// Rows 256 q to 256 q + 255. Four words that are there are taken by one load.
+pub(crate) fn rows_at(words: &[u64], q: u32) -> [u64; 4]
+    ensures { (j : ℕ) → j < 256 → row_in result j ≡ row_in words.now (256 * q + j) }
+{
+    let first = 4 * q as usize;
+    if first + 4 <= words.len() {
+        u64x4::from_slice(&words[first..]).to_array()
+    } else {
+        [
+            word_at(words, first),
+            word_at(words, first + 1),
+            word_at(words, first + 2),
+            word_at(words, first + 3),
+        ]
+    }
+}
+
+/// The rows that are in the plane, or those that are not.
+pub(crate) fn rows_with(rows: &[u64; 4], plane: &[u64; 4], bit: bool) -> [u64; 4]
+    ensures { (j : ℕ) → j < 256 → row_in result j ≡ (row_in rows.now j && (if bit then row_in plane.now j else not (row_in plane.now j))) }
+{
+    let (rows, plane) = (u64x4::from_array(*rows), u64x4::from_array(*plane));
+    let both = rows & plane;
+    if bit {
+        both.to_array()
+    } else {
+        (rows ^ both).to_array()
+    }
+}
+
+/// How many rows there are.
+pub(crate) fn count_rows(rows: &[u64]) -> usize
+    requires { length rows.now ≡ 4 }
+    ensures is { result ≡ marked 256 (row_in rows.now) }
+    ensures few { result ≤ 256 }
+{
+    let ones = rows[0].count_ones() + rows[1].count_ones();
+    (ones + rows[2].count_ones() + rows[3].count_ones()) as usize
+}
+
+pub(crate) fn has_row(rows: &[u64]) -> bool
+    requires { length rows.now ≡ 4 }
+    ensures { result ≡ nat_lt 0 (marked 256 (row_in rows.now)) }
+{
+    rows[0] | rows[1] | rows[2] | rows[3] != 0
+}
