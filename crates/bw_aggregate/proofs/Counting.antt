@@ -1,9 +1,9 @@
 -- Rows that are in a mask, counted by what a test says of their codes.
-use Rattle.std.proofs.Common.{not, ◌-◌, ◌≤◌, Bool, List, [], ap, arith, cond, count_by, false, get_or, length, refl, suc, sym, true, zero-add, ℕ, ◌&&◌, ◌+◌, ◌≡◌, ◌∙◌, ◌∷◌}
+use Rattle.std.proofs.Common.{Bool, List, [], ap, arith, cond, count_by, false, get_or, length, refl, suc, sym, true, zero-add, ℕ, ◌&&◌, ◌+◌, ◌≡◌, ◌∙◌, ◌∷◌}
 use Rattle.std.proofs.lemmas.List.{get_or_past}
 use Rattle.std.proofs.lemmas.List.Sums.{sum_by-cons}
 use Rattle.bw_mask.specs.Masks.{rows_of}
-use Rattle.bw_mask.proofs.Views.{rows_are, rows_clean, rows_len}
+use Rattle.bw_mask.proofs.Views.{rows_clean, rows_len}
 use Rattle.std.specs.List.{items_where_true}
 
 module _ {A : Type 0} where

@@ -1,11 +1,11 @@
 -- Rows that are left, counted by their codes: segments that are kept, and parts of a column.
-use Rattle.std.proofs.Common.{Bool, List, [], ap, arith, cond, count_by, drop, false, get_or, if◌then◌else◌, length, length-drop, length-set, ltb, not, refl, set, subst, suc, sum_by, sym, take, true, zero, zero-add, ℕ, ◌&&◌, ◌*◌, ◌+◌, ◌-◌, ◌/◌, ◌<◌, ◌≡◌, ◌≤◌, ◌∙◌, ◌∷◌}
+use Rattle.std.proofs.Common.{Bool, List, [], ap, arith, cond, count_by, drop, false, get_or, if◌then◌else◌, length, length-drop, length-set, ltb, not, refl, set, suc, sum_by, sym, take, true, zero, zero-add, ℕ, ◌&&◌, ◌*◌, ◌+◌, ◌-◌, ◌<◌, ◌≡◌, ◌≤◌, ◌∙◌, ◌∷◌}
 use Rattle.std.proofs.lemmas.Bool.Decides.{nat_tests}
 use Rattle.std.proofs.lemmas.List.{get_or-drop, get_or-set_same, take-set}
 use Rattle.std.proofs.lemmas.List.Sums.{sum_by_more}
 use Rattle.std.specs.List.{items_where_true}
 use mir.Val.{bool_byte}
-use Rattle.bw_mask.specs.Masks.{bit_of, row_in}
+use Rattle.bw_mask.specs.Masks.{row_in}
 use Rattle.bw_aggregate.specs.Left.{codes_between, segment_count}
 use Rattle.bw_aggregate.specs.Planes.{IsPlane, has_bit, is_in}
 use Rattle.bw_aggregate.specs.declared.plane.Plane.{Plane}

@@ -1,11 +1,11 @@
 -- Marked places, counted.
-use Rattle.std.proofs.Common.{Bool, List, [], ap, arith, cond, count_by, eqb, false, get_or, inl, inr, length, nat_lt, not, refl, suc, sum_by, sym, true, zero, ℕ, ◌%◌, ◌&&◌, ◌*◌, ◌+◌, ◌-◌, ◌/◌, ◌<◌, ◌^◌, ◌≡◌, ◌≤◌, ◌∙◌, ◌∷◌}
+use Rattle.std.proofs.Common.{Bool, List, [], ap, arith, cond, count_by, false, get_or, inl, inr, length, nat_lt, refl, suc, sum_by, sym, true, zero, ℕ, ◌+◌, ◌<◌, ◌^◌, ◌≡◌, ◌≤◌, ◌∙◌, ◌∷◌}
 use Rattle.std.proofs.lemmas.Bool.{cases_eq, true≢false}
 use Rattle.std.proofs.lemmas.Bool.Decides.{nat_tests}
 use Rattle.std.proofs.lemmas.List.FromFn.{map-range_with_len_more}
 use Rattle.std.proofs.lemmas.List.Sums.{count_by-le-length, sum_by-cons, sum_by_push}
 use Rattle.std.specs.Int.RustNames.{count_ones}
-use Rattle.bw_mask.specs.Masks.{AreWords, row_in, rows_of}
+use Rattle.bw_mask.specs.Masks.{row_in, rows_of}
 use Rattle.bw_mask.proofs.Counts.{many_is}
 use Rattle.bw_mask.proofs.Views.{past, rows_len}
 use Rattle.bw_code.specs.Units.{some_below}

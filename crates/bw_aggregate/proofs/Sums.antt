@@ -1,14 +1,12 @@
 -- The sum of codes, one plane more.
-use Rattle.std.proofs.Common.{None, Option, Some, map, pos, suc, take, subst, sym, w32, w64, zero, zero-add, ℤ, ◌+ℤ◌, ◌*ℤ◌, Bool, get_or, ◌&&◌, List, [], ap, arith, cond, count_by, false, length, refl, sum, sum_by, true, ℕ, ◌%◌, ◌*◌, ◌+◌, ◌/◌, ◌<◌, ◌^◌, ◌≡◌, ◌≤◌, ◌∙◌, ◌∷◌}
-use Rattle.std.proofs.Math.Nat.{div-eq_of_lt, div-le_self, div-one, mul-le-mul}
-use Rattle.std.proofs.lemmas.List.Elements.{All-head, All-tail}
+use Rattle.std.proofs.Common.{None, Option, Some, map, pos, suc, take, subst, sym, w32, w64, zero, zero-add, ℤ, ◌+ℤ◌, ◌*ℤ◌, Bool, List, [], ap, arith, false, length, refl, sum, true, ℕ, ◌*◌, ◌+◌, ◌<◌, ◌^◌, ◌≡◌, ◌≤◌, ◌∙◌, ◌∷◌}
+use Rattle.std.proofs.Math.Nat.{mul-le-mul}
 use Rattle.std.proofs.lemmas.List.Sums.{count_by-le-length, sum_by-cons}
-use Rattle.std.proofs.lemmas.Nat.Bits.{bit_at-lt}
-use Rattle.std.specs.Int.{bit_at, w128}
+use Rattle.std.specs.Int.{w128}
 use Rattle.std.specs.List.{items_where_true}
 use Rattle.std.proofs.lemmas.Int.{fits_signed_from_abs, ints, to_z-of_z, unsigned_abs-mul}
 use Rattle.std.proofs.Math.IntN.{*ℤ_comm, suc_ℤ-*ℤ, zero-*ℤ}
-use Rattle.std.specs.Prelude.{All, FitsSigned, IfSome, unsigned_abs}
+use Rattle.std.specs.Prelude.{All, FitsSigned, unsigned_abs}
 use mir.Val.{of_z, to_z}
 use Rattle.bw_code.specs.declared.encoding.Encoding.TheVariants as by
 use Rattle.bw_code.specs.declared.offset.Offset.{Offset}
@@ -19,11 +17,8 @@ use Rattle.bw_column.specs.Codes.{IsCoded, code_for}
 use Rattle.bw_model.specs.SetFunctions
 use Rattle.bw_model.specs.SetFunctions.{known, total}
 use Rattle.bw_aggregate.proofs.KnownValues.{AreCoded, coded_all}
-use Rattle.bw_mask.specs.Masks.{bit_of}
-use Rattle.bw_aggregate.specs.Descents.{front}
-use Rattle.bw_aggregate.proofs.Descents.{front-half}
 use Rattle.bw_aggregate.specs.Chosen.{value_in}
-use Rattle.bw_aggregate.proofs.Counting.{count_cons, length_chosen}
+use Rattle.bw_aggregate.proofs.Counting.{length_chosen}
 
 pub few_chosen : (rows : List Bool) (codes : List ℕ) → length rows ≡ length codes → length (items_where_true rows codes) ≤ length codes
 few_chosen rows codes e = omega (arith, length_chosen rows codes e, count_by-le-length (λ (b : Bool). b) rows)

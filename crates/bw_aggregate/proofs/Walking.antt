@@ -1,5 +1,5 @@
 -- What the walks come to, when they have passed all planes.
-use Rattle.std.proofs.Common.{Bool, List, None, Option, Some, [], ap, arith, count_by, drop, false, get_or, is_some, length, length-drop, map, option_map, refl, subst, sum, sum_by, sym, take, true, ℕ, ℤ, ◌&&◌, ◌*◌, ◌+◌, ◌-◌, ◌/◌, ◌<◌, ◌^◌, ◌||◌, ◌≡◌, ◌≤◌, ◌∙◌, ◌∷◌}
+use Rattle.std.proofs.Common.{Bool, List, None, Option, Some, [], ap, arith, count_by, drop, false, get_or, is_some, length, length-drop, map, option_map, refl, subst, sum, sym, take, true, ℕ, ℤ, ◌&&◌, ◌*◌, ◌-◌, ◌/◌, ◌<◌, ◌^◌, ◌≡◌, ◌≤◌, ◌∙◌, ◌∷◌}
 use Rattle.std.proofs.Math.Nat.{mul-le-mul, pow-le-pow_right}
 use Rattle.std.proofs.lemmas.Bool.{true≢false}
 use Rattle.std.proofs.lemmas.List.{length-take}

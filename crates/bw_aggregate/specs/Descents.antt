@@ -1,5 +1,5 @@
 -- The descent to entry n of some sorted codes, from the top plane down (O'Neil and Quass, SIGMOD 1997).
-use Rattle.std.specs.Prelude.{Bool, List, All, count_by, if◌then◌else◌, length, nat_le, nat_lt, sum, ℕ, ◌&&◌, ◌*◌, ◌+◌, ◌-◌, ◌/◌, ◌<◌, ◌==◌, ◌^◌, ◌≡◌, ◌≤◌}
+use Rattle.std.specs.Prelude.{Bool, List, All, count_by, if◌then◌else◌, nat_le, nat_lt, sum, ℕ, ◌&&◌, ◌*◌, ◌+◌, ◌-◌, ◌/◌, ◌<◌, ◌==◌, ◌^◌, ◌≡◌, ◌≤◌}
 use Rattle.bw_aggregate.specs.Left.{left_count}
 use Rattle.bw_aggregate.specs.declared.segments.Left.{Left}
 

@@ -1,5 +1,5 @@
 -- The ways down to what is asked of codes, all of them in one pass over the planes from the top.
-use Rattle.std.specs.Prelude.{Bool, IfSome, List, None, Option, Some, false, is_some, length, sum, sum_by, true, ℕ, ◌-◌, ◌/◌, ◌<◌, ◌^◌, ◌≡◌, ◌≤◌}
+use Rattle.std.specs.Prelude.{Bool, IfSome, List, None, Option, Some, false, is_some, length, sum, sum_by, true, ℕ, ◌-◌, ◌/◌, ◌<◌, ◌^◌, ◌≡◌}
 use Rattle.bw_aggregate.specs.Descents.{Holds, IsNthCode, IsSmall, LeadsTo, begin_count, end_of, front}
 use Rattle.bw_aggregate.specs.declared.code_sum.CodeSum.{CodeSum}
 use Rattle.bw_aggregate.specs.declared.descent.Descent.{Descent}

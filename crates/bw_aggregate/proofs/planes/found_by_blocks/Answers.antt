@@ -1,4 +1,4 @@
-use Rattle.std.proofs.Common.{ap, arith, length, min, subst, sym, ◌*◌, ◌+◌, ◌++◌, ◌<◌, ◌≡◌, ◌≤◌, ◌∙◌}
+use Rattle.std.proofs.Common.{arith, min, subst, sym, ◌*◌, ◌+◌, ◌<◌, ◌≡◌, ◌≤◌}
 use Rattle.bw_aggregate.specs.Descents.{IsSmall}
 use Rattle.bw_aggregate.specs.Left.{codes_between}
 use Rattle.bw_aggregate.specs.Walks.{IsFound}

@@ -1,4 +1,4 @@
-use Rattle.std.proofs.Common.{ap, arith, count_by, length, sym, true, ℕ, ◌*◌, ◌≡◌, ◌≤◌, ◌∙◌}
+use Rattle.std.proofs.Common.{ap, arith, count_by, length, sym, true, ℕ, ◌*◌, ◌≡◌, ◌∙◌}
 use Rattle.std.proofs.lemmas.List.{length-map}
 use Rattle.std.specs.List.{items_where_true}
 use Rattle.bw_code.specs.Encodings.{width}

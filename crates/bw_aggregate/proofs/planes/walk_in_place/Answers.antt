@@ -1,4 +1,4 @@
-use Rattle.std.proofs.Common.{[], ap, arith, get_or, min, subst, ℕ, ◌%◌, ◌*◌, ◌+◌, ◌-◌, ◌/◌, ◌<◌, ◌≡◌, ◌∙◌}
+use Rattle.std.proofs.Common.{[], ap, arith, get_or, subst, ◌%◌, ◌*◌, ◌+◌, ◌-◌, ◌/◌, ◌<◌, ◌≡◌, ◌∙◌}
 use Rattle.bw_mask.specs.Masks.{bit_of, row_in}
 use Rattle.bw_vertical.specs.Storage.{planes_in}
 use Rattle.bw_aggregate.specs.Walks.{AreOnWay}

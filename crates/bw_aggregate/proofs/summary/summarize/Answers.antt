@@ -1,8 +1,7 @@
 use Rattle.std.proofs.Common.{ap, arith, length, refl, sym, true, ◌≡◌, ◌∙◌}
-use Rattle.std.proofs.lemmas.List.{length-map}
 use Rattle.std.specs.List.{items_where_true}
 use Rattle.bw_code.specs.Encodings.{width}
-use Rattle.bw_column.specs.Codes.{code_for, codes_for}
+use Rattle.bw_column.specs.Codes.{codes_for}
 use Rattle.bw_model.specs.SetFunctions.{sum}
 use Rattle.bw_aggregate.specs.Chosen.{chosen}
 use Rattle.bw_aggregate.specs.declared.summary.Asked.{Asked}

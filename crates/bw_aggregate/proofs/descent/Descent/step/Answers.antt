@@ -1,5 +1,5 @@
-use Rattle.std.proofs.Common.{Bool, arith, false, subst, sym, true, ℕ, ◌*◌, ◌+◌, ◌-◌, ◌≡◌, ◌≤◌, ◌∙◌}
-use Rattle.bw_aggregate.specs.Descents.{IsRest, begin_count, next}
+use Rattle.std.proofs.Common.{arith, false, true, ◌≡◌, ◌∙◌}
+use Rattle.bw_aggregate.specs.Descents.{begin_count, next}
 use Rattle.bw_aggregate.specs.Left.{left_count}
 use Rattle.bw_aggregate.proofs.Descents.{both, go_one, go_zero, narrowed, small_next, small_room, with_bit}
 use Rattle.bw_aggregate.proofs.descent.Descent.step.Goals as goal

@@ -1,4 +1,4 @@
-use Rattle.std.proofs.Common.{ap, arith, get_or, sum_by, sym, ℕ, ◌+◌, ◌<◌, ◌≡◌, ◌≤◌, ◌∙◌}
+use Rattle.std.proofs.Common.{ap, arith, sum_by, sym, ◌∙◌}
 use Rattle.std.proofs.lemmas.List.Sums.{get_or-le-sum_by, sum_by_more}
 use Rattle.bw_aggregate.specs.Left.{segment_count}
 use Rattle.bw_aggregate.specs.Planes.{has_bit}

@@ -1,4 +1,4 @@
-use Rattle.std.proofs.Common.{ap, arith, sum_by, true, ℕ, ◌+◌, ◌<◌, ◌≡◌}
+use Rattle.std.proofs.Common.{ap, arith, true, ℕ}
 use Rattle.std.proofs.lemmas.List.Sums.{sum_by_more}
 use Rattle.bw_mask.specs.Masks.{bit_of}
 use Rattle.bw_aggregate.specs.Left.{segment_count}

@@ -1,4 +1,4 @@
-use Rattle.std.proofs.Common.{Bool, ap, arith, get_or, length, length-set, set, sum_by, sym, take, ℕ, ◌&&◌, ◌+◌, ◌<◌, ◌≡◌, ◌∙◌}
+use Rattle.std.proofs.Common.{ap, arith, get_or, length, length-set, set, sum_by, sym, take, ℕ, ◌&&◌, ◌+◌, ◌<◌, ◌≡◌, ◌∙◌}
 use mathlib.Core.Logic.{◌≢◌}
 use Rattle.std.proofs.lemmas.List.{get_or-set_other, take_all}
 use Rattle.std.proofs.lemmas.List.Sums.{sum_by_more}

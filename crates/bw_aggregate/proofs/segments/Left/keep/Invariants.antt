@@ -1,5 +1,5 @@
 use Rattle.std.proofs.Common.{Bool, List, get_or, length, take, ℕ, ◌&&◌, ◌≡◌, ◌≤◌}
-use Rattle.std.specs.Prelude.{sum_by, vec_len}
+use Rattle.std.specs.Prelude.{sum_by}
 use Rattle.bw_aggregate.specs.Left.{segment_count}
 use Rattle.bw_aggregate.specs.Planes.{IsPlane, has_bit}
 use Rattle.bw_aggregate.specs.declared.segments.Segment.{Segment}

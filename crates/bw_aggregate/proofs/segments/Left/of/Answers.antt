@@ -1,5 +1,5 @@
-use Rattle.std.proofs.Common.{Bool, ap, arith, false, get_or, length, length-set, set, sum_by, sym, take, ℕ, ◌&&◌, ◌*◌, ◌+◌, ◌-◌, ◌<◌, ◌≡◌, ◌∙◌}
-use Rattle.bw_mask.specs.Masks.{row_at, row_in}
+use Rattle.std.proofs.Common.{ap, arith, false, get_or, length, length-set, set, sum_by, sym, take, ℕ, ◌&&◌, ◌*◌, ◌+◌, ◌-◌, ◌<◌, ◌≡◌, ◌∙◌}
+use Rattle.bw_mask.specs.Masks.{row_in}
 use Rattle.bw_aggregate.specs.Left.{segment_count}
 use Rattle.bw_aggregate.specs.Marks.{marked}
 use Rattle.bw_aggregate.specs.declared.segments.Segment.{Segment}
