@@ -5,7 +5,7 @@ use Rattle.std.proofs.lemmas.List.{get_or-drop, get_or-set_same, take-set}
 use Rattle.std.proofs.lemmas.List.Sums.{sum_by_more}
 use Rattle.std.specs.List.{items_where_true}
 use mir.Val.{bool_byte}
-use Rattle.bw_mask.specs.Masks.{row_in}
+use Rattle.bw_mask.specs.Masks.{bit_of, row_in}
 use Rattle.bw_aggregate.specs.Left.{codes_between, segment_count}
 use Rattle.bw_aggregate.specs.Planes.{IsPlane, has_bit, is_in}
 use Rattle.bw_aggregate.specs.declared.plane.Plane.{Plane}
@@ -89,6 +89,14 @@ pub segment_none : (codes : List ℕ) (p : ℕ → Bool) (segment : Segment) →
 segment_none codes p segment none =
     marked_none 256 (λ j. row_in segment.rows j && p (get_or codes (256 * segment.number + j) 0))
     (λ j h. ap (λ b. b && p (get_or codes (256 * segment.number + j) 0)) (none_marked 256 (row_in segment.rows) none j h))
+
+-- those of its rows whose code has a bit
+pub segment_in : (codes : List ℕ) (i : ℕ) (plane : Plane) → IsPlane codes i plane → (segment : Segment) (part : List ℕ)
+    → ((j : ℕ) → j < 256 → row_in part j ≡ is_in plane (256 * segment.number + j))
+    → marked 256 (λ j. row_in segment.rows j && row_in part j) ≡ segment_count codes (λ code. bit_of code i) segment
+segment_in codes i plane is segment part of_plane =
+    marked_same 256 (λ j. row_in segment.rows j && row_in part j) (λ j. row_in segment.rows j && bit_of (get_or codes (256 * segment.number + j) 0) i)
+    (λ j h. ap (λ b. row_in segment.rows j && b) (of_plane j h ∙ is (256 * segment.number + j)))
 
 -- those of its rows whose code has a bit, or lacks it
 module _ (codes : List ℕ) (i : ℕ) (plane : Plane) (is : IsPlane codes i plane) (bit : Bool) (segment : Segment) (part rows : List ℕ)

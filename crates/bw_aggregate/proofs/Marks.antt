@@ -1,10 +1,15 @@
 -- Marked places, counted.
-use Rattle.std.proofs.Common.{Bool, List, [], ap, arith, cond, count_by, false, get_or, inl, inr, length, nat_lt, refl, suc, sum_by, sym, true, zero, ℕ, ◌+◌, ◌<◌, ◌^◌, ◌≡◌, ◌≤◌, ◌∙◌, ◌∷◌}
-use Rattle.std.proofs.lemmas.Bool.{cases_eq, true≢false}
+use Rattle.std.proofs.Common.{Bool, List, [], ap, arith, bit_and, cond, count_by, false, get_or, inl, inr, length, nat_lt, refl, suc, sum_by, sym, true, zero, ℕ, ◌&&◌, ◌+◌, ◌<◌, ◌^◌, ◌≡◌, ◌≤◌, ◌∙◌, ◌∷◌}
+use Rattle.std.proofs.lemmas.Bool.{cases_eq, cases_lt, true≢false}
 use Rattle.std.proofs.lemmas.Bool.Decides.{nat_tests}
 use Rattle.std.proofs.lemmas.List.FromFn.{map-range_with_len_more}
 use Rattle.std.proofs.lemmas.List.Sums.{count_by-le-length, sum_by-cons, sum_by_push}
 use Rattle.std.specs.Int.RustNames.{count_ones}
+use Rattle.std.proofs.lemmas.List.{get_or_past}
+use Rattle.std.proofs.lemmas.Nat.{and_le_l}
+use Rattle.std.proofs.lemmas.Simd.{get_or-zip2}
+use lib.Lanes.{zip2}
+use Rattle.bw_lane.proofs.Bits.{len_and, row_and}
 use Rattle.bw_mask.specs.Masks.{row_in, rows_of}
 use Rattle.bw_mask.proofs.Counts.{many_is}
 use Rattle.bw_mask.proofs.Views.{past, rows_len}
@@ -98,3 +103,24 @@ marked_some n f = by_cases (some_below n f) refl
           | inl z ↦ let no = none_if n f (none_marked n f z) in absurd (true≢false (sym e ∙ no))
           | inr d ↦ grind (arith, nat_tests, d)
         ]
+
+-- the ones of four words that are in four others, too
+module _ (xs ys : List ℕ) (four : length xs ≡ 4) (other : length ys ≡ 4) (fits : (k : ℕ) → get_or xs k 0 < 2 ^ 64) where
+  both_fits : (k : ℕ) → get_or (zip2 bit_and xs ys) k 0 < 2 ^ 64
+  both_fits k =
+      elim (cases_lt k 4) [
+        | inl h ↦
+            let word = get_or-zip2 bit_and xs ys k 0 0 0 (omega (arith, h, four)) (omega (arith, h, other)) in
+            omega (arith, word, and_le_l (get_or xs k 0) (get_or ys k 0), fits k)
+        | inr h ↦ let none = get_or_past (zip2 bit_and xs ys) k 0 (omega (arith, h, len_and xs ys four other)) in omega (arith, none)
+      ]
+
+  word_both : (k : ℕ) → k < 4 → count_ones (get_or (zip2 bit_and xs ys) k 0) ≡ count_ones (bit_and (get_or xs k 0) (get_or ys k 0))
+  word_both k h = ap count_ones (get_or-zip2 bit_and xs ys k 0 0 0 (omega (arith, h, four)) (omega (arith, h, other)))
+
+  pub marked_both : ((count_ones (bit_and (get_or xs 0 0) (get_or ys 0 0)) + count_ones (bit_and (get_or xs 1 0) (get_or ys 1 0))) + count_ones (bit_and (get_or xs 2 0) (get_or ys 2 0))) + count_ones (bit_and (get_or xs 3 0) (get_or ys 3 0))
+      ≡ marked 256 (λ j. row_in xs j && row_in ys j)
+  marked_both =
+      let all = marked_four (zip2 bit_and xs ys) (len_and xs ys four other) both_fits in
+      let same = marked_same 256 (row_in (zip2 bit_and xs ys)) (λ j. row_in xs j && row_in ys j) (row_and xs ys four other) in
+      omega (arith, all, same, word_both 0 (omega arith), word_both 1 (omega arith), word_both 2 (omega arith), word_both 3 (omega arith))

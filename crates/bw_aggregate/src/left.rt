@@ -6,7 +6,7 @@ ghost use Rattle.bw_aggregate.specs.Left.{codes_between, left_count};
 ghost use Rattle.bw_aggregate.specs.Planes.{IsPlane, has_bit};
 
 use crate::plane::Plane;
-use crate::rows::{count_rows, has_row, rows_at, rows_with};
+use crate::rows::{count_both, count_rows, has_row, rows_at, rows_with};
 use crate::segments::{Left, Segment};
 use bw_mask::Mask;
 use std::alloc::{AllocError, Global};
@@ -59,8 +59,7 @@ impl Left {
         let mut count = 0;
         'segments: for k in 0..self.segments.len() {
             let segment = &self.segments[k];
-            let rows = rows_with(&segment.rows, &plane.rows(segment.number), true);
-            count += count_rows(&rows);
+            count += count_both(&segment.rows, &plane.rows(segment.number));
         }
         count
     }

@@ -21,7 +21,7 @@ use bw_vertical::VerticalColumn;
 use std::alloc::{AllocError, Global};
 
 /// How many segments are walked through all planes before the next: so many that their planes stay in the cache.
-const BLOCK: u32 = 64;
+const BLOCK: u32 = 256;
 
 /// Takes the walks down all planes where they lie, from the top.
 fn walk_in_place(codes: &VerticalColumn, walks: &mut Walks)

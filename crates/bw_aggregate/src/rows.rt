@@ -53,6 +53,18 @@ pub(crate) fn count_rows(rows: &[u64]) -> usize
     (ones + rows[2].count_ones() + rows[3].count_ones()) as usize
 }
 
+/// How many rows are in both.
+// Word by word, since the counts are taken so.
+pub(crate) fn count_both(a: &[u64], b: &[u64]) -> usize
+    requires a { length a.now ≡ 4 }
+    requires b { length b.now ≡ 4 }
+    ensures is { result ≡ marked 256 (λ j. row_in a.now j && row_in b.now j) }
+    ensures few { result ≤ 256 }
+{
+    let ones = (a[0] & b[0]).count_ones() + (a[1] & b[1]).count_ones();
+    (ones + (a[2] & b[2]).count_ones() + (a[3] & b[3]).count_ones()) as usize
+}
+
 pub(crate) fn has_row(rows: &[u64]) -> bool
     requires { length rows.now ≡ 4 }
     ensures { result ≡ nat_lt 0 (marked 256 (row_in rows.now)) }

@@ -4,4 +4,4 @@ use Rattle.bw_aggregate.specs.Walks.{IsFound}
 use Rattle.bw_aggregate.proofs.planes.found_by_blocks.Given as goal
 
 abbrev pub invariant-parts : goal.invariant-parts
-invariant-parts l = IsFound l.asked (codes_between l.rows.rows l.codes.codes 0 (256 * min (64 * l.b) l.segments)) l.found
+invariant-parts l = IsFound l.asked (codes_between l.rows.rows l.codes.codes 0 (256 * min (256 * l.b) l.segments)) l.found
