@@ -1,7 +1,7 @@
 -- A reader between two records gives the records that are left, one after the other.
 use Rattle.std.proofs.Common.{Bool, Bor, inl, IsSome, List, None, Option, Some, [], ap, arith, cond, false, length, refl, suc, true, zero, ℕ, ◌+◌, ◌<◌, ◌≡◌, ◌≤◌, ◌∙◌, ◌∷◌, ◌++◌}
 use Rattle.csv.specs.Machine.{Read, after_end, ends_at_end, ends_with, fields_after, field_after, in_field, is_byte, is_end, next_record, start_field, start_record, step}
-use Rattle.csv.specs.Reading.{NextIs, ReadRecord, ReadsNext, took_first, default_config, is_bom, records_from, records_next, strip_bom}
+use Rattle.csv.specs.Reading.{NextIs, ReadRecord, ReadsNext, default_config, is_bom, is_flexible, records_from, records_next, strip_bom, took_first}
 use Rattle.csv.specs.declared.parser.Action.{Action}
 use Rattle.csv.specs.declared.parser.Config.{Config}
 use Rattle.csv.specs.declared.parser.State.{State}
@@ -137,10 +137,10 @@ no-record s s2 (Some xs) (Some ys) fields there read =
 
 module _ (old new : Reader (Bor (List ℕ))) (fields : List (List ℕ)) (reading : IsReading old) where
   -- a read that found a record takes it from those that were left
-  pub read-found : ReadRecord (λ (s : Bor (List ℕ)). Some s.now) old new true fields → took_first new ≡ true → IsReading new × (records_left old ≡ fields ∷ records_left new)
-  read-found read first =
+  pub read-found : ReadRecord (λ (s : Bor (List ℕ)). Some s.now) old new true fields → took_first new ≡ true → is_flexible new ≡ is_flexible old → IsReading new × (records_left old ≡ fields ∷ records_left new)
+  read-found read first flexible =
       let read_on = found-record old.state new.state (bytes_left old) (bytes_left new) fields reading.between reading.known (rw read.1 (rw reading.config at read.0)) in (
-        record { config = read.2 ∙ reading.config; trim = read.3 ∙ reading.trim; ready = inl first; between = read_on.between; known = read_on.known },
+        record { config = read.2 ∙ reading.config; trim = read.3 ∙ reading.trim; flexible = flexible ∙ reading.flexible; ready = inl first; between = read_on.between; known = read_on.known },
         read_on.records,
       )
 

@@ -56,6 +56,7 @@ impl CsvRows {
         let (row, _) = rest.split_at(self.width);
         row
     }
+
     /// The cells of all rows, row after row; NULL is `None`.
     pub fn cells(&self) -> &[Option<i32>]
         ensures { result.now ≡ flat_map (λ row. row) self.now }

@@ -1,7 +1,9 @@
 pub mod Agree
+pub mod Blocks
 pub mod Distinct
 pub mod Fronts
 pub mod Joined
 pub mod Lengths
 pub mod Places
+pub mod Spare
 pub mod Words

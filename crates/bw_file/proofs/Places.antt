@@ -29,7 +29,7 @@ presence_byte-bound [] = omega arith
 presence_byte-bound (None ∷ cells) = let rest = presence_byte-bound cells in rw (pow-suc 2 (length cells)) (omega arith)
 presence_byte-bound (Some z ∷ cells) = let rest = presence_byte-bound cells in rw (pow-suc 2 (length cells)) (omega arith)
 
-bit-presence_byte : (cells : List (Option ℤ)) (j : ℕ) → j < length cells → bit_at (presence_byte cells) j ≡ presence (get_or cells j None)
+pub bit-presence_byte : (cells : List (Option ℤ)) (j : ℕ) → j < length cells → bit_at (presence_byte cells) j ≡ presence (get_or cells j None)
 bit-presence_byte [] j h = absurd (omega arith)
 bit-presence_byte (cell ∷ cells) zero h = bit_at_lowest (presence_byte (cell ∷ cells)) ∙ first cell
   where

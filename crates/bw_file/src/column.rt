@@ -1,12 +1,15 @@
 //! A column as bytes, and back.
 
-ghost use Rattle.std.specs.Prelude.{All, IfOk, IfSome, List, None, OnOk, Option, length, map, true, ◌*◌, ◌++◌, ◌≡◌, ◌≤◌, ℤ};
+ghost use Rattle.std.specs.Prelude.{All, IfOk, IfSome, List, None, OnOk, Option, length, map, ◌*◌, ◌++◌, ◌≡◌, ◌≤◌, ℤ};
 ghost use Rattle.std.specs.List.{flat_map};
 ghost use Rattle.bw_file.specs.Cells.{cell_bytes, cells_of, column_bytes, column_size, presence_bytes, presence_size, row_limit, IsCell};
 
-use crate::cells::{are_cells, read_cells, write_cells};
-use crate::presence::{are_presence, write_presence};
+use crate::cells::{read_cells, write_cells};
+use crate::presence::{has_spare_bit, write_presence};
 use std::alloc::{AllocError, Global};
+
+// How many rows are written at a time: few enough that their cells are still at hand after their bits.
+const BLOCK: usize = 2_048;
 
 /// How many bytes a column of so many rows has.
 pub(crate) fn column_size(rows: usize) -> usize
@@ -47,9 +50,25 @@ fn write_column(out: &mut [u8], cells: &[Option<i32>])
     requires long { length out.old ≡ column_size (length cells.now) }
     ensures { out.new ≡ column_bytes cells.now }
 {
-    let present = cells.len().div_ceil(8);
-    write_presence(&mut out[..present], cells);
-    write_cells(&mut out[present..], cells);
+    let (present, words) = out.split_at_mut(cells.len().div_ceil(8));
+    write_blocks(present, words, cells);
+}
+
+/// Writes the bits and the cells of a column, block by block, so that each block of cells is fetched once.
+fn write_blocks(present: &mut [u8], words: &mut [u8], cells: &[Option<i32>])
+    requires few { length cells.now ≤ row_limit }
+    requires present { length present.old ≡ presence_size (length cells.now) }
+    requires words { length words.old ≡ 4 * length cells.now }
+    ensures bits { present.new ≡ presence_bytes (presence_size (length cells.now)) cells.now }
+    ensures cells { words.new ≡ flat_map cell_bytes cells.now }
+{
+    let mut start = 0;
+    'blocks: for _ in 0..cells.len().div_ceil(BLOCK) {
+        let end = cells.len().min(start + BLOCK);
+        write_presence(present, cells, start.div_ceil(8), end.div_ceil(8));
+        write_cells(words, cells, start, end);
+        start = end;
+    }
 }
 
 /// So many columns of so many rows, if the bytes are theirs.
@@ -95,26 +114,8 @@ fn read_column(
     ensures none { IfOk result (λ found. found ≡ None → (cells : List (Option ℤ)) → length cells ≡ rows → All IsCell cells → bytes.now ≡ column_bytes cells → ⊥) }
 {
     let (present, words) = bytes.split_at(rows.div_ceil(8));
-    let cells = read_cells(alloc, present, words, rows)?;
-    // What was read is the column if it is spelled so: spare bits and the cells at nulls are looked at here.
-    if is_spelled(present, words, &cells) {
-        Ok(Some(cells))
-    } else {
-        Ok(None)
+    if has_spare_bit(present, rows) {
+        return Ok(None);
     }
-}
-
-/// Whether these are the bits and the cells of the column.
-fn is_spelled(present: &[u8], words: &[u8], cells: &[Option<i32>]) -> bool
-    requires few { length cells.now ≤ row_limit }
-    requires present { length present.now ≡ presence_size (length cells.now) }
-    requires words { length words.now ≡ 4 * length cells.now }
-    ensures same { result ≡ true → present.now ++ words.now ≡ column_bytes cells.now }
-    ensures told { All IsCell cells.now → present.now ≡ presence_bytes (presence_size (length cells.now)) cells.now → words.now ≡ flat_map cell_bytes cells.now → result ≡ true }
-{
-    if are_presence(present, cells) {
-        are_cells(words, cells)
-    } else {
-        false
-    }
+    read_cells(alloc, present, words, rows)
 }

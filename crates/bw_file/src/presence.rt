@@ -1,32 +1,36 @@
 //! The bits that say which cells of a column are not null.
 
-ghost use Rattle.std.specs.Prelude.{drop, length, take, true, ◌*◌, ◌<◌, ◌≡◌, ◌≤◌};
+ghost use Rattle.std.specs.Prelude.{List, Option, drop, false, length, take, true, ◌*◌, ◌<◌, ◌≡◌, ◌≤◌, ℤ};
 ghost use Rattle.bw_file.specs.Cells.{presence, presence_byte, presence_bytes, presence_size, row_limit};
+ghost use Rattle.bw_file.specs.Reading.{HasNoSpareBit, HasPresence};
 
-/// Writes a bit for each cell.
-pub(crate) fn write_presence(out: &mut [u8], cells: &[Option<i32>])
+/// Writes the bytes from number `start` to `end` of those that have a bit for each cell.
+pub(crate) fn write_presence(out: &mut [u8], cells: &[Option<i32>], start: usize, end: usize)
     requires few { length cells.now ≤ row_limit }
     requires long { length out.old ≡ presence_size (length cells.now) }
-    ensures { out.new ≡ presence_bytes (presence_size (length cells.now)) cells.now }
+    requires places { end ≤ length out.old }
+    requires before { HasPresence start out.old cells.now }
+    requires start { start ≤ end }
+    ensures count { length out.new ≡ length out.old }
+    ensures bits { HasPresence end out.new cells.now }
 {
-    'eights: for i in 0..out.len() {
+    'eights: for i in start..end {
         out[i] = presence_of_eight(cells, i);
     }
 }
 
-/// Whether the bits are those of the cells.
-pub(crate) fn are_presence(present: &[u8], cells: &[Option<i32>]) -> bool
-    requires few { length cells.now ≤ row_limit }
-    requires long { length present.now ≡ presence_size (length cells.now) }
-    ensures same { result ≡ true → present.now ≡ presence_bytes (presence_size (length cells.now)) cells.now }
-    ensures told { present.now ≡ presence_bytes (presence_size (length cells.now)) cells.now → result ≡ true }
+/// Whether a bit past the last row is set. No column has one.
+pub(crate) fn has_spare_bit(present: &[u8], rows: usize) -> bool
+    requires few { rows ≤ row_limit }
+    requires long { length present.now ≡ presence_size rows }
+    ensures no { result ≡ false → HasNoSpareBit rows present.now }
+    ensures yes { result ≡ true → (cells : List (Option ℤ)) → length cells ≡ rows → present.now ≡ presence_bytes (presence_size rows) cells → ⊥ }
 {
-    let mut agree = true;
-    'eights: for i in 0..present.len() {
-        // No branch, so that the loop stays flat.
-        agree &= present[i] == presence_of_eight(cells, i);
+    if rows % 8 == 0 {
+        false
+    } else {
+        present[rows / 8] >> (rows % 8) != 0
     }
-    agree
 }
 
 /// The bits of the eight cells from cell 8 i on, or of those that are left there.

@@ -1,12 +1,14 @@
-use Rattle.std.proofs.Common.{None, get_or, length, ℕ, ◌<◌, ◌≡◌}
+use Rattle.std.proofs.Common.{length, ◌*◌, ◌+◌, ◌-◌, ◌≤◌}
 use Rattle.std.specs.Prelude.{All}
 use Rattle.bw_file.specs.Cells.{IsCell}
-use Rattle.bw_file.specs.Reading.{read_cell}
+use Rattle.bw_file.specs.Reading.{AreRead, AreSpelled}
 use Rattle.bw_file.proofs.cells.read_cells.Given as goal
 
-abbrev pub invariant-rows : goal.invariant-rows
-invariant-rows l = record {
-  count : length l.cells.items ≡ l.i;
+abbrev pub invariant-blocks-2 : goal.invariant-blocks-2
+invariant-blocks-2 l = record {
+  few : length l.cells.items ≤ l.rows;
+  left : l.rows ≤ length l.cells.items + (l.end - l.counter) * 16384;
   cells : All IsCell l.cells.items;
-  each : (k : ℕ) → k < l.i → get_or l.cells.items k None ≡ read_cell l.present l.words k;
+  each : AreRead l.cells.items l.present l.words;
+  same : AreSpelled (length l.cells.items) l.present l.words;
 }

@@ -1,8 +1,11 @@
-use Rattle.std.proofs.Common.{take, ◌*◌, ◌≡◌}
+use Rattle.std.proofs.Common.{length, take, ◌*◌, ◌≡◌}
 use Rattle.std.specs.List.{flat_map}
 use Rattle.bw_file.specs.Cells.{cell_bytes}
 use Rattle.bw_file.proofs.cells.write_cells.Given as goal
 
 -- the cells so far are written
 abbrev pub invariant-rows : goal.invariant-rows
-invariant-rows l = take (4 * l.i) l.out ≡ flat_map cell_bytes (take l.i l.cells)
+invariant-rows l = record {
+  count : length l.out ≡ length l.fn.out;
+  words : take (4 * l.i) l.out ≡ flat_map cell_bytes (take l.i l.cells);
+}
