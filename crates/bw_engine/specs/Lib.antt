@@ -1,3 +1,4 @@
+pub mod Files
 pub mod Folds
 pub mod Found
 pub mod Outcomes

@@ -20,8 +20,8 @@ pub(crate) enum To {
     Column(usize),
 }
 
-/// A table without slots, of columns in these layouts and of these kinds.
-pub(crate) fn table_of<R: Abort + AllocGlobal>(rt: &R, columns: &[(Layout, Kind)]) -> Table<usize> {
+/// Headers of columns in these layouts and of these kinds.
+fn headers_of<R: Abort + AllocGlobal>(rt: &R, columns: &[(Layout, Kind)]) -> Vec<Header<usize>> {
     let mut headers = Vec::new(rt.alloc());
     for (layout, kind) in columns {
         let header = Header {
@@ -31,7 +31,28 @@ pub(crate) fn table_of<R: Abort + AllocGlobal>(rt: &R, columns: &[(Layout, Kind)
         };
         headers.push(header).expect(rt, "memory");
     }
-    Table::create(rt.alloc(), headers).expect(rt, "memory")
+    headers
+}
+
+/// A table without slots, of columns in these layouts and of these kinds.
+pub(crate) fn table_of<R: Abort + AllocGlobal>(rt: &R, columns: &[(Layout, Kind)]) -> Table<usize> {
+    Table::create(rt.alloc(), headers_of(rt, columns)).expect(rt, "memory")
+}
+
+/// A table made of two columns of three cells.
+#[tactic(auto, using(crate::proofs::Flat::both_long))]
+pub(crate) fn opened<R: Abort + AllocGlobal>(
+    rt: &R,
+    columns: &[(Layout, Kind)],
+    first: [Cell; 3],
+    second: [Cell; 3],
+) -> Table<usize> {
+    let headers = headers_of(rt, columns);
+    assert!(rt; headers.len() == 2);
+    let first = Vec::from_array(rt.alloc(), first).expect(rt, "memory");
+    let second = Vec::from_array(rt.alloc(), second).expect(rt, "memory");
+    let cells = Vec::from_array(rt.alloc(), [first, second]).expect(rt, "memory");
+    Table::of_columns(rt.alloc(), headers, 3, cells).expect(rt, "memory")
 }
 
 /// The value, as a column takes it.

@@ -1,0 +1,174 @@
+//! SAVE.
+
+ghost use Rattle.std.specs.Prelude.{◌≡◌, ◌<◌, ◌≤◌, ◌+◌, ◌*◌, All, IfOk, length, map};
+ghost use Rattle.std.specs.List.{range_with_len, sum_by};
+ghost use Rattle.bw_column.specs.Values.{IsNullOrInteger};
+ghost use Rattle.bw_file.specs.Cells.{cells_of};
+ghost use Rattle.bw_model.specs.Filing.{column_of, filed, filed_header, filed_length};
+ghost use Rattle.bw_sql.specs.Tree.{statement_of};
+ghost use Rattle.bw_sql.specs.declared.tree.Statement.TheVariants as statements;
+ghost use Rattle.bw_plan.specs.Columns.{columns_of, words_of};
+ghost use Rattle.bw_plan.specs.Words.{word_of_kind, word_of_layout};
+ghost use Rattle.bw_engine.specs.Files.{SavesOr};
+ghost use Rattle.bw_engine.specs.Stores.{rows_in, store_of, table_in};
+
+use crate::file_answer::FILE_LIMIT;
+use crate::outcome::Saving;
+use crate::shown::found_values;
+use crate::table::Table;
+use bw_code::{Kind, Layout};
+use bw_file::{ColumnHeader, TableParts, encode};
+use bw_model::Refusal;
+use bw_sql::{KindWord, LayoutWord, Name, Save, Value};
+use bw_table::Header;
+use indexmap::IndexMap;
+use std::alloc::{AllocError, Global};
+
+/// The bytes of a table, for a file that is to be made anew with them.
+pub(crate) fn save(
+    alloc: Global,
+    tables: &IndexMap<Name, Table>,
+    statement: Save,
+) -> Result<Saving, Refusal>
+    ensures { SavesOr (store_of tables.now.entries) (statement_of (statements.Save statement)) result (store_of tables.now.entries) }
+{
+    let Save { table, file } = statement;
+    let Some(table) = tables.get(&table) else {
+        return Err(Refusal::NoSuchTable);
+    };
+    if filed_length(table) > FILE_LIMIT as u64 {
+        return Err(Refusal::FileTooLarge);
+    }
+    // Each row has a value for each column.
+    let _wide = table.stored().live();
+    let parts = filed(alloc, table)?;
+    let bytes = encode(alloc, &parts)?;
+    Ok(Saving {
+        file,
+        bytes,
+        rows: table.row_count() as u64,
+    })
+}
+
+/// How many bytes hold a table. Takes no memory.
+fn filed_length(table: &Table) -> u64
+    ensures { result ≡ filed_length (table_in table.now) }
+{
+    let columns = table.headers().len() as u64;
+    let rows = table.row_count() as u64;
+    let headers = headers_length(table.stored().headers());
+    14 + headers + columns * (rows.div_ceil(8) + 4 * rows)
+}
+
+/// How many bytes the headers take.
+#[tactic(auto, using(bw_file::proofs::Lengths::name_short))]
+fn headers_length(headers: &[Header<Name>]) -> u64
+    requires { length headers.now ≤ 64 }
+    ensures size { result ≡ sum_by (λ header. 3 + length header.name) (map filed_header (columns_of headers.now)) }
+    ensures bound { result ≤ length headers.now * 131 }
+{
+    match headers {
+        [] => 0,
+        [first, rest @ ..] => 3 + first.name.as_bytes().len() as u64 + headers_length(rest),
+    }
+}
+
+/// The table by its columns.
+fn filed(alloc: Global, table: &Table) -> Result<TableParts, AllocError>
+    ensures { IfOk result (λ parts. parts ≡ filed (table_in table.now)) }
+{
+    // There are 1 to 64 columns, each with a name of its own.
+    let _valid = table.headers();
+    let headers = filed_headers(alloc, table.stored().headers())?;
+    let rows = table.row_count();
+    let columns = filed_columns(alloc, table)?;
+    Ok(TableParts::new(headers, rows, columns))
+}
+
+fn filed_headers(alloc: Global, headers: &[Header<Name>]) -> Result<Vec<ColumnHeader>, AllocError>
+    ensures { IfOk result (λ list. list.items ≡ map filed_header (columns_of headers.now)) }
+{
+    let mut list = Vec::with_capacity(alloc, headers.len())?;
+    for header in headers {
+        list.push(filed_header(alloc, header)?)?;
+    }
+    Ok(list)
+}
+
+fn filed_header(alloc: Global, header: &Header<Name>) -> Result<ColumnHeader, AllocError>
+    ensures { IfOk result (λ new. new ≡ filed_header (words_of header.now)) }
+{
+    Ok(ColumnHeader {
+        name: header.name.try_clone(alloc)?,
+        layout: layout_word(header.layout),
+        kind: kind_word(header.kind),
+    })
+}
+
+/// The word that spells a layout.
+fn layout_word(layout: Layout) -> LayoutWord
+    ensures { result ≡ word_of_layout layout }
+{
+    match layout {
+        Layout::P => LayoutWord::P,
+        Layout::V => LayoutWord::V,
+        Layout::H => LayoutWord::H,
+        Layout::S => LayoutWord::S,
+    }
+}
+
+/// The word that spells a kind.
+fn kind_word(kind: Kind) -> KindWord
+    ensures { result ≡ word_of_kind kind }
+{
+    match kind {
+        Kind::Offset => KindWord::Offset,
+        Kind::Dictionary => KindWord::Dictionary,
+    }
+}
+
+/// The columns, each with its cells in the rows.
+fn filed_columns(alloc: Global, table: &Table) -> Result<Vec<Vec<Option<i32>>>, AllocError>
+    ensures { IfOk result (λ columns. map cells_of columns.items ≡ map (column_of (rows_in table.now.slots)) (range_with_len 0 (length table.now.headers))) }
+{
+    let width = table.headers().len();
+    let mut columns = Vec::with_capacity(alloc, width)?;
+    for k in 0..width {
+        columns.push(filed_column(alloc, table, k)?)?;
+    }
+    Ok(columns)
+}
+
+/// The cells of column k in the rows.
+fn filed_column(alloc: Global, table: &Table, k: usize) -> Result<Vec<Option<i32>>, AllocError>
+    requires { k < length table.now.headers }
+    ensures { IfOk result (λ cells. cells.items ≡ column_of (rows_in table.now.slots) k) }
+{
+    let stored = table.stored();
+    // The values of a column are integers and nulls.
+    let _column = stored.column(k).len();
+    let values = found_values(alloc, stored, &[k], stored.live())?;
+    narrowed(alloc, &values)
+}
+
+/// The values as the cells of a table file.
+fn narrowed(alloc: Global, values: &[Value]) -> Result<Vec<Option<i32>>, AllocError>
+    requires { All IsNullOrInteger values.now }
+    ensures { IfOk result (λ cells. cells.items ≡ values.now) }
+{
+    let mut cells = Vec::with_capacity(alloc, values.len())?;
+    for value in values {
+        cells.push(narrow(*value))?;
+    }
+    Ok(cells)
+}
+
+fn narrow(value: Value) -> Option<i32>
+    requires { IsNullOrInteger value }
+    ensures { result ≡ value }
+{
+    match value {
+        Some(number) => Some(number as i32),
+        None => None,
+    }
+}
