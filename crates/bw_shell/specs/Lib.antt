@@ -1,6 +1,7 @@
 pub mod Answers
 pub mod Folders
 pub mod Handing
+pub mod Opening
 pub mod Output
 pub mod Replies
 pub mod Run

@@ -1,16 +1,17 @@
 //! Laws of the definitions.
 
-ghost use Rattle.std.specs.Prelude.{◌≡◌, ◌∷◌, ◌++◌, ℕ, IsSome, List, Some, [], length, map};
+ghost use Rattle.std.specs.Prelude.{◌≡◌, ◌<◌, ◌⊎◌, ℕ, IsSome, List, None, Some, [], length, map};
 ghost use Rattle.std.specs.List.{flat_map};
 ghost use Rattle.bw_lex.specs.Parts.{AreParts};
 ghost use Rattle.bw_lex.specs.declared.script.Part.{Part as AnyPart};
 ghost use Rattle.bw_sql.specs.Tree.{open_table, save};
 ghost use Rattle.bw_model.specs.ReplyText.{reply_text};
-ghost use Rattle.bw_model.specs.Store.{Table, table_of};
+ghost use Rattle.bw_model.specs.Store.{Table, table_limit, table_of};
 ghost use Rattle.bw_model.specs.Told.{as_read};
 ghost use Rattle.bw_model.specs.declared.reply.Reply.{Reply as AnyReply};
 ghost use Rattle.bw_model.specs.declared.reply.Reply.TheVariants.{Count};
-ghost use Rattle.bw_shell.specs.Answers.{Answers};
+ghost use Rattle.bw_shell.specs.Answers.{Answers, CannotRead, Wants};
+ghost use Rattle.bw_shell.specs.Opening.{Opens};
 ghost use Rattle.bw_shell.specs.Output.{IsOutput};
 ghost use Rattle.bw_shell.specs.Replies.{Answered, WroteReplies};
 ghost use Rattle.bw_shell.specs.Run.{Session};
@@ -40,8 +41,12 @@ pub fn one_output()
     ensures { (on_error : WhatThen) (read : HowRead) (script : List ℕ) (state last left : State) (end other : HowEnded) (bytes also : List ℕ) → IsOutput on_error read script state end bytes last → IsOutput on_error read script state other also left → (end ≡ other) × (bytes ≡ also) }
 {}
 
-/// A table that is saved opens with the same columns and rows, as long as its file stays as it is.
+/// A table that is saved opens again with the same columns and rows. Let a SAVE be answered `ok n` and leave its file so, and let
+/// that file still be so when an OPEN reads it, under a name that is free and with fewer tables there than the limit. Then n is
+/// the number of the saved table's rows, and the OPEN adds just this table as the last one and answers `ok n`; or memory was
+/// wanting, and nothing changes; or the folder failed at reading.
 pub fn saved_tables_open()
-    ensures { (before after later last : State) (name file other : List ℕ) (n m : ℕ) → IsSome before.files → Answers before (save name file) (Count n) after → IsSome later.files → file_in later.files file ≡ file_in after.files file → Answers later (open_table other file) (Count m) last
-        → (table : Table) × (table_of before.store name ≡ Some table) × (n ≡ length table.rows) × (m ≡ n) × (last.store ≡ later.store ++ (other, table) ∷ []) }
+    ensures { (before after later last : State) (name file other : List ℕ) (n : ℕ) (reply : AnyReply) → IsSome before.files → Answers before (save name file) (Count n) after
+        → file_in later.files file ≡ file_in after.files file → table_of later.store other ≡ None → length later.store < table_limit → Answers later (open_table other file) reply last
+        → (table : Table) × (table_of before.store name ≡ Some table) × (n ≡ length table.rows) × (Opens later other table reply last ⊎ Wants later (open_table other file) reply last ⊎ CannotRead later reply last) }
 {}
