@@ -1,6 +1,6 @@
 -- What a statement is answered, from what the engine and the folder answered.
-use Rattle.std.proofs.Common.{◌≡◌, ◌∙◌, ◌⊎◌, ◌+◌, ◌<◌, ◌≤◌, inl, inr, ℕ, List, length, replicate, Option, None, Some, Ok, Err, Result, refl, sym, ap, subst, arith}
-use Rattle.std.specs.Prelude.{nat_lt, IsSomeAnd}
+use Rattle.std.proofs.Common.{◌≡◌, ◌∙◌, ◌⊎◌, ◌+◌, ◌<◌, inl, inr, ℕ, List, length, replicate, Option, None, Some, Ok, Err, Result, refl, sym, ap, subst, arith}
+use Rattle.std.specs.Prelude.{IsSomeAnd}
 use Rattle.std.specs.Bool.{MatchBool}
 use Rattle.std.specs.Borrow.{Bor}
 use Rattle.std.specs.Global.{Vec as GlobalVec}
@@ -11,20 +11,19 @@ use Rattle.bw_model.specs.Contents.{IsReadAs, IsSaid, SaysTo}
 use Rattle.bw_model.specs.FileUse.{FileUse, file_read, file_use, no_file, reads, unless_refused, use_in, writes}
 use Rattle.bw_model.specs.Filing.{file_limit}
 use Rattle.bw_model.specs.Refusals.{first_that_holds, refused_early, tests_of}
-use Rattle.bw_model.specs.Step.{Step, WantsMemory, carried_out, outcome_of, refused_or}
+use Rattle.bw_model.specs.Step.{Step, outcome_of, refused_or}
 use Rattle.bw_model.specs.Store.{Store}
 use Rattle.bw_model.specs.declared.content.Content.{Content}
 use Rattle.bw_model.specs.declared.content.Content.TheVariants as content
 use Rattle.bw_model.specs.declared.refusal.Refusal.{Refusal}
 use Rattle.bw_model.specs.declared.refusal.Refusal.TheVariants.{OutOfMemory, UnreadableFile}
 use Rattle.bw_model.specs.declared.reply.Reply.{Reply}
-use Rattle.bw_model.specs.declared.reply.Reply.TheVariants.{Count, Refused}
-use Rattle.bw_engine.specs.Files.{IsAnswered, IsNoSave, Replies, RepliesBy}
-use Rattle.bw_engine.specs.declared.file_answer.FileAnswer.{FileAnswer}
+use Rattle.bw_model.specs.declared.reply.Reply.TheVariants.{Refused}
+use Rattle.bw_engine.specs.Files.{IsNoSave, Replies, RepliesBy}
 use Rattle.bw_engine.specs.declared.file_answer.FileAnswer.TheVariants as file
-use Rattle.bw_shell.specs.Answers.{Answers, AnswersBy, ByFile, CannotRead, Outcome, Wants}
-use Rattle.bw_shell.specs.Folders.{Files, IsReadFault, Reads, file_of}
-use Rattle.bw_shell.specs.States.{Failed, HasFile, KeepsFiles, Leaves, State, seen, with_store}
+use Rattle.bw_shell.specs.Answers.{Answers, AnswersBy, Wants}
+use Rattle.bw_shell.specs.Folders.{Files, Reads, file_of}
+use Rattle.bw_shell.specs.States.{HasFile, KeepsFiles, State, seen, with_store}
 use Rattle.bw_shell.specs.declared.folders.FolderFault.{FolderFault}
 use Rattle.bw_shell.specs.declared.folders.FolderFault.TheVariants as fault
 
@@ -77,7 +76,7 @@ module _ (before : Store) (tree : StatementTree) (files : Option Files) (failure
       inl (record { accepted = p.0; says = saves; stays = record { store_is = stays_so p.1 replies; files_stay = kept files; failures_stay = refl } })
     where
       stays_so : use_in tree ≡ writes name → Step before content.Nothing tree reply after → after ≡ before
-      stays_so written step = elim step [ | inl w ↦ w.stays | inr e ↦ ap (λ (p : Reply × Store). p.1) e ∙ saving_stays before tree name written ]
+      stays_so written step = elim step [ inl w ↦ w.stays | inr e ↦ ap (λ (p : Reply × Store). p.1) e ∙ saving_stays before tree name written ]
 
   pub no_read : (reply : Reply) (after : Store) → None ≡ file_read (file_use before tree) → Replies before tree file.NotAsked reply after → IsNoSave (file_use before tree) reply → Answers now tree reply (with_store after (seen files failures))
   no_read reply after none replies saves = by_use (file_use before tree) reply after refl none replies saves
