@@ -131,7 +131,7 @@ keeps_read limit name (Some files) new r h = h.0
 
 pub has_bytes : (limit : ℕ) (name : List ℕ) (old new : Option Files) (bytes : GlobalVec ℕ) → Reads limit name old new (Ok bytes) → HasFile old name (Some bytes.items)
 has_bytes limit name None new bytes h = tt
-has_bytes limit name (Some files) new bytes h = sym h.1.0
+has_bytes limit name (Some files) new bytes h = sym h.1
 
 pub has_none : (limit : ℕ) (name : List ℕ) (old new : Option Files) → Reads limit name old new (Err fault.Missing) → HasFile old name None
 has_none limit name None new h = tt
