@@ -165,7 +165,7 @@ fn check_flushes<R: Abort + AllocGlobal>(rt: &R, script: &[Answered]) {
     for flushes_left in 0..script.len() {
         let mut writer = UnflushedWriter {
             taken: Vec::new(rt.alloc()),
-            flushes_left: flushes_left as u32,
+            flushes_left,
         };
         let mut folder = folder_of(rt, &files());
         let mut reader = text.as_bytes();

@@ -4,12 +4,12 @@ use crate::harness::{File, check_file, check_files, check_layings, folder_of, jo
 use bw_shell::{Folder, OnError, RunEnd, run};
 use std::process::Abort;
 
-const TABLE: &str = "CREATE TABLE t (a INT, b INT);";
-
 // Checks what a script behind a CREATE TABLE t (a, b) answers over one file f.
 fn check_load<R: Abort + AllocGlobal>(rt: &R, bytes: &[u8], script: &str, replies: &str) {
-    let script = joined(rt, &[(TABLE, 1), (script, 1)]);
-    let replies = joined(rt, &[("ok\n", 1), (replies, 1)]);
+    let script = format!(in rt.alloc(); "CREATE TABLE t (a INT, b INT); {script}").expect(
+        rt, "memory",
+    );
+    let replies = format!(in rt.alloc(); "ok\n{replies}").expect(rt, "memory");
     check_files(rt, &[("f", bytes)], script.as_str(), replies.as_str());
 }
 

@@ -62,7 +62,7 @@ impl Write for FullWriter {
 #[derive(Drop)]
 pub(crate) struct UnflushedWriter {
     pub(crate) taken: Vec<u8>,
-    pub(crate) flushes_left: u32,
+    pub(crate) flushes_left: usize,
 }
 
 impl Write for UnflushedWriter {
