@@ -1,8 +1,6 @@
 -- A table made of whole columns of cells: its rows are those that the columns are read across.
 use Rattle.std.proofs.Common.{List, Option, [], ◌∷◌, ◌++◌, ap, arith, get_or, inl, inr, length, map, refl, replicate, sym, true, false, ℕ, ℤ, ◌+◌, ◌<◌, ◌^◌, ◌∙◌, ◌≡◌, ◌≤◌}
 use Rattle.std.specs.List.{All}
-use Rattle.std.specs.declared.alloc.Global.{Global}
-use Rattle.std.specs.declared.vec.Vec.{Vec}
 use Rattle.std.proofs.lemmas.Bool.{cases_lt}
 use Rattle.std.proofs.lemmas.List.{get_or_append_left, get_or_push, get_or-map, get_or-replicate, length-map, length-replicate, same_lists}
 use Rattle.bw_mask.specs.Masks.{MaskRows, len}
@@ -10,27 +8,22 @@ use Rattle.bw_code.specs.Encodings.{kind_of}
 use Rattle.bw_code.proofs.Lists.{made_at, made_is, made_len}
 use Rattle.bw_column.specs.Columns.{ColumnView}
 use Rattle.bw_column.specs.Values.{value_at}
-use Rattle.bw_table.specs.Opening.{AreFitted, AreOpened, AreOpenedBelow, IsOpened, cells_of, row_across, rows_across}
+use Rattle.bw_table.specs.Opening.{AreFitted, AreOpened, AreOpenedBelow, IsOpened, row_across, rows_across}
 use Rattle.bw_table.specs.Slots.{AreColumns, live_slot, row_of, slot_of, slots_of}
 use Rattle.bw_table.specs.Tables.{AreHeadersOf}
 use Rattle.bw_table.specs.declared.header.Header.{Header}
 use Rattle.bw_table.proofs.Across.{no_column, view_of}
 use Rattle.bw_table.proofs.Heads.{first_of, told}
 
--- what holds of the cells of each column holds of those of the column at a place
-pub cells_at : (columns : List (Vec (Option ℤ) Global)) (n : ℕ) (column : Vec (Option ℤ) Global) → (P : List (Option ℤ) → Type 0) → All P (map cells_of columns) → (n < length columns) × (column ≡ get_or columns n column) → P column.items
-cells_at columns n column P each at =
-    rw (← (get_or-map cells_of columns n column [] at.0 ∙ ap cells_of (sym at.1))) (each n [] (omega (arith, at.0, length-map columns cells_of)))
-
 module _ {N : Type 0} where
   -- one column more
-  pub opened_more : (headers : List (Header N)) (cells : List (List (Option ℤ))) (columns : List ColumnView) (more : List (Option ℤ)) (column : ColumnView) (n : ℕ) → length cells ≡ n → length columns ≡ n → AreOpenedBelow n headers cells columns → ((h : Header N) → IsOpened (get_or headers n h) more column) → AreOpenedBelow (n + 1) headers (cells ++ more ∷ []) (columns ++ column ∷ [])
-  opened_more headers cells columns more column n count len below is k h d l =
+  pub opened_more : (headers : List (Header N)) (cells : List (List (Option ℤ))) (columns : List ColumnView) (column : ColumnView) (n : ℕ) → length columns ≡ n → AreOpenedBelow n headers cells columns → ((h : Header N) → IsOpened (get_or headers n h) (get_or cells n []) column) → AreOpenedBelow (n + 1) headers cells (columns ++ column ∷ [])
+  opened_more headers cells columns column n len below is k h d l =
       elim (cases_lt k n) [
-        | inl low ↦ rw (get_or_append_left cells (more ∷ []) [] k (omega (arith, count)), get_or_append_left columns (column ∷ []) d k (omega (arith, len))) (below k h d low)
+        | inl low ↦ rw (get_or_append_left columns (column ∷ []) d k (omega (arith, len))) (below k h d low)
         | inr high ↦
             let e : k ≡ n = omega arith in
-            rw (e, get_or_push cells more [] n count, get_or_push columns column d n len) (is h)
+            rw (e, get_or_push columns column d n len) (is h)
       ]
 
   module _ (headers : List (Header N)) (cells : List (List (Option ℤ))) (columns : List ColumnView) (live : MaskRows) (rows : ℕ) (wide : length cells ≡ length headers) (long : All (λ xs. length xs ≡ rows) cells) (few : rows ≤ 2 ^ 24) (are : AreOpened headers cells columns) (all : live.rows ≡ replicate rows true) where

@@ -1,16 +1,11 @@
 -- What a table has that is made of whole columns: the rows that they are read across, and an encoding for each that fits it.
 use Rattle.std.specs.Prelude.{List, Option, [], length, map, slice_index_or, ℕ, ℤ, ◌<◌, ◌≡◌}
-use Rattle.std.specs.declared.alloc.Global.{Global}
-use Rattle.std.specs.declared.vec.Vec.{Vec}
 use Rattle.bw_code.specs.Encodings.{IsFit, kind_of}
 use Rattle.bw_code.specs.Lists.{made}
 use Rattle.bw_code.specs.declared.encoding.Encoding.{Encoding}
 use Rattle.bw_column.specs.Columns.{ColumnView}
 use Rattle.bw_column.specs.Values.{known, value_at}
 use Rattle.bw_table.specs.declared.header.Header.{Header}
-
-abbrev pub cells_of : Vec (Option ℤ) Global → List (Option ℤ)
-cells_of column = column.items
 
 -- row i across columns: cell i of each
 abbrev pub row_across : List (List (Option ℤ)) → ℕ → List (Option ℤ)

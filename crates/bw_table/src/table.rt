@@ -7,7 +7,7 @@ ghost use Rattle.bw_code.specs.Encodings.{kind_of};
 ghost use Rattle.bw_code.specs.declared.encoding.Encoding.{Encoding};
 ghost use Rattle.bw_column.specs.Values.{IsNullOrInteger, value_at};
 ghost use Rattle.bw_table.specs.Changes.{AreInserted, AreRebuilt, AreUpdated, IsFull, IsSetTo, slots_without};
-ghost use Rattle.bw_table.specs.Opening.{AreFitted, cells_of, rows_across};
+ghost use Rattle.bw_table.specs.Opening.{AreFitted, rows_across};
 ghost use Rattle.bw_table.specs.Sets.{AreEmpty};
 ghost use Rattle.bw_table.specs.Slots.{live_slot, live_slots, slot_at, slot_column, slot_limit};
 ghost use Rattle.bw_table.specs.Tables.{AreChosen, AreFirst, slots_in};
@@ -20,6 +20,7 @@ use crate::opening::columns_of;
 use crate::rows::Rows;
 use crate::setting::SetTo;
 use crate::slots::Slots;
+use bw_cells::Cells;
 use bw_column::Column;
 use bw_mask::Mask;
 use std::alloc::{AllocError, Global};
@@ -59,20 +60,20 @@ impl<N: Drop> Table<N> {
     }
 
     /// The table of these columns: for each header its values, in live slots. Each column is encoded as its values ask,
-    /// in the layout and of the kind that its header says. The columns are given back one after the other, as the
-    /// table takes their values over. Refused only where memory is wanting.
-    pub fn of_columns(
+    /// in the layout and of the kind that its header says. Refused only where memory is wanting.
+    pub fn of_columns<C: Cells>(
         alloc: Global,
         headers: Vec<Header<N>>,
         rows: usize,
-        columns: Vec<Vec<Option<i32>>>,
+        columns: &[C],
     ) -> Result<Table<N>, AllocError>
         requires few { rows ≤ slot_limit }
-        requires wide { length columns.items ≡ length headers.items }
-        requires long { All (λ cells. length cells ≡ rows) (map cells_of columns.items) }
+        requires wide { length columns.now ≡ length headers.items }
+        requires long { All (λ cells. length cells ≡ rows) (map C.cells columns.now) }
+        requires integers { All (All IsNullOrInteger) (map C.cells columns.now) }
         ensures headers { IfOk result (λ t. t.headers ≡ headers.items) }
-        ensures slots { IfOk result (λ t. t.slots ≡ map live_slot (rows_across rows (map cells_of columns.items))) }
-        ensures encodings { IfOk result (λ t. AreFitted t.headers (map cells_of columns.items) t.encodings) }
+        ensures slots { IfOk result (λ t. t.slots ≡ map live_slot (rows_across rows (map C.cells columns.now))) }
+        ensures encodings { IfOk result (λ t. AreFitted t.headers (map C.cells columns.now) t.encodings) }
     {
         let columns = columns_of(alloc, &headers, columns)?;
         let slots = Slots {
@@ -215,9 +216,10 @@ impl<N: Drop> Table<N> {
 fn empty_columns<N>(alloc: Global, headers: &Vec<Header<N>>) -> Result<Vec<Column>, AllocError>
     ensures { IfOk result (λ columns. AreEmpty headers.now.items columns.items) }
 {
+    let none: &[Option<i64>] = &[];
     let mut columns = Vec::with_capacity(alloc, headers.len())?;
     for header in headers {
-        columns.push(Column::build(alloc, &[], header.layout, header.kind)?)?;
+        columns.push(Column::build(alloc, &none, header.layout, header.kind)?)?;
     }
     Ok(columns)
 }

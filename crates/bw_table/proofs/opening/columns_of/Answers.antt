@@ -1,43 +1,43 @@
-use Rattle.std.proofs.Common.{[], ◌∷◌, ap, arith, get_or, length, map, sym, ◌<◌, ◌^◌, ◌∙◌, ◌≡◌, ◌≤◌}
-use Rattle.std.proofs.lemmas.Iterator.Adapters.{YieldsList-from_vec}
-use Rattle.std.proofs.lemmas.Iterator.Consumers.{YieldsList-end, YieldsList-turn}
-use Rattle.std.proofs.lemmas.List.{get_or_default, length-map, length_push, map-append, map-id}
-use Rattle.bw_table.specs.Opening.{cells_of}
-use Rattle.bw_table.proofs.Opened.{cells_at, opened_more}
+use Rattle.std.proofs.Common.{[], ap, arith, get_or, length, map, sym, vec_len, ◌<◌, ◌∙◌, ◌≡◌}
+use Rattle.std.proofs.lemmas.List.{get_or-map, get_or_default, length-map}
+use Rattle.bw_table.proofs.Opened.{opened_more}
 use Rattle.bw_table.proofs.opening.columns_of.Goals as goal
 
-pub column_of-requires : goal.column_of-requires
-column_of-requires g c =
-    let given = c.into_iter-cells-iterator.ensures.into_iter_gives in
-    let turn = YieldsList-turn (YieldsList-from_vec {s = c.into_iter-cells-iterator.result} c.args.columns.items given.0 (given.1 ∙ c.args.columns.ok.0)) c.loop-cells.yielded c.loop-cells.cells-iterator c.loop-cells.yielded_by c.next.result c.next.new.self c.in-Some.cells c.in-Some.is c.next.ensures.steps in
-    cells_at c.args.columns.items (length c.loop-cells.yielded) c.in-Some.cells (λ cells. length cells ≤ 2 ^ 24) c.requires.few turn
+pub column_of-requires-clause-few : goal.column_of-requires-clause-few
+column_of-requires-clause-few g c =
+    let columns = c.args.columns.now in
+    let inside : c.loop-k.k < length columns = omega (arith, c.requires.wide) in
+    let at = get_or-map g.C.Cells.cells columns c.loop-k.k c.index-columns-k.result [] inside ∙ ap g.C.Cells.cells (sym c.index-columns-k.is) in
+    rw (← at) (c.requires.few c.loop-k.k [] (omega (arith, inside, length-map columns g.C.Cells.cells)))
 
-pub loop-cells-preserved : goal.loop-cells-preserved
-loop-cells-preserved g c =
-    let given = c.into_iter-cells-iterator.ensures.into_iter_gives in
-    let turn = YieldsList-turn (YieldsList-from_vec {s = c.into_iter-cells-iterator.result} c.args.columns.items given.0 (given.1 ∙ c.args.columns.ok.0)) c.loop-cells.yielded c.loop-cells.cells-iterator c.loop-cells.yielded_by c.next.result c.next.new.self c.in-Some.cells c.in-Some.is c.next.ensures.steps in
+pub column_of-requires-clause-integers : goal.column_of-requires-clause-integers
+column_of-requires-clause-integers g c =
+    let columns = c.args.columns.now in
+    let inside : c.loop-k.k < length columns = omega (arith, c.requires.wide) in
+    let at = get_or-map g.C.Cells.cells columns c.loop-k.k c.index-columns-k.result [] inside ∙ ap g.C.Cells.cells (sym c.index-columns-k.is) in
+    rw (← at) (c.requires.integers c.loop-k.k [] (omega (arith, inside, length-map columns g.C.Cells.cells)))
+
+pub loop-k-preserved : goal.loop-k-preserved
+loop-k-preserved g c =
+    let columns = c.args.columns.now in
     let headers = c.args.headers.now.items in
-    let opened = c.loop-cells.opened.items in
-    let so_far = c.loop-cells.yielded in
-    let n = length so_far in
-    let column = c.in_ok-column.column in
-    let here : n < length headers = omega (arith, turn.0, c.requires.wide) in
-    let len : length opened ≡ n = omega (arith, c.loop-cells.invariant.count, c.loop-cells.opened.ok.0) in
-    let at : c.index.result.now ≡ get_or headers n c.index.result.now = c.index.ensures ∙ ap (λ k. get_or headers k c.index.result.now) (c.len-in-loop-cells.ensures ∙ c.loop-cells.invariant.count) in
+    let opened = c.loop-k.opened.items in
+    let inside : c.loop-k.k < length columns = omega (arith, c.requires.wide) in
+    let here : c.loop-k.k < length headers = omega (arith, c.requires.wide) in
+    let at = get_or-map g.C.Cells.cells columns c.loop-k.k c.index-columns-k.result [] inside ∙ ap g.C.Cells.cells (sym c.index-columns-k.is) in
+    let count : length opened ≡ c.loop-k.k = omega (arith, c.loop-k.invariant.count, c.loop-k.opened.ok.0) in
     record {
-      count = omega (arith, c.in_ok-push.ensures.len, c.loop-cells.invariant.count, length_push so_far c.in-Some.cells);
+      count = omega (arith, c.in_ok-push.ensures.len, c.loop-k.invariant.count);
       each =
-          rw (c.in_ok-push.ensures.items, map-append cells_of so_far (c.in-Some.cells ∷ []), length_push so_far c.in-Some.cells)
-          (opened_more headers (map cells_of so_far) opened c.in-Some.cells.items column n (length-map so_far cells_of) len c.loop-cells.invariant.each (λ h. rw (← (at ∙ get_or_default headers n c.index.result.now h here)) c.in_ok-column.ensures));
+          rw c.in_ok-push.ensures.items
+          (opened_more headers (map g.C.Cells.cells columns) opened c.in_ok-column_of.field-0 c.loop-k.k count c.loop-k.invariant.each (λ h. rw (at, ← (c.index.ensures ∙ get_or_default headers c.loop-k.k c.index.result.now h here)) c.in_ok-column_of.ensures));
     }
 
 pub returns : goal.returns
 returns g c =
-    let given = c.into_iter-cells-iterator.ensures.into_iter_gives in
-    let end = YieldsList-end (YieldsList-from_vec {s = c.into_iter-cells-iterator.result} c.args.columns.items given.0 (given.1 ∙ c.args.columns.ok.0)) c.loop-cells.yielded c.loop-cells.cells-iterator c.loop-cells.yielded_by c.next.result c.next.new.self c.in-None.is c.next.ensures.steps in
-    let all = sym (map-id c.loop-cells.yielded) ∙ end.0 in
-    let count : length c.loop-cells.yielded ≡ length c.args.headers.now.items = end.1 ∙ c.requires.wide in
+    let headers = c.args.headers.now.items in
+    let all : c.loop-k.k ≡ length headers = omega (arith, c.loop-k-test.false, c.loop-k.auto.k-end, c.len-k-end.ensures, c.args.headers.now.ok.0) in
     record {
-      count = omega (arith, c.loop-cells.invariant.count, c.loop-cells.opened.ok.0, count);
-      each = rw (← all, ← count) c.loop-cells.invariant.each;
+      count = omega (arith, c.loop-k.invariant.count, c.loop-k.opened.ok.0, all);
+      each = rw (← all) c.loop-k.invariant.each;
     }

@@ -1,10 +1,10 @@
-use Rattle.std.proofs.Common.{length, map, vec_len, ◌≡◌}
-use Rattle.bw_table.specs.Opening.{AreOpenedBelow, cells_of}
+use Rattle.std.proofs.Common.{map, vec_len, ◌≡◌}
+use Rattle.bw_table.specs.Opening.{AreOpenedBelow}
 use Rattle.bw_table.proofs.opening.columns_of.Given as goal
 
 -- for each column of cells so far its column
-abbrev pub invariant-loop-cells : goal.invariant-loop-cells
-invariant-loop-cells g l = record {
-  count : vec_len l.opened ≡ length l.yielded;
-  each : AreOpenedBelow (length l.yielded) l.headers.items (map cells_of l.yielded) l.opened.items;
+abbrev pub invariant-loop-k : goal.invariant-loop-k
+invariant-loop-k g l = record {
+  count : vec_len l.opened ≡ l.k;
+  each : AreOpenedBelow l.k l.headers.items (map g.C.Cells.cells l.columns) l.opened.items;
 }
