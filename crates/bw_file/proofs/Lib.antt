@@ -4,6 +4,7 @@ pub mod Distinct
 pub mod Fronts
 pub mod Joined
 pub mod Lengths
+pub mod Lent
 pub mod Places
 pub mod Spare
 pub mod Words

@@ -42,7 +42,7 @@ impl<'a> FileColumn<'a> {
     /// The column of so many rows whose bytes these are, if they are those of one.
     pub(crate) fn in_bytes(bytes: &'a [u8], rows: usize) -> Option<FileColumn<'a>>
         requires few { rows ≤ row_limit }
-        requires long { length bytes.entry.now ≡ column_size rows }
+        requires long { length bytes.now ≡ column_size rows }
         ensures count { IfSome result (λ cells. length cells ≡ rows) }
         ensures integers { IfSome result (λ cells. All IsCell cells) }
         ensures spelled { IfSome result (λ cells. bytes.entry.now ≡ column_bytes cells) }

@@ -59,7 +59,7 @@ pub(crate) fn columns_in<'a>(
     rows: usize,
 ) -> Result<Option<Vec<FileColumn<'a>>>, AllocError>
     requires few { rows ≤ row_limit }
-    requires long { length bytes.entry.now ≡ count * column_size rows }
+    requires long { length bytes.now ≡ count * column_size rows }
     ensures wide { IfOk result (λ found. IfSome found (λ columns. length columns.items ≡ count)) }
     ensures long { IfOk result (λ found. IfSome found (λ columns. All (λ cells. length cells ≡ rows) columns.items)) }
     ensures integers { IfOk result (λ found. IfSome found (λ columns. All (All IsCell) columns.items)) }

@@ -40,7 +40,7 @@ impl<'a> TableFile<'a> {
         requires wide { length columns.items ≡ length headers.items }
         requires long { All (λ cells. length cells ≡ rows) columns.items }
         requires integers { All (All IsCell) columns.items }
-        ensures { result ≡ record { headers = headers.items; rows = rows; columns = columns.items } }
+        ensures { result ≡ record { headers = headers.items; rows = rows; columns = columns.entry.items } }
     {
         have_names(&headers);
         TableFile {
@@ -74,9 +74,9 @@ impl<'a> TableFile<'a> {
 
     /// The headers and the columns, to take over.
     pub fn into_headers_and_columns(self) -> (Vec<ColumnHeader>, Vec<FileColumn<'a>>)
-        ensures headers { result.0.items ≡ self.headers }
-        ensures columns { result.1.items ≡ self.columns }
-        ensures table { IsTable self }
+        ensures headers { result.0.items ≡ self.entry.headers }
+        ensures columns { result.1.items ≡ self.entry.columns }
+        ensures table { IsTable self.entry }
     {
         let TableFile {
             headers,

@@ -1,0 +1,9 @@
+use Rattle.std.proofs.Common.{ap, arith, length, sym, ◌∙◌}
+use Rattle.bw_file.proofs.Lent.{length-cells_in}
+use Rattle.bw_file.proofs.column.FileColumn.rows.Goals as goal
+
+pub returns-clause-count : goal.returns-clause-count
+returns-clause-count c = sym (ap length (sym c.self.view_is) ∙ length-cells_in c.self.inside.rows c.self.inside.present.now c.self.inside.words.now)
+
+pub returns-clause-few : goal.returns-clause-few
+returns-clause-few c = ?
