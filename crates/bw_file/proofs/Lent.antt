@@ -1,6 +1,8 @@
 -- The cells of a column that lies in its bits and words.
-use Rattle.std.proofs.Common.{Bool, List, None, Option, Some, ap, arith, cond, drop, false, get_or, length, nat_eq, refl, subst, sym, take, true, slice_index, ℕ, ℤ, ◌%◌, ◌*◌, ◌+◌, ◌/◌, ◌<◌, ◌==◌, ◌^◌, ◌||◌, ◌≡◌, ◌≤◌, ◌∙◌}
+use Rattle.std.proofs.Common.{Bool, List, None, Option, Some, arith, cond, drop, false, get_or, inl, inr, length, nat_eq, refl, subst, sym, take, true, slice_index, ℕ, ℤ, ◌%◌, ◌*◌, ◌+◌, ◌/◌, ◌<◌, ◌==◌, ◌^◌, ◌||◌, ◌≡◌, ◌≤◌, ◌∙◌, ◌⊎◌}
 use Rattle.std.proofs.Math.Facts.{sfits_to_z}
+use Rattle.std.proofs.Math.ListN.{get_or-eq_default}
+use Rattle.std.proofs.lemmas.Bool.{cases_lt}
 use Rattle.std.proofs.lemmas.Bool.Decides.{nat_tests}
 use Rattle.std.proofs.lemmas.Int.{of_z-to_z}
 use Rattle.std.proofs.lemmas.List.{get_or-drop, get_or-take, get_or_default, length-drop, length-take, same_lists}
@@ -33,9 +35,20 @@ run_in out rows at n present words within long each =
     get_or-take n (drop at cells) k d there ∙ get_or-drop at cells k d ∙ get_or_default cells (at + k) d None (omega arith) ∙ cell_in rows present words (at + k) (omega arith) in
     get_or_default out k d None h ∙ each k there ∙ sym cell)
 
+-- what is cut from bytes is bytes
+pub front_small : (n : ℕ) (bytes : List ℕ) → ((k : ℕ) → slice_index bytes k < 256) → (k : ℕ) → slice_index (take n bytes) k < 256
+front_small n bytes small k = by (cases_lt k n)
+  where
+    by : (k < n) ⊎ (n ≤ k) → slice_index (take n bytes) k < 256
+    by (inl within) = subst (λ x. x < 256) (sym (get_or-take n bytes k 0 within)) (small k)
+    by (inr past) = subst (λ x. x < 256) (sym (get_or-eq_default (take n bytes) 0 (omega (arith, length-take n bytes)))) (omega arith)
+
+pub back_small : (n : ℕ) (bytes : List ℕ) → ((k : ℕ) → slice_index bytes k < 256) → (k : ℕ) → slice_index (drop n bytes) k < 256
+back_small n bytes small k = subst (λ x. x < 256) (sym (get_or-drop n bytes k 0)) (small (n + k))
+
 -- a word is below 2 ^ 32
 pub word_small : (words : List ℕ) (i : ℕ) → ((k : ℕ) → slice_index words k < 256) → little_number 4 (drop i words) < 2 ^ 32
-word_small words i small = little_from-lt 0 4 (drop i words) (λ k. subst (λ n. n < 256) (sym (get_or-drop i words k 0)) (small (i + k)))
+word_small words i small = little_from-lt 0 4 (drop i words) (back_small i words small)
 
 -- all of them are NULL or an INTEGER
 pub integers_in : (rows : ℕ) (present words : List ℕ) → ((k : ℕ) → slice_index words k < 256) → All IsCell (cells_in rows present words)

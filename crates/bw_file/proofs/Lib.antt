@@ -6,5 +6,6 @@ pub mod Joined
 pub mod Lengths
 pub mod Lent
 pub mod Places
+pub mod Runs
 pub mod Spare
 pub mod Words

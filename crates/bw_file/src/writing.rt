@@ -35,14 +35,13 @@ fn write_runs<C: Cells>(present: &mut [u8], words: &mut [u8], rows: usize, colum
     ensures cells { words.new ≡ flat_map cell_bytes (C.cells column.now) }
 {
     let mut run = [None; RUN];
-    let mut start = 0;
-    'runs: for _ in 0..rows.div_ceil(RUN) {
+    'runs: for r in 0..rows.div_ceil(RUN) {
+        let start = r * RUN;
         let end = rows.min(start + RUN);
         let cells = &mut run[..end - start];
         column.read(start, cells);
         write_presence(&mut present[start / 8..end.div_ceil(8)], cells);
         write_words(&mut words[4 * start..4 * end], cells);
-        start = end;
     }
 }
 
