@@ -1,11 +1,11 @@
 -- The cells of a column that lies in its bits and words.
-use Rattle.std.proofs.Common.{Bool, List, None, Option, Some, arith, cond, drop, false, get_or, inl, inr, length, nat_eq, refl, subst, sym, take, true, slice_index, ℕ, ℤ, ◌%◌, ◌*◌, ◌+◌, ◌/◌, ◌<◌, ◌==◌, ◌^◌, ◌||◌, ◌≡◌, ◌≤◌, ◌∙◌, ◌⊎◌}
+use Rattle.std.proofs.Common.{Bool, List, None, Option, Some, ap, arith, cond, drop, false, get_or, inl, inr, length, nat_eq, refl, subst, sym, take, true, slice_index, ℕ, ℤ, ◌%◌, ◌*◌, ◌+◌, ◌-◌, ◌/◌, ◌<◌, ◌==◌, ◌^◌, ◌||◌, ◌≡◌, ◌≤◌, ◌∙◌, ◌⊎◌}
 use Rattle.std.proofs.Math.Facts.{sfits_to_z}
 use Rattle.std.proofs.Math.ListN.{get_or-eq_default}
 use Rattle.std.proofs.lemmas.Bool.{cases_lt}
 use Rattle.std.proofs.lemmas.Bool.Decides.{nat_tests}
 use Rattle.std.proofs.lemmas.Int.{of_z-to_z}
-use Rattle.std.proofs.lemmas.List.{get_or-drop, get_or-take, get_or_default, length-drop, length-take, same_lists}
+use Rattle.std.proofs.lemmas.List.{drop-drop, get_or-append-add, get_or_append_left, get_or-drop, get_or-take, get_or_default, length-drop, length-take, same_lists}
 use Rattle.std.proofs.lemmas.List.Elements.{All-from_get_or}
 use Rattle.std.proofs.lemmas.List.FromFn.{get_or-map-range_with_len, length-map-range_with_len}
 use Rattle.std.specs.Int.{bit_at, cast_signed, w32}
@@ -13,7 +13,8 @@ use Rattle.std.specs.Prelude.{All}
 use Rattle.byteorder.specs.Endian.{little_number}
 use Rattle.byteorder.specs.Numbers.{little_from-lt}
 use Rattle.bw_file.specs.Cells.{IsCell, cell_number}
-use Rattle.bw_file.specs.Reading.{cells_in, read_cell}
+use Rattle.bw_file.specs.Reading.{cell_by, cells_in, read_cell}
+use borrow.Rule.Slice.PartMut.{put_mid}
 
 -- how many cells there are, and which
 pub length-cells_in : (rows : ℕ) (present words : List ℕ) → length (cells_in rows present words) ≡ rows
@@ -34,6 +35,35 @@ run_in out rows at n present words within long each =
     let cell : get_or (take n (drop at cells)) k d ≡ read_cell present words (at + k) =
     get_or-take n (drop at cells) k d there ∙ get_or-drop at cells k d ∙ get_or_default cells (at + k) d None (omega arith) ∙ cell_in rows present words (at + k) (omega arith) in
     get_or_default out k d None h ∙ each k there ∙ sym cell)
+
+-- eight cells more are filled
+pub eight_more : {X : Type 0} (P : ℕ → X → Type 0) (out new : List X) (d : X) (start n : ℕ) → start ≤ length out → length new ≡ 8 → ((k : ℕ) → k < start → P k (get_or out k d)) → ((j : ℕ) → j < 8 → P (start + j) (get_or new j d))
+    → (k : ℕ) → k < start + 8 → P k (get_or (put_mid start n out new) k d)
+eight_more P out new d start n room long before now k h = by (cases_lt k start)
+  where
+    front : length (take start out) ≡ start
+    front = omega (arith, length-take start out)
+
+    by : (k < start) ⊎ (start ≤ k) → P k (get_or (put_mid start n out new) k d)
+    by (inl early) = subst (P k) (sym (get_or_append_left (take start out) _ d k (omega (arith, front)) ∙ get_or-take start out k d early)) (before k early)
+    by (inr here) =
+        let j = k - start in
+        let place : start + j ≡ k = omega arith in
+        let there : length (take start out) + j ≡ k = omega (arith, front) in
+        let cell : get_or (put_mid start n out new) (length (take start out) + j) d ≡ get_or new j d = get_or-append-add (take start out) _ j d ∙ get_or_append_left new _ d j (omega arith) in
+        subst (λ i. P i (get_or (put_mid start n out new) i d)) there (subst (P (length (take start out) + j)) (sym cell) (subst (λ i. P i (get_or new j d)) (place ∙ sym there) (now j (omega arith))))
+
+-- a cell among eight whose bits are a byte
+pub cell_of_eight : (present words : List ℕ) (at q j : ℕ) → at % 8 ≡ 0 → j < 8
+    → cell_by (bit_at (slice_index present (at / 8 + q)) j) (little_number 4 (drop (4 * j) (drop (4 * (at + 8 * q)) words))) ≡ read_cell present words (at + (8 * q + j))
+cell_of_eight present words at q j whole small =
+    let i = at + (8 * q + j) in
+    let byte : at / 8 + q ≡ i / 8 = omega arith in
+    let place : j ≡ i % 8 = omega arith in
+    let word : 4 * (at + 8 * q) + 4 * j ≡ 4 * i = omega arith in
+    ap (λ k. cell_by (bit_at (slice_index present k) j) (little_number 4 (drop (4 * j) (drop (4 * (at + 8 * q)) words)))) byte
+    ∙ ap (λ k. cell_by (bit_at (slice_index present (i / 8)) k) (little_number 4 (drop (4 * j) (drop (4 * (at + 8 * q)) words)))) place
+    ∙ ap (λ xs. cell_by (bit_at (slice_index present (i / 8)) (i % 8)) (little_number 4 xs)) (drop-drop (4 * j) (4 * (at + 8 * q)) words ∙ ap (λ k. drop k words) word)
 
 -- what is cut from bytes is bytes
 pub front_small : (n : ℕ) (bytes : List ℕ) → ((k : ℕ) → slice_index bytes k < 256) → (k : ℕ) → slice_index (take n bytes) k < 256

@@ -10,6 +10,10 @@ abbrev pub read_cell : List ℕ → List ℕ → ℕ → Option ℤ
 read_cell present words i =
     if bit_at (slice_index present (i / 8)) (i % 8) == 1 then Some (cast_signed w32 (little_number 4 (drop (4 * i) words))) else None
 
+-- the cell by its bit and its word
+abbrev pub cell_by : ℕ → ℕ → Option ℤ
+cell_by bit word = if bit == 1 then Some (cast_signed w32 word) else None
+
 -- no bit past the last row is set
 abbrev pub HasNoSpareBit : ℕ → List ℕ → Type 0
 HasNoSpareBit rows present = (i : ℕ) → rows ≤ i → bit_at (slice_index present (i / 8)) (i % 8) ≡ 0

@@ -3,7 +3,7 @@
 ghost use Rattle.std.specs.Prelude.{All, IfSome, List, None, Option, length, ◌*◌, ◌++◌, ◌+◌, ◌≡◌, ◌≤◌, ℤ};
 ghost use Rattle.bw_file.specs.Cells.{column_bytes, column_size, presence_size, row_limit, IsCell};
 
-use crate::cells::{are_spelled, read_cell};
+use crate::cells::{are_spelled, read_cells};
 use crate::presence::has_spare_bit;
 use bw_cells::Cells;
 use std::marker::Model;
@@ -71,8 +71,6 @@ impl<'a> Cells for FileColumn<'a> {
     }
 
     fn read(&self, at: usize, out: &mut [Option<i64>]) {
-        'rows: for k in 0..out.len() {
-            out[k] = read_cell(self.present, self.words, at + k);
-        }
+        read_cells(self.present, self.words, at, out);
     }
 }

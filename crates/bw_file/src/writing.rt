@@ -52,8 +52,30 @@ fn write_words(out: &mut [u8], cells: &[Option<i64>])
     requires integers { All IsCell cells.now }
     ensures { out.new ≡ flat_map cell_bytes cells.now }
 {
-    'words: for i in 0..cells.len() {
+    let eights = cells.len() / 8;
+    'eights: for q in 0..eights {
+        let start = 8 * q;
+        write_eight(&mut out[4 * start..4 * start + 32], &cells[start..start + 8]);
+    }
+    'rest: for i in 8 * eights..cells.len() {
         LittleEndian::write_u32(&mut out[4 * i..], cell_number(cells[i]));
+    }
+}
+
+/// Writes the words of eight cells. The numbers are gathered before any is written, so that no branch is left.
+#[inline]
+fn write_eight(out: &mut [u8], cells: &[Option<i64>])
+    requires count { length cells.now ≡ 8 }
+    requires long { length out.old ≡ 32 }
+    requires integers { All IsCell cells.now }
+    ensures { out.new ≡ flat_map cell_bytes cells.now }
+{
+    let mut numbers = [0; 8];
+    'gather: for j in 0..8 {
+        numbers[j] = cell_number(cells[j]);
+    }
+    'write: for j in 0..8 {
+        LittleEndian::write_u32(&mut out[4 * j..], numbers[j]);
     }
 }
 

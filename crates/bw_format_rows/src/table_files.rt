@@ -240,7 +240,7 @@ fn many_rows<R: Abort + AllocGlobal>(rt: &R) -> Vec<u8> {
     let mut bytes = Vec::from_slice(rt.alloc(), &front).expect(rt, "front");
     for k in 0..257_u32 {
         let mut byte: u8 = 0;
-        for j in 0..8 {
+        for j in 0..8_u32 {
             if 8 * k + j < 2_051 && many_rows_cell(8 * k + j).is_some() {
                 byte |= 1 << j;
             }
