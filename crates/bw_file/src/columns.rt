@@ -35,11 +35,7 @@ pub(crate) fn put_columns<C: Cells>(
 }
 
 /// Puts the bytes of a column of so many rows last.
-fn put_column<C: Cells>(
-    bytes: &mut Vec<u8>,
-    rows: usize,
-    column: &C,
-) -> Result<(), AllocError>
+fn put_column<C: Cells>(bytes: &mut Vec<u8>, rows: usize, column: &C) -> Result<(), AllocError>
     requires few { rows ≤ row_limit }
     requires long { length (C.cells column.now) ≡ rows }
     requires integers { All IsCell (C.cells column.now) }

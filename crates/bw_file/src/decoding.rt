@@ -6,7 +6,6 @@ ghost use Rattle.bw_file.specs.Table.{Table};
 ghost use Rattle.bw_file.specs.declared.fault.FileFault.TheVariants.{NotTable};
 
 use crate::columns::{column_size, columns_in};
-
 use crate::fault::FileFault;
 use crate::front::read_counts;
 use crate::headers::{has_name_twice, read_headers};

@@ -6,7 +6,6 @@ ghost use Rattle.bw_file.specs.Format.{spelled_length, spelling, Spells};
 ghost use Rattle.bw_file.specs.Table.{column_limit, AreHeaders, IsTable, Table};
 
 use crate::columns::{column_size, put_columns};
-
 use crate::front::front;
 use crate::header::ColumnHeader;
 use crate::headers::{have_names, headers_size, put_headers};

@@ -55,7 +55,10 @@ fn write_words(out: &mut [u8], cells: &[Option<i64>])
     let eights = cells.len() / 8;
     'eights: for q in 0..eights {
         let start = 8 * q;
-        write_eight(&mut out[4 * start..4 * start + 32], &cells[start..start + 8]);
+        write_eight(
+            &mut out[4 * start..4 * start + 32],
+            &cells[start..start + 8],
+        );
     }
     'rest: for i in 8 * eights..cells.len() {
         LittleEndian::write_u32(&mut out[4 * i..], cell_number(cells[i]));

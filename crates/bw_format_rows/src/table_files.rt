@@ -249,7 +249,9 @@ fn many_rows<R: Abort + AllocGlobal>(rt: &R) -> Vec<u8> {
     }
     for i in 0..2_051 {
         let number = many_rows_cell(i).unwrap_or(0);
-        bytes.extend_from_slice(&number.to_le_bytes()[..4]).expect(rt, "word");
+        bytes
+            .extend_from_slice(&number.to_le_bytes()[..4])
+            .expect(rt, "word");
     }
     bytes
 }

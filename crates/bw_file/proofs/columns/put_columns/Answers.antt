@@ -1,6 +1,7 @@
-use Rattle.std.proofs.Common.{[], ap, append_assoc, arith, length, map, sym, ◌++◌, ◌<◌, ◌≡◌, ◌∙◌}
+use Rattle.std.proofs.Common.{[], append_assoc, arith, length, map, take, ◌<◌, ◌≡◌}
 use Rattle.std.proofs.lemmas.List.{length-map}
 use Rattle.std.proofs.lemmas.List.Elements.{All-get_or}
+use Rattle.std.specs.List.{flat_map}
 use Rattle.std.specs.Prelude.{All}
 use Rattle.bw_file.specs.Cells.{IsCell, column_bytes}
 use Rattle.bw_file.proofs.Joined.{piece_at, piece_more}
@@ -22,5 +23,7 @@ put_column-requires-clause-integers g c =
 
 pub columns-preserved : goal.columns-preserved
 columns-preserved g c =
-    let more = piece_more g.C.Cells.cells c.args.columns.now c.columns.i c.index-columns-i.result c.columns-test.true c.index-columns-i.is column_bytes in
-    c.in_ok-put_column.ensures ∙ ap (λ xs. xs ++ column_bytes (g.C.Cells.cells c.index-columns-i.result)) c.columns.invariant ∙ append_assoc c.args.bytes.now.items _ _ ∙ ap (λ xs. c.args.bytes.now.items ++ xs) (sym more)
+    let cells = g.C.Cells.cells in
+    let more = piece_more cells c.args.columns.now c.columns.i c.index-columns-i.result c.columns-test.true c.index-columns-i.is column_bytes in
+    let assoc = append_assoc c.args.bytes.now.items (flat_map column_bytes (take c.columns.i (map cells c.args.columns.now))) (column_bytes (cells c.index-columns-i.result)) in
+    cc (c.in_ok-put_column.ensures, c.columns.invariant)
