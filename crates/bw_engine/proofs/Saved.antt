@@ -4,19 +4,18 @@ use Rattle.std.specs.Prelude.{IsTrue}
 use Rattle.std.specs.List.{All, filter, range_with_len}
 use Rattle.std.specs.Map.{lookup}
 use Rattle.std.specs.Str.{bytes_eq}
-use Rattle.std.specs.declared.alloc.Global.{Global}
-use Rattle.std.specs.declared.vec.Vec.{Vec}
 use Rattle.std.proofs.lemmas.Bool.{cases_Bool, le-ltb, lt-ltb}
 use Rattle.std.proofs.lemmas.List.{length-map}
-use Rattle.std.proofs.lemmas.List.Elements.{All-cons, All-head, All-nil, All-tail}
+use Rattle.std.proofs.lemmas.List.Elements.{All-append, All-cons, All-head, All-nil, All-tail}
 use Rattle.std.proofs.lemmas.List.FromFn.{length-map-range_with_len, map-range_with_len_more}
 use Rattle.bw_mask.specs.Masks.{MaskRows, len, row_at}
 use Rattle.bw_column.specs.Values as values
-use Rattle.bw_file.specs.Cells.{cells_of}
+use Rattle.bw_file.specs.Cells.{IsCell}
 use Rattle.bw_file.specs.Format.{Spells}
+use Rattle.bw_file.specs.Table as file
 use Rattle.bw_file.specs.Table.{AreHeaders as AreFiled}
 use Rattle.bw_file.specs.declared.header.ColumnHeader.{ColumnHeader}
-use Rattle.bw_table.specs.Slots.{Slot, slot_at, slot_column}
+use Rattle.bw_table.specs.Slots.{Slot, live_slots, slot_at, slot_column}
 use Rattle.bw_table.specs.declared.header.Header.{Header as StoredHeader}
 use Rattle.bw_table.proofs.Places.{map_twice}
 use Rattle.bw_sql.specs.Rows.{joined}
@@ -33,8 +32,10 @@ use Rattle.bw_plan.proofs.Operanding.{one_value}
 use Rattle.bw_plan.proofs.Tests.{no_test, this_test}
 use Rattle.bw_engine.specs.Files.{SavesOr}
 use Rattle.bw_engine.specs.Found.{is_found_by, rows_where}
+use Rattle.bw_engine.specs.Saving.{saved_cells}
 use Rattle.bw_engine.specs.Stores.{Stored, StoredTable, rows_in, rows_of_slots, store_of, table_in}
 use Rattle.bw_engine.specs.declared.outcome.Saving.{Saving}
+use Rattle.bw_engine.specs.declared.live_cells.LiveCells.{LiveCells}
 use Rattle.bw_engine.proofs.FoundLaws.{live_found, where_found}
 use Rattle.bw_engine.proofs.LiveLaws.{live_wide}
 use Rattle.bw_engine.proofs.Steps.{found_in}
@@ -66,11 +67,50 @@ live_integers (slot ∷ slots) k all =
       | inr e ↦ rw e rest
     ]
 
+-- where no slot is dead, a column of the slots is that of the rows
+no_more_live : (slots : List Slot) → length (live_slots slots) ≤ length slots
+no_more_live [] = omega arith
+no_more_live (slot ∷ slots) =
+    elim (cases_Bool slot.live) [
+      | inl e ↦ rw e (omega (arith, no_more_live slots))
+      | inr e ↦ rw e (omega (arith, no_more_live slots))
+    ]
+
+all_live : (slots : List Slot) → length (live_slots slots) ≡ length slots → live_slots slots ≡ slots
+all_live [] same = refl
+all_live (slot ∷ slots) same =
+    elim (cases_Bool slot.live) [
+      | inl e ↦
+          let rest : length (live_slots slots) ≡ length slots = omega (arith, (rw e at same)) in
+          rw e (ap (λ l. slot ∷ l) (all_live slots rest))
+      | inr e ↦
+          let fewer : length (live_slots slots) ≡ length slots + 1 = omega (arith, (rw e at same)) in
+          absurd (omega (arith, fewer, no_more_live slots))
+    ]
+
+pub whole_column : (slots : List Slot) (k : ℕ) → length (live_slots slots) ≡ length slots → slot_column slots k ≡ column_of (rows_in slots) k
+whole_column slots k same =
+    ap (λ (l : List Slot). map (λ row. values.value_at row k) (map (λ slot. slot.row) l)) (sym (all_live slots same))
+    ∙ (λ j. map (λ (row : Row). one_value row k j) (rows_in slots))
+
 -- a column more
-pub columns_more : (columns new : List (Vec (Option ℤ) Global)) (column : Vec (Option ℤ) Global) (rows : List Row) (k : ℕ) → map cells_of columns ≡ map (column_of rows) (range_with_len 0 k) → column.items ≡ column_of rows k
-    → new ≡ columns ++ column ∷ [] → map cells_of new ≡ map (column_of rows) (range_with_len 0 (k + 1))
+pub columns_more : (columns new : List LiveCells) (column : LiveCells) (rows : List Row) (k : ℕ) → map saved_cells columns ≡ map (column_of rows) (range_with_len 0 k) → saved_cells column ≡ column_of rows k
+    → new ≡ columns ++ column ∷ [] → map saved_cells new ≡ map (column_of rows) (range_with_len 0 (k + 1))
 columns_more columns new column rows k so_far is more =
-    ap (map cells_of) more ∙ map-push cells_of columns column ∙ (λ j. so_far j ++ is j ∷ []) ∙ sym (map-range_with_len_more (column_of rows) 0 k k (omega arith))
+    ap (map saved_cells) more ∙ map-push saved_cells columns column ∙ (λ j. so_far j ++ is j ∷ []) ∙ sym (map-range_with_len_more (column_of rows) 0 k k (omega arith))
+
+pub integers_more : (columns new : List LiveCells) (column : LiveCells) → All (All values.IsNullOrInteger) (map saved_cells columns) → All values.IsNullOrInteger (saved_cells column) → new ≡ columns ++ column ∷ [] → All (All values.IsNullOrInteger) (map saved_cells new)
+integers_more columns new column so_far here more =
+    subst (All (All values.IsNullOrInteger)) (sym (ap (map saved_cells) more ∙ map-push saved_cells columns column))
+    (All-append (All values.IsNullOrInteger) (map saved_cells columns) (saved_cells column ∷ []) so_far (All-cons (All values.IsNullOrInteger) (saved_cells column) [] here (All-nil (All values.IsNullOrInteger))))
+
+-- what a column may hold, a file may
+is_cell : (value : Value) → values.IsNullOrInteger value → IsCell value
+is_cell None integer = tt
+is_cell (Some x) integer = integer
+
+pub are_cells : (columns : List (List Value)) → All (All values.IsNullOrInteger) columns → All (All IsCell) columns
+are_cells columns all k d l i e m = is_cell _ (all k d l i e m)
 
 -- headers and columns as a file has them
 pub are_filed : (headers : List Header) → AreHeaders headers → AreFiled (map filed_header headers)
@@ -80,21 +120,30 @@ are_filed headers are = record {
   distinct = subst (λ names. IsTrue (are_distinct names)) (sym (map_twice (λ (header : ColumnHeader). header.name) filed_header headers)) are.distinct;
 }
 
-pub filed_width : (columns : List (Vec (Option ℤ) Global)) (rows : List Row) (headers : List ColumnHeader) (stored : List (StoredHeader (List ℕ)))
-    → map cells_of columns ≡ map (column_of rows) (range_with_len 0 (length stored)) → headers ≡ map filed_header (columns_of stored) → length columns ≡ length headers
+pub filed_width : (columns : List LiveCells) (rows : List Row) (headers : List ColumnHeader) (stored : List (StoredHeader (List ℕ)))
+    → map saved_cells columns ≡ map (column_of rows) (range_with_len 0 (length stored)) → headers ≡ map filed_header (columns_of stored) → length columns ≡ length headers
 filed_width columns rows headers stored are is =
-    sym (length-map columns cells_of) ∙ ap length are ∙ length-map-range_with_len (column_of rows) 0 (length stored)
+    sym (length-map columns saved_cells) ∙ ap length are ∙ length-map-range_with_len (column_of rows) 0 (length stored)
     ∙ sym (length-map stored words_of) ∙ sym (length-map (columns_of stored) filed_header) ∙ ap length (sym is)
 
-pub filed_long : (columns : List (Vec (Option ℤ) Global)) (rows : List Row) (n count : ℕ) → map cells_of columns ≡ map (column_of rows) (range_with_len 0 n) → count ≡ length rows → All (λ cells. length cells ≡ count) (map cells_of columns)
+pub filed_long : (columns : List LiveCells) (rows : List Row) (n count : ℕ) → map saved_cells columns ≡ map (column_of rows) (range_with_len 0 n) → count ≡ length rows → All (λ cells. length cells ≡ count) (map saved_cells columns)
 filed_long columns rows n count are same =
     subst (All (λ (cells : List Value). length cells ≡ count)) (sym are) (All-map (column_of rows) count (range_with_len 0 n) (λ k. length-map rows (λ row. value_at row k) ∙ sym same))
 
+-- a stored table by its columns
+filed_is : (table : StoredTable) (headers : List ColumnHeader) (rows : ℕ) (columns : List (List Value)) → headers ≡ map filed_header (columns_of table.headers) → rows ≡ length (rows_in table.slots)
+    → columns ≡ map (column_of (rows_in table.slots)) (range_with_len 0 (length table.headers)) → ◌≡◌ {A = file.Table} (record { headers = headers; rows = rows; columns = columns }) (filed (table_in table))
+filed_is table headers rows columns heads count are =
+    let all = are ∙ ap (λ n. map (column_of (rows_in table.slots)) (range_with_len 0 n)) (sym (length-map table.headers words_of)) in
+    λ j. record { headers = heads j; rows = count j; columns = all j }
+
 -- bytes that spell a stored table hold it
-pub holds_stored : (bytes : List ℕ) (table : StoredTable) → All (λ slot. length slot.row ≡ length table.headers) table.slots → Spells bytes (filed (table_in table)) → Holds bytes (table_in table)
-holds_stored bytes table wide spells = record {
+pub holds_stored : (bytes : List ℕ) (table : StoredTable) (headers : List ColumnHeader) (rows : ℕ) (columns : List (List Value)) → headers ≡ map filed_header (columns_of table.headers) → rows ≡ length (rows_in table.slots)
+    → columns ≡ map (column_of (rows_in table.slots)) (range_with_len 0 (length table.headers)) → All (λ slot. length slot.row ≡ length table.headers) table.slots
+    → Spells bytes (record { headers = headers; rows = rows; columns = columns }) → Holds bytes (table_in table)
+holds_stored bytes table headers rows columns heads count are wide spells = record {
   wide = subst (λ n. All (λ (row : Row). length row ≡ n) (rows_in table.slots)) (sym (length-map table.headers words_of)) (live_wide (length table.headers) table.slots wide);
-  spells = spells;
+  spells = subst (Spells bytes) (filed_is table headers rows columns heads count are) spells;
 }
 
 -- a SAVE of a table that is there

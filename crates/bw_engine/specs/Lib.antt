@@ -3,4 +3,5 @@ pub mod Folds
 pub mod Found
 pub mod Outcomes
 pub mod Runs
+pub mod Saving
 pub mod Stores

@@ -10,6 +10,7 @@ mod folded;
 mod found;
 mod insert;
 mod listing;
+mod live_cells;
 mod load;
 mod open;
 mod outcome;

@@ -19,7 +19,7 @@ use crate::table::Table;
 use bw_csvload::{CsvRows, FirstRecord as CsvFirst, rows};
 use bw_model::{Refusal, Reply};
 use bw_sql::{FirstRecord, Load, Name};
-use bw_table::{Rows, widened};
+use bw_table::Rows;
 use indexmap::IndexMap;
 use std::alloc::Global;
 
@@ -95,8 +95,6 @@ fn load_rows(alloc: Global, table: &mut Table, rows: CsvRows) -> Result<Reply, R
         return Err(Refusal::TableFull);
     }
     let width = table.headers().len();
-    let cells = widened(alloc, rows.cells())?;
-    drop(rows);
-    table.insert(alloc, &Rows::new(width, cells.as_slice()))?;
+    table.insert(alloc, &Rows::of_integers(width, rows.cells()))?;
     Ok(Reply::Count(count as u64))
 }

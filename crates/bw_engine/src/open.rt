@@ -15,7 +15,7 @@ use crate::create::TABLE_LIMIT;
 use crate::file_answer::{FileAnswer, bytes_of};
 use crate::table::Table;
 use bw_code::{Kind, Layout};
-use bw_file::{ColumnHeader, FileFault, TableParts, decode};
+use bw_file::{ColumnHeader, FileFault, TableFile, decode};
 use bw_model::{Refusal, Reply};
 use bw_sql::{KindWord, LayoutWord, Name, Open};
 use bw_table::Header;
@@ -47,7 +47,7 @@ pub(crate) fn open_table(
 }
 
 /// The table that a table file holds, by its columns.
-fn table_in_file(alloc: Global, file: FileAnswer<'_>) -> Result<TableParts, Refusal>
+fn table_in_file<'a>(alloc: Global, file: FileAnswer<'a>) -> Result<TableFile<'a>, Refusal>
     ensures { IsAnswered file.entry (Within IsTableIn) (λ said. AnswersFile (table_tests said) result (λ parts. said ≡ Held (unfiled parts))) (result ≡ Err OutOfMemory) }
 {
     let bytes = bytes_of(file)?;
@@ -59,15 +59,13 @@ fn table_in_file(alloc: Global, file: FileAnswer<'_>) -> Result<TableParts, Refu
 }
 
 /// The table of these columns.
-fn opened(alloc: Global, parts: TableParts) -> Result<Table, AllocError>
-    ensures { IfOk result (λ table. table_in table ≡ unfiled parts) }
+fn opened(alloc: Global, parts: TableFile<'_>) -> Result<Table, AllocError>
+    ensures { IfOk result (λ table. table_in table ≡ unfiled parts.entry) }
 {
     let rows = parts.rows();
-    // There are 1 to 64 columns, each with a name of its own, and in each a cell for each row.
-    let _table = parts.headers();
     let (headers, columns) = parts.into_headers_and_columns();
     let headers = stored_headers(alloc, headers)?;
-    Table::of_columns(alloc, headers, rows, columns)
+    Table::of_columns(alloc, headers, rows, &columns)
 }
 
 /// The columns as a table has them.

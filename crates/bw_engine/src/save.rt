@@ -1,25 +1,23 @@
 //! SAVE.
 
-ghost use Rattle.std.specs.Prelude.{◌≡◌, ◌<◌, ◌≤◌, ◌+◌, ◌*◌, All, IfOk, length, map};
-ghost use Rattle.std.specs.List.{range_with_len, sum_by};
-ghost use Rattle.bw_column.specs.Values.{IsNullOrInteger};
-ghost use Rattle.bw_file.specs.Cells.{cells_of};
-ghost use Rattle.bw_model.specs.Filing.{column_of, filed, filed_header, filed_length};
+ghost use Rattle.std.specs.Prelude.{◌≡◌, ◌≤◌, ◌+◌, ◌*◌, IfOk, length, map};
+ghost use Rattle.std.specs.List.{sum_by};
+ghost use Rattle.bw_model.specs.Filing.{Holds, filed_header, filed_length};
 ghost use Rattle.bw_sql.specs.Tree.{statement_of};
 ghost use Rattle.bw_sql.specs.declared.tree.Statement.TheVariants as statements;
 ghost use Rattle.bw_plan.specs.Columns.{columns_of, words_of};
 ghost use Rattle.bw_plan.specs.Words.{word_of_kind, word_of_layout};
 ghost use Rattle.bw_engine.specs.Files.{SavesOr};
-ghost use Rattle.bw_engine.specs.Stores.{rows_in, store_of, table_in};
+ghost use Rattle.bw_engine.specs.Stores.{store_of, table_in};
 
 use crate::file_answer::FILE_LIMIT;
+use crate::live_cells::live_columns;
 use crate::outcome::Saving;
-use crate::shown::found_values;
 use crate::table::Table;
 use bw_code::{Kind, Layout};
-use bw_file::{ColumnHeader, TableParts, encode};
+use bw_file::{ColumnHeader, encode};
 use bw_model::Refusal;
-use bw_sql::{KindWord, LayoutWord, Name, Save, Value};
+use bw_sql::{KindWord, LayoutWord, Name, Save};
 use bw_table::Header;
 use indexmap::IndexMap;
 use std::alloc::{AllocError, Global};
@@ -39,15 +37,23 @@ pub(crate) fn save(
     if filed_length(table) > FILE_LIMIT as u64 {
         return Err(Refusal::FileTooLarge);
     }
-    // Each row has a value for each column.
-    let _wide = table.stored().live();
-    let parts = filed(alloc, table)?;
-    let bytes = encode(alloc, &parts)?;
     Ok(Saving {
         file,
-        bytes,
+        bytes: spelled(alloc, table)?,
         rows: table.row_count() as u64,
     })
+}
+
+/// The bytes that hold a table.
+fn spelled(alloc: Global, table: &Table) -> Result<Vec<u8>, AllocError>
+    ensures { IfOk result (λ bytes. Holds bytes.items (table_in table.now)) }
+{
+    // Each row has a value for each column, and there are 1 to 64 columns, each with a name of its own.
+    let _wide = table.stored().live();
+    let _valid = table.headers();
+    let headers = filed_headers(alloc, table.stored().headers())?;
+    let columns = live_columns(alloc, table)?;
+    encode(alloc, &headers, table.row_count(), &columns)
 }
 
 /// How many bytes hold a table. Takes no memory.
@@ -71,18 +77,6 @@ fn headers_length(headers: &[Header<Name>]) -> u64
         [] => 0,
         [first, rest @ ..] => 3 + first.name.as_bytes().len() as u64 + headers_length(rest),
     }
-}
-
-/// The table by its columns.
-fn filed(alloc: Global, table: &Table) -> Result<TableParts, AllocError>
-    ensures { IfOk result (λ parts. parts ≡ filed (table_in table.now)) }
-{
-    // There are 1 to 64 columns, each with a name of its own.
-    let _valid = table.headers();
-    let headers = filed_headers(alloc, table.stored().headers())?;
-    let rows = table.row_count();
-    let columns = filed_columns(alloc, table)?;
-    Ok(TableParts::new(headers, rows, columns))
 }
 
 fn filed_headers(alloc: Global, headers: &[Header<Name>]) -> Result<Vec<ColumnHeader>, AllocError>
@@ -124,51 +118,5 @@ fn kind_word(kind: Kind) -> KindWord
     match kind {
         Kind::Offset => KindWord::Offset,
         Kind::Dictionary => KindWord::Dictionary,
-    }
-}
-
-/// The columns, each with its cells in the rows.
-fn filed_columns(alloc: Global, table: &Table) -> Result<Vec<Vec<Option<i32>>>, AllocError>
-    ensures { IfOk result (λ columns. map cells_of columns.items ≡ map (column_of (rows_in table.now.slots)) (range_with_len 0 (length table.now.headers))) }
-{
-    let width = table.headers().len();
-    let mut columns = Vec::with_capacity(alloc, width)?;
-    for k in 0..width {
-        columns.push(filed_column(alloc, table, k)?)?;
-    }
-    Ok(columns)
-}
-
-/// The cells of column k in the rows.
-fn filed_column(alloc: Global, table: &Table, k: usize) -> Result<Vec<Option<i32>>, AllocError>
-    requires { k < length table.now.headers }
-    ensures { IfOk result (λ cells. cells.items ≡ column_of (rows_in table.now.slots) k) }
-{
-    let stored = table.stored();
-    // The values of a column are integers and nulls.
-    let _column = stored.column(k).len();
-    let values = found_values(alloc, stored, &[k], stored.live())?;
-    narrowed(alloc, &values)
-}
-
-/// The values as the cells of a table file.
-fn narrowed(alloc: Global, values: &[Value]) -> Result<Vec<Option<i32>>, AllocError>
-    requires { All IsNullOrInteger values.now }
-    ensures { IfOk result (λ cells. cells.items ≡ values.now) }
-{
-    let mut cells = Vec::with_capacity(alloc, values.len())?;
-    for value in values {
-        cells.push(narrow(*value))?;
-    }
-    Ok(cells)
-}
-
-fn narrow(value: Value) -> Option<i32>
-    requires { IsNullOrInteger value }
-    ensures { result ≡ value }
-{
-    match value {
-        Some(number) => Some(number as i32),
-        None => None,
     }
 }
