@@ -30,7 +30,7 @@ impl<'a> Model for FileColumn<'a> {
 }
 
 impl<'a> FileColumn<'a> {
-    /// How many rows the column has.
+    /// How many rows the column has. The cell of each is NULL or an INTEGER.
     pub fn rows(&self) -> usize
         ensures count { result ≡ length self.now }
         ensures few { length self.now ≤ row_limit }
