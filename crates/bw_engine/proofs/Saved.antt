@@ -1,5 +1,5 @@
 -- The columns that a SAVE writes are those of the table's rows, and what it answers by its tests.
-use Rattle.std.proofs.Common.{◌≡◌, ◌∙◌, ℕ, ℤ, ◌+◌, ◌<◌, ◌≤◌, List, [], ◌∷◌, ◌++◌, length, map, Option, None, Some, option_map, Result, Ok, Err, IsErrAnd, inl, inr, refl, sym, ap, subst, arith}
+use Rattle.std.proofs.Common.{◌≡◌, ◌∙◌, ℕ, ℤ, ◌+◌, ◌<◌, ◌≤◌, Bool, if◌then◌else◌, List, [], ◌∷◌, ◌++◌, length, map, Option, None, Some, option_map, Result, Ok, Err, IsErrAnd, inl, inr, refl, sym, ap, subst, arith}
 use Rattle.std.specs.Prelude.{IsTrue}
 use Rattle.std.specs.List.{All, filter, range_with_len}
 use Rattle.std.specs.Map.{lookup}
@@ -82,7 +82,7 @@ all_live (slot ∷ slots) same =
     elim (cases_Bool slot.live) [
       | inl e ↦
           let rest : length (live_slots slots) ≡ length slots = omega (arith, (rw e at same)) in
-          rw e (ap (λ l. slot ∷ l) (all_live slots rest))
+          ap (λ (b : Bool). if b then slot ∷ live_slots slots else live_slots slots) e ∙ ap (λ l. slot ∷ l) (all_live slots rest)
       | inr e ↦
           let fewer : length (live_slots slots) ≡ length slots + 1 = omega (arith, (rw e at same)) in
           absurd (omega (arith, fewer, no_more_live slots))

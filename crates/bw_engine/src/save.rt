@@ -37,9 +37,10 @@ pub(crate) fn save(
     if filed_length(table) > FILE_LIMIT as u64 {
         return Err(Refusal::FileTooLarge);
     }
+    let bytes = spelled(alloc, table)?;
     Ok(Saving {
         file,
-        bytes: spelled(alloc, table)?,
+        bytes,
         rows: table.row_count() as u64,
     })
 }

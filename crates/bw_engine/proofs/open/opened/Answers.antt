@@ -8,4 +8,4 @@ use Rattle.bw_engine.proofs.open.opened.Goals as goal
 pub of_columns-requires-clause-headers : goal.of_columns-requires-clause-headers
 of_columns-requires-clause-headers c =
     let is : columns_of c.in_ok-headers.headers.items ≡ map unfiled_header c.args.parts.headers = c.in_ok-headers.ensures ∙ ap (map unfiled_header) c.into_headers_and_columns-headers.ensures.headers in
-    subst AreHeaders (sym is) (are_unfiled c.args.parts.headers c.headers-table.ensures.table.headers)
+    subst AreHeaders (sym is) (are_unfiled c.args.parts.headers c.into_headers_and_columns-headers.ensures.table.headers)

@@ -1,9 +1,8 @@
 use Rattle.std.proofs.Common.{inr, refl, subst, sym}
-use Rattle.bw_file.specs.Format.{Spells}
 use Rattle.bw_sql.specs.Tree.{save}
 use Rattle.bw_model.specs.Refusals.{save_tests}
 use Rattle.bw_engine.specs.Stores.{store_of, table_in}
-use Rattle.bw_engine.proofs.Saved.{holds_stored, save_accepted, save_too_large, save_wants, saved_table}
+use Rattle.bw_engine.proofs.Saved.{save_accepted, save_too_large, save_wants, saved_table}
 use Rattle.bw_engine.proofs.Steps.{no_table}
 use Rattle.bw_engine.proofs.save.save.Goals as goal
 
@@ -14,17 +13,11 @@ pub returns-then-filed_length : goal.returns-then-filed_length
 returns-then-filed_length c =
     inr (save_too_large c.args.tables.now.entries c.args.statement.table c.args.statement.file c.in-Some.table.now (sym c.in-Some.ensures.value) (rw c.filed_length.ensures at c.if-filed_length.true))
 
-pub returns-in_err-parts : goal.returns-in_err-parts
-returns-in_err-parts c =
+pub returns-in_err-bytes : goal.returns-in_err-bytes
+returns-in_err-bytes c =
     save_wants (store_of c.args.tables.now.entries) (save c.args.statement.table c.args.statement.file) c.from_residual.result (store_of c.args.tables.now.entries)
     (save_accepted c.args.tables.now.entries c.args.statement.table c.args.statement.file c.in-Some.table.now (sym c.in-Some.ensures.value) (rw c.filed_length.ensures at c.if-filed_length.false))
     c.from_residual.ensures.1
-
-pub returns-in_err-bytes : goal.returns-in_err-bytes
-returns-in_err-bytes c =
-    save_wants (store_of c.args.tables.now.entries) (save c.args.statement.table c.args.statement.file) c.from_residual-in_err-bytes.result (store_of c.args.tables.now.entries)
-    (save_accepted c.args.tables.now.entries c.args.statement.table c.args.statement.file c.in-Some.table.now (sym c.in-Some.ensures.value) (rw c.filed_length.ensures at c.if-filed_length.false))
-    c.from_residual-in_err-bytes.ensures.1
 
 pub returns : goal.returns
 returns c =
@@ -36,7 +29,7 @@ returns c =
       asks = refl;
       there = saved_table tables c.args.statement.table c.args.statement.file table there;
       accepted = save_accepted tables c.args.statement.table c.args.statement.file table there (rw c.filed_length.ensures at c.if-filed_length.false);
-      holds = holds_stored c.in_ok-bytes.bytes.items table (rw c.stored.ensures at c.live-wide.ensures.wide) (subst (Spells c.in_ok-bytes.bytes.items) c.in_ok-parts.ensures c.in_ok-bytes.ensures);
+      holds = c.in_ok-bytes.ensures;
       rows = c.row_count.ensures.value;
       stays = refl;
     }
