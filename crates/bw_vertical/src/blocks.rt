@@ -1,6 +1,6 @@
 //! Codes of the rows of a word, all at once.
 
-ghost use Rattle.std.specs.Prelude.{All, cond, false, length, slice_index, vec_len, ℕ, ◌%◌, ◌*◌, ◌+◌, ◌-◌, ◌/◌, ◌<◌, ◌^◌, ◌≡◌, ◌≤◌};
+ghost use Rattle.std.specs.Prelude.{All, [], cond, false, length, slice_index, slice_index_or, vec_len, ℕ, ◌%◌, ◌*◌, ◌+◌, ◌-◌, ◌/◌, ◌<◌, ◌^◌, ◌≡◌, ◌≤◌};
 ghost use Rattle.bw_mask.specs.Masks.{bit_of};
 ghost use Rattle.bw_vertical.specs.Storage.{HasSegment, KeepsSizes, code_of, groups_of, is_set, lists};
 
@@ -102,14 +102,37 @@ fn narrowed(codes: &[u64]) -> [u32; 64]
     block
 }
 
-/// Bit r says whether code r has bit i.
-fn rows_with_bit(codes: &[u32], i: u32) -> u64
-    requires long { 64 ≤ length codes.now }
-    requires bit { i < 32 }
-    ensures { (r : ℕ) → r < 64 → bit_of result r ≡ bit_of (slice_index codes.now r) i }
+/// Byte j of each code, counted from the lowest.
+fn byte_of_each(codes: &[u32; 64], j: usize) -> [u8; 64]
+    requires { j < 4 }
+    ensures { (r : ℕ) → r < 64 → slice_index result r ≡ slice_index codes.now r / 2 ^ (8 * j) % 2 ^ 8 }
 {
-    (u32x64::from_slice(codes) & u32x64::splat(1 << i))
-        .simd_ne(u32x64::splat(0))
+    let mut bytes = [0; 64];
+    for r in 0..64 {
+        bytes[r] = ((codes[r] >> (8 * j)) % 0x100) as u8;
+    }
+    bytes
+}
+
+/// The bytes of codes of k bits: list j has byte j of each.
+fn bytes_of(codes: &[u32; 64], k: usize) -> [[u8; 64]; 4]
+    requires { k ≤ 32 }
+    ensures { (j r : ℕ) → 8 * j < k → r < 64 → slice_index (slice_index_or result j []) r ≡ slice_index codes.now r / 2 ^ (8 * j) % 2 ^ 8 }
+{
+    let mut bytes = [[0; 64]; 4];
+    for j in 0..k.div_ceil(8) {
+        bytes[j] = byte_of_each(codes, j);
+    }
+    bytes
+}
+
+/// Bit r says whether byte r has bit i.
+fn rows_with_bit(bytes: &[u8; 64], i: u32) -> u64
+    requires { i < 8 }
+    ensures { (r : ℕ) → r < 64 → bit_of result r ≡ bit_of (slice_index bytes.now r) i }
+{
+    (u8x64::from_array(*bytes) & u8x64::splat(1 << i))
+        .simd_ne(u8x64::splat(0))
         .to_bitmask()
 }
 
@@ -129,10 +152,12 @@ pub(crate) fn put_block(groups: &mut Vec<Vec<[u64; 4]>>, k: usize, at: usize, co
     ensures added { (i r : ℕ) → i < k → r < length codes.now → is_set k (lists groups.new.items) i (at + r) ≡ bit_of (slice_index codes.now r) (k - 1 - i) }
     ensures clean { (i j : ℕ) → i < k → at + length codes.now ≤ j → is_set k (lists groups.new.items) i j ≡ false }
 {
-    let block = narrowed(codes);
+    // Bits are gathered from bytes: so many more rows lie in a vector than of whole codes.
+    let bytes = bytes_of(&narrowed(codes), k);
     for i in 0..k {
         let word = word_at(groups, k, i, at / 64);
-        let rows = rows_with_bit(&block, (k - 1 - i) as u32);
+        let bit = k - 1 - i;
+        let rows = rows_with_bit(&bytes[bit / 8], (bit % 8) as u32);
         put_word(groups, k, i, at / 64, word | rows << (at % 64));
     }
 }

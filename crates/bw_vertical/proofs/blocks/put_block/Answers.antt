@@ -1,9 +1,10 @@
-use Rattle.std.proofs.Common.{ap, arith, false, get_or, inl, inr, ℕ, ◌+◌, ◌-◌, ◌/◌, ◌<◌, ◌≡◌, ◌≤◌, ◌∙◌}
+use Rattle.std.proofs.Common.{ap, arith, false, get_or, inl, inr, ℕ, ◌%◌, ◌*◌, ◌+◌, ◌-◌, ◌/◌, ◌<◌, ◌^◌, ◌≡◌, ◌≤◌, ◌∙◌}
 use mathlib.Core.Logic.{◌≢◌}
 use Rattle.std.proofs.lemmas.Bool.{cases_eq, cases_lt}
 use Rattle.bw_mask.specs.Masks.{bit_of}
 use Rattle.bw_vertical.specs.Storage.{is_set, lists, word_of}
 use Rattle.bw_vertical.proofs.Blockwise.{block_added, block_behind, block_kept, block_other}
+use Rattle.bw_vertical.proofs.Bytes.{byte_bit}
 use Rattle.bw_vertical.proofs.Placing.{sizes_more}
 use Rattle.bw_vertical.proofs.blocks.put_block.Goals as goal
 
@@ -18,7 +19,7 @@ loop-i-preserved c =
     let b = k - 1 - i in
     let low : i < k = c.loop-i-test.true in
     let inv = c.loop-i.invariant in
-    let rows_are : (r : ℕ) → r < 64 → bit_of c.rows_with_bit-rows.result r ≡ bit_of (get_or codes r 0) b = λ r h. c.rows_with_bit-rows.ensures r h ∙ ap (λ x. bit_of x b) (c.narrowed-block.ensures r) in
+    let rows_are : (r : ℕ) → r < 64 → bit_of c.rows_with_bit-rows.result r ≡ bit_of (get_or codes r 0) b = λ r h. c.rows_with_bit-rows.ensures r h ∙ ap (λ x. bit_of x (b % 8)) (c.bytes_of-bytes.ensures (b / 8) r (omega arith) h ∙ ap (λ x. x / 2 ^ (8 * (b / 8)) % 2 ^ 8) (c.narrowed.ensures r)) ∙ byte_bit (get_or codes r 0) b in
     let word_is : c.word_at-word.result ≡ word_of k old i (at / 64) = c.word_at-word.ensures ∙ ap (λ gs. word_of k (lists gs) i (at / 64)) c.deref.ensures.value in
     let clean : (j : ℕ) → at ≤ j → is_set k old i j ≡ false = λ j h. inv.rest i j (omega arith) low ∙ c.requires.clean i j low h in
     let other = block_other k i at c.word_at-word.result c.rows_with_bit-rows.result b codes old new c.requires.few rows_are word_is c.put_word.ensures.same c.put_word.ensures.other in
