@@ -4,40 +4,8 @@ ghost use Rattle.std.specs.Prelude.{All, [], cond, false, length, slice_index, s
 ghost use Rattle.bw_mask.specs.Masks.{bit_of};
 ghost use Rattle.bw_vertical.specs.Storage.{HasSegment, KeepsSizes, code_of, groups_of, is_set, lists};
 
-use crate::storage::{put_word, word_at};
-use std::simd::prelude::*;
-
-/// The powers of two below 2^32, so that a row's bit is looked at without a shift.
-fn powers_of_two() -> [u32; 32]
-    ensures { (r : ℕ) → r < 32 → slice_index result r ≡ 2 ^ r }
-{
-    let mut powers = [0; 32];
-    for r in 0..32 {
-        powers[r] = 1 << r;
-    }
-    powers
-}
-
-/// The low half of a word, and the high half.
-fn halves(word: u64) -> (u32, u32)
-    ensures low { (r : ℕ) → r < 32 → bit_of result.0 r ≡ bit_of word r }
-    ensures high { (r : ℕ) → r < 32 → bit_of result.1 r ≡ bit_of word (32 + r) }
-{
-    ((word % 0x1_0000_0000) as u32, (word >> 32) as u32)
-}
-
-/// Puts a bit behind each of 32 codes from `at` on: bit r of the rows behind code r.
-fn add_bits(codes: &mut [u32; 64], at: usize, rows: u32, powers: &[u32; 32])
-    requires inside { at + 32 ≤ 64 }
-    requires powers { (r : ℕ) → r < 32 → slice_index powers.now r ≡ 2 ^ r }
-    requires fit { (r : ℕ) → r < 32 → slice_index codes.old (at + r) < 2 ^ 31 }
-    ensures inside { (r : ℕ) → r < 32 → slice_index codes.new (at + r) ≡ cond (bit_of rows r) 1 0 + 2 * slice_index codes.old (at + r) }
-    ensures outside { (j : ℕ) → (at ≤ j → at + 32 ≤ j) → slice_index codes.new j ≡ slice_index codes.old j }
-{
-    for r in 0..32 {
-        codes[at + r] = u32::from(rows & powers[r] != 0) + 2 * codes[at + r];
-    }
-}
+use crate::bytes::{codes_of_words, words_of_codes};
+use crate::storage::{add_words, words_at};
 
 /// The codes of rows 64 w to 64 w + 63.
 fn block_at(groups: &[Vec<[u64; 4]>], k: usize, w: usize) -> [u32; 64]
@@ -47,14 +15,7 @@ fn block_at(groups: &[Vec<[u64; 4]>], k: usize, w: usize) -> [u32; 64]
     requires there { HasSegment k (lists groups.now) (w / 4) }
     ensures { (r : ℕ) → r < 64 → slice_index result r ≡ code_of k (lists groups.now) (64 * w + r) }
 {
-    let powers = powers_of_two();
-    let mut codes = [0; 64];
-    for i in 0..k {
-        let (low, high) = halves(word_at(groups, k, i, w));
-        add_bits(&mut codes, 0, low, &powers);
-        add_bits(&mut codes, 32, high, &powers);
-    }
-    codes
+    codes_of_words(&words_at(groups, k, w), k)
 }
 
 /// Copies n numbers from a place of a block to a place of `out`.
@@ -102,40 +63,6 @@ fn narrowed(codes: &[u64]) -> [u32; 64]
     block
 }
 
-/// Byte j of each code, counted from the lowest.
-fn byte_of_each(codes: &[u32; 64], j: usize) -> [u8; 64]
-    requires { j < 4 }
-    ensures { (r : ℕ) → r < 64 → slice_index result r ≡ slice_index codes.now r / 2 ^ (8 * j) % 2 ^ 8 }
-{
-    let mut bytes = [0; 64];
-    for r in 0..64 {
-        bytes[r] = ((codes[r] >> (8 * j)) % 0x100) as u8;
-    }
-    bytes
-}
-
-/// The bytes of codes of k bits: list j has byte j of each.
-fn bytes_of(codes: &[u32; 64], k: usize) -> [[u8; 64]; 4]
-    requires { k ≤ 32 }
-    ensures { (j r : ℕ) → 8 * j < k → r < 64 → slice_index (slice_index_or result j []) r ≡ slice_index codes.now r / 2 ^ (8 * j) % 2 ^ 8 }
-{
-    let mut bytes = [[0; 64]; 4];
-    for j in 0..k.div_ceil(8) {
-        bytes[j] = byte_of_each(codes, j);
-    }
-    bytes
-}
-
-/// Bit r says whether byte r has bit i.
-fn rows_with_bit(bytes: &[u8; 64], i: u32) -> u64
-    requires { i < 8 }
-    ensures { (r : ℕ) → r < 64 → bit_of result r ≡ bit_of (slice_index bytes.now r) i }
-{
-    (u8x64::from_array(*bytes) & u8x64::splat(1 << i))
-        .simd_ne(u8x64::splat(0))
-        .to_bitmask()
-}
-
 /// The codes of rows `at`, `at + 1`, .. become these, so few that they lie in one word. From `at` on
 /// no row was set.
 #[tactic(auto, using(crate::proofs::Settings::word_there))]
@@ -152,12 +79,6 @@ pub(crate) fn put_block(groups: &mut Vec<Vec<[u64; 4]>>, k: usize, at: usize, co
     ensures added { (i r : ℕ) → i < k → r < length codes.now → is_set k (lists groups.new.items) i (at + r) ≡ bit_of (slice_index codes.now r) (k - 1 - i) }
     ensures clean { (i j : ℕ) → i < k → at + length codes.now ≤ j → is_set k (lists groups.new.items) i j ≡ false }
 {
-    // Bits are gathered from bytes: so many more rows lie in a vector than of whole codes.
-    let bytes = bytes_of(&narrowed(codes), k);
-    for i in 0..k {
-        let word = word_at(groups, k, i, at / 64);
-        let bit = k - 1 - i;
-        let rows = rows_with_bit(&bytes[bit / 8], (bit % 8) as u32);
-        put_word(groups, k, i, at / 64, word | rows << (at % 64));
-    }
+    let words = words_of_codes(&narrowed(codes), k);
+    add_words(groups, k, at / 64, &words, at % 64);
 }

@@ -3,8 +3,8 @@ use lib.Lanes.{zip2}
 use Rattle.std.proofs.lemmas.List.{length-replicate}
 use Rattle.std.proofs.lemmas.Simd.{get_or-replicate, get_or-zip2, length-zip2}
 use Rattle.bw_code.proofs.LaneLemmas.{bit_tested, lane_bit}
-use Rattle.bw_vertical.proofs.Bytes.{one_moved_in_a_byte}
-use Rattle.bw_vertical.proofs.blocks.rows_with_bit.Goals as goal
+use Rattle.bw_vertical.proofs.ByteBits.{one_moved_in_a_byte}
+use Rattle.bw_vertical.proofs.bytes.rows_with_bit.Goals as goal
 
 pub returns : goal.returns
 returns c r h =

@@ -1,5 +1,5 @@
 use Rattle.std.proofs.Common.{get_or, length, ℕ, ◌%◌, ◌*◌, ◌/◌, ◌<◌, ◌^◌, ◌≡◌}
-use Rattle.bw_vertical.proofs.blocks.byte_of_each.Given as goal
+use Rattle.bw_vertical.proofs.bytes.byte_of_each.Given as goal
 
 -- the bytes so far
 abbrev pub invariant-loop-r : goal.invariant-loop-r
