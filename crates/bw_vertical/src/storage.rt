@@ -89,6 +89,27 @@ fn take_words(
     }
 }
 
+/// Word w of the planes of group g, of which there are m: word b becomes that of the plane of bit b.
+fn take_group(
+    groups: &[Vec<[u64; 4]>],
+    k: usize,
+    g: usize,
+    m: usize,
+    w: usize,
+    words: &mut [u64; 32],
+)
+    requires narrow { k ≤ 32 }
+    requires small { w < 2 ^ 32 }
+    requires count { length groups.now ≡ groups_of k }
+    requires there { HasSegment k (lists groups.now) (w / 4) }
+    requires group { 4 * g < k }
+    requires planes { m ≡ planes_in k g }
+    ensures taken { (i : ℕ) → i < k → i / 4 ≡ g → slice_index words.new (k - 1 - i) ≡ word_of k (lists groups.now) i w }
+    ensures above { (b : ℕ) → k - 1 - 4 * g < b → slice_index words.new b ≡ slice_index words.old b }
+{
+    take_words(&groups[g], w / 4 * m, m, w % 4, words, k - 1 - 4 * g);
+}
+
 /// Word w of each plane: word b is that of the plane of bit b, and 0 where there is no such plane.
 pub(crate) fn words_at(groups: &[Vec<[u64; 4]>], k: usize, w: usize) -> [u64; 32]
     requires narrow { k ≤ 32 }
@@ -99,9 +120,12 @@ pub(crate) fn words_at(groups: &[Vec<[u64; 4]>], k: usize, w: usize) -> [u64; 32
     ensures rest { (b : ℕ) → k ≤ b → slice_index result b ≡ 0 }
 {
     let mut words = [0; 32];
-    for g in 0..groups.len() {
-        let m = planes_in(k, g);
-        take_words(&groups[g], w / 4 * m, m, w % 4, &mut words, k - 1 - 4 * g);
+    // Most groups are whole, and quicker where their size is known.
+    'whole: for g in 0..k / 4 {
+        take_group(groups, k, g, 4, w, &mut words);
+    }
+    'last: for g in k / 4..groups.len() {
+        take_group(groups, k, g, k % 4, w, &mut words);
     }
     words
 }
@@ -136,6 +160,32 @@ fn add_to_group(
     }
 }
 
+/// Rows are added to word w of the planes of group g, of which there are m: those of the plane's bit,
+/// moved up by so many.
+fn add_group(
+    groups: &mut Vec<Vec<[u64; 4]>>,
+    k: usize,
+    g: usize,
+    m: usize,
+    w: usize,
+    words: &[u64; 32],
+    up: usize,
+)
+    requires narrow { k ≤ 32 }
+    requires small { w < 2 ^ 32 }
+    requires count { vec_len groups.old ≡ groups_of k }
+    requires there { HasSegment k (lists groups.old.items) (w / 4) }
+    requires up { up < 64 }
+    requires group { 4 * g < k }
+    requires planes { m ≡ planes_in k g }
+    ensures sizes { KeepsSizes groups.new.items groups.old.items }
+    ensures added { (i : ℕ) → i < k → i / 4 ≡ g → word_of k (lists groups.new.items) i w ≡ bit_or (word_of k (lists groups.old.items) i w) (slice_index words.now (k - 1 - i) * 2 ^ up % 2 ^ 64) }
+    ensures other { (i v : ℕ) → i < k → (i / 4 ≢ g) ⊎ (v ≢ w) → word_of k (lists groups.new.items) i v ≡ word_of k (lists groups.old.items) i v }
+{
+    let group = &mut groups[g];
+    add_to_group(group, w / 4 * m, m, w % 4, words, k - 1 - 4 * g, up);
+}
+
 /// Rows are added to word w of each plane: those of the plane's bit, moved up by so many.
 pub(crate) fn add_words(
     groups: &mut Vec<Vec<[u64; 4]>>,
@@ -153,9 +203,10 @@ pub(crate) fn add_words(
     ensures added { (i : ℕ) → i < k → word_of k (lists groups.new.items) i w ≡ bit_or (word_of k (lists groups.old.items) i w) (slice_index words.now (k - 1 - i) * 2 ^ up % 2 ^ 64) }
     ensures other { (i v : ℕ) → i < k → v ≢ w → word_of k (lists groups.new.items) i v ≡ word_of k (lists groups.old.items) i v }
 {
-    for g in 0..groups.len() {
-        let m = planes_in(k, g);
-        let group = &mut groups[g];
-        add_to_group(group, w / 4 * m, m, w % 4, words, k - 1 - 4 * g, up);
+    'whole: for g in 0..k / 4 {
+        add_group(groups, k, g, 4, w, words, up);
+    }
+    'last: for g in k / 4..groups.len() {
+        add_group(groups, k, g, k % 4, w, words, up);
     }
 }
