@@ -4,7 +4,7 @@ ghost use Rattle.std.specs.Prelude.{All, [], cond, false, length, slice_index, s
 ghost use Rattle.bw_mask.specs.Masks.{bit_of};
 ghost use Rattle.bw_vertical.specs.Storage.{HasSegment, KeepsSizes, code_of, groups_of, is_set, lists};
 
-use crate::bytes::{codes_of_words, words_of_codes};
+use crate::bytes::{codes_of_words, put_codes};
 use crate::storage::{add_words, words_at};
 
 /// The codes of rows 64 w to 64 w + 63.
@@ -50,6 +50,19 @@ pub(crate) fn read_codes(groups: &[Vec<[u64; 4]>], k: usize, at: usize, out: &mu
     }
 }
 
+/// Codes of 32 bits go to the first n places of a block.
+fn narrow(codes: &[u64], n: usize, block: &mut [u32; 64])
+    requires all { n ≡ length codes.now }
+    requires few { n ≤ 64 }
+    requires fit { All (λ code. code < 2 ^ 32) codes.now }
+    ensures codes { (r : ℕ) → r < n → slice_index block.new r ≡ slice_index codes.now r }
+    ensures rest { (r : ℕ) → n ≤ r → slice_index block.new r ≡ slice_index block.old r }
+{
+    for r in 0..n {
+        block[r] = codes[r] as u32;
+    }
+}
+
 /// The codes as numbers of 32 bits, and zeros behind them.
 fn narrowed(codes: &[u64]) -> [u32; 64]
     requires few { length codes.now ≤ 64 }
@@ -57,8 +70,11 @@ fn narrowed(codes: &[u64]) -> [u32; 64]
     ensures { (r : ℕ) → slice_index result r ≡ slice_index codes.now r }
 {
     let mut block = [0; 64];
-    for r in 0..codes.len() {
-        block[r] = codes[r] as u32;
+    // Most come by whole words, and quicker where the length is known.
+    if codes.len() == 64 {
+        narrow(codes, 64, &mut block);
+    } else {
+        narrow(codes, codes.len(), &mut block);
     }
     block
 }
@@ -79,6 +95,7 @@ pub(crate) fn put_block(groups: &mut Vec<Vec<[u64; 4]>>, k: usize, at: usize, co
     ensures added { (i r : ℕ) → i < k → r < length codes.now → is_set k (lists groups.new.items) i (at + r) ≡ bit_of (slice_index codes.now r) (k - 1 - i) }
     ensures clean { (i j : ℕ) → i < k → at + length codes.now ≤ j → is_set k (lists groups.new.items) i j ≡ false }
 {
-    let words = words_of_codes(&narrowed(codes), k);
+    let mut words = [0; 32];
+    put_codes(&narrowed(codes), k, &mut words);
     add_words(groups, k, at / 64, &words, at % 64);
 }

@@ -42,16 +42,14 @@ fn put_words(words: &mut [u64; 32], at: usize, bytes: &[u8; 64])
     }
 }
 
-/// The words of the planes of codes of k bits.
-pub(crate) fn words_of_codes(codes: &[u32; 64], k: usize) -> [u64; 32]
+/// The words become those of the planes of codes of k bits.
+pub(crate) fn put_codes(codes: &[u32; 64], k: usize, words: &mut [u64; 32])
     requires { k ≤ 32 }
-    ensures { (b r : ℕ) → b < k → r < 64 → bit_of (slice_index result b) r ≡ bit_of (slice_index codes.now r) b }
+    ensures { (b r : ℕ) → b < k → r < 64 → bit_of (slice_index words.new b) r ≡ bit_of (slice_index codes.now r) b }
 {
-    let mut words = [0; 32];
     for j in 0..k.div_ceil(8) {
-        put_words(&mut words, 8 * j, &byte_of_each(codes, j));
+        put_words(words, 8 * j, &byte_of_each(codes, j));
     }
-    words
 }
 
 /// The bits of `low` that the mask leaves out change places with the bits of `high` that stand s
@@ -111,6 +109,17 @@ fn bytes_of_words(words: &[u64]) -> [u8; 64]
     bytes_in(&by_rows(words)).to_array()
 }
 
+/// Numbers of one byte.
+fn widened(bytes: &[u8; 64]) -> [u32; 64]
+    ensures { (r : ℕ) → r < 64 → slice_index result r ≡ slice_index bytes.now r }
+{
+    let mut numbers = [0; 64];
+    for r in 0..64 {
+        numbers[r] = u32::from(bytes[r]);
+    }
+    numbers
+}
+
 /// Numbers of two bytes.
 fn pairs(low: &[u8; 64], high: &[u8; 64]) -> [u16; 64]
     ensures { (r : ℕ) → r < 64 → slice_index result r ≡ slice_index low.now r + 2 ^ 8 * slice_index high.now r }
@@ -137,6 +146,15 @@ fn joined(bytes: &[[u8; 64]; 4]) -> [u32; 64]
     numbers
 }
 
+/// The codes of at most 8 bits of which these are the words.
+fn codes_of_byte(words: &[u64; 32]) -> [u32; 64]
+    requires { (b : ℕ) → 8 ≤ b → slice_index words.now b ≡ 0 }
+    ensures bits { (r b : ℕ) → r < 64 → b < 32 → bit_of (slice_index result r) b ≡ bit_of (slice_index words.now b) r }
+    ensures fit { (r : ℕ) → r < 64 → slice_index result r < 2 ^ 32 }
+{
+    widened(&bytes_of_words(words))
+}
+
 /// The codes of k bits of which these are the words.
 pub(crate) fn codes_of_words(words: &[u64; 32], k: usize) -> [u32; 64]
     requires narrow { k ≤ 32 }
@@ -144,6 +162,9 @@ pub(crate) fn codes_of_words(words: &[u64; 32], k: usize) -> [u32; 64]
     ensures bits { (r b : ℕ) → r < 64 → b < 32 → bit_of (slice_index result r) b ≡ bit_of (slice_index words.now b) r }
     ensures fit { (r : ℕ) → r < 64 → slice_index result r < 2 ^ 32 }
 {
+    if k <= 8 {
+        return codes_of_byte(words);
+    }
     let mut bytes = [[0; 64]; 4];
     for j in 0..k.div_ceil(8) {
         bytes[j] = bytes_of_words(&words[8 * j..]);

@@ -1,6 +1,6 @@
 use Rattle.std.proofs.Common.{get_or, ℕ, ◌*◌, ◌<◌, ◌≡◌}
 use Rattle.bw_mask.specs.Masks.{bit_of}
-use Rattle.bw_vertical.proofs.bytes.words_of_codes.Given as goal
+use Rattle.bw_vertical.proofs.bytes.put_codes.Given as goal
 
 -- the words of the bytes so far
 abbrev pub invariant-loop-j : goal.invariant-loop-j

@@ -3,7 +3,7 @@ use Rattle.std.proofs.lemmas.Bool.{cases_lt}
 use Rattle.bw_mask.specs.Masks.{bit_of}
 use Rattle.bw_mask.proofs.Bits.{bit_of_shr}
 use Rattle.bw_vertical.proofs.ByteBits.{low_bit}
-use Rattle.bw_vertical.proofs.bytes.words_of_codes.Goals as goal
+use Rattle.bw_vertical.proofs.bytes.put_codes.Goals as goal
 
 pub loop-j-preserved : goal.loop-j-preserved
 loop-j-preserved c =
