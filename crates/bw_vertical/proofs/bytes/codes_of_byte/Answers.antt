@@ -1,4 +1,4 @@
-use Rattle.std.proofs.Common.{ap, arith, get_or, inl, inr, sym, ◌<◌, ◌==◌, ◌^◌, ◌≡◌, ◌∙◌}
+use Rattle.std.proofs.Common.{ap, arith, get_or, inl, inr, sym, ◌==◌, ◌∙◌}
 use Rattle.std.proofs.lemmas.Bool.{cases_lt}
 use Rattle.std.proofs.lemmas.Nat.Bits.{bit_at_above}
 use Rattle.bw_mask.specs.Masks.{bit_of}

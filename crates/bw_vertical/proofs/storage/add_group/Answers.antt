@@ -1,4 +1,4 @@
-use Rattle.std.proofs.Common.{[], ap, arith, bit_or, get_or, inl, inr, length, refl, ◌%◌, ◌*◌, ◌+◌, ◌-◌, ◌/◌, ◌<◌, ◌^◌, ◌≡◌, ◌∙◌}
+use Rattle.std.proofs.Common.{ap, arith, bit_or, get_or, inl, inr, length, refl, ◌%◌, ◌*◌, ◌-◌, ◌<◌, ◌^◌, ◌≡◌, ◌∙◌}
 use Rattle.bw_vertical.specs.Storage.{lists, word_of}
 use Rattle.bw_vertical.proofs.Placing.{group_other, keeps_sizes, word_in_group, word_now, words_other}
 use Rattle.bw_vertical.proofs.storage.add_group.Goals as goal
