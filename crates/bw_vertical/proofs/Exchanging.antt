@@ -4,7 +4,7 @@ use Rattle.std.proofs.lemmas.Bool.{cases_eq, cases_lt, false≢true, le-ltb, lt-
 use Rattle.bw_lane.proofs.Bits.{bit_of_xor, one_of}
 use Rattle.bw_mask.specs.Masks.{bit_of}
 use Rattle.bw_mask.proofs.Bits.{bit_below_shl, bit_of_and, bit_of_shl, bit_of_shr}
-use Rattle.bw_vertical.specs.Storage.{Exchanges}
+use Rattle.bw_vertical.specs.Exchanges.{Exchanges}
 
 -- whether a test holds of each number below n
 abbrev every : ℕ → (ℕ → Bool) → Bool

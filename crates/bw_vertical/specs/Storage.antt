@@ -1,6 +1,6 @@
 -- How a column of codes lies in memory. Group g holds planes 4g to 4g + 3, as far as there are such planes; in it the planes of
 -- segment 0 come first, then those of segment 1, and so on. A plane of a segment is four words of 64 rows.
-use Rattle.std.specs.Prelude.{Bool, List, [], false, length, map, min, not, slice_index, slice_index_or, suc, true, zero, ℕ, ◌%◌, ◌*◌, ◌+◌, ◌-◌, ◌/◌, ◌<◌, ◌^◌, ◌≡◌, ◌≤◌}
+use Rattle.std.specs.Prelude.{Bool, List, [], false, length, map, min, slice_index, slice_index_or, suc, zero, ℕ, ◌%◌, ◌*◌, ◌+◌, ◌-◌, ◌/◌, ◌<◌, ◌^◌, ◌≡◌, ◌≤◌}
 use Rattle.std.specs.Prelude.{vec_capacity}
 use Rattle.std.specs.Global.{Vec}
 use Rattle.std.specs.Simd.Lanes.{mask_l}
@@ -89,9 +89,3 @@ pub record IsInPlace (k : ℕ) (groups : List (List (List ℕ))) (n segment star
   pub units : HoldsUnits k groups run first
   pub few : length run ≤ 4
   pub low : first ≤ 2 ^ 63
-
--- the mask chooses the bits that have another s places higher, and leaves out those that have one s places lower
-pub record Exchanges (s mask : ℕ) : Type 0 where
-  pub small : s < 64
-  pub first : (r : ℕ) → r < s → bit_of mask r ≡ true
-  pub apart : (r : ℕ) → s ≤ r → r < 64 → bit_of mask r ≡ not (bit_of mask (r - s))

@@ -5,7 +5,7 @@
 
 ghost use Rattle.std.specs.Prelude.{[], cond, false, length, not, slice_index, slice_index_or, true, ℕ, ◌%◌, ◌*◌, ◌+◌, ◌-◌, ◌/◌, ◌<◌, ◌^◌, ◌≡◌, ◌≤◌};
 ghost use Rattle.bw_mask.specs.Masks.{bit_of};
-ghost use Rattle.bw_vertical.specs.Storage.{Exchanges};
+ghost use Rattle.bw_vertical.specs.Exchanges.{Exchanges};
 
 use std::simd::prelude::*;
 
@@ -64,7 +64,8 @@ fn exchanged(low: u64, high: u64, s: u32, mask: u64) -> (u64, u64)
 }
 
 /// Bits of the first four words change places with bits of the next four, and then the words are
-/// laid in turn: the first, the fifth, the second, ..
+/// laid in turn: the first, the fifth, the second, .. So one bit of the word's number becomes one of
+/// the place in the word, and the other way round.
 fn exchange(words: &[u64], s: u32, mask: u64) -> [u64; 8]
     requires long { 8 ≤ length words.now }
     requires mask { Exchanges s mask }
@@ -84,6 +85,8 @@ fn by_rows(words: &[u64]) -> [u64; 8]
     requires { 8 ≤ length words.now }
     ensures { (q r : ℕ) → q < 8 → r < 64 → bit_of (slice_index result q) r ≡ bit_of (slice_index words.now (r % 8)) (8 * q + r / 8) }
 {
+    // The three bits of a row's place in its byte change places with those of the word's number, and
+    // then with those of the byte's number.
     let words = exchange(words, 4, 0x0f0f_0f0f_0f0f_0f0f);
     let words = exchange(&words, 2, 0x3333_3333_3333_3333);
     let words = exchange(&words, 1, 0x5555_5555_5555_5555);
