@@ -1,5 +1,5 @@
 -- What holds of a list, part by part.
-use Rattle.std.proofs.Common.{All, List, arith, drop, length, map, take, ap, subst, sym, ◌+◌, ◌++◌, ◌≡◌, ◌≤◌, ◌∙◌, ℕ}
+use Rattle.std.proofs.Common.{All, List, drop, length, map, take, ap, subst, sym, ◌+◌, ◌≡◌, ◌≤◌, ◌∙◌, ℕ}
 use Rattle.std.proofs.Math.Seq.{take-add}
 use Rattle.std.proofs.lemmas.List.{drop-map, take-map, take_all}
 use Rattle.std.proofs.lemmas.List.Elements.{All-append, All-drop, All-take}

@@ -1,8 +1,9 @@
 //! What a statement's file says to it, for the plain program.
 
+use bw_cells::Cells;
 use bw_csvload::{CsvRows, FirstRecord as CsvFirst, rows};
 use bw_engine::FILE_LIMIT;
-use bw_file::{FileFault, TableParts, decode};
+use bw_file::{FileColumn, FileFault, TableFile, decode};
 use bw_model::{Content, Header, Row, RowList, Store, Table};
 use bw_shell::{Folder, FolderFault, MemoryFolder};
 use bw_sql::{FirstRecord, Load, Statement, Value};
@@ -78,19 +79,19 @@ fn row_of<R: Abort + AllocGlobal>(rt: &R, cells: &[Option<i32>]) -> Row {
 /// What a table file says to an OPEN.
 fn table_of<R: Abort + AllocGlobal>(rt: &R, bytes: &[u8]) -> Content {
     match decode(rt.alloc(), bytes) {
-        Ok(parts) => Content::Held(table_of_parts(rt, parts)),
+        Ok(file) => Content::Held(table_in(rt, file)),
         Err(FileFault::NotTable) => Content::NotTable,
         Err(FileFault::Memory) => panic!(rt; "memory"),
     }
 }
 
-fn table_of_parts<R: Abort + AllocGlobal>(rt: &R, parts: TableParts) -> Table {
+fn table_in<R: Abort + AllocGlobal>(rt: &R, file: TableFile<'_>) -> Table {
     let mut rows = Vec::new(rt.alloc());
-    for i in 0..parts.rows() {
-        rows.push(row_at(rt, parts.columns(), i))
+    for i in 0..file.rows() {
+        rows.push(row_at(rt, file.columns(), i))
             .expect(rt, "memory");
     }
-    let (columns, _) = parts.into_headers_and_columns();
+    let (columns, _) = file.into_headers_and_columns();
     let mut headers = Vec::new(rt.alloc());
     for column in columns {
         headers
@@ -102,11 +103,13 @@ fn table_of_parts<R: Abort + AllocGlobal>(rt: &R, parts: TableParts) -> Table {
 }
 
 /// The row whose values are the cells at one place of each column.
-fn row_at<R: Abort + AllocGlobal>(rt: &R, columns: &[Vec<Option<i32>>], place: usize) -> Row {
+fn row_at<R: Abort + AllocGlobal>(rt: &R, columns: &[FileColumn<'_>], place: usize) -> Row {
     let mut values: Vec<Value> = Vec::new(rt.alloc());
     for column in columns {
-        let cell = column.get(place).expect(rt, "a cell");
-        values.push(cell.map(i64::from)).expect(rt, "memory");
+        assert!(rt; place < column.len());
+        let mut cell = [None];
+        column.read(place, &mut cell);
+        values.push(cell[0]).expect(rt, "memory");
     }
     Row::new(values)
 }

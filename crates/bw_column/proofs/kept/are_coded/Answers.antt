@@ -1,7 +1,7 @@
-use Rattle.std.proofs.Common.{All, arith, drop, length, subst, take, refl, ◌+◌, ◌≤◌, ◌∙◌}
+use Rattle.std.proofs.Common.{All, arith, length, subst, refl, ◌+◌, ◌≤◌}
 use Rattle.bw_code.proofs.Lists.{front_is}
 use Rattle.bw_column.specs.Codes.{IsCoded}
-use Rattle.bw_column.proofs.Pieces.{all_here, all_more, all_of}
+use Rattle.bw_column.proofs.Pieces.{all_more, all_of}
 use Rattle.bw_column.proofs.kept.are_coded.Goals as goal
 
 pub loop-at-preserved : goal.loop-at-preserved

@@ -3,7 +3,7 @@ use Rattle.std.proofs.Math.Seq.{take-add, take-append_seam}
 use Rattle.std.proofs.lemmas.List.{length-map, map-append, take_all}
 use Rattle.bw_code.proofs.Lists.{front_is}
 use Rattle.bw_column.specs.Codes.{IsCoded, code_for, codes_for}
-use Rattle.bw_column.proofs.Pieces.{all_more, all_of}
+use Rattle.bw_column.proofs.Pieces.{all_more}
 use Rattle.bw_column.proofs.kept.find_places.Goals as goal
 
 pub loop-at-preserved : goal.loop-at-preserved

@@ -1,5 +1,5 @@
 use Rattle.std.proofs.Common.{arith, get_or, length, ◌<◌, ◌≡◌}
-use Rattle.std.proofs.lemmas.List.{get_or_default, length-map}
+use Rattle.std.proofs.lemmas.List.{get_or_default}
 use Rattle.bw_column.specs.Columns.{ColumnView, Keeps}
 use Rattle.bw_table.proofs.Readied.{integers_down, kept_set, ready_more}
 use Rattle.bw_table.proofs.appending.prepare.Goals as goal

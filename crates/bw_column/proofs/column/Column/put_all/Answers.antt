@@ -1,6 +1,4 @@
 use Rattle.std.proofs.Common.{arith, ap, get_or, length, length-set, None, ◌≡◌, ◌∙◌}
-use Rattle.std.proofs.lemmas.List.{length-map}
-use Rattle.bw_column.specs.Codes.{code_for}
 use Rattle.bw_column.proofs.Overwriting.{all_done, done_more, next_below, next_rank, place_below, rest_less}
 use Rattle.bw_column.proofs.column.Column.put_all.Goals as goal
 
