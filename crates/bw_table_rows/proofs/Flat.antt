@@ -1,12 +1,9 @@
 -- Cells of rows that lie flat.
-use Rattle.std.proofs.Common.{List, Option, [], arith, ap, drop, get_or, length, length-drop, map, length-take, sym, ℕ, ℤ, ◌*◌, ◌+◌, ◌/◌, ◌<◌, ◌≤◌, ◌∙◌, ◌≡◌, ◌++◌, ◌∷◌, All, mul-le-mul_right, div-mul-le_self}
-use Rattle.std.specs.declared.alloc.Global.{Global}
-use Rattle.std.specs.declared.vec.Vec.{Vec}
-use Rattle.std.proofs.lemmas.List.Elements.{All-cons, All-push}
+use Rattle.std.proofs.Common.{List, Option, [], arith, ap, drop, get_or, length, length-drop, length-take, sym, ℕ, ℤ, ◌*◌, ◌+◌, ◌/◌, ◌<◌, ◌≤◌, ◌∙◌, ◌≡◌, ◌++◌, ◌∷◌, All, mul-le-mul_right, div-mul-le_self}
+use Rattle.std.proofs.lemmas.List.Elements.{All-push}
 use Rattle.std.proofs.lemmas.List.{get_or-drop, get_or-take}
 use Rattle.bw_column.specs.Values.{IsNullOrInteger}
 use Rattle.bw_code.proofs.Lists.{made_at, made_len}
-use Rattle.bw_table.specs.Opening.{cells_of}
 use Rattle.bw_table.specs.Rows.{AreWholeRows, row_from, rows_from}
 
 pub are_whole : (width : ℕ) (cells : List (Option ℤ)) → 0 < width → length cells / width * width ≡ length cells → AreWholeRows width cells
@@ -30,9 +27,3 @@ are_integers width cells all i d l j e m =
 
 pub one_more : (cells : List (Option ℤ)) (x : Option ℤ) → All IsNullOrInteger cells → IsNullOrInteger x → All IsNullOrInteger (cells ++ x ∷ [])
 one_more cells x all one = All-push IsNullOrInteger cells x all one
-
--- two columns of so many cells
-pub both_long : (columns : List (Vec (Option ℤ) Global)) (first second : Vec (Option ℤ) Global) (rows : ℕ) → columns ≡ first ∷ second ∷ [] → length first.items ≡ rows → length second.items ≡ rows → All (λ cells. length cells ≡ rows) (map cells_of columns)
-both_long columns first second rows is one other =
-    let ends : All (λ (cells : List (Option ℤ)). length cells ≡ rows) (first.items ∷ second.items ∷ []) = All-cons (λ cells. length cells ≡ rows) first.items (second.items ∷ []) one (All-cons (λ cells. length cells ≡ rows) second.items [] other (λ i d l. absurd (omega (arith, l)))) in
-    rw is ends

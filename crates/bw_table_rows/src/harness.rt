@@ -40,7 +40,6 @@ pub(crate) fn table_of<R: Abort + AllocGlobal>(rt: &R, columns: &[(Layout, Kind)
 }
 
 /// A table made of two columns of three cells.
-#[tactic(auto, using(crate::proofs::Flat::both_long))]
 pub(crate) fn opened<R: Abort + AllocGlobal>(
     rt: &R,
     columns: &[(Layout, Kind)],
@@ -49,10 +48,10 @@ pub(crate) fn opened<R: Abort + AllocGlobal>(
 ) -> Table<usize> {
     let headers = headers_of(rt, columns);
     assert!(rt; headers.len() == 2);
-    let first = Vec::from_array(rt.alloc(), first).expect(rt, "memory");
-    let second = Vec::from_array(rt.alloc(), second).expect(rt, "memory");
-    let cells = Vec::from_array(rt.alloc(), [first, second]).expect(rt, "memory");
-    Table::of_columns(rt.alloc(), headers, 3, cells).expect(rt, "memory")
+    let (first, second) = (wide_cells(rt, &first), wide_cells(rt, &second));
+    assert!(rt; first.len() == 3 && second.len() == 3);
+    let cells = [first.as_slice(), second.as_slice()];
+    Table::of_columns(rt.alloc(), headers, 3, &cells).expect(rt, "memory")
 }
 
 /// The value, as a column takes it.
@@ -84,6 +83,35 @@ pub(crate) fn insert<R: Abort + AllocGlobal>(rt: &R, table: &mut Table<usize>, c
     assert!(rt; width > 0);
     assert!(rt; cells.len() / width * width == cells.len());
     let rows = Rows::new(width, &cells);
+    assert_eq!(rt; rows.len(), cells.len() / width);
+    assert_eq!(rt; table.insert(rt.alloc(), &rows), Ok(()));
+}
+
+fn see_integer(cell: Cell)
+    ensures { IsNullOrInteger cell }
+{
+    match cell {
+        Some(_) | None => (),
+    }
+}
+
+/// Says that each cell is null or an INTEGER: 32 bits hold no other.
+fn see_integers(cells: &[Cell])
+    ensures { All IsNullOrInteger cells.now }
+{
+    for cell in cells {
+        see_integer(*cell);
+    }
+}
+
+/// Inserts the rows that lie one behind the other in the cells, in the form that the rows of a file have.
+#[tactic(auto, using(crate::proofs::Flat::are_whole, crate::proofs::Flat::are_wide, crate::proofs::Flat::are_integers))]
+pub(crate) fn load<R: Abort + AllocGlobal>(rt: &R, table: &mut Table<usize>, cells: &[Cell]) {
+    let width = table.headers().len();
+    see_integers(cells);
+    assert!(rt; width > 0);
+    assert!(rt; cells.len() / width * width == cells.len());
+    let rows = Rows::of_integers(width, cells);
     assert_eq!(rt; rows.len(), cells.len() / width);
     assert_eq!(rt; table.insert(rt.alloc(), &rows), Ok(()));
 }
