@@ -4,6 +4,7 @@ pub mod Known
 pub mod Listed
 pub mod Narrow
 pub mod Overwriting
+pub mod Pieces
 pub mod Presence
 pub mod Ranks
 pub mod Rows

@@ -3,6 +3,7 @@ pub mod Columns
 pub mod Comparisons
 pub mod Extremes
 pub mod Costs
+pub mod Keeping
 pub mod Places
 pub mod Preparing
 pub mod Storing

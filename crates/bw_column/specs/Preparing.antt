@@ -7,15 +7,17 @@ use Rattle.bw_code.specs.declared.encoding.Encoding.TheVariants as by
 use Rattle.bw_code.specs.declared.kind.Kind.TheVariants as kind
 use Rattle.bw_column.specs.Codes.{IsCoded, codes_for}
 use Rattle.bw_column.specs.Columns.{ColumnView}
+use Rattle.bw_column.specs.Keeping.{AreKept}
 use Rattle.bw_column.specs.Storing.{ShiftsTo}
 use Rattle.bw_column.specs.Values.{IsNullOrInteger, known}
+use Rattle.bw_column.specs.declared.kept.KeptCodes.{KeptCodes}
 use Rattle.bw_column.specs.declared.step.Step.{Step}
 use Rattle.bw_column.specs.declared.step.Step.TheVariants.{Replace, Shift, Stay}
 
--- the step that comes before, and the codes of the values
+-- the step that comes before, and the codes of the values that are kept
 pub record Preparation : Type 0 where
   pub step : Step
-  pub codes : List ℕ
+  pub codes : KeptCodes
 
 -- the encoding in which a column takes values: its own where each of them has a code, else one of its kind that fits all its
 -- values and these
@@ -46,7 +48,7 @@ pub record IsPreparedFor (column : ColumnView) (values : List (Option ℤ)) (gro
   pub layout : (after column prepared.step).layout ≡ column.layout
   pub encoding : IsEncodingFor column.values column.encoding values (after column prepared.step).encoding
   pub coded : All (IsCoded (after column prepared.step).encoding) values
-  pub codes : prepared.codes ≡ codes_for (after column prepared.step).encoding values
+  pub codes : AreKept (codes_for (after column prepared.step).encoding values) prepared.codes
   pub integers : All IsNullOrInteger values
   pub few : length column.values + more grow values ≤ 2 ^ 24
   pub room : length column.values + more grow values ≤ (after column prepared.step).room

@@ -9,22 +9,23 @@ ghost use Rattle.bw_column.specs.Values.{IsNullOrInteger, known};
 use crate::codes::{encode_all, push_presence};
 use crate::column::Column;
 use crate::storage::Codes;
-use crate::telling::tell_known;
+use crate::telling::tell_cells;
+use bw_cells::Cells;
 use bw_code::{Encoding, Fitting, Kind, Layout};
 use bw_mask::Mask;
 use std::alloc::{AllocError, Global};
 
 /// The encoding of a kind that fits the values which are not null.
-fn encoding_of(alloc: Global, values: &[Option<i64>], kind: Kind) -> Result<Encoding, AllocError>
-    requires integers { All IsNullOrInteger values.now }
-    requires few { length values.now ≤ 2 ^ 24 }
-    ensures fits { IfOk result (IsFit (known values.now)) }
+fn encoding_of<C: Cells>(alloc: Global, values: &C, kind: Kind) -> Result<Encoding, AllocError>
+    requires integers { All IsNullOrInteger (C.cells values.now) }
+    requires few { length (C.cells values.now) ≤ 2 ^ 24 }
+    ensures fits { IfOk result (IsFit (known (C.cells values.now))) }
     ensures kind { IfOk result (λ e. kind_of e ≡ kind) }
-    ensures coded { IfOk result (λ e. All (IsCoded e) values.now) }
+    ensures coded { IfOk result (λ e. All (IsCoded e) (C.cells values.now)) }
     ensures narrow { IfOk result (λ e. width e ≤ 32) }
 {
     let mut fitting = Fitting::new(alloc, kind, values.len())?;
-    tell_known(&mut fitting, values)?;
+    tell_cells(&mut fitting, values)?;
     fitting.encoding(alloc)
 }
 
@@ -91,61 +92,65 @@ impl Column {
         self.extend(values, codes);
     }
 
-    /// Adds values at the end, within the room.
-    fn extend_values(&mut self, values: &[Option<i64>])
-        requires coded { All (IsCoded self.old.encoding) values.now }
-        requires integers { All IsNullOrInteger values.now }
-        requires room { length self.old.values + length values.now ≤ self.old.room }
-        requires few { length self.old.values + length values.now ≤ 2 ^ 24 }
-        ensures values { self.new.values ≡ self.old.values ++ values.now }
-        ensures layout { self.new.layout ≡ self.old.layout }
-        ensures encoding { self.new.encoding ≡ self.old.encoding }
-    {
-        let mut rest = values;
-        while !rest.is_empty() {
-            let (block, after) = rest.split_at(rest.len().min(64));
-            self.extend_block(block);
-            rest = after;
-        }
-    }
-
-    /// Adds the values of another column at the end, within the room.
-    pub(crate) fn extend_from(&mut self, other: &Column)
-        requires coded { All (IsCoded self.old.encoding) other.now.values }
-        requires room { length self.old.values + length other.now.values ≤ self.old.room }
-        requires few { length self.old.values + length other.now.values ≤ 2 ^ 24 }
-        ensures values { self.new.values ≡ self.old.values ++ other.now.values }
+    /// Adds cells at the end, within the room.
+    pub(crate) fn extend_from<C: Cells>(&mut self, cells: &C)
+        requires coded { All (IsCoded self.old.encoding) (C.cells cells.now) }
+        requires integers { All IsNullOrInteger (C.cells cells.now) }
+        requires room { length self.old.values + length (C.cells cells.now) ≤ self.old.room }
+        requires few { length self.old.values + length (C.cells cells.now) ≤ 2 ^ 24 }
+        ensures values { self.new.values ≡ self.old.values ++ C.cells cells.now }
         ensures layout { self.new.layout ≡ self.old.layout }
         ensures encoding { self.new.encoding ≡ self.old.encoding }
         ensures room { self.old.room ≤ self.new.room }
     {
         let mut run = [None; 64];
         let mut at = 0;
-        while at < other.len() {
-            let n = (other.len() - at).min(64);
-            other.read(at, &mut run[..n]);
+        while at < cells.len() {
+            let n = (cells.len() - at).min(64);
+            cells.read(at, &mut run[..n]);
             self.extend_block(&run[..n]);
             at += n;
         }
     }
 
+    /// Adds cells with their codes at the end, within the room.
+    pub(crate) fn extend_with<C: Cells>(&mut self, cells: &C, codes: &[u64])
+        requires coded { All (IsCoded self.old.encoding) (C.cells cells.now) }
+        requires codes { codes.now ≡ codes_for self.old.encoding (C.cells cells.now) }
+        requires integers { All IsNullOrInteger (C.cells cells.now) }
+        requires room { length self.old.values + length (C.cells cells.now) ≤ self.old.room }
+        requires few { length self.old.values + length (C.cells cells.now) ≤ 2 ^ 24 }
+        ensures values { self.new.values ≡ self.old.values ++ C.cells cells.now }
+        ensures layout { self.new.layout ≡ self.old.layout }
+        ensures encoding { self.new.encoding ≡ self.old.encoding }
+    {
+        let mut run = [None; 64];
+        let mut at = 0;
+        while at < cells.len() {
+            let n = (cells.len() - at).min(64);
+            cells.read(at, &mut run[..n]);
+            self.extend(&run[..n], &codes[at..at + n]);
+            at += n;
+        }
+    }
+
     /// A column of these values. Its encoding is the one of its kind that fits those that are not null.
-    pub fn build(
+    pub fn build<C: Cells>(
         alloc: Global,
-        values: &[Option<i64>],
+        values: &C,
         layout: Layout,
         kind: Kind,
     ) -> Result<Column, AllocError>
-        requires integers { All IsNullOrInteger values.now }
-        requires few { length values.now ≤ 2 ^ 24 }
-        ensures values { IfOk result (λ c. c.values ≡ values.now) }
+        requires integers { All IsNullOrInteger (C.cells values.now) }
+        requires few { length (C.cells values.now) ≤ 2 ^ 24 }
+        ensures values { IfOk result (λ c. c.values ≡ C.cells values.now) }
         ensures layout { IfOk result (λ c. c.layout ≡ layout) }
-        ensures fits { IfOk result (λ c. IsFit (known values.now) c.encoding) }
+        ensures fits { IfOk result (λ c. IsFit (known (C.cells values.now)) c.encoding) }
         ensures kind { IfOk result (λ c. kind_of c.encoding ≡ kind) }
     {
         let encoding = encoding_of(alloc, values, kind)?;
         let mut column = Column::with_room(alloc, layout, encoding, values.len())?;
-        column.extend_values(values);
+        column.extend_from(values);
         Ok(column)
     }
 

@@ -5,22 +5,25 @@ ghost use Rattle.bw_code.specs.Encodings.{IsFit, kind_of, width};
 ghost use Rattle.bw_mask.specs.Masks.{len};
 ghost use Rattle.bw_column.specs.Codes.{IsCoded, codes_for};
 ghost use Rattle.bw_column.specs.Columns.{Keeps};
+ghost use Rattle.bw_column.specs.Keeping.{AreKept};
 ghost use Rattle.bw_column.specs.Places.{overwritten};
 ghost use Rattle.bw_column.specs.Preparing.{IsEncodingFor, IsPreparedFor, more};
 ghost use Rattle.bw_column.specs.Values.{IsNullOrInteger, known};
 
-use crate::codes::encode_all;
 use crate::column::Column;
+use crate::kept::{KeptCodes, find_codes, keep_codes};
 use crate::step::Step;
+use bw_cells::Cells;
 use bw_mask::Mask;
 use std::alloc::{AllocError, Global};
 use std::marker::Model;
 
-/// What a column has ready to take values: their codes, and what it does before so that each of them has one.
+/// What a column has ready to take values: what it does before so that each of them has a code, and the codes that were
+/// looked for in a dictionary.
 #[derive(Drop)]
 pub struct Prepared {
     step: Step,
-    codes: Vec<u64>,
+    codes: KeptCodes,
 }
 
 impl Model for Prepared {
@@ -28,12 +31,12 @@ impl Model for Prepared {
 
     ghost Value = { Preparation };
 
-    ghost view = { λ p. record { step = p.step; codes = p.codes.items } };
+    ghost view = { λ p. record { step = p.step; codes = p.codes } };
 }
 
 /// How many values a column gets more.
-fn count_more(values: &[Option<i64>], grow: bool) -> usize
-    ensures { result ≡ more grow values.now }
+fn count_more<C: Cells>(values: &C, grow: bool) -> usize
+    ensures { result ≡ more grow (C.cells values.now) }
 {
     if grow { values.len() } else { 0 }
 }
@@ -42,49 +45,49 @@ impl Column {
     /// Makes ready to take the values, at the end where the column is to grow, and else in place of others. Where one
     /// of them has no code, what is prepared has the step to an encoding that fits all values. The column keeps its
     /// values, layout and encoding, also where memory is wanting; at most its room grows.
-    pub fn room_for(
+    pub fn room_for<C: Cells>(
         &mut self,
         alloc: Global,
-        values: &[Option<i64>],
+        values: &C,
         grow: bool,
     ) -> Result<Prepared, AllocError>
-        requires integers { All IsNullOrInteger values.now }
-        requires some { length values.now ≤ 2 ^ 24 }
-        requires few { length self.old.values + more grow values.now ≤ 2 ^ 24 }
-        ensures prepared { IfOk result (IsPreparedFor self.new values.now grow) }
+        requires integers { All IsNullOrInteger (C.cells values.now) }
+        requires some { length (C.cells values.now) ≤ 2 ^ 24 }
+        requires few { length self.old.values + more grow (C.cells values.now) ≤ 2 ^ 24 }
+        ensures prepared { IfOk result (IsPreparedFor self.new (C.cells values.now) grow) }
         ensures keeps { Keeps self.new self.old }
     {
         let more = count_more(values, grow);
-        let mut codes = Vec::from_elem(alloc, 0, values.len())?;
-        if encode_all(&self.encoding, values, &mut codes) {
+        if let Some(codes) = find_codes(alloc, &self.encoding, values)? {
             self.reserve(more)?;
             let step = Step::Stay;
             return Ok(Prepared { step, codes });
         }
         let encoding = self.encoding_with(alloc, values)?;
-        if !encode_all(&encoding, values, &mut codes) {
-            unreachable!()
-        }
+        let codes = keep_codes(alloc, &encoding, values)?;
         let step = self.step_to(alloc, encoding, more)?;
         Ok(Prepared { step, codes })
     }
 
     /// Adds the values at the end. Takes no memory.
-    pub fn append(&mut self, prepared: Prepared, values: &[Option<i64>])
-        requires { IsPreparedFor self.old values.now true prepared }
-        ensures values { self.new.values ≡ self.old.values ++ values.now }
+    pub fn append<C: Cells>(&mut self, prepared: Prepared, values: &C)
+        requires { IsPreparedFor self.old (C.cells values.now) true prepared }
+        ensures values { self.new.values ≡ self.old.values ++ C.cells values.now }
         ensures layout { self.new.layout ≡ self.old.layout }
-        ensures encoding { IsEncodingFor self.old.values self.old.encoding values.now self.new.encoding }
+        ensures encoding { IsEncodingFor self.old.values self.old.encoding (C.cells values.now) self.new.encoding }
     {
         let Prepared { step, codes } = prepared;
         self.take(step);
-        self.extend(values, &codes);
+        match codes {
+            KeptCodes::Distances => self.extend_from(values),
+            KeptCodes::Places(codes) => self.extend_with(values, &codes),
+        }
     }
 
     /// Puts the values with their codes in the set places, in order.
-    fn put_all(&mut self, places: &Mask, values: &[Option<i64>], codes: &[u64])
+    fn put_all(&mut self, places: &Mask, values: &[Option<i64>], codes: &KeptCodes)
         requires coded { All (IsCoded self.old.encoding) values.now }
-        requires codes { codes.now ≡ codes_for self.old.encoding values.now }
+        requires codes { AreKept (codes_for self.old.encoding values.now) codes.now }
         requires integers { All IsNullOrInteger values.now }
         requires few { length self.old.values ≤ 2 ^ 24 }
         requires places { len places.now ≡ length self.old.values }
@@ -96,7 +99,8 @@ impl Column {
         let mut at = 0;
         let mut next = 0;
         while let Some(place) = places.next_from(at) {
-            self.put(place, values[next], codes[next]);
+            let code = codes.code_of(&self.encoding, values, next);
+            self.put(place, values[next], code);
             at = place + 1;
             next += 1;
         }

@@ -20,6 +20,17 @@ fn code(encoding: &Encoding, value: Option<i64>) -> Option<u64>
     }
 }
 
+/// The code of a value that has one.
+pub(crate) fn code_of(encoding: &Encoding, value: Option<i64>) -> u64
+    requires { IsCoded encoding.now value }
+    ensures { result ≡ code_for encoding.now value }
+{
+    let Some(code) = code(encoding, value) else {
+        unreachable!()
+    };
+    code
+}
+
 /// Writes each value's code to its place in `codes`, and answers whether every value has one. Where one has none,
 /// nothing is said of what `codes` holds.
 pub(crate) fn encode_all(encoding: &Encoding, values: &[Option<i64>], codes: &mut [u64]) -> bool

@@ -9,6 +9,7 @@ mod column;
 mod compare;
 mod compare_anew;
 mod ends;
+mod kept;
 mod pairs;
 mod reading;
 mod split;

@@ -10,6 +10,7 @@ ghost use Rattle.bw_column.specs.Values.{IsNullOrInteger, value_at};
 use crate::bits::has_bit;
 use crate::column::Column;
 use crate::storage::Codes;
+use bw_cells::Cells;
 use bw_code::Encoding;
 use bw_mask::Mask;
 
@@ -75,5 +76,17 @@ impl Column {
                 block,
             );
         }
+    }
+}
+
+impl Cells for Column {
+    ghost cells = { λ column. column.values };
+
+    fn len(&self) -> usize {
+        self.len()
+    }
+
+    fn read(&self, at: usize, out: &mut [Option<i64>]) {
+        self.read(at, out);
     }
 }

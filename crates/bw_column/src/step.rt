@@ -14,7 +14,8 @@ ghost use Rattle.bw_column.specs.Storing.{ShiftsTo};
 ghost use Rattle.bw_column.specs.Values.{IsNullOrInteger, known};
 
 use crate::column::Column;
-use crate::telling::tell_known;
+use crate::telling::tell_cells;
+use bw_cells::Cells;
 use bw_code::{Encoding, Fitting, Kind, Layout, Offset};
 use std::alloc::{AllocError, Global};
 
@@ -47,28 +48,28 @@ impl Column {
             Kind::Offset => Ok(Fitting::Offset(self.ends())),
             Kind::Dictionary => {
                 let mut fitting = Fitting::new(alloc, Kind::Dictionary, room)?;
-                self.tell_own(&mut fitting)?;
+                tell_cells(&mut fitting, self)?;
                 Ok(fitting)
             }
         }
     }
 
     /// The encoding of the column's kind that fits its values and these.
-    pub(crate) fn encoding_with(
+    pub(crate) fn encoding_with<C: Cells>(
         &self,
         alloc: Global,
-        values: &[Option<i64>],
+        values: &C,
     ) -> Result<Encoding, AllocError>
-        requires integers { All IsNullOrInteger values.now }
-        requires some { length values.now ≤ 2 ^ 24 }
-        ensures fits { IfOk result (IsFit (known (self.now.values ++ values.now))) }
+        requires integers { All IsNullOrInteger (C.cells values.now) }
+        requires some { length (C.cells values.now) ≤ 2 ^ 24 }
+        ensures fits { IfOk result (IsFit (known (self.now.values ++ C.cells values.now))) }
         ensures kind { IfOk result (λ e. kind_of e ≡ kind_of self.now.encoding) }
         ensures own { IfOk result (λ e. All (IsCoded e) self.now.values) }
-        ensures coded { IfOk result (λ e. All (IsCoded e) values.now) }
+        ensures coded { IfOk result (λ e. All (IsCoded e) (C.cells values.now)) }
         ensures narrow { IfOk result (λ e. width e ≤ 32) }
     {
         let mut fitting = self.told(alloc, self.len() + values.len())?;
-        tell_known(&mut fitting, values)?;
+        tell_cells(&mut fitting, values)?;
         fitting.encoding(alloc)
     }
 

@@ -4,7 +4,7 @@ ghost use Rattle.bw_code.specs.Fittings.{AreTold, told_kind};
 ghost use Rattle.bw_column.specs.Values.{known};
 ghost use Rattle.std.specs.Prelude.{List, OnOk, option_to_list, ℤ, ◌++◌, ◌≡◌};
 
-use crate::column::Column;
+use bw_cells::Cells;
 use bw_code::Fitting;
 use std::alloc::AllocError;
 
@@ -20,7 +20,7 @@ fn tell_if_known(fitting: &mut Fitting, value: Option<i64>) -> Result<(), AllocE
 }
 
 /// Tells those of the values that are not null.
-pub(crate) fn tell_known(fitting: &mut Fitting, values: &[Option<i64>]) -> Result<(), AllocError>
+fn tell_known(fitting: &mut Fitting, values: &[Option<i64>]) -> Result<(), AllocError>
     ensures told { OnOk result ((told : List ℤ) → AreTold told fitting.old → AreTold (told ++ known values.now) fitting.new) }
     ensures kind { told_kind fitting.new ≡ told_kind fitting.old }
 {
@@ -30,20 +30,18 @@ pub(crate) fn tell_known(fitting: &mut Fitting, values: &[Option<i64>]) -> Resul
     Ok(())
 }
 
-impl Column {
-    /// Tells the column's values that are not null.
-    pub(crate) fn tell_own(&self, fitting: &mut Fitting) -> Result<(), AllocError>
-        ensures told { OnOk result ((told : List ℤ) → AreTold told fitting.old → AreTold (told ++ known self.now.values) fitting.new) }
-        ensures kind { told_kind fitting.new ≡ told_kind fitting.old }
-    {
-        let mut run = [None; 64];
-        let mut at = 0;
-        while at < self.len() {
-            let n = (self.len() - at).min(64);
-            self.read(at, &mut run[..n]);
-            tell_known(fitting, &run[..n])?;
-            at += n;
-        }
-        Ok(())
+/// Tells those of the cells that are not null.
+pub(crate) fn tell_cells<C: Cells>(fitting: &mut Fitting, cells: &C) -> Result<(), AllocError>
+    ensures told { OnOk result ((told : List ℤ) → AreTold told fitting.old → AreTold (told ++ known (C.cells cells.now)) fitting.new) }
+    ensures kind { told_kind fitting.new ≡ told_kind fitting.old }
+{
+    let mut run = [None; 64];
+    let mut at = 0;
+    while at < cells.len() {
+        let n = (cells.len() - at).min(64);
+        cells.read(at, &mut run[..n]);
+        tell_known(fitting, &run[..n])?;
+        at += n;
     }
+    Ok(())
 }

@@ -158,7 +158,7 @@ length-records_from cfg (suc n) s xs = by (next_record cfg s [] [] xs) (length-r
     by None h = omega arith
     by (Some p) h = let more = h p.1 p.2 in omega arith
 
-length-strip_bom : (ys : List ℕ) → length (strip_bom ys) ≤ length ys
+pub length-strip_bom : (ys : List ℕ) → length (strip_bom ys) ≤ length ys
 unfolding strip_bom
 length-strip_bom [] = omega arith
 length-strip_bom (a ∷ []) = omega arith

@@ -4,9 +4,11 @@
 mod csv_rows;
 mod fault;
 mod field;
+mod laws;
 mod load;
 mod records;
 
 pub use csv_rows::CsvRows;
 pub use fault::CsvFault;
+pub use laws::rows_fit;
 pub use load::{FirstRecord, rows};

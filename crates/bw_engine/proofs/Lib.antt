@@ -1,14 +1,20 @@
 mod Added
 pub mod Chosen
 pub mod Columns
+pub mod Decided
+pub mod Executed
 pub mod Folding
 mod FoundLaws
 pub mod Founds
 pub mod Inserted
 pub mod LiveLaws
 pub mod LiveRows
+pub mod Loaded
+pub mod Loading
+pub mod Opened
 pub mod Replies
 mod RunLaws
+pub mod Saved
 mod SetRows
 pub mod Shows
 pub mod Steps

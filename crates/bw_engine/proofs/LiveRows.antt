@@ -18,7 +18,7 @@ use Rattle.bw_engine.specs.Found.{is_found_by}
 use Rattle.bw_engine.specs.Stores.{AreFoundIn, rows_in}
 
 -- rows that are appended are live
-new_rows : (rows : List Row) → rows_in (map live_slot rows) ≡ rows
+pub new_rows : (rows : List Row) → rows_in (map live_slot rows) ≡ rows
 new_rows [] = refl
 new_rows (row ∷ rows) = ap (λ l. row ∷ l) (new_rows rows)
 

@@ -5,10 +5,11 @@ use Rattle.std.specs.Str.{bytes_eq}
 use Rattle.std.proofs.lemmas.Bool.{true≢false}
 use Rattle.std.proofs.lemmas.List.{length-map}
 use Rattle.std.proofs.lemmas.Result.{on_err_weaker}
-use Rattle.bw_sql.specs.Tree.{StatementTree, create_table, delete, drop_table, insert, list_tables, rebuild, select, update}
+use Rattle.bw_sql.specs.Tree.{StatementTree, create_table, delete, drop_table, insert, list_tables, load, open_table, rebuild, save, select, update}
 use Rattle.bw_model.specs.Refusals.{Tests, first_that_holds, over}
 use Rattle.bw_model.specs.Step.{Step, carried_out, refused_or, table_or_none, with_table, without_table}
 use Rattle.bw_model.specs.Store.{Store, Table, table_of}
+use Rattle.bw_model.specs.declared.content.Content.{Content}
 use Rattle.bw_model.specs.declared.refusal.Refusal.{Refusal}
 use Rattle.bw_model.specs.declared.refusal.Refusal.TheVariants.{NoSuchTable}
 use Rattle.bw_model.specs.declared.reply.Reply.{Reply}
@@ -115,31 +116,14 @@ absent-none None e = refl
 absent-none (Some x) e = absurd (true≢false e)
 
 -- a statement that answers by its tests takes a step
-pub steps : (tables after : Stored) (statement : StatementTree) (r : Result Reply Refusal)
-    → CarriesOut (store_of tables) statement r (store_of after) → OnErr r (after ≡ tables) → Step (store_of tables) statement (reply_of r) (store_of after)
-steps tables after statement (Ok reply) h stays = inr (h.1 ∙ ap (λ o. refused_or o (store_of tables) (carried_out (store_of tables) statement)) (sym h.0))
-steps tables after statement (Err e) h stays =
+pub steps : (tables after : Stored) (said : Content) (statement : StatementTree) (r : Result Reply Refusal)
+    → CarriesOut (store_of tables) said statement r (store_of after) → OnErr r (after ≡ tables) → Step (store_of tables) said statement (reply_of r) (store_of after)
+steps tables after said statement (Ok reply) h stays = inr (h.1 ∙ ap (λ o. refused_or o (store_of tables) (carried_out (store_of tables) said statement)) (sym h.0))
+steps tables after said statement (Err e) h stays =
     elim h [
       | inl p ↦ inl (record { accepted = p.0; says = ap (λ x. Refused x) p.1; stays = ap store_of stays })
-      | inr p ↦ inr (ap (λ s. (Refused e, s)) (ap store_of stays) ∙ ap (λ o. refused_or o (store_of tables) (carried_out (store_of tables) statement)) (sym p))
+      | inr p ↦ inr (ap (λ s. (Refused e, s)) (ap store_of stays) ∙ ap (λ o. refused_or o (store_of tables) (carried_out (store_of tables) said statement)) (sym p))
     ]
-
--- what is carried out is no refusal
-carried_reply : (store : Store) (statement : StatementTree) (refusal : Refusal) → (carried_out store statement).0 ≡ Refused refusal → ⊥
-carried_reply store (create_table name columns) refusal e = cc
-carried_reply store (drop_table name) refusal e = cc
-carried_reply store list_tables refusal e = cc
-carried_reply store (insert name listed rows) refusal e = cc
-carried_reply store (update name sets condition) refusal e = cc
-carried_reply store (delete name condition) refusal e = cc
-carried_reply store (rebuild name choices) refusal e = cc
-carried_reply store (select items name condition) refusal e = cc
-
--- where the reply is a refusal, all stays
-pub stays_refused : (tables after : Stored) (statement : StatementTree) (r : Result Reply Refusal)
-    → CarriesOut (store_of tables) statement r (store_of after) → OnErr r (after ≡ tables) → (refusal : Refusal) → reply_of r ≡ Refused refusal → after ≡ tables
-stays_refused tables after statement (Ok reply) h stays refusal e = absurd (carried_reply (store_of tables) statement refusal (sym (ap (λ (p : Reply × Store). p.0) h.1) ∙ e))
-stays_refused tables after statement (Err x) h stays refusal e = stays
 
 -- where a statement asks for nothing but its table
 pub over_none : (o : Option Table) → is_some o ≡ false → first_that_holds (over o (λ table. [])) ≡ Some NoSuchTable

@@ -1,18 +1,24 @@
 -- What a statement answers, and the store behind it.
-use Rattle.std.specs.Prelude.{◌≡◌, Result, Ok, Err}
+use Rattle.std.specs.Prelude.{◌≡◌, ◌⊎◌, None, Some, Result, Ok, Err, MatchResult}
 use Rattle.bw_sql.specs.Tree.{StatementTree}
-use Rattle.bw_model.specs.Refusals.{tests_of}
+use Rattle.bw_model.specs.Refusals.{first_that_holds, refused_early, tests_of}
 use Rattle.bw_model.specs.Step.{carried_out}
 use Rattle.bw_model.specs.Store.{Store}
+use Rattle.bw_model.specs.declared.content.Content.{Content}
 use Rattle.bw_model.specs.declared.refusal.Refusal.{Refusal}
+use Rattle.bw_model.specs.declared.refusal.Refusal.TheVariants.{OutOfMemory}
 use Rattle.bw_model.specs.declared.reply.Reply.{Reply}
 use Rattle.bw_model.specs.declared.reply.Reply.TheVariants.{Refused}
-use Rattle.bw_plan.specs.Checks.{Answers}
 
 abbrev pub reply_of : Result Reply Refusal → Reply
 reply_of (Ok reply) = reply
 reply_of (Err e) = Refused e
 
+-- the first test that holds; or want of memory, where no test holds that needs no file
+abbrev pub MayRefuseStep : Store → Content → StatementTree → Refusal → Type 0
+MayRefuseStep store said statement e = ((refused_early store statement ≡ None) × (e ≡ OutOfMemory)) ⊎ (first_that_holds (tests_of store said statement) ≡ Some e)
+
 -- where no test holds, the reply and the store after are those of the statement
-abbrev pub CarriesOut : Store → StatementTree → Result Reply Refusal → Store → Type 0
-CarriesOut store statement result after = Answers (tests_of store statement) result (λ reply. ◌≡◌ {A = Reply × Store} (reply, after) (carried_out store statement))
+abbrev pub CarriesOut : Store → Content → StatementTree → Result Reply Refusal → Store → Type 0
+CarriesOut store said statement result after =
+    MatchResult result (λ reply. (first_that_holds (tests_of store said statement) ≡ None) × (◌≡◌ {A = Reply × Store} (reply, after) (carried_out store said statement))) (MayRefuseStep store said statement)

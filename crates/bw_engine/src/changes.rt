@@ -7,6 +7,7 @@ ghost use Rattle.bw_model.specs.Refusals.{chosen_columns, delete_tests, rebuild_
 ghost use Rattle.bw_model.specs.declared.reply.Reply.TheVariants.{Count, Done};
 ghost use Rattle.bw_sql.specs.Tree.{condition_of, statement_of};
 ghost use Rattle.bw_sql.specs.declared.tree.Statement.TheVariants as statements;
+ghost use Rattle.bw_model.specs.declared.content.Content.TheVariants.{Nothing};
 ghost use Rattle.bw_engine.specs.Outcomes.{CarriesOut};
 ghost use Rattle.bw_engine.specs.Stores.{store_of, table_in};
 ghost use Rattle.bw_plan.specs.Checks.{Answers};
@@ -25,7 +26,7 @@ pub(crate) fn update(
     tables: &mut IndexMap<Name, Table>,
     statement: Update,
 ) -> Result<Reply, Refusal>
-    ensures reply { CarriesOut (store_of tables.old.entries) (statement_of (statements.Update statement)) result (store_of tables.new.entries) }
+    ensures reply { CarriesOut (store_of tables.old.entries) Nothing (statement_of (statements.Update statement)) result (store_of tables.new.entries) }
     ensures refused { OnErr result (tables.new.entries ≡ tables.old.entries) }
 {
     let Update {
@@ -45,7 +46,7 @@ pub(crate) fn delete(
     tables: &mut IndexMap<Name, Table>,
     statement: Delete,
 ) -> Result<Reply, Refusal>
-    ensures reply { CarriesOut (store_of tables.old.entries) (statement_of (statements.Delete statement)) result (store_of tables.new.entries) }
+    ensures reply { CarriesOut (store_of tables.old.entries) Nothing (statement_of (statements.Delete statement)) result (store_of tables.new.entries) }
     ensures refused { OnErr result (tables.new.entries ≡ tables.old.entries) }
 {
     let Delete { table, condition } = statement;
@@ -61,7 +62,7 @@ pub(crate) fn rebuild(
     tables: &mut IndexMap<Name, Table>,
     statement: Rebuild,
 ) -> Result<Reply, Refusal>
-    ensures reply { CarriesOut (store_of tables.old.entries) (statement_of (statements.Rebuild statement)) result (store_of tables.new.entries) }
+    ensures reply { CarriesOut (store_of tables.old.entries) Nothing (statement_of (statements.Rebuild statement)) result (store_of tables.new.entries) }
     ensures refused { OnErr result (tables.new.entries ≡ tables.old.entries) }
 {
     let Rebuild { table, choices } = statement;

@@ -7,6 +7,7 @@ ghost use Rattle.bw_model.specs.Refusals.{create_tests};
 ghost use Rattle.bw_model.specs.Store.{are_distinct, column_limit, header_of, table_limit};
 ghost use Rattle.bw_sql.specs.Tree.{statement_of};
 ghost use Rattle.bw_sql.specs.declared.tree.Statement.TheVariants as statements;
+ghost use Rattle.bw_model.specs.declared.content.Content.TheVariants.{Nothing};
 ghost use Rattle.bw_engine.specs.Outcomes.{CarriesOut};
 ghost use Rattle.bw_engine.specs.Stores.{store_of, table_in};
 ghost use Rattle.bw_plan.specs.Columns.{columns_of};
@@ -32,7 +33,7 @@ pub(crate) fn create_table(
     tables: &mut IndexMap<Name, Table>,
     statement: CreateTable,
 ) -> Result<Reply, Refusal>
-    ensures reply { CarriesOut (store_of tables.old.entries) (statement_of (statements.CreateTable statement)) result (store_of tables.new.entries) }
+    ensures reply { CarriesOut (store_of tables.old.entries) Nothing (statement_of (statements.CreateTable statement)) result (store_of tables.new.entries) }
     ensures refused { OnErr result (tables.new.entries ≡ tables.old.entries) }
 {
     let CreateTable { table, columns } = statement;

@@ -1,12 +1,15 @@
 //! The engine.
 
-ghost use Rattle.std.specs.Prelude.{◌≡◌, [], IfOk, None, OnErr};
-ghost use Rattle.bw_model.specs.Step.{Step};
-ghost use Rattle.bw_sql.specs.Tree.{statement_of};
-ghost use Rattle.bw_engine.specs.Outcomes.{CarriesOut, reply_of};
+ghost use Rattle.std.specs.Prelude.{◌≡◌, ℕ, List, [], IfOk, is_none};
+ghost use Rattle.std.specs.Option.{option_copied};
+ghost use Rattle.bw_model.specs.FileUse.{file_read, file_use};
+ghost use Rattle.bw_model.specs.Refusals.{refused_early};
+ghost use Rattle.bw_sql.specs.Tree.{load, open_table, statement_of};
+ghost use Rattle.bw_sql.specs.declared.tree.FirstRecord.{FirstRecord as WhichFirst};
+ghost use Rattle.bw_engine.specs.Files.{Executes, OnRefusedOrSaved, saving_of};
+ghost use Rattle.bw_engine.specs.Outcomes.{reply_of};
 ghost use Rattle.bw_engine.specs.Stores.{store_of};
-ghost use Rattle.bw_model.specs.declared.refusal.Refusal.{Refusal};
-ghost use Rattle.bw_model.specs.declared.reply.Reply.TheVariants.{Refused};
+ghost use Rattle.bw_engine.specs.declared.outcome.Outcome.TheVariants as outcomes;
 
 use crate::changes::{delete, rebuild, update};
 use crate::create::{TABLE_LIMIT, create_table};
@@ -14,6 +17,10 @@ use crate::drop::drop_table;
 use crate::file_answer::FileAnswer;
 use crate::insert::insert;
 use crate::listing::list_tables;
+use crate::load::load;
+use crate::open::open_table;
+use crate::outcome::{Outcome, Saving};
+use crate::save::save;
 use crate::select::select;
 use crate::table::Table;
 use bw_model::{Refusal, Reply};
@@ -47,11 +54,18 @@ impl Engine {
         Ok(Engine { tables, alloc })
     }
 
-    /// The name of the file that a statement reads. None of these statements reads one.
+    /// The name of the file that a statement reads: that of a LOAD or an OPEN that isn't refused for a reason which
+    /// needs no file.
     pub fn wants<'s>(&self, statement: &'s Statement) -> Option<&'s str>
-        ensures { result ≡ None }
+        ensures { option_copied result ≡ file_read (file_use (store_of self.now) (statement_of statement.now)) }
     {
         match statement {
+            Statement::Load(request) => {
+                may_load(&self.tables, &request.table).then_some(request.file.as_str())
+            }
+            Statement::Open(request) => {
+                may_open(&self.tables, &request.table).then_some(request.file.as_str())
+            }
             Statement::CreateTable(_)
             | Statement::DropTable(_)
             | Statement::ListTables
@@ -59,47 +73,76 @@ impl Engine {
             | Statement::Update(_)
             | Statement::Delete(_)
             | Statement::Rebuild(_)
-            | Statement::Select(_) => None,
+            | Statement::Select(_)
+            | Statement::Save(_) => None,
         }
     }
 
-    /// Carries out a statement. Where it is refused nothing changes, not even how a column is encoded. No statement
-    /// reads a file, so the file isn't looked at.
-    pub fn execute(&mut self, statement: Statement, _file: FileAnswer<'_>) -> Reply
-        ensures step { Step (store_of self.old) (statement_of statement) result (store_of self.new) }
-        ensures refused { (refusal : Refusal) → result ≡ Refused refusal → self.new ≡ self.old }
+    /// Carries out a statement. Where it is refused nothing changes, not even how a column is encoded. The file is looked at
+    /// where `wants` names one; what a SAVE writes is handed out.
+    pub fn execute(&mut self, statement: Statement, file: FileAnswer<'_>) -> Outcome
+        ensures outcome { Executes (store_of self.old) (statement_of statement) file.entry result (store_of self.new) }
+        ensures unchanged { OnRefusedOrSaved result (self.new ≡ self.old) }
     {
-        replied(carry_out(self.alloc, &mut self.tables, statement))
+        carry_out(self.alloc, &mut self.tables, statement, file)
     }
 }
 
-/// Carries out a statement, or refuses it.
+/// Whether a LOAD into this table isn't refused for a reason which needs no file.
+fn may_load(tables: &IndexMap<Name, Table>, table: &Name) -> bool
+    ensures { (file : List ℕ) (first : WhichFirst) → result ≡ is_none (refused_early (store_of tables.now.entries) (load table.now file first)) }
+{
+    tables.contains_key(table)
+}
+
+/// Whether an OPEN of this table isn't refused for a reason which needs no file.
+fn may_open(tables: &IndexMap<Name, Table>, table: &Name) -> bool
+    ensures { (file : List ℕ) → result ≡ is_none (refused_early (store_of tables.now.entries) (open_table table.now file)) }
+{
+    !tables.contains_key(table) && tables.len() < TABLE_LIMIT
+}
+
+/// Carries out a statement.
 fn carry_out(
     alloc: Global,
     tables: &mut IndexMap<Name, Table>,
     statement: Statement,
-) -> Result<Reply, Refusal>
-    ensures reply { CarriesOut (store_of tables.old.entries) (statement_of statement) result (store_of tables.new.entries) }
-    ensures refused { OnErr result (tables.new.entries ≡ tables.old.entries) }
+    file: FileAnswer<'_>,
+) -> Outcome
+    ensures outcome { Executes (store_of tables.old.entries) (statement_of statement) file.entry result (store_of tables.new.entries) }
+    ensures unchanged { OnRefusedOrSaved result (tables.new.entries ≡ tables.old.entries) }
 {
     match statement {
-        Statement::CreateTable(create) => create_table(alloc, tables, create),
-        Statement::DropTable(name) => drop_table(tables, &name),
-        Statement::ListTables => list_tables(alloc, tables),
-        Statement::Insert(rows) => insert(alloc, tables, rows),
-        Statement::Update(change) => update(alloc, tables, change),
-        Statement::Delete(change) => delete(alloc, tables, change),
-        Statement::Rebuild(change) => rebuild(alloc, tables, change),
-        Statement::Select(query) => select(alloc, tables, query),
+        Statement::CreateTable(create) => replied(create_table(alloc, tables, create)),
+        Statement::DropTable(name) => replied(drop_table(tables, &name)),
+        Statement::ListTables => replied(list_tables(alloc, tables)),
+        Statement::Insert(rows) => replied(insert(alloc, tables, rows)),
+        Statement::Update(change) => replied(update(alloc, tables, change)),
+        Statement::Delete(change) => replied(delete(alloc, tables, change)),
+        Statement::Rebuild(change) => replied(rebuild(alloc, tables, change)),
+        Statement::Select(query) => replied(select(alloc, tables, query)),
+        Statement::Load(request) => replied(load(alloc, tables, request, file)),
+        Statement::Open(request) => replied(open_table(alloc, tables, request, file)),
+        Statement::Save(request) => saved(save(alloc, tables, request)),
     }
 }
 
 /// The reply to what was carried out or refused.
-fn replied(outcome: Result<Reply, Refusal>) -> Reply
-    ensures { result ≡ reply_of outcome }
+fn replied(outcome: Result<Reply, Refusal>) -> Outcome
+    ensures { result ≡ outcomes.Reply (reply_of outcome) }
 {
     match outcome {
-        Ok(reply) => reply,
-        Err(refusal) => Reply::Refused(refusal),
+        Ok(reply) => Outcome::Reply(reply),
+        Err(refusal) => Outcome::Reply(Reply::Refused(refusal)),
+    }
+}
+
+/// What is to be saved, or the reply to what was refused.
+fn saved(outcome: Result<Saving, Refusal>) -> Outcome
+    ensures { result ≡ saving_of outcome }
+{
+    match outcome {
+        Ok(saving) => Outcome::Save(saving),
+        Err(refusal) => Outcome::Reply(Reply::Refused(refusal)),
     }
 }

@@ -1,9 +1,16 @@
 //! What a statement's file turned out to be.
 
+ghost use Rattle.bw_engine.specs.Files.{IsBytesOf};
+
+use bw_model::Refusal;
+
+/// The most bytes of a file.
+pub const FILE_LIMIT: usize = 268_435_456;
+
 /// What became of the file that a statement wants.
 #[derive(Clone, Copy, Debug, Drop)]
 pub enum FileAnswer<'a> {
-    /// No file was wanted.
+    /// No file was asked for. Where a statement wants one, there is none.
     NotAsked,
     /// The file's bytes.
     Bytes(&'a [u8]),
@@ -13,4 +20,22 @@ pub enum FileAnswer<'a> {
     TooLarge,
     /// There was no memory for the file's bytes.
     NoMemory,
+}
+
+/// The file's bytes, or why there are none.
+pub(crate) fn bytes_of(file: FileAnswer<'_>) -> Result<&[u8], Refusal>
+    ensures { IsBytesOf file.entry result }
+{
+    match file {
+        FileAnswer::Bytes(bytes) => {
+            if bytes.len() > FILE_LIMIT {
+                Err(Refusal::FileTooLarge)
+            } else {
+                Ok(bytes)
+            }
+        }
+        FileAnswer::TooLarge => Err(Refusal::FileTooLarge),
+        FileAnswer::NotAsked | FileAnswer::Unreadable => Err(Refusal::UnreadableFile),
+        FileAnswer::NoMemory => Err(Refusal::OutOfMemory),
+    }
 }

@@ -6,6 +6,7 @@ ghost use Rattle.bw_model.specs.Refusals.{insert_tests};
 ghost use Rattle.bw_model.specs.declared.reply.Reply.TheVariants.{Count};
 ghost use Rattle.bw_sql.specs.Tree.{statement_of};
 ghost use Rattle.bw_sql.specs.declared.tree.Statement.TheVariants as statements;
+ghost use Rattle.bw_model.specs.declared.content.Content.TheVariants.{Nothing};
 ghost use Rattle.bw_engine.specs.Outcomes.{CarriesOut};
 ghost use Rattle.bw_engine.specs.Stores.{store_of, table_in};
 ghost use Rattle.bw_plan.specs.Columns.{columns_of};
@@ -25,7 +26,7 @@ pub(crate) fn insert(
     tables: &mut IndexMap<Name, Table>,
     statement: Insert,
 ) -> Result<Reply, Refusal>
-    ensures reply { CarriesOut (store_of tables.old.entries) (statement_of (statements.Insert statement)) result (store_of tables.new.entries) }
+    ensures reply { CarriesOut (store_of tables.old.entries) Nothing (statement_of (statements.Insert statement)) result (store_of tables.new.entries) }
     ensures refused { OnErr result (tables.new.entries ≡ tables.old.entries) }
 {
     let Insert {

@@ -10,10 +10,16 @@ mod folded;
 mod found;
 mod insert;
 mod listing;
+mod live_cells;
+mod load;
+mod open;
+mod outcome;
+mod save;
 mod select;
 mod shown;
 mod table;
 
 pub use bw_model::{Answer, Cell, Heading, Refusal, Reply};
 pub use engine::Engine;
-pub use file_answer::FileAnswer;
+pub use file_answer::{FILE_LIMIT, FileAnswer};
+pub use outcome::{Outcome, Saving};

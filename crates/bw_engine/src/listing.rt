@@ -4,6 +4,7 @@ ghost use Rattle.std.specs.Prelude.{◌≡◌, ◌∷◌, ◌++◌, [], IfOk, On
 ghost use Rattle.bw_model.specs.Listing.{listing, table_line};
 ghost use Rattle.bw_sql.specs.Rows.{joined};
 ghost use Rattle.bw_sql.specs.Tree.{list_tables};
+ghost use Rattle.bw_model.specs.declared.content.Content.TheVariants.{Nothing};
 ghost use Rattle.bw_engine.specs.Outcomes.{CarriesOut};
 ghost use Rattle.bw_engine.specs.Stores.{store_of, table_in};
 
@@ -15,7 +16,7 @@ use std::alloc::{AllocError, Global};
 
 /// Lists the tables in the order in which they were made, each with how many columns and rows it has.
 pub(crate) fn list_tables(alloc: Global, tables: &IndexMap<Name, Table>) -> Result<Reply, Refusal>
-    ensures { CarriesOut (store_of tables.now.entries) list_tables result (store_of tables.now.entries) }
+    ensures { CarriesOut (store_of tables.now.entries) Nothing list_tables result (store_of tables.now.entries) }
 {
     Ok(Reply::Rows(listing_of(alloc, tables)?))
 }

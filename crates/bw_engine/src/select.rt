@@ -11,6 +11,7 @@ ghost use Rattle.bw_sql.specs.Tree.{condition_of, items_of, statement_of};
 ghost use Rattle.bw_sql.specs.declared.tree.Statement.TheVariants as statements;
 ghost use Rattle.bw_engine.specs.Folds.{IsShownWithin, lines_by, plan_width};
 ghost use Rattle.bw_engine.specs.Found.{rows_where};
+ghost use Rattle.bw_model.specs.declared.content.Content.TheVariants.{Nothing};
 ghost use Rattle.bw_engine.specs.Outcomes.{CarriesOut};
 ghost use Rattle.bw_engine.specs.Stores.{rows_of_slots, store_of, table_in};
 ghost use Rattle.bw_plan.specs.Checks.{Answers};
@@ -33,7 +34,7 @@ pub(crate) fn select(
     tables: &IndexMap<Name, Table>,
     statement: Select,
 ) -> Result<Reply, Refusal>
-    ensures { CarriesOut (store_of tables.now.entries) (statement_of (statements.Select statement)) result (store_of tables.now.entries) }
+    ensures { CarriesOut (store_of tables.now.entries) Nothing (statement_of (statements.Select statement)) result (store_of tables.now.entries) }
 {
     let Select {
         items,

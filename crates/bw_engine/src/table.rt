@@ -7,9 +7,11 @@ ghost use Rattle.bw_model.specs.Store.{AreHeaders, row_limit};
 ghost use Rattle.bw_plan.specs.Columns.{columns_of};
 ghost use Rattle.bw_plan.specs.Sets.{AreSettable};
 ghost use Rattle.bw_table.specs.Changes.{slots_with, slots_without};
+ghost use Rattle.bw_table.specs.Opening.{rows_across};
 ghost use Rattle.bw_table.specs.Tables.{AreChosen};
 ghost use Rattle.bw_engine.specs.Stores.{rows_in};
 
+use bw_cells::Cells;
 use bw_mask::Mask;
 use bw_plan::Headers;
 use bw_sql::Name;
@@ -49,6 +51,27 @@ impl Table {
     {
         Ok(Table {
             table: SlotTable::create(alloc, headers)?,
+        })
+    }
+
+    /// The table of these columns: for each header its cells, in as many rows.
+    #[tactic(auto, using(crate::proofs::LiveRows::new_rows))]
+    pub(crate) fn of_columns<C: Cells>(
+        alloc: Global,
+        headers: Vec<Header<Name>>,
+        rows: usize,
+        columns: &[C],
+    ) -> Result<Table, AllocError>
+        requires headers { AreHeaders (columns_of headers.items) }
+        requires few { rows ≤ row_limit }
+        requires wide { length columns.now ≡ length headers.items }
+        requires long { All (λ cells. length cells ≡ rows) (map C.cells columns.now) }
+        requires integers { All (All IsNullOrInteger) (map C.cells columns.now) }
+        ensures headers { IfOk result (λ t. t.headers ≡ headers.items) }
+        ensures rows { IfOk result (λ t. rows_in t.slots ≡ rows_across rows (map C.cells columns.now)) }
+    {
+        Ok(Table {
+            table: SlotTable::of_columns(alloc, headers, rows, columns)?,
         })
     }
 

@@ -1,16 +1,15 @@
 -- Parts of a file that follow one another are told apart.
-use Rattle.std.proofs.Common.{List, Option, [], add-one, ap, append_assoc, arith, drop, drop-cons, get_or, length, map, refl, sym, take, take-append-drop, ℕ, ℤ, ◌*◌, ◌+◌, ◌++◌, ◌<◌, ◌^◌, ◌≡◌, ◌≤◌, ◌∙◌, ◌∷◌}
+use Rattle.std.proofs.Common.{List, Option, [], add-one, ap, append_assoc, arith, drop, drop-cons, get_or, length, map, refl, sym, take, take-append-drop, ℕ, ℤ, ◌*◌, ◌+◌, ◌++◌, ◌<◌, ◌≡◌, ◌∙◌, ◌∷◌}
 use Rattle.std.proofs.lemmas.Grind.{flat_map-append}
 use Rattle.std.proofs.lemmas.List.{append-nil, get_or-map, length-append, length-map, length-take, take-append-le, take_all, take_more}
 use Rattle.std.proofs.lemmas.List.Elements.{All-get_or, All-head, All-tail, All-take}
-use Rattle.std.proofs.Math.Nat.{mul-le-mul_right}
 use Rattle.std.specs.List.{flat_map}
 use Rattle.std.specs.Prelude.{All}
 use Rattle.bw_sql.specs.declared.tree.KindWord.{KindWord}
 use Rattle.bw_sql.specs.declared.tree.KindWord.TheVariants.{Dictionary, Offset}
 use Rattle.bw_sql.specs.declared.tree.LayoutWord.{LayoutWord}
 use Rattle.bw_sql.specs.declared.tree.LayoutWord.TheVariants.{H, P, S, V}
-use Rattle.bw_file.specs.Cells.{IsCell, column_bytes, column_size, row_limit}
+use Rattle.bw_file.specs.Cells.{IsCell, column_bytes, column_size}
 use Rattle.bw_file.specs.Headers.{header_bytes, kind_number, layout_number}
 use Rattle.bw_file.specs.declared.header.ColumnHeader.{ColumnHeader}
 use Rattle.bw_file.proofs.Places.{length-column_bytes, same-column}
@@ -147,10 +146,3 @@ module _ {A B : Type 0} (g : B → A) (xs : List B) (i : ℕ) (x : B) (there : i
   piece_more f =
       ap (flat_map f) (take_more (map g xs) i (g x) (omega (arith, length-map xs g)) ∙ ap (λ y. take i (map g xs) ++ y ∷ []) (piece_at (g x)))
       ∙ flat_map-append f (take i (map g xs)) (g x ∷ []) ∙ ap (λ ys. flat_map f (take i (map g xs)) ++ ys) (append-nil (f (g x)))
-
--- a column is within what is left
-pub column_within : (i width size left : ℕ) → i < width → left + i * size ≡ width * size → size ≤ left
-column_within i width size left h e = let rows : (i + 1) * size ≤ width * size = mul-le-mul_right size (omega arith) in omega arith
-
-pub fits_usize : (width rows : ℕ) → width ≤ 64 → rows ≤ row_limit → width * column_size rows < 2 ^ 63
-fits_usize width rows narrow few = let most : width * column_size rows ≤ 64 * column_size rows = mul-le-mul_right (column_size rows) narrow in omega arith

@@ -4,6 +4,8 @@ pub mod Distinct
 pub mod Fronts
 pub mod Joined
 pub mod Lengths
+pub mod Lent
 pub mod Places
+pub mod Runs
 pub mod Spare
 pub mod Words

@@ -59,10 +59,6 @@ last_byte cells there =
     let long : length eight ≡ length cells % 8 = omega (arith, length-take 8 (drop (q * 8) cells), length-drop (q * 8) cells) in
     rw (byte-presence_bytes (presence_size (length cells)) cells q there, sym long) (presence_byte-bound eight)
 
--- no bit is past a full byte
-pub full_bytes : (present : List ℕ) (rows : ℕ) → length present ≡ presence_size rows → rows % 8 ≡ 0 → HasNoSpareBit rows present
-full_bytes present rows long full i h = ap (λ b. bit_at b (i % 8)) (get_or-eq_default present 0 (omega arith)) ∙ bit_at-zero (i % 8)
-
 -- nothing stands above the last row's bit
 pub none_spare : (present : List ℕ) (rows : ℕ) → length present ≡ presence_size rows → slice_index present (rows / 8) / 2 ^ (rows % 8) ≡ 0 → HasNoSpareBit rows present
 none_spare present rows long e i h = by (cases_lt (rows / 8) (i / 8))

@@ -2,8 +2,6 @@
 use Rattle.std.specs.Prelude.{FitsSigned, List, None, Option, Some, [], drop, length, suc, take, zero, ℕ, ℤ, ◌*◌, ◌+◌, ◌++◌, ◌/◌, ◌∷◌, ⊤}
 use Rattle.std.specs.Int.{cast_unsigned, w32}
 use Rattle.std.specs.List.{flat_map}
-use Rattle.std.specs.declared.alloc.Global.{Global}
-use Rattle.std.specs.declared.vec.Vec.{Vec}
 use Rattle.byteorder.specs.Endian.{little_bytes}
 
 abbrev pub row_limit : ℕ
@@ -13,9 +11,6 @@ row_limit = 16777216
 abbrev pub IsCell : Option ℤ → Type 0
 IsCell None = ⊤
 IsCell (Some z) = FitsSigned w32 z
-
-abbrev pub cells_of : Vec (Option ℤ) Global → List (Option ℤ)
-cells_of column = column.items
 
 -- a cell as a number of 4 bytes, 0 at a null
 abbrev pub cell_number : Option ℤ → ℕ

@@ -1,130 +1,119 @@
-//! The cells of a column, four bytes each.
+//! The cells of a column by their bits and words.
 
-ghost use Rattle.std.specs.Prelude.{All, IfOk, IfSome, List, None, Option, length, take, true, ◌*◌, ◌+◌, ◌++◌, ◌/◌, ◌<◌, ◌≡◌, ◌≤◌, ℕ, ℤ};
-ghost use Rattle.std.specs.List.{flat_map};
-ghost use Rattle.bw_file.specs.Cells.{cell_bytes, cell_number, column_bytes, presence_bytes, presence_size, row_limit, IsCell};
-ghost use Rattle.bw_file.specs.Reading.{read_cell, AreRead, AreSpelled, HasNoSpareBit};
+ghost use Rattle.std.specs.Prelude.{None, Some, drop, get_or, if◌then◌else◌, length, slice_index, true, ℕ, ◌%◌, ◌*◌, ◌+◌, ◌/◌, ◌<◌, ◌==◌, ◌≡◌, ◌≤◌};
+ghost use Rattle.std.specs.Int.{bit_at, cast_signed, w32};
+ghost use Rattle.byteorder.specs.Endian.{little_number};
+ghost use Rattle.bw_file.specs.Cells.{presence_size, row_limit};
+ghost use Rattle.bw_file.specs.Reading.{cell_by, read_cell, AreSpelled};
 
 use byteorder::{ByteOrder, LittleEndian};
-use std::alloc::{AllocError, Global};
 
-// How many cells are made and then filled at a time: few enough that they are still at hand.
-const BLOCK: usize = 16_384;
-
-/// Writes the cells of the rows from `start` to `end`, a null as 0.
-pub(crate) fn write_cells(out: &mut [u8], cells: &[Option<i32>], start: usize, end: usize)
-    requires few { length cells.now ≤ row_limit }
-    requires long { length out.old ≡ 4 * length cells.now }
-    requires rows { end ≤ length cells.now }
-    requires before { take (4 * start) out.old ≡ flat_map cell_bytes (take start cells.now) }
-    requires start { start ≤ end }
-    ensures count { length out.new ≡ length out.old }
-    ensures words { take (4 * end) out.new ≡ flat_map cell_bytes (take end cells.now) }
-{
-    'rows: for i in start..end {
-        LittleEndian::write_u32(&mut out[4 * i..], cell_number(cells[i]));
-    }
-}
-
-/// The cell as a number, 0 at a null.
-#[inline]
-fn cell_number(cell: Option<i32>) -> u32
-    ensures { result ≡ cell_number cell }
-{
-    match cell {
-        Some(number) => number.cast_unsigned(),
-        None => 0,
-    }
-}
-
-/// So many cells, by the bits that say which are not null; `None` if the words are those of none.
-pub(crate) fn read_cells(
-    alloc: Global,
-    present: &[u8],
-    words: &[u8],
-    rows: usize,
-) -> Result<Option<Vec<Option<i32>>>, AllocError>
+/// Whether the words of the first rows are those of the cells that are read there: 0 at a null.
+pub(crate) fn are_spelled(present: &[u8], words: &[u8], rows: usize) -> bool
     requires few { rows ≤ row_limit }
     requires present { length present.now ≡ presence_size rows }
     requires words { length words.now ≡ 4 * rows }
-    requires spare { HasNoSpareBit rows present.now }
-    ensures count { IfOk result (λ found. IfSome found (λ cells. length cells.items ≡ rows)) }
-    ensures spelled { IfOk result (λ found. IfSome found (λ cells. present.now ++ words.now ≡ column_bytes cells.items)) }
-    ensures none { IfOk result (λ found. found ≡ None → (cells : List (Option ℤ)) → length cells ≡ rows → All IsCell cells
-        → present.now ≡ presence_bytes (presence_size rows) cells → words.now ≡ flat_map cell_bytes cells → ⊥) }
-{
-    let mut cells = Vec::with_capacity(alloc, rows)?;
-    'blocks: for _ in 0..rows.div_ceil(BLOCK) {
-        let end = rows.min(cells.len() + BLOCK);
-        if !read_block(&mut cells, end, present, words)? {
-            return Ok(None);
-        }
-    }
-    Ok(Some(cells))
-}
-
-/// Puts the cells of the next rows last, up to this one. Whether their words are those of the cells.
-fn read_block(
-    cells: &mut Vec<Option<i32>>,
-    end: usize,
-    present: &[u8],
-    words: &[u8],
-) -> Result<bool, AllocError>
-    requires few { end ≤ row_limit }
-    requires more { length cells.old.items ≤ end }
-    requires present { presence_size end ≤ length present.now }
-    requires words { 4 * end ≤ length words.now }
-    requires cells { All IsCell cells.old.items }
-    requires before { AreRead cells.old.items present.now words.now }
-    ensures count { IfOk result (λ _. length cells.new.items ≡ end) }
-    ensures cells { IfOk result (λ _. All IsCell cells.new.items) }
-    ensures each { IfOk result (λ _. AreRead cells.new.items present.now words.now) }
-    ensures same { IfOk result (λ agree. agree ≡ true → AreSpelled (length cells.old.items) present.now words.now → AreSpelled end present.now words.now) }
-    ensures told { IfOk result (λ agree. AreSpelled end present.now words.now → agree ≡ true) }
-{
-    let start = cells.len();
-    cells.resize(end, None)?;
-    Ok(fill_cells(cells, start, present, words))
-}
-
-/// Fills the cells from row `start` on by the bits that say which are not null. Whether their words are those of the cells.
-fn fill_cells(cells: &mut [Option<i32>], start: usize, present: &[u8], words: &[u8]) -> bool
-    requires few { length cells.old ≤ row_limit }
-    requires start { start ≤ length cells.old }
-    requires present { presence_size (length cells.old) ≤ length present.now }
-    requires words { 4 * length cells.old ≤ length words.now }
-    requires cells { All IsCell (take start cells.old) }
-    requires before { AreRead (take start cells.old) present.now words.now }
-    ensures count { length cells.new ≡ length cells.old }
-    ensures cells { All IsCell cells.new }
-    ensures each { AreRead cells.new present.now words.now }
-    ensures same { result ≡ true → AreSpelled start present.now words.now → AreSpelled (length cells.old) present.now words.now }
-    ensures told { AreSpelled (length cells.old) present.now words.now → result ≡ true }
+    ensures yes { result ≡ true → AreSpelled rows present.now words.now }
+    ensures told { AreSpelled rows present.now words.now → result ≡ true }
 {
     let mut agree = true;
-    'rows: for i in start..cells.len() {
-        let cell = read_cell(present, words, i);
+    'rows: for i in 0..rows {
         // No branch, so that the loop stays flat.
-        agree &= LittleEndian::read_u32(&words[4 * i..]) == cell_number(cell);
-        cells[i] = cell;
+        agree &= has_cell(present, i) | (LittleEndian::read_u32(&words[4 * i..]) == 0);
     }
     agree
 }
 
-/// The cell of row i.
+/// Fills `out` with the cells of the rows from row `at` on.
+pub(crate) fn read_cells(present: &[u8], words: &[u8], at: usize, out: &mut [Option<i64>])
+    requires few { at + length out.old ≤ row_limit }
+    requires present { at + length out.old ≤ 8 * length present.now }
+    requires words { 4 * (at + length out.old) ≤ length words.now }
+    ensures count { length out.new ≡ length out.old }
+    ensures each { (k : ℕ) → k < length out.old → get_or out.new k None ≡ read_cell present.now words.now (at + k) }
+{
+    let eights = whole_eights(at, out.len());
+    'eights: for q in 0..eights {
+        let start = 8 * q;
+        let numbers = &words[4 * (at + start)..];
+        read_eight(present[at / 8 + q], numbers, &mut out[start..start + 8]);
+    }
+    'rest: for k in 8 * eights..out.len() {
+        out[k] = read_cell(present, words, at + k);
+    }
+}
+
+/// How many eights of rows from row `at` on have their bits in a byte each: none if that is not the first row of a byte.
+fn whole_eights(at: usize, count: usize) -> usize
+    ensures within { 8 * result ≤ count }
+    ensures first { 0 < result → at % 8 ≡ 0 }
+{
+    if at % 8 == 0 { count / 8 } else { 0 }
+}
+
+/// Fills `out` with the cells of eight rows, by the byte that has their bits and by their words. The places of the bits
+/// are known here, so that a cell takes half the steps that it takes by itself.
 #[inline]
-fn read_cell(present: &[u8], words: &[u8], i: usize) -> Option<i32>
+fn read_eight(present: u8, words: &[u8], out: &mut [Option<i64>])
+    requires count { length out.old ≡ 8 }
+    requires words { 32 ≤ length words.now }
+    ensures count { length out.new ≡ 8 }
+    ensures each { (j : ℕ) → j < 8 → get_or out.new j None ≡ cell_by (bit_at present j) (little_number 4 (drop (4 * j) words.now)) }
+{
+    'rows: for j in 0..8 {
+        out[j] = cell_by(present, j, word_at(words, j));
+    }
+}
+
+/// The cell of row i.
+fn read_cell(present: &[u8], words: &[u8], i: usize) -> Option<i64>
     requires few { i < row_limit }
     requires present { i / 8 < length present.now }
     requires words { 4 * i + 4 ≤ length words.now }
-    ensures cell { IsCell result }
-    ensures value { result ≡ read_cell present.now words.now i }
+    ensures { result ≡ read_cell present.now words.now i }
 {
-    // Read at a null, too: what is left to choose takes no branch.
-    let number = LittleEndian::read_i32(&words[4 * i..]);
-    if present[i / 8] >> (i % 8) & 1 == 1 {
+    cell_by(present[i / 8], i % 8, word_at(words, i))
+}
+
+/// Word i as a number.
+#[inline]
+fn word_at(words: &[u8], i: usize) -> i32
+    requires { 4 * i + 4 ≤ length words.now }
+    ensures { result ≡ cast_signed w32 (little_number 4 (drop (4 * i) words.now)) }
+{
+    LittleEndian::read_i32(&words[4 * i..])
+}
+
+/// The cell that has bit j of the byte and this word.
+#[inline]
+fn cell_by(present: u8, j: usize, word: i32) -> Option<i64>
+    requires { j < 8 }
+    ensures { result ≡ (if bit_at present j == 1 then Some word else None) }
+{
+    // The word is there at a null, too: what is left to choose takes no branch.
+    let number = i64::from(word);
+    if has_bit(present, j) {
         Some(number)
     } else {
         None
     }
+}
+
+/// Whether the cell of row i is not null.
+#[inline]
+fn has_cell(present: &[u8], i: usize) -> bool
+    requires few { i < row_limit }
+    requires present { i / 8 < length present.now }
+    ensures { result ≡ (bit_at (slice_index present.now (i / 8)) (i % 8) == 1) }
+{
+    has_bit(present[i / 8], i % 8)
+}
+
+/// Whether bit j of the byte is set.
+#[inline]
+fn has_bit(byte: u8, j: usize) -> bool
+    requires { j < 8 }
+    ensures { result ≡ (bit_at byte j == 1) }
+{
+    byte >> j & 1 == 1
 }

@@ -5,18 +5,19 @@ ghost use Rattle.bw_file.specs.Format.{Spells};
 ghost use Rattle.bw_file.specs.Table.{Table};
 ghost use Rattle.bw_file.specs.declared.fault.FileFault.TheVariants.{NotTable};
 
-use crate::column::{column_size, read_columns};
+use crate::columns::{column_size, columns_in};
 use crate::fault::FileFault;
 use crate::front::read_counts;
 use crate::headers::{has_name_twice, read_headers};
-use crate::parts::TableParts;
+use crate::table::TableFile;
 use std::alloc::Global;
 
-/// The table that the bytes spell. `NotTable` if they spell none, `Memory` if the memory that it needs is not there.
-/// The length that the front and the headers tell is compared with the bytes before any column is read.
-pub fn decode(alloc: Global, bytes: &[u8]) -> Result<TableParts, FileFault>
-    ensures found { IfOk result (λ parts. Spells bytes.now parts) }
-    ensures none { result ≡ Err NotTable → (t : Table) → Spells bytes.now t → ⊥ }
+/// The table that the bytes spell, lent from them. `NotTable` if they spell none, `Memory` if the memory for the headers
+/// and the list of columns is not there. The length that the front and the headers tell is compared with the bytes
+/// before any column is read.
+pub fn decode<'a>(alloc: Global, bytes: &'a [u8]) -> Result<TableFile<'a>, FileFault>
+    ensures found { IfOk result (λ table. Spells bytes.entry.now table) }
+    ensures none { result ≡ Err NotTable → (t : Table) → Spells bytes.entry.now t → ⊥ }
 {
     let Some(counts) = read_counts(bytes) else {
         return Err(FileFault::NotTable);
@@ -31,9 +32,9 @@ pub fn decode(alloc: Global, bytes: &[u8]) -> Result<TableParts, FileFault>
     if rest.len() != counts.columns * column_size(counts.rows) {
         return Err(FileFault::NotTable);
     }
-    let found = read_columns(alloc, rest, counts.columns, counts.rows)?;
+    let found = columns_in(alloc, rest, counts.columns, counts.rows)?;
     let Some(columns) = found else {
         return Err(FileFault::NotTable);
     };
-    Ok(TableParts::new(headers, counts.rows, columns))
+    Ok(TableFile::new(headers, counts.rows, columns))
 }

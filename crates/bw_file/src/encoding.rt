@@ -1,15 +1,15 @@
 //! From a table to its bytes.
 
-ghost use Rattle.std.specs.Prelude.{IfOk, length, ◌≡◌, ◌≤◌};
-ghost use Rattle.bw_file.specs.Cells.{row_limit};
+ghost use Rattle.std.specs.Prelude.{All, IfOk, length, map, ◌≡◌, ◌≤◌};
+ghost use Rattle.bw_file.specs.Cells.{row_limit, IsCell};
 ghost use Rattle.bw_file.specs.Format.{spelled_length, spelling, Spells};
-ghost use Rattle.bw_file.specs.Table.{column_limit, IsTable, Table};
+ghost use Rattle.bw_file.specs.Table.{column_limit, AreHeaders, IsTable, Table};
 
-use crate::column::{column_size, put_columns};
+use crate::columns::{column_size, put_columns};
 use crate::front::front;
 use crate::header::ColumnHeader;
-use crate::headers::{headers_size, put_headers};
-use crate::parts::TableParts;
+use crate::headers::{have_names, headers_size, put_headers};
+use bw_cells::Cells;
 use std::alloc::{AllocError, Global};
 
 /// How many bytes spell a table of these headers and so many rows.
@@ -22,16 +22,25 @@ pub fn file_length(headers: &[ColumnHeader], rows: usize) -> u64
     14 + headers_size(headers) + headers.len() as u64 * column_size(rows) as u64
 }
 
-/// The bytes that spell the table.
-pub fn encode(alloc: Global, parts: &TableParts) -> Result<Vec<u8>, AllocError>
-    ensures { IfOk result (λ bytes. Spells bytes.items parts.now) }
+/// The bytes that spell the table of these headers and columns, each of so many rows.
+pub fn encode<C: Cells>(
+    alloc: Global,
+    headers: &[ColumnHeader],
+    rows: usize,
+    columns: &[C],
+) -> Result<Vec<u8>, AllocError>
+    requires headers { AreHeaders headers.now }
+    requires few { rows ≤ row_limit }
+    requires wide { length columns.now ≡ length headers.now }
+    requires long { All (λ cells. length cells ≡ rows) (map C.cells columns.now) }
+    requires integers { All (All IsCell) (map C.cells columns.now) }
+    ensures { IfOk result (λ bytes. Spells bytes.items (record { headers = headers.now; rows = rows; columns = map C.cells columns.now })) }
 {
-    let headers = parts.headers();
-    let rows = parts.rows();
+    have_names(headers);
     let length = file_length(headers, rows);
     let mut bytes = Vec::with_capacity(alloc, length as usize)?;
     bytes.extend_from_slice(&front(headers.len(), rows))?;
     put_headers(&mut bytes, headers)?;
-    put_columns(&mut bytes, parts.columns())?;
+    put_columns(&mut bytes, rows, columns)?;
     Ok(bytes)
 }

@@ -176,3 +176,12 @@ fn has_name(headers: &[ColumnHeader], name: &Name) -> bool
 {
     headers.iter().any(|header| name == &header.name)
 }
+
+/// The headers' names are names. Their type says so: this only reads, and no code is left of it.
+pub(crate) fn have_names(headers: &[ColumnHeader])
+    ensures { All (λ header. IsName header.name) headers.now }
+{
+    for header in headers {
+        let _name = header.name.as_bytes();
+    }
+}

@@ -1,9 +1,11 @@
 //! A table as the bytes of a table file, and back. The specs give the format; a table has one spelling, and
-//! bytes spell one table at most.
+//! bytes spell one table at most. A table that is read is lent from the file's bytes, and one that is written is
+//! read in runs of cells: neither makes a second copy of the cells.
 #![tactic(auto)]
 
 mod cells;
 mod column;
+mod columns;
 mod decoding;
 mod encoding;
 mod fault;
@@ -11,12 +13,14 @@ mod front;
 mod header;
 mod headers;
 mod laws;
-mod parts;
 mod presence;
+mod table;
+mod writing;
 
+pub use column::FileColumn;
 pub use decoding::decode;
 pub use encoding::{encode, file_length};
 pub use fault::FileFault;
 pub use header::ColumnHeader;
 pub use laws::{one_spelling, spelling_by_length};
-pub use parts::TableParts;
+pub use table::TableFile;

@@ -2,19 +2,15 @@
 
 ghost use Rattle.std.specs.Prelude.{List, Option, drop, false, length, take, true, ◌*◌, ◌<◌, ◌≡◌, ◌≤◌, ℤ};
 ghost use Rattle.bw_file.specs.Cells.{presence, presence_byte, presence_bytes, presence_size, row_limit};
-ghost use Rattle.bw_file.specs.Reading.{HasNoSpareBit, HasPresence};
+ghost use Rattle.bw_file.specs.Reading.{HasNoSpareBit};
 
-/// Writes the bytes from number `start` to `end` of those that have a bit for each cell.
-pub(crate) fn write_presence(out: &mut [u8], cells: &[Option<i32>], start: usize, end: usize)
+/// Writes the bits of cells, one for each, with zeros after the last.
+pub(crate) fn write_presence(out: &mut [u8], cells: &[Option<i64>])
     requires few { length cells.now ≤ row_limit }
     requires long { length out.old ≡ presence_size (length cells.now) }
-    requires places { end ≤ length out.old }
-    requires before { HasPresence start out.old cells.now }
-    requires start { start ≤ end }
-    ensures count { length out.new ≡ length out.old }
-    ensures bits { HasPresence end out.new cells.now }
+    ensures { out.new ≡ presence_bytes (presence_size (length cells.now)) cells.now }
 {
-    'eights: for i in start..end {
+    'eights: for i in 0..out.len() {
         out[i] = presence_of_eight(cells, i);
     }
 }
@@ -35,7 +31,7 @@ pub(crate) fn has_spare_bit(present: &[u8], rows: usize) -> bool
 
 /// The bits of the eight cells from cell 8 i on, or of those that are left there.
 #[inline]
-fn presence_of_eight(cells: &[Option<i32>], i: usize) -> u8
+fn presence_of_eight(cells: &[Option<i64>], i: usize) -> u8
     requires few { length cells.now ≤ row_limit }
     requires there { i < presence_size (length cells.now) }
     ensures { result ≡ presence_byte (take 8 (drop (i * 8) cells.now)) }
@@ -50,7 +46,7 @@ fn presence_of_eight(cells: &[Option<i32>], i: usize) -> u8
 /// The bits of eight cells at most, the first the lowest.
 #[inline]
 #[tactic(auto, using(crate::proofs::Places::eight_bound, crate::proofs::Places::presence_byte_drop))]
-fn presence_byte(cells: &[Option<i32>]) -> u8
+fn presence_byte(cells: &[Option<i64>]) -> u8
     requires { length cells.now ≤ 8 }
     ensures { result ≡ presence_byte cells.now }
 {
@@ -63,7 +59,7 @@ fn presence_byte(cells: &[Option<i32>]) -> u8
 
 /// 1 where the cell is not null.
 #[inline]
-fn presence(cell: Option<i32>) -> u8
+fn presence(cell: Option<i64>) -> u8
     ensures value { result ≡ presence cell }
     ensures small { result ≤ 1 }
 {

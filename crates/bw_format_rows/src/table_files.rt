@@ -1,6 +1,7 @@
 //! Tables as the bytes of table files: examples byte by byte, and bytes that spell no table.
 
-use bw_file::{ColumnHeader, FileFault, TableParts, decode, encode, file_length};
+use bw_cells::Cells;
+use bw_file::{ColumnHeader, FileColumn, FileFault, TableFile, decode, encode, file_length};
 use bw_sql::{KindWord, LayoutWord, Name, is_name};
 use std::process::Abort;
 
@@ -30,9 +31,22 @@ fn check_no_table<R: Abort + AllocGlobal>(rt: &R, bytes: &[u8]) {
     assert_eq!(rt; decode(rt.alloc(), bytes).err(), Some(FileFault::NotTable));
 }
 
-fn check_spelled<R: Abort + AllocGlobal>(rt: &R, parts: &TableParts, bytes: &[u8]) {
-    let spelled = encode(rt.alloc(), parts).expect(rt, "bytes");
+fn check_spelled<R: Abort + AllocGlobal>(rt: &R, table: &TableFile<'_>, bytes: &[u8]) {
+    let spelled = encode(rt.alloc(), table.headers(), table.rows(), table.columns());
+    let spelled = spelled.expect(rt, "bytes");
     assert_eq!(rt; spelled.as_slice(), bytes);
+}
+
+// Sees that these are the cells of the column, read all at once and in two runs.
+fn check_cells<R: Abort>(rt: &R, column: &FileColumn<'_>, cells: &[Option<i64>]) {
+    assert_eq!(rt; column.rows(), cells.len());
+    assert!(rt; cells.len() <= 16);
+    let mut run = [None; 16];
+    column.read(0, &mut run[..cells.len()]);
+    assert_eq!(rt; &run[..cells.len()], cells);
+    let half = cells.len() / 2;
+    column.read(half, &mut run[..cells.len() - half]);
+    assert_eq!(rt; &run[..cells.len() - half], &cells[half..]);
 }
 
 fn check_header<R: Abort>(
@@ -68,21 +82,20 @@ fn the_example_from_its_table(rt: HostRuntime) {
     };
     let headers = Vec::from_array(rt.alloc(), [header]).expect(&rt, "headers");
     assert_eq!(rt; file_length(&headers, 3), 31);
-    let cells = Vec::from_slice(rt.alloc(), &[Some(3), None, Some(-1)]).expect(&rt, "cells");
-    let columns = Vec::from_array(rt.alloc(), [cells]).expect(&rt, "columns");
-    let parts = TableParts::new(headers, 3, columns);
-    check_spelled(&rt, &parts, &EXAMPLE);
+    let columns = [&[Some(3), None, Some(-1)][..]];
+    let spelled = encode(rt.alloc(), &headers, 3, &columns).expect(&rt, "bytes");
+    assert_eq!(rt; spelled.as_slice(), EXAMPLE.as_slice());
 }
 
 #[test]
 fn the_example_to_its_table(rt: HostRuntime) {
-    let parts = decode(rt.alloc(), &EXAMPLE).expect(&rt, "a table");
-    assert_eq!(rt; parts.rows(), 3);
-    let (headers, columns) = parts.into_headers_and_columns();
+    let table = decode(rt.alloc(), &EXAMPLE).expect(&rt, "a table");
+    assert_eq!(rt; table.rows(), 3);
+    let (headers, columns) = table.into_headers_and_columns();
     assert_eq!(rt; headers.len(), 1);
     check_header(&rt, &headers[0], b"A", LayoutWord::V, KindWord::Offset);
     assert_eq!(rt; columns.len(), 1);
-    assert_eq!(rt; columns[0].as_slice(), [Some(3), None, Some(-1)].as_slice());
+    check_cells(&rt, &columns[0], &[Some(3), None, Some(-1)]);
 }
 
 #[test]
@@ -112,8 +125,8 @@ fn each_byte_in_each_place(rt: HostRuntime) {
         for byte in 0..=255 {
             let bytes = changed(at, byte);
             match decode(rt.alloc(), &bytes) {
-                Ok(parts) => {
-                    check_spelled(&rt, &parts, &bytes);
+                Ok(table) => {
+                    check_spelled(&rt, &table, &bytes);
                     tables = tables.wrapping_add(1);
                 }
                 Err(fault) => assert_eq!(rt; fault, FileFault::NotTable),
@@ -137,11 +150,11 @@ fn many_columns_and_rows_that_are_not_there(rt: HostRuntime) {
 
 #[test]
 fn two_columns_of_nine_rows(rt: HostRuntime) {
-    let parts = decode(rt.alloc(), &NINE_ROWS).expect(&rt, "a table");
-    check_spelled(&rt, &parts, &NINE_ROWS);
-    assert_eq!(rt; file_length(parts.headers(), 9), 100);
-    assert_eq!(rt; parts.rows(), 9);
-    let (headers, columns) = parts.into_headers_and_columns();
+    let table = decode(rt.alloc(), &NINE_ROWS).expect(&rt, "a table");
+    check_spelled(&rt, &table, &NINE_ROWS);
+    assert_eq!(rt; file_length(table.headers(), 9), 100);
+    assert_eq!(rt; table.rows(), 9);
+    let (headers, columns) = table.into_headers_and_columns();
     assert_eq!(rt; headers.len(), 2);
     check_header(&rt, &headers[0], b"C1", LayoutWord::P, KindWord::Dictionary);
     check_header(&rt, &headers[1], b"X_", LayoutWord::H, KindWord::Offset);
@@ -157,9 +170,9 @@ fn two_columns_of_nine_rows(rt: HostRuntime) {
         None,
         Some(9),
     ];
-    assert_eq!(rt; columns[0].as_slice(), odd.as_slice());
+    check_cells(&rt, &columns[0], &odd);
     let ends = [
-        Some(i32::MIN),
+        Some(-2_147_483_648),
         None,
         None,
         None,
@@ -167,9 +180,9 @@ fn two_columns_of_nine_rows(rt: HostRuntime) {
         None,
         None,
         None,
-        Some(i32::MAX),
+        Some(2_147_483_647),
     ];
-    assert_eq!(rt; columns[1].as_slice(), ends.as_slice());
+    check_cells(&rt, &columns[1], &ends);
 }
 
 #[test]
@@ -179,8 +192,8 @@ fn all_layouts_and_kinds(rt: HostRuntime) {
             let mut bytes = EXAMPLE;
             bytes[16] = layout;
             bytes[17] = kind;
-            let parts = decode(rt.alloc(), &bytes).expect(&rt, "a table");
-            check_spelled(&rt, &parts, &bytes);
+            let table = decode(rt.alloc(), &bytes).expect(&rt, "a table");
+            check_spelled(&rt, &table, &bytes);
         }
     }
 }
@@ -203,8 +216,61 @@ fn no_rows(rt: HostRuntime) {
         0x42, 0x49, 0x54, 0x43, 0x4f, 0x4c, 0x01, 0x00, 0x01, 0x00, 0x00, 0x00, 0x00, 0x00, 0x01,
         0x41, 0x03, 0x01,
     ];
-    let parts = decode(rt.alloc(), &bytes).expect(&rt, "a table");
-    check_spelled(&rt, &parts, &bytes);
-    assert_eq!(rt; parts.rows(), 0);
-    assert_eq!(rt; file_length(parts.headers(), 0), 18);
+    let table = decode(rt.alloc(), &bytes).expect(&rt, "a table");
+    check_spelled(&rt, &table, &bytes);
+    assert_eq!(rt; table.rows(), 0);
+    assert_eq!(rt; file_length(table.headers(), 0), 18);
+}
+
+// Row i of a column of many rows: each third cell is null.
+fn many_rows_cell(i: u32) -> Option<i64> {
+    if i % 3 == 1 {
+        None
+    } else {
+        Some(i64::from(i) * 1_000 - 1_000_000)
+    }
+}
+
+// A table of one column A in layout P, OFFSET, of 2,051 rows, byte by byte.
+fn many_rows<R: Abort + AllocGlobal>(rt: &R) -> Vec<u8> {
+    let front = [
+        0x42, 0x49, 0x54, 0x43, 0x4f, 0x4c, 0x01, 0x00, 0x01, 0x00, 0x03, 0x08, 0x00, 0x00, 0x01,
+        0x41, 0x00, 0x00,
+    ];
+    let mut bytes = Vec::from_slice(rt.alloc(), &front).expect(rt, "front");
+    for k in 0..257_u32 {
+        let mut byte: u8 = 0;
+        for j in 0..8_u32 {
+            if 8 * k + j < 2_051 && many_rows_cell(8 * k + j).is_some() {
+                byte |= 1 << j;
+            }
+        }
+        bytes.push(byte).expect(rt, "bits");
+    }
+    for i in 0..2_051 {
+        let number = many_rows_cell(i).unwrap_or(0);
+        bytes
+            .extend_from_slice(&number.to_le_bytes()[..4])
+            .expect(rt, "word");
+    }
+    bytes
+}
+
+// More rows than are written in one run, the last of them not a whole byte of bits.
+#[test]
+fn rows_in_runs(rt: HostRuntime) {
+    let bytes = many_rows(&rt);
+    let table = decode(rt.alloc(), &bytes).expect(&rt, "a table");
+    check_spelled(&rt, &table, &bytes);
+    assert_eq!(rt; table.rows(), 2_051);
+    let columns = table.columns();
+    assert_eq!(rt; columns.len(), 1);
+    assert_eq!(rt; columns[0].rows(), 2_051);
+    let mut run = [None; 7];
+    for r in 0..293 {
+        columns[0].read(7 * r, &mut run);
+        for k in 0..7 {
+            assert_eq!(rt; run[k], many_rows_cell((7 * r + k) as u32));
+        }
+    }
 }

@@ -1,9 +1,11 @@
 -- Texts in quotes: where one ends, and what it says.
-use Rattle.std.proofs.Common.{◌≡◌, ℕ, ◌+◌, suc, Bool, true, false, ◌==◌, cond, List, [], ◌∷◌, ◌++◌, length, ◌≤◌, take, drop, Option, Some, refl, ap, ◌∙◌, arith, eqb-true}
+use Rattle.std.proofs.Common.{◌≡◌, ℕ, ◌+◌, suc, Bool, true, false, ◌==◌, cond, List, [], ◌∷◌, ◌++◌, length, ◌≤◌, take, drop, Option, Some, IsTrue, refl, ap, sym, subst, ◌∙◌, ◌-◌, arith, eqb-true}
 use Rattle.std.specs.Bool.{IsFalse}
 use Rattle.std.proofs.Math.Numerals.{one-add}
-use Rattle.bw_lex.specs.Pieces.{contents, quote_contents, quote_end, quoted_end}
-use Rattle.bw_lex.specs.Spellings.{begins_with, doubled, quoted}
+use Rattle.std.proofs.Math.Seq.{take-length}
+use Rattle.bw_lex.specs.Pieces.{contents, quote_contents, quote_end, quoted_end, text_says}
+use Rattle.bw_lex.specs.Spellings.{IsSpelled, begins_with, doubled, is_good_text, quoted}
+use Rattle.bw_lex.specs.declared.token.TokenKind.TheVariants as k
 
 -- one of two ends is found, and what was said goes with it
 by_quote : (q : Bool) (x y : Option ℕ) (n : ℕ) (u v : List ℕ) (P : List ℕ → Type 0) → (q ≡ true → x ≡ Some n → P u) → (q ≡ false → y ≡ Some n → P v) → cond q x y ≡ Some n → P (cond q u v)
@@ -93,6 +95,28 @@ says_step b says left false e rest = rw (e, e) (ap (λ l. b ∷ l) rest)
 pub doubled_says : (says left : List ℕ) → IsFalse (begins_with 39 left) → contents (doubled says ++ 39 ∷ left) ≡ says
 doubled_says [] left h = quote_says left h
 doubled_says (b ∷ says) left h = says_step b says left (b == 39) refl (doubled_says says left h)
+
+-- so a text says what was quoted
+pub text_says-quoted : (says : List ℕ) → text_says (quoted says) ≡ says
+text_says-quoted says = doubled_says says [] refl
+
+-- what a token says, where it quotes something good
+module _ (token says : List ℕ) (spelled : IsSpelled k.Text token) (same : says ≡ text_says token) where
+  said : says ≡ spelled.0
+  said = same ∙ ap text_says spelled.1 ∙ text_says-quoted spelled.0
+
+  pub is_quoted : token ≡ quoted says
+  is_quoted = spelled.1 ∙ ap quoted (sym said)
+
+  pub is_good : IsTrue (is_good_text says)
+  is_good = subst (λ l. IsTrue (is_good_text l)) (sym said) spelled.2
+
+-- what stands behind the first byte
+pub behind_first : (token : List ℕ) → contents (take (length token - 1) (drop 1 token)) ≡ text_says token
+behind_first [] = refl
+behind_first (b ∷ bytes) =
+    let e : length (b ∷ bytes) - 1 ≡ length bytes = omega arith in
+    ap contents (ap (λ n. take n bytes) e ∙ take-length bytes)
 
 pub text_spelled : (b n : ℕ) (bytes : List ℕ) → (b == 39) ≡ true → quoted_end 1 bytes ≡ Some n → take n (b ∷ bytes) ≡ quoted (contents bytes)
 text_spelled b n bytes e h =

@@ -79,6 +79,11 @@ abbrev mutual
   quote_contents [] = []
   quote_contents (b ∷ bytes) = if b == 39 then 39 ∷ contents bytes else []
 
+-- what a text says, without the quotes round it
+abbrev pub text_says : List ℕ → List ℕ
+text_says [] = []
+text_says (quote ∷ bytes) = contents bytes
+
 abbrev pub closed_text : List ℕ → Option ℕ → Piece
 closed_text bytes None = Bad
 closed_text bytes (Some n) = if is_good_text (contents bytes) then Token k.Text n else Bad

@@ -6,10 +6,12 @@ mod lanes;
 mod lexer;
 mod piece;
 mod script;
+mod text;
 mod token;
 
 pub use fault::SqlFault;
 pub use lexer::{one_reading, tokens};
 pub use piece::{Piece, first_piece};
 pub use script::{Part, one_splitting, parts};
+pub use text::text_says;
 pub use token::{CompareOp, Span, Symbol, Token, TokenKind};

@@ -147,7 +147,7 @@ fn text_end(bytes: &[u8]) -> Option<usize>
 }
 
 // Behind a quote: what stands up to the next quote that isn't doubled.
-fn text_contents(alloc: Global, bytes: &[u8]) -> Result<Vec<u8>, AllocError>
+pub(crate) fn text_contents(alloc: Global, bytes: &[u8]) -> Result<Vec<u8>, AllocError>
     ensures { IfOk result (λ text. text.items ≡ contents bytes.now) }
 {
     let mut rest = bytes;

@@ -10,6 +10,7 @@ use Rattle.bw_model.specs.Refusals.{first_that_holds, over}
 use Rattle.bw_model.specs.Step.{outcome_of, without_table}
 use Rattle.bw_model.specs.Store.{Store, Table, are_distinct}
 use Rattle.bw_model.specs.declared.refusal.Refusal.TheVariants.{NoSuchTable}
+use Rattle.bw_model.specs.declared.content.Content.TheVariants.{Nothing}
 use Rattle.bw_model.specs.declared.reply.Reply.{Reply}
 use Rattle.bw_model.specs.declared.reply.Reply.TheVariants.{Done, Refused}
 use Rattle.bw_model.proofs.Passing.{neither, two}
@@ -87,13 +88,13 @@ module _ (name : List ℕ) where
   removed_at (entry ∷ store) (suc i) d within is others =
       further (bytes_eq name entry.0) entry store (without_table store name) (remove store i) (others 0 (omega arith)) (removed_at store i d (omega arith) is (λ k below. others (suc k) (omega arith)))
 
-  pub dropped : (store : Store) (i : ℕ) (d : List ℕ × Table) → position (λ e. bytes_eq name e.0) store ≡ Some i → d ≡ get_or store i d → ◌≡◌ {A = Reply × Store} (Done, remove store i) (outcome_of store (drop_table name))
+  pub dropped : (store : Store) (i : ℕ) (d : List ℕ × Table) → position (λ e. bytes_eq name e.0) store ≡ Some i → d ≡ get_or store i d → ◌≡◌ {A = Reply × Store} (Done, remove store i) (outcome_of store Nothing (drop_table name))
   dropped store i d place at =
       let p = position-Some (λ e. bytes_eq name e.0) store i d place in
       let there = found name (λ t. t) store i d place at in
       ap (λ s. (Done, s)) (removed_at store i d p.0 p.1 p.2)
-      ∙ sym (outcome_is store (drop_table name) None (ap (λ o. first_that_holds (over o (λ t. []))) there.there))
+      ∙ sym (outcome_is store Nothing (drop_table name) None (ap (λ o. first_that_holds (over o (λ t. []))) there.there))
 
-  pub not_dropped : (store : Store) → position (λ e. bytes_eq name e.0) store ≡ None → ◌≡◌ {A = Reply × Store} (Refused NoSuchTable, store) (outcome_of store (drop_table name))
+  pub not_dropped : (store : Store) → position (λ e. bytes_eq name e.0) store ≡ None → ◌≡◌ {A = Reply × Store} (Refused NoSuchTable, store) (outcome_of store Nothing (drop_table name))
   not_dropped store place =
-      sym (outcome_is store (drop_table name) (Some NoSuchTable) (ap (λ o. first_that_holds (over o (λ t. []))) (absent name store place)))
+      sym (outcome_is store Nothing (drop_table name) (Some NoSuchTable) (ap (λ o. first_that_holds (over o (λ t. []))) (absent name store place)))

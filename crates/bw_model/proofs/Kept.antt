@@ -1,26 +1,30 @@
 -- A step keeps a store well formed.
-use Rattle.std.proofs.Common.{◌≡◌, inl, inr, ℕ, ◌+◌, Bool, true, false, ◌&&◌, ◌||◌, not, is_some, IsTrue, List, [], ◌∷◌, ◌++◌, length, map, position, Option, None, Some, if◌then◌else◌, zero, suc, refl, sym, ap, subst, ◌∙◌, arith, length-append}
+use Rattle.std.proofs.Common.{◌≡◌, inl, inr, ℕ, ◌+◌, ◌<◌, ◌^◌, Bool, true, false, ◌&&◌, ◌||◌, not, is_some, IsTrue, List, [], ◌∷◌, ◌++◌, length, map, position, Option, None, Some, if◌then◌else◌, zero, suc, refl, sym, ap, subst, ◌∙◌, arith, length-append}
 use Rattle.std.specs.List.{All, list_all, list_any}
 use Rattle.std.specs.Str.{bytes_eq}
-use Rattle.std.proofs.lemmas.Bool.{ltb-false, not-false, true≢false}
+use Rattle.std.proofs.lemmas.Bool.{leb-false, ltb-false, not-false, true≢false}
 use Rattle.std.proofs.lemmas.List.{length-map}
 use Rattle.std.proofs.lemmas.List.Elements.{All-append, All-cons, All-head, All-map, All-nil, All-push, All-tail}
-use Rattle.bw_sql.specs.Tree.{StatementTree, ConditionTree, create_table, delete, drop_table, insert, list_tables, rebuild, select, update}
+use Rattle.bw_sql.specs.Tree.{StatementTree, ConditionTree, create_table, delete, drop_table, insert, list_tables, load, open_table, rebuild, save, select, update}
 use Rattle.bw_sql.specs.declared.tree.LayoutChoice.{LayoutChoice}
+use Rattle.bw_sql.specs.declared.tree.FirstRecord.{FirstRecord}
 use Rattle.bw_sql.specs.declared.tree.SetClause.{SetClause}
 use Rattle.bw_sql.specs.declared.tree.ColumnDefinition.{ColumnDefinition}
 use Rattle.bw_model.specs.Changes.{with_choices, with_updates, without_found}
+use Rattle.bw_model.specs.Contents.{MayBeSaid, lines_in, table_held, width_of}
 use Rattle.bw_model.specs.Insert.{row_for, target_columns, with_rows}
-use Rattle.bw_model.specs.Refusals.{chosen_columns, delete_tests, first_that_holds, insert_tests, is_in_range, over, rebuild_tests, tests_of, update_tests}
-use Rattle.bw_model.specs.Step.{Step, carried_out, refused_or, with_table, without_table}
-use Rattle.bw_model.specs.Store.{Header, Row, Store, Table, are_distinct, header_of, row_limit, table_of, value_at, value_from}
+use Rattle.bw_model.specs.Refusals.{chosen_columns, delete_tests, first_that_holds, insert_tests, is_in_range, load_tests, open_tests, over, rebuild_tests, tests_of, update_tests}
+use Rattle.bw_model.specs.Step.{Step, carried_out, refused_or, with_lines, with_table, without_table}
+use Rattle.bw_model.specs.Store.{Header, Row, Store, Table, are_distinct, header_of, row_limit, table_limit, table_of, value_at, value_from}
 use Rattle.bw_model.specs.WellFormed.{IsRow, IsStore, IsTable}
+use Rattle.bw_model.specs.declared.content.Content.{Content}
 use Rattle.bw_model.specs.declared.refusal.Refusal.{Refusal}
 use Rattle.bw_model.specs.declared.reply.Reply.{Reply}
 use Rattle.bw_model.proofs.Changed.{chosen_table, everywhere, table_left, updated_table}
 use Rattle.bw_model.proofs.Dropped.{All-without, distinct_without, few_without}
 use Rattle.bw_model.proofs.Names.{are_distinct-push, bytes_eq-comm, headers_from, map-push}
 use Rattle.bw_model.proofs.Passing.{Passes, none_holds, passes, two}
+use Rattle.bw_model.proofs.Said.{FitsTable, lines_are, said_to_load, said_to_open}
 
 -- the values of a row that is in range
 
@@ -127,20 +131,22 @@ both_so true true e f = absurd (true≢false f)
 both_so true false e f = refl
 both_so false c e f = e
 
+pushed : (store : Store) (name : List ℕ) (table : Table) → IsStore store → is_some (table_of store name) ≡ false → length store < table_limit → IsTable table → IsStore (store ++ (name, table) ∷ [])
+pushed store name table are absent room is = record {
+  distinct =
+      subst (λ l. are_distinct l ≡ true) (sym (map-push (λ entry. entry.0) store (name, table)))
+      (are_distinct-push (table_names store) name ∙ both_so (are_distinct (table_names store)) (list_any (λ other. bytes_eq other name) (table_names store)) are.distinct (unseen store name absent));
+  few = omega (arith, length-append store ((name, table) ∷ []), room);
+  tables = All-push (λ entry. IsTable entry.1) store (name, table) are.tables is;
+}
+
 made : (columns : List ColumnDefinition) (name : List ℕ) (store : Store) → IsStore store → Passes (map (λ c. c.name) columns) name store → IsStore (store ++ (name, record { headers = map header_of columns; rows = [] }) ∷ [])
 made columns name store are pass =
-    let table : Table = record { headers = map header_of columns; rows = [] } in
-    record {
-      distinct =
-          subst (λ l. are_distinct l ≡ true) (sym (map-push (λ entry. entry.0) store (name, table)))
-          (are_distinct-push (table_names store) name ∙ both_so (are_distinct (table_names store)) (list_any (λ other. bytes_eq other name) (table_names store)) are.distinct (unseen store name pass.absent));
-      few = omega (arith, length-append store ((name, table) ∷ []), pass.room);
-      tables = All-push (λ entry. IsTable entry.1) store (name, table) are.tables (record {
-        headers = headers_from columns (omega (arith, pass.some, length-map columns (λ c. c.name))) (omega (arith, pass.few, length-map columns (λ c. c.name))) pass.distinct;
-        rows = All-nil (IsRow (map header_of columns));
-        few = omega arith;
-      });
-    }
+    pushed store name (record { headers = map header_of columns; rows = [] }) are pass.absent pass.room (record {
+      headers = headers_from columns (omega (arith, pass.some, length-map columns (λ c. c.name))) (omega (arith, pass.few, length-map columns (λ c. c.name))) pass.distinct;
+      rows = All-nil (IsRow (map header_of columns));
+      few = omega arith;
+    })
 
 -- a table taken out
 
@@ -173,25 +179,56 @@ rebuilds None store name choices are there none = cc
 rebuilds (Some table) store name choices are there none =
     changed store name (with_choices choices) table there (chosen_table table choices (table_in store name table there are.tables)) are
 
-carried : (store : Store) (statement : StatementTree) → IsStore store → first_that_holds (tests_of store statement) ≡ None → IsStore (carried_out store statement).1
-carried store (create_table name columns) are none = made columns name store are (passes (map (λ c. c.name) columns) name store none)
-carried store (drop_table name) are none = taken_out store name are
-carried store list_tables are none = are
-carried store (insert name listed rows) are none = inserts (table_of store name) store name listed rows are refl none
-carried store (update name sets condition) are none = updates (table_of store name) store name sets condition are refl none
-carried store (delete name condition) are none = deletes (table_of store name) store name condition are refl none
-carried store (rebuild name choices) are none = rebuilds (table_of store name) store name choices are refl none
-carried store (select items name condition) are none = are
+-- how many columns a table has, where there is one
+width_few : (o : Option Table) → ((table : Table) → o ≡ Some table → IsTable table) → width_of o < 2 ^ 64
+width_few None is = omega arith
+width_few (Some table) is = let t = is table refl in omega (arith, t.headers.few)
 
-after_first : (first : Option Refusal) (store : Store) (statement : StatementTree) → IsStore store → first_that_holds (tests_of store statement) ≡ first → IsStore (refused_or first store (carried_out store statement)).1
-after_first None store statement are none = carried store statement are none
-after_first (Some refusal) store statement are some = are
+-- what is said to a LOAD fits its table
+pub fits_loaded : (store : Store) (name file : List ℕ) (first : FirstRecord) (said : Content) → IsStore store → MayBeSaid store (load name file first) said → FitsTable (width_of (table_of store name)) said
+fits_loaded store name file first said are may = said_to_load store name file first said (width_few (table_of store name) (λ table there. table_in store name table there are.tables)) may
 
-pub kept : (store after : Store) (statement : StatementTree) (reply : Reply) → IsStore store → Step store statement reply after → IsStore after
-kept store after statement reply are step =
+lengthened : (table : Table) (said : Content) → IsTable table → FitsTable (length table.headers) said → first_that_holds (load_tests said table) ≡ None → IsTable (with_lines (lines_in said) table)
+lengthened table said is fits none =
+    let p = none_holds (load_tests said table) none in
+    record {
+      headers = is.headers;
+      rows = All-append (IsRow table.headers) table.rows (lines_in said) is.rows (lines_are table.headers said fits);
+      few = omega (arith, length-append table.rows (lines_in said), ltb-false row_limit (length table.rows + length (lines_in said)) p.1.1.1.0);
+    }
+
+loads : (o : Option Table) (store : Store) (name : List ℕ) (said : Content) → IsStore store → FitsTable (width_of o) said → table_of store name ≡ o → first_that_holds (over o (load_tests said)) ≡ None → IsStore (with_table store name (with_lines (lines_in said)))
+loads None store name said are fits there none = cc
+loads (Some table) store name said are fits there none =
+    changed store name (with_lines (lines_in said)) table there (lengthened table said (table_in store name table there are.tables) fits none) are
+
+opens : (store : Store) (name file : List ℕ) (said : Content) → IsStore store → MayBeSaid store (open_table name file) said → first_that_holds (open_tests name store said) ≡ None → IsStore (store ++ (name, table_held said) ∷ [])
+opens store name file said are may none =
+    let p = none_holds (open_tests name store said) none in
+    pushed store name (table_held said) are p.0 (leb-false table_limit (length store) p.1.0) (said_to_open store name file said may p.1.1.1.1.0).is
+
+carried : (store : Store) (said : Content) (statement : StatementTree) → IsStore store → MayBeSaid store statement said → first_that_holds (tests_of store said statement) ≡ None → IsStore (carried_out store said statement).1
+carried store said (create_table name columns) are may none = made columns name store are (passes (map (λ c. c.name) columns) name store none)
+carried store said (drop_table name) are may none = taken_out store name are
+carried store said list_tables are may none = are
+carried store said (insert name listed rows) are may none = inserts (table_of store name) store name listed rows are refl none
+carried store said (update name sets condition) are may none = updates (table_of store name) store name sets condition are refl none
+carried store said (delete name condition) are may none = deletes (table_of store name) store name condition are refl none
+carried store said (rebuild name choices) are may none = rebuilds (table_of store name) store name choices are refl none
+carried store said (select items name condition) are may none = are
+carried store said (load name file first) are may none = loads (table_of store name) store name said are (fits_loaded store name file first said are may) refl none
+carried store said (save name file) are may none = are
+carried store said (open_table name file) are may none = opens store name file said are may none
+
+after_first : (first : Option Refusal) (store : Store) (said : Content) (statement : StatementTree) → IsStore store → MayBeSaid store statement said → first_that_holds (tests_of store said statement) ≡ first → IsStore (refused_or first store (carried_out store said statement)).1
+after_first None store said statement are may none = carried store said statement are may none
+after_first (Some refusal) store said statement are may some = are
+
+pub kept : (store after : Store) (said : Content) (statement : StatementTree) (reply : Reply) → IsStore store → MayBeSaid store statement said → Step store said statement reply after → IsStore after
+kept store after said statement reply are may step =
     elim step [
       | inl free ↦ subst IsStore (sym free.stays) are
-      | inr e ↦ subst IsStore (sym (ap (λ p. p.1) e)) (after_first (first_that_holds (tests_of store statement)) store statement are refl)
+      | inr e ↦ subst IsStore (sym (ap (λ p. p.1) e)) (after_first (first_that_holds (tests_of store said statement)) store said statement are may refl)
     ]
 
 pub empty : IsStore []

@@ -4,19 +4,23 @@ use Rattle.std.specs.List.{All}
 use Rattle.std.specs.Str.{bytes_eq}
 use Rattle.std.proofs.lemmas.List.Elements.{All-cons, All-head, All-nil, All-push, All-tail}
 use Rattle.bw_sql.specs.Names.{IsName}
-use Rattle.bw_sql.specs.Tree.{StatementTree, create_table, delete, drop_table, insert, list_tables, rebuild, select, update}
+use Rattle.bw_sql.specs.Tree.{StatementTree, create_table, delete, drop_table, insert, list_tables, load, open_table, rebuild, save, select, update}
 use Rattle.bw_sql.specs.declared.tree.LayoutChoice.{LayoutChoice}
 use Rattle.bw_sql.specs.declared.tree.ColumnDefinition.{ColumnDefinition}
 use Rattle.bw_model.specs.Changes.{chosen_header, with_choices, with_updates, without_found}
+use Rattle.bw_model.specs.Contents.{MayBeSaid, lines_in, table_held}
 use Rattle.bw_model.specs.Insert.{with_rows}
 use Rattle.bw_sql.specs.Brought.{names_brought}
 use Rattle.bw_model.specs.Named.{AreNamed, HaveNames}
-use Rattle.bw_model.specs.Refusals.{first_that_holds, tests_of}
-use Rattle.bw_model.specs.Step.{Step, carried_out, refused_or, with_table}
+use Rattle.bw_model.specs.Refusals.{first_that_holds, open_tests, tests_of}
+use Rattle.bw_model.specs.Step.{Step, carried_out, refused_or, with_lines, with_table}
 use Rattle.bw_model.specs.Store.{Header, Store, Table, header_of, names, table_of, word_or}
+use Rattle.bw_model.specs.declared.content.Content.{Content}
 use Rattle.bw_model.specs.declared.refusal.Refusal.{Refusal}
 use Rattle.bw_model.specs.declared.reply.Reply.{Reply}
 use Rattle.bw_model.proofs.Dropped.{All-without}
+use Rattle.bw_model.proofs.Passing.{none_holds}
+use Rattle.bw_model.proofs.Said.{said_to_open}
 
 abbrev IsNamed : List ℕ × Table → Type 0
 IsNamed entry = IsName entry.0 × HaveNames entry.1.headers
@@ -73,27 +77,33 @@ chosen_named choices (header ∷ headers) named =
     (subst IsName (sym (chosen_name choices header)) (All-head (λ h. IsName h.name) header headers named))
     (chosen_named choices headers (All-tail (λ h. IsName h.name) header headers named))
 
-carried : (store : Store) (statement : StatementTree) → AreNamed store → All IsName (names_brought statement) → AreNamed (carried_out store statement).1
-carried store (create_table name columns) named brought =
+carried : (store : Store) (said : Content) (statement : StatementTree) → AreNamed store → All IsName (names_brought statement) → MayBeSaid store statement said → first_that_holds (tests_of store said statement) ≡ None → AreNamed (carried_out store said statement).1
+carried store said (create_table name columns) named brought may none =
     All-push IsNamed store (name, record { headers = map header_of columns; rows = [] }) named
     (All-head IsName name (map (λ c. c.name) columns) brought, named_columns columns (All-tail IsName name (map (λ c. c.name) columns) brought))
-carried store (drop_table name) named brought = All-without IsNamed name store named
-carried store list_tables named brought = named
-carried store (insert name listed rows) named brought = with_named (with_rows listed rows) (λ table kept. kept) store name named
-carried store (update name sets condition) named brought = with_named (with_updates sets condition) (λ table kept. kept) store name named
-carried store (delete name condition) named brought = with_named (without_found condition) (λ table kept. kept) store name named
-carried store (rebuild name choices) named brought = with_named (with_choices choices) (λ table kept. chosen_named choices table.headers kept) store name named
-carried store (select items name condition) named brought = named
+carried store said (drop_table name) named brought may none = All-without IsNamed name store named
+carried store said list_tables named brought may none = named
+carried store said (insert name listed rows) named brought may none = with_named (with_rows listed rows) (λ table kept. kept) store name named
+carried store said (update name sets condition) named brought may none = with_named (with_updates sets condition) (λ table kept. kept) store name named
+carried store said (delete name condition) named brought may none = with_named (without_found condition) (λ table kept. kept) store name named
+carried store said (rebuild name choices) named brought may none = with_named (with_choices choices) (λ table kept. chosen_named choices table.headers kept) store name named
+carried store said (select items name condition) named brought may none = named
+carried store said (load name file first) named brought may none = with_named (with_lines (lines_in said)) (λ table kept. kept) store name named
+carried store said (save name file) named brought may none = named
+carried store said (open_table name file) named brought may none =
+    let p = none_holds (open_tests name store said) none in
+    let is = said_to_open store name file said may p.1.1.1.1.0 in
+    All-push IsNamed store (name, table_held said) named (All-head IsName name [] brought, is.named)
 
-after_first : (first : Option Refusal) (store : Store) (statement : StatementTree) → AreNamed store → All IsName (names_brought statement) → AreNamed (refused_or first store (carried_out store statement)).1
-after_first None store statement named brought = carried store statement named brought
-after_first (Some refusal) store statement named brought = named
+after_first : (first : Option Refusal) (store : Store) (said : Content) (statement : StatementTree) → AreNamed store → All IsName (names_brought statement) → MayBeSaid store statement said → first_that_holds (tests_of store said statement) ≡ first → AreNamed (refused_or first store (carried_out store said statement)).1
+after_first None store said statement named brought may none = carried store said statement named brought may none
+after_first (Some refusal) store said statement named brought may some = named
 
-pub names_kept : (store after : Store) (statement : StatementTree) (reply : Reply) → AreNamed store → All IsName (names_brought statement) → Step store statement reply after → AreNamed after
-names_kept store after statement reply named brought step =
+pub names_kept : (store after : Store) (said : Content) (statement : StatementTree) (reply : Reply) → AreNamed store → All IsName (names_brought statement) → MayBeSaid store statement said → Step store said statement reply after → AreNamed after
+names_kept store after said statement reply named brought may step =
     elim step [
       | inl free ↦ subst AreNamed (sym free.stays) named
-      | inr e ↦ subst AreNamed (sym (ap (λ p. p.1) e)) (after_first (first_that_holds (tests_of store statement)) store statement named brought)
+      | inr e ↦ subst AreNamed (sym (ap (λ p. p.1) e)) (after_first (first_that_holds (tests_of store said statement)) store said statement named brought may refl)
     ]
 
 pub no_names : AreNamed []

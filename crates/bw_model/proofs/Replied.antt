@@ -1,5 +1,5 @@
 -- Each reply of a step is one that its text tells.
-use Rattle.std.proofs.Common.{◌≡◌, inl, inr, ℕ, ℤ, pos, negsuc, ◌+◌, ◌<◌, ◌≤◌, ◌^◌, Bool, true, false, not, is_some, FitsSigned, List, [], ◌∷◌, get_or, length, map, filter, Option, None, Some, if◌then◌else◌, refl, sym, ap, subst, arith}
+use Rattle.std.proofs.Common.{◌≡◌, inl, inr, ℕ, ℤ, pos, negsuc, ◌+◌, ◌<◌, ◌≤◌, ◌^◌, Bool, true, false, not, is_some, FitsSigned, List, [], ◌∷◌, get_or, length, map, Option, None, Some, if◌then◌else◌, refl, sym, ap, subst, arith}
 use Rattle.std.specs.Int.{w128}
 use Rattle.std.specs.List.{All, list_any}
 use Rattle.std.specs.Str.{bytes_eq}
@@ -9,15 +9,16 @@ use Rattle.std.proofs.lemmas.List.{length-map}
 use Rattle.std.proofs.lemmas.List.Quantifiers.{position-Some}
 use Rattle.std.proofs.lemmas.Slice.Eq.{bytes_eq-Decides}
 use Rattle.bw_sql.specs.Names.{IsName}
-use Rattle.bw_sql.specs.Tree.{ConditionTree, ItemsTree, StatementTree, create_table, delete, drop_table, insert, list_tables, rebuild, select, update}
+use Rattle.bw_sql.specs.Tree.{ConditionTree, ItemsTree, StatementTree, create_table, delete, drop_table, insert, list_tables, load, open_table, rebuild, save, select, update}
 use Rattle.bw_sql.specs.declared.tree.LayoutWord.TheVariants.{V}
 use Rattle.bw_sql.specs.declared.tree.KindWord.TheVariants.{Offset}
 use Rattle.bw_model.specs.Condition.{found_rows, is_found}
+use Rattle.bw_model.specs.Contents.{MayBeSaid, lines_in, table_held, width_of}
 use Rattle.bw_model.specs.Insert.{target_columns}
 use Rattle.bw_model.specs.Listing.{listing, table_line}
 use Rattle.bw_model.specs.Named.{AreNamed, HaveNames}
-use Rattle.bw_model.specs.Refusals.{Tests, chosen_columns, delete_tests, first_that_holds, insert_tests, is_in_range, is_missing, over, rebuild_tests, select_tests, tests_of, update_tests}
-use Rattle.bw_model.specs.Select.{answer, columns_in, folded, function_heading, has_functions, heading_of, line_of, lines_for, said_of, shown, shown_items}
+use Rattle.bw_model.specs.Refusals.{Tests, chosen_columns, delete_tests, first_that_holds, insert_tests, is_in_range, is_missing, load_tests, open_tests, over, rebuild_tests, save_tests, select_tests, tests_of, update_tests}
+use Rattle.bw_model.specs.Select.{answer, columns_in, function_heading, has_functions, heading_of, line_of, said_of, shown, shown_items}
 use Rattle.bw_sql.specs.declared.tree.SelectItem.{SelectItem}
 use Rattle.bw_sql.specs.declared.tree.SelectItem.TheVariants as item
 use Rattle.bw_sql.specs.declared.tree.SetFunction.{SetFunction}
@@ -28,17 +29,19 @@ use Rattle.bw_model.specs.Store.{Header, Row, Store, Table, Value, place_of, row
 use Rattle.bw_model.specs.Told.{IsCell, IsHeading, IsRefusal, IsReply}
 use Rattle.bw_model.specs.WellFormed.{IsRow, IsStore, IsTable}
 use Rattle.bw_model.specs.declared.answer.Cell.TheVariants.{Name, Number}
-use Rattle.bw_model.specs.declared.answer.Heading.TheVariants.{Column, Columns}
+use Rattle.bw_model.specs.declared.answer.Heading.TheVariants.{Columns}
 use Rattle.bw_model.specs.declared.answer.Heading.TheVariants.{Table as Table', Rows as Rows'}
+use Rattle.bw_model.specs.declared.content.Content.{Content}
 use Rattle.bw_model.specs.declared.refusal.Refusal.{Refusal}
 use Rattle.bw_model.specs.declared.reply.Reply.{Reply}
 use Rattle.bw_model.specs.declared.reply.Reply.TheVariants.{Rows}
 use Rattle.bw_model.proofs.Changed.{everywhere, few_found, place_fits}
-use Rattle.bw_model.proofs.Kept.{table_in}
+use Rattle.bw_model.proofs.Kept.{fits_loaded, table_in}
 use Rattle.bw_model.proofs.Naming.{named_in}
 use Rattle.bw_model.proofs.Passing.{neither, none_holds, two}
+use Rattle.bw_model.proofs.Said.{FitsTable, fault_is, said_to_open}
 
--- the refusals of a statement say nothing of a file
+-- the refusals of a statement: those that tell a record of a file have numbers that fit
 
 abbrev ArePlain : Tests → Type 0
 ArePlain [] = Unit {0}
@@ -56,18 +59,25 @@ plain_over : (there : Option Table) (tests : Table → Tests) → ((table : Tabl
 plain_over None tests each = (tt, tt)
 plain_over (Some table) tests each = each table
 
-plain_tests : (store : Store) (statement : StatementTree) → ArePlain (tests_of store statement)
-plain_tests store (create_table name definitions) = (tt, (tt, (tt, tt)))
-plain_tests store (drop_table name) = plain_over (table_of store name) (λ table. []) (λ table. tt)
-plain_tests store list_tables = tt
-plain_tests store (insert name listed rows) =
+plain_load : (there : Option Table) (said : Content) → FitsTable (width_of there) said → ArePlain (over there (load_tests said))
+plain_load None said fits = (tt, tt)
+plain_load (Some table) said fits = (tt, (tt, (fault_is (length table.headers) said fits, (tt, tt))))
+
+plain_tests : (store : Store) (said : Content) (statement : StatementTree) → IsStore store → MayBeSaid store statement said → ArePlain (tests_of store said statement)
+plain_tests store said (create_table name definitions) are may = (tt, (tt, (tt, tt)))
+plain_tests store said (drop_table name) are may = plain_over (table_of store name) (λ table. []) (λ table. tt)
+plain_tests store said list_tables are may = tt
+plain_tests store said (insert name listed rows) are may =
     plain_over (table_of store name) (λ table. insert_tests (target_columns table.headers listed) rows table) (λ table. (tt, (tt, (tt, (tt, (tt, tt))))))
-plain_tests store (update name sets condition) =
+plain_tests store said (update name sets condition) are may =
     plain_over (table_of store name) (λ table. update_tests sets condition table) (λ table. (tt, (tt, (tt, (tt, (tt, (tt, tt)))))))
-plain_tests store (delete name condition) = plain_over (table_of store name) (λ table. delete_tests condition table) (λ table. (tt, (tt, tt)))
-plain_tests store (rebuild name choices) = plain_over (table_of store name) (λ table. rebuild_tests (chosen_columns choices) table) (λ table. (tt, (tt, tt)))
-plain_tests store (select items name condition) =
+plain_tests store said (delete name condition) are may = plain_over (table_of store name) (λ table. delete_tests condition table) (λ table. (tt, (tt, tt)))
+plain_tests store said (rebuild name choices) are may = plain_over (table_of store name) (λ table. rebuild_tests (chosen_columns choices) table) (λ table. (tt, (tt, tt)))
+plain_tests store said (select items name condition) are may =
     plain_over (table_of store name) (λ table. select_tests (shown_items table.headers items) condition table) (λ table. (tt, (tt, (tt, (tt, tt)))))
+plain_tests store said (load name file first) are may = plain_load (table_of store name) said (fits_loaded store name file first said are may)
+plain_tests store said (save name file) are may = plain_over (table_of store name) save_tests (λ table. (tt, tt))
+plain_tests store said (open_table name file) are may = (tt, (tt, (tt, (tt, (tt, tt)))))
 
 -- cells
 
@@ -190,24 +200,44 @@ found_fits : (there : Option Table) (condition : Option ConditionTree) → ((tab
 found_fits None condition is = omega arith
 found_fits (Some table) condition is = let t = is table refl in omega (arith, few_found table condition, t.few)
 
-carries_out : (store : Store) (statement : StatementTree) → IsStore store → AreNamed store → first_that_holds (tests_of store statement) ≡ None → IsReply (carried_out store statement).0
-carries_out store (create_table name definitions) are named none = tt
-carries_out store (drop_table name) are named none = tt
-carries_out store list_tables are named none = lists store are.tables named
-carries_out store (insert name listed rows) are named none = counts (table_of store name) listed rows none
-carries_out store (update name sets condition) are named none = found_fits (table_of store name) condition (λ table there. table_in store name table there are.tables)
-carries_out store (delete name condition) are named none = found_fits (table_of store name) condition (λ table there. table_in store name table there are.tables)
-carries_out store (rebuild name choices) are named none = tt
-carries_out store (select items name condition) are named none =
+-- how many rows are read or written
+
+lines_counted : (there : Option Table) (said : Content) → first_that_holds (over there (load_tests said)) ≡ None → length (lines_in said) < 2 ^ 64
+lines_counted None said none = cc
+lines_counted (Some table) said none =
+    let p = none_holds (load_tests said table) none in
+    let few = ltb-false row_limit (length table.rows + length (lines_in said)) p.1.1.1.0 in omega (arith, few)
+
+rows_counted : (there : Option Table) → ((table : Table) → there ≡ Some table → IsTable table) → length (table_or_none there).rows < 2 ^ 64
+rows_counted None is = omega arith
+rows_counted (Some table) is = let t = is table refl in omega (arith, t.few)
+
+held_counted : (store : Store) (name file : List ℕ) (said : Content) → MayBeSaid store (open_table name file) said → first_that_holds (open_tests name store said) ≡ None → length (table_held said).rows < 2 ^ 64
+held_counted store name file said may none =
+    let p = none_holds (open_tests name store said) none in
+    let held = said_to_open store name file said may p.1.1.1.1.0 in omega (arith, held.is.few)
+
+carries_out : (store : Store) (said : Content) (statement : StatementTree) → IsStore store → AreNamed store → MayBeSaid store statement said → first_that_holds (tests_of store said statement) ≡ None → IsReply (carried_out store said statement).0
+carries_out store said (create_table name definitions) are named may none = tt
+carries_out store said (drop_table name) are named may none = tt
+carries_out store said list_tables are named may none = lists store are.tables named
+carries_out store said (insert name listed rows) are named may none = counts (table_of store name) listed rows none
+carries_out store said (update name sets condition) are named may none = found_fits (table_of store name) condition (λ table there. table_in store name table there are.tables)
+carries_out store said (delete name condition) are named may none = found_fits (table_of store name) condition (λ table there. table_in store name table there are.tables)
+carries_out store said (rebuild name choices) are named may none = tt
+carries_out store said (select items name condition) are named may none =
     selects (table_of store name) items condition (λ table there. (table_in store name table there are.tables, named_in store name table there named)) none
+carries_out store said (load name file first) are named may none = lines_counted (table_of store name) said none
+carries_out store said (save name file) are named may none = rows_counted (table_of store name) (λ table there. table_in store name table there are.tables)
+carries_out store said (open_table name file) are named may none = held_counted store name file said may none
 
-answers : (first : Option Refusal) (store : Store) (statement : StatementTree) → IsStore store → AreNamed store → first_that_holds (tests_of store statement) ≡ first → IsReply (refused_or first store (carried_out store statement)).0
-answers None store statement are named none = carries_out store statement are named none
-answers (Some refusal) store statement are named some = plain_first (tests_of store statement) refusal (plain_tests store statement) some
+answers : (first : Option Refusal) (store : Store) (said : Content) (statement : StatementTree) → IsStore store → AreNamed store → MayBeSaid store statement said → first_that_holds (tests_of store said statement) ≡ first → IsReply (refused_or first store (carried_out store said statement)).0
+answers None store said statement are named may none = carries_out store said statement are named may none
+answers (Some refusal) store said statement are named may some = plain_first (tests_of store said statement) refusal (plain_tests store said statement are may) some
 
-pub replied : (store after : Store) (statement : StatementTree) (reply : Reply) → IsStore store → AreNamed store → Step store statement reply after → IsReply reply
-replied store after statement reply are named step =
+pub replied : (store after : Store) (said : Content) (statement : StatementTree) (reply : Reply) → IsStore store → AreNamed store → MayBeSaid store statement said → Step store said statement reply after → IsReply reply
+replied store after said statement reply are named may step =
     elim step [
       | inl free ↦ subst IsReply (sym free.says) tt
-      | inr e ↦ subst IsReply (sym (ap (λ p. p.0) e)) (answers (first_that_holds (tests_of store statement)) store statement are named refl)
+      | inr e ↦ subst IsReply (sym (ap (λ p. p.0) e)) (answers (first_that_holds (tests_of store said statement)) store said statement are named may refl)
     ]

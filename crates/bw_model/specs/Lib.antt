@@ -2,6 +2,9 @@ pub mod Answers
 pub mod Cells
 pub mod Changes
 pub mod Condition
+pub mod Contents
+pub mod FileUse
+pub mod Filing
 pub mod Insert
 pub mod Listing
 pub mod Named

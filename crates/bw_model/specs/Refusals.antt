@@ -4,15 +4,21 @@ use Rattle.std.specs.Prelude.{ℕ, ◌+◌, ◌==◌, Bool, true, false, ◌||�
 use Rattle.std.specs.List.{list_all, list_any}
 use Rattle.bw_lex.specs.declared.fault.SqlFault.{SqlFault}
 use Rattle.bw_lex.specs.declared.fault.SqlFault.TheVariants as fault
-use Rattle.bw_sql.specs.Tree.{ConditionTree, ConditionTrees, StatementTree, among, between, comparison, create_table, delete, drop_table, each_of, insert, list_tables, more, negated, none, null, rebuild, select, some_of, tested, update}
+use Rattle.bw_sql.specs.Tree.{ConditionTree, ConditionTrees, StatementTree, among, between, comparison, create_table, delete, drop_table, each_of, insert, list_tables, load, more, negated, none, null, open_table, rebuild, save, select, some_of, tested, update}
 use Rattle.bw_sql.specs.declared.tree.LayoutChoice.{LayoutChoice}
 use Rattle.bw_sql.specs.declared.tree.Operand.{Operand}
 use Rattle.bw_sql.specs.declared.tree.Operand.TheVariants.{Column, Constant}
 use Rattle.bw_sql.specs.declared.tree.SelectItem.{SelectItem}
 use Rattle.bw_sql.specs.declared.tree.SetClause.{SetClause}
+use Rattle.bw_csvload.specs.declared.fault.CsvFault.{CsvFault}
+use Rattle.bw_csvload.specs.declared.fault.CsvFault.TheVariants as csv
+use Rattle.bw_model.specs.Contents.{is_missing_file, is_no_table, is_too_large, lines_in}
+use Rattle.bw_model.specs.Filing.{file_limit, filed_length}
 use Rattle.bw_model.specs.Insert.{target_columns}
 use Rattle.bw_model.specs.Select.{columns_in, is_mixed, shown_items}
 use Rattle.bw_model.specs.Store.{Header, Row, Store, Table, Value, are_distinct, column_limit, place_of, row_limit, table_limit, table_of}
+use Rattle.bw_model.specs.declared.content.Content.{Content}
+use Rattle.bw_model.specs.declared.content.Content.TheVariants as content
 use Rattle.bw_model.specs.declared.refusal.Refusal.{Refusal}
 use Rattle.bw_model.specs.declared.refusal.Refusal.TheVariants as refusal
 
@@ -23,6 +29,13 @@ refusal_of_fault fault.TooLong = refusal.StatementTooLong
 refusal_of_fault fault.TooDeep = refusal.NestedTooDeeply
 refusal_of_fault fault.BigNumber = refusal.NumberTooLarge
 refusal_of_fault fault.Memory = refusal.OutOfMemory
+
+-- which refusal a fault of a CSV file is
+abbrev pub refusal_of_csv : CsvFault → Refusal
+refusal_of_csv (csv.Fields record') = refusal.WrongNumberOfFields record'
+refusal_of_csv (csv.NotInteger record' field) = refusal.NotInteger record' field
+refusal_of_csv csv.Range = refusal.OutOfRange
+refusal_of_csv csv.Memory = refusal.OutOfMemory
 
 -- refusals in their order, each with whether it holds
 abbrev pub Tests : Type 0
@@ -151,13 +164,51 @@ select_tests list condition table =
     ∷ (refusal.MixedItems, is_mixed list)
     ∷ []
 
--- a statement's tests
-abbrev pub tests_of : Store → StatementTree → Tests
-tests_of store (create_table name columns) = create_tests (map (λ c. c.name) columns) name store
-tests_of store (drop_table name) = over (table_of store name) (λ table. [])
-tests_of store list_tables = []
-tests_of store (insert name listed rows) = over (table_of store name) (λ table. insert_tests (target_columns table.headers listed) rows table)
-tests_of store (update name sets condition) = over (table_of store name) (λ table. update_tests sets condition table)
-tests_of store (delete name condition) = over (table_of store name) (λ table. delete_tests condition table)
-tests_of store (rebuild name choices) = over (table_of store name) (λ table. rebuild_tests (chosen_columns choices) table)
-tests_of store (select items name condition) = over (table_of store name) (λ table. select_tests (shown_items table.headers items) condition table)
+-- the fault of a CSV file, where it has one
+abbrev pub fault_test : Content → Refusal × Bool
+fault_test (content.Fault e) = (refusal_of_csv e, true)
+fault_test _ = (refusal.OutOfRange, false)
+
+abbrev pub load_tests : Content → Table → Tests
+load_tests said table =
+    (refusal.UnreadableFile, is_missing_file said)
+    ∷ (refusal.FileTooLarge, is_too_large said)
+    ∷ fault_test said
+    ∷ (refusal.TableFull, nat_lt row_limit (length table.rows + length (lines_in said)))
+    ∷ []
+
+abbrev pub save_tests : Table → Tests
+save_tests table = (refusal.FileTooLarge, nat_lt file_limit (filed_length table)) ∷ []
+
+abbrev pub open_tests : List ℕ → Store → Content → Tests
+open_tests name store said =
+    (refusal.TableExists, is_some (table_of store name))
+    ∷ (refusal.OverLimit, nat_le table_limit (length store))
+    ∷ (refusal.UnreadableFile, is_missing_file said)
+    ∷ (refusal.FileTooLarge, is_too_large said)
+    ∷ (refusal.NotTableFile, is_no_table said)
+    ∷ []
+
+-- a statement's tests, with what its file says to it
+abbrev pub tests_of : Store → Content → StatementTree → Tests
+tests_of store said (create_table name columns) = create_tests (map (λ c. c.name) columns) name store
+tests_of store said (drop_table name) = over (table_of store name) (λ table. [])
+tests_of store said list_tables = []
+tests_of store said (insert name listed rows) = over (table_of store name) (λ table. insert_tests (target_columns table.headers listed) rows table)
+tests_of store said (update name sets condition) = over (table_of store name) (λ table. update_tests sets condition table)
+tests_of store said (delete name condition) = over (table_of store name) (λ table. delete_tests condition table)
+tests_of store said (rebuild name choices) = over (table_of store name) (λ table. rebuild_tests (chosen_columns choices) table)
+tests_of store said (select items name condition) = over (table_of store name) (λ table. select_tests (shown_items table.headers items) condition table)
+tests_of store said (load name file first) = over (table_of store name) (load_tests said)
+tests_of store said (save name file) = over (table_of store name) save_tests
+tests_of store said (open_table name file) = open_tests name store said
+
+-- the tests that need no file
+abbrev pub early_tests : Store → StatementTree → Tests
+early_tests store (load name file first) = over (table_of store name) (λ table. [])
+early_tests store (open_table name file) = (refusal.TableExists, is_some (table_of store name)) ∷ (refusal.OverLimit, nat_le table_limit (length store)) ∷ []
+early_tests store statement = tests_of store content.Nothing statement
+
+-- why a statement is refused whatever its file says
+abbrev pub refused_early : Store → StatementTree → Option Refusal
+refused_early store statement = first_that_holds (early_tests store statement)

@@ -1,14 +1,17 @@
 //! Laws of the definitions.
 
-ghost use Rattle.std.specs.Prelude.{◌≡◌, [], All, List, Some, map};
+ghost use Rattle.std.specs.Prelude.{◌≡◌, ℕ, [], All, List, Option, Some, map};
 ghost use Rattle.std.specs.List.{flat_map};
+ghost use Rattle.bw_model.specs.Contents.{IsSaid, MayBeSaid};
+ghost use Rattle.bw_model.specs.Filing.{Holds};
 ghost use Rattle.bw_model.specs.Named.{AreNamed};
-ghost use Rattle.bw_model.specs.Refusals.{first_that_holds, tests_of};
+ghost use Rattle.bw_model.specs.Refusals.{refused_early};
 ghost use Rattle.bw_model.specs.ReplyText.{reply_text};
 ghost use Rattle.bw_model.specs.Step.{Step};
-ghost use Rattle.bw_model.specs.Store.{Store};
+ghost use Rattle.bw_model.specs.Store.{Store, Table as AnyTable};
 ghost use Rattle.bw_model.specs.Told.{IsReply, as_read};
 ghost use Rattle.bw_model.specs.WellFormed.{IsStore};
+ghost use Rattle.bw_model.specs.declared.content.Content.{Content as AnyContent};
 ghost use Rattle.bw_model.specs.declared.refusal.Refusal.{Refusal as AnyRefusal};
 ghost use Rattle.bw_model.specs.declared.reply.Reply.{Reply as AnyReply};
 ghost use Rattle.bw_model.specs.declared.reply.Reply.TheVariants.{Refused};
@@ -18,18 +21,19 @@ ghost use Rattle.bw_sql.specs.Tree.{StatementTree};
 
 /// A statement that is refused changes nothing.
 pub fn refusals_change_nothing()
-    ensures { (store after : Store) (statement : StatementTree) (refusal : AnyRefusal) → Step store statement (Refused refusal) after → after ≡ store }
+    ensures { (store after : Store) (said : AnyContent) (statement : StatementTree) (refusal : AnyRefusal) → Step store said statement (Refused refusal) after → after ≡ store }
 {}
 
-/// A statement that is to be refused is refused for its first reason, also where memory is wanting.
+/// A statement that is to be refused whatever its file says is refused for its first reason, also where memory is
+/// wanting.
 pub fn refusals_need_no_memory()
-    ensures { (store after : Store) (statement : StatementTree) (reply : AnyReply) (refusal : AnyRefusal) → first_that_holds (tests_of store statement) ≡ Some refusal → Step store statement reply after → (reply ≡ Refused refusal) × (after ≡ store) }
+    ensures { (store after : Store) (said : AnyContent) (statement : StatementTree) (reply : AnyReply) (refusal : AnyRefusal) → refused_early store statement ≡ Some refusal → Step store said statement reply after → (reply ≡ Refused refusal) × (after ≡ store) }
 {}
 
-/// A store without tables is well formed, and every statement leaves a well-formed store so.
+/// A store without tables is well formed, and every statement leaves a well-formed store so, whatever its file says.
 pub fn stores_stay_well_formed()
     ensures empty { IsStore [] }
-    ensures kept { (store after : Store) (statement : StatementTree) (reply : AnyReply) → IsStore store → Step store statement reply after → IsStore after }
+    ensures kept { (store after : Store) (said : AnyContent) (statement : StatementTree) (reply : AnyReply) → IsStore store → MayBeSaid store statement said → Step store said statement reply after → IsStore after }
 {}
 
 /// The bytes of replies, one after the other, tell where each ends and which it is, but that the
@@ -43,6 +47,17 @@ pub fn texts_tell_replies()
 /// (`names_are_names`).
 pub fn replies_are_told()
     ensures empty { AreNamed [] }
-    ensures kept { (store after : Store) (statement : StatementTree) (reply : AnyReply) → AreNamed store → All IsName (names_brought statement) → Step store statement reply after → AreNamed after }
-    ensures told { (store after : Store) (statement : StatementTree) (reply : AnyReply) → IsStore store → AreNamed store → Step store statement reply after → IsReply reply }
+    ensures kept { (store after : Store) (said : AnyContent) (statement : StatementTree) (reply : AnyReply) → AreNamed store → All IsName (names_brought statement) → MayBeSaid store statement said → Step store said statement reply after → AreNamed after }
+    ensures told { (store after : Store) (said : AnyContent) (statement : StatementTree) (reply : AnyReply) → IsStore store → AreNamed store → MayBeSaid store statement said → Step store said statement reply after → IsReply reply }
+{}
+
+/// Bytes hold one table at most, and one list of bytes holds a table: what is opened is what was saved.
+pub fn one_table_a_file()
+    ensures tables { (bytes : List ℕ) (table other : AnyTable) → Holds bytes table → Holds bytes other → table ≡ other }
+    ensures bytes { (bytes others : List ℕ) (table : AnyTable) → Holds bytes table → Holds others table → bytes ≡ others }
+{}
+
+/// A file says one thing to a statement.
+pub fn one_content()
+    ensures { (store : Store) (statement : StatementTree) (file : Option (List ℕ)) (said other : AnyContent) → IsSaid store statement file said → IsSaid store statement file other → said ≡ other }
 {}

@@ -5,6 +5,8 @@ mod answer;
 mod changes;
 mod condition;
 mod condition_laws;
+mod content;
+mod filing;
 mod insert;
 mod laws;
 mod listing;
@@ -22,13 +24,14 @@ pub use condition::{found_rows, truth_at};
 pub use condition_laws::{
     between_is_two_comparisons, in_is_a_run_of_or, not_in_with_null_finds_nothing,
 };
+pub use content::Content;
 pub use laws::{
-    refusals_change_nothing, refusals_need_no_memory, replies_are_told, stores_stay_well_formed,
-    texts_tell_replies,
+    one_content, one_table_a_file, refusals_change_nothing, refusals_need_no_memory,
+    replies_are_told, stores_stay_well_formed, texts_tell_replies,
 };
 pub use refusal::Refusal;
 pub use reply::Reply;
 pub use select::{answer_of, heading_of};
 pub use steps::step;
-pub use store::{Header, Row, Store, Table};
+pub use store::{Header, Row, RowList, Store, Table};
 pub use texts::reply_text;

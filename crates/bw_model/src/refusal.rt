@@ -1,9 +1,10 @@
 //! Why a statement is refused.
 
 ghost use Rattle.std.specs.Prelude.{◌≡◌};
-ghost use Rattle.bw_model.specs.Refusals.{refusal_of_fault};
+ghost use Rattle.bw_model.specs.Refusals.{refusal_of_csv, refusal_of_fault};
 ghost use Rattle.bw_model.specs.declared.refusal.Refusal.TheVariants.{OutOfMemory};
 
+use bw_csvload::CsvFault;
 use bw_sql::SqlFault;
 use std::alloc::{AllocError, AllocFailed};
 
@@ -62,6 +63,19 @@ impl From<SqlFault> for Refusal {
             SqlFault::TooDeep => Refusal::NestedTooDeeply,
             SqlFault::BigNumber => Refusal::NumberTooLarge,
             SqlFault::Memory => Refusal::OutOfMemory,
+        }
+    }
+}
+
+impl From<CsvFault> for Refusal {
+    ghost from_gives = { λ fault refusal. refusal ≡ refusal_of_csv fault };
+
+    fn from(fault: CsvFault) -> Refusal {
+        match fault {
+            CsvFault::Fields(record) => Refusal::WrongNumberOfFields { record },
+            CsvFault::NotInteger(record, field) => Refusal::NotInteger { record, field },
+            CsvFault::Range => Refusal::OutOfRange,
+            CsvFault::Memory => Refusal::OutOfMemory,
         }
     }
 }

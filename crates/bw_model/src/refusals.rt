@@ -2,11 +2,14 @@
 
 ghost use Rattle.std.specs.Prelude.{◌≡◌, ◌==◌, ◌||◌, length, nat_le, nat_lt, option_map};
 ghost use Rattle.std.specs.List.{list_all, list_any};
-ghost use Rattle.bw_model.specs.Refusals.{condition_misses, create_tests, first_that_holds, has_long_list, delete_tests, insert_tests, is_in_range, is_missing, lists_too_long, may_be_set, names_missing, operand_is_missing, rebuild_tests, select_tests, set_columns, update_tests};
+ghost use Rattle.bw_model.specs.Refusals.{condition_misses, create_tests, fault_test, first_that_holds, has_long_list, delete_tests, insert_tests, is_in_range, is_missing, lists_too_long, load_tests, may_be_set, names_missing, open_tests, operand_is_missing, save_tests, rebuild_tests, select_tests, set_columns, update_tests};
+ghost use Rattle.bw_model.specs.Contents.{is_missing_file, is_no_table, is_too_large, lines_in};
 ghost use Rattle.bw_model.specs.Select.{columns_in, is_column, is_mixed};
 ghost use Rattle.bw_model.specs.Store.{column_limit, table_limit};
 ghost use Rattle.bw_sql.specs.Tree.{condition_of};
 
+use crate::content::Content;
+use crate::filing::is_too_long;
 use crate::refusal::Refusal;
 use crate::select::{has_functions, is_column};
 use crate::store::{Header, Row, Table, are_distinct, place_of, table_of};
@@ -284,4 +287,78 @@ fn is_row_in_range(row: &Row) -> bool
     ensures { result ≡ list_all is_in_range row.now }
 {
     row.values().iter().all(is_in_range)
+}
+
+/// Whether there is no file, or none that can be read.
+fn is_missing_file(said: &Content) -> bool
+    ensures { result ≡ is_missing_file said.now }
+{
+    matches!(said, Content::Missing)
+}
+
+/// Whether the file is longer than a file may be.
+fn is_too_large(said: &Content) -> bool
+    ensures { result ≡ is_too_large said.now }
+{
+    matches!(said, Content::TooLarge)
+}
+
+/// Whether the file spells no table.
+fn is_no_table(said: &Content) -> bool
+    ensures { result ≡ is_no_table said.now }
+{
+    !matches!(said, Content::Held(_))
+}
+
+/// The fault of a CSV file, where it has one.
+fn fault_test(said: &Content) -> Test
+    ensures { result ≡ fault_test said.now }
+{
+    match said {
+        Content::Fault(fault) => (Refusal::from(*fault), true),
+        _ => (Refusal::OutOfRange, false),
+    }
+}
+
+/// The rows that a CSV file spells.
+pub(crate) fn lines_in(said: &Content) -> &[Row]
+    ensures { result.now ≡ lines_in said.now }
+{
+    match said {
+        Content::Lines(rows) => rows.as_slice(),
+        _ => &[],
+    }
+}
+
+/// The tests of LOAD over a table, with what the file says.
+pub(crate) fn load_tests(said: &Content, table: &Table) -> [Test; 4]
+    ensures { result ≡ load_tests said.now table.now }
+{
+    let count = table.rows().len() + lines_in(said).len();
+    [
+        (Refusal::UnreadableFile, is_missing_file(said)),
+        (Refusal::FileTooLarge, is_too_large(said)),
+        fault_test(said),
+        (Refusal::TableFull, count > ROW_LIMIT),
+    ]
+}
+
+/// The tests of OPEN, with what the file says.
+pub(crate) fn open_tests(name: &Name, tables: &[(Name, Table)], said: &Content) -> [Test; 5]
+    ensures { result ≡ open_tests name.now tables.now said.now }
+{
+    [
+        (Refusal::TableExists, table_of(tables, name).is_some()),
+        (Refusal::OverLimit, tables.len() >= TABLE_LIMIT),
+        (Refusal::UnreadableFile, is_missing_file(said)),
+        (Refusal::FileTooLarge, is_too_large(said)),
+        (Refusal::NotTableFile, is_no_table(said)),
+    ]
+}
+
+/// The tests of SAVE over a table.
+pub(crate) fn save_tests(table: &Table) -> [Test; 1]
+    ensures { result ≡ save_tests table.now }
+{
+    [(Refusal::FileTooLarge, is_too_long(table))]
 }

@@ -3,32 +3,43 @@
 ghost use Rattle.std.specs.Prelude.{◌≡◌, IfOk, MatchOption, OnErr, length, map, position};
 ghost use Rattle.std.specs.Str.{bytes_eq};
 ghost use Rattle.bw_model.specs.Insert.{target_columns, with_rows};
-ghost use Rattle.bw_model.specs.Refusals.{first_that_holds, insert_tests};
-ghost use Rattle.bw_model.specs.Step.{outcome_of};
+ghost use Rattle.bw_model.specs.Contents.{lines_in};
+ghost use Rattle.bw_model.specs.Refusals.{first_that_holds, insert_tests, load_tests};
+ghost use Rattle.bw_model.specs.Step.{outcome_of, with_lines};
 ghost use Rattle.bw_model.specs.Store.{Store as AnyStore, header_of};
+ghost use Rattle.bw_model.specs.declared.content.Content.TheVariants.{Nothing};
 ghost use Rattle.bw_model.specs.declared.reply.Reply.{Reply as AnyReply};
 ghost use Rattle.bw_model.specs.declared.reply.Reply.TheVariants.{Count, Refused};
 ghost use Rattle.bw_sql.specs.Tree.{statement_of};
 ghost use Rattle.bw_sql.specs.declared.tree.Statement.TheVariants as statements;
 
 use crate::changes::{delete_rows, rebuild_columns, update_rows};
+use crate::content::Content;
 use crate::insert::{rows_for, rows_of, target_columns};
 use crate::listing::listing_of;
 use crate::refusal::Refusal;
-use crate::refusals::{create_tests, first_that_holds, insert_tests, select_tests};
+use crate::refusals::{
+    create_tests, first_that_holds, insert_tests, lines_in, load_tests, open_tests, save_tests,
+    select_tests,
+};
 use crate::reply::Reply;
 use crate::select::{answer_of, columns_in, shown_items};
-use crate::store::{Header, Row, Store, Table, names, place_of_table, table_of};
+use crate::store::{Header, Row, Store, Table, names, place_of_table, same_rows, table_of};
 use bw_sql::{
-    ColumnDefinition, CreateTable, Delete, Insert, Name, NameList, Rebuild, Select, Statement,
-    Update,
+    ColumnDefinition, CreateTable, Delete, Insert, Load, Name, NameList, Open, Rebuild, Save,
+    Select, Statement, Update,
 };
 use std::alloc::{AllocError, Global};
 
-/// The reply to a statement over this store, which is left as the statement leaves it. Without
-/// memory it stays as it was.
-pub fn step(alloc: Global, store: &mut Store, statement: &Statement) -> Result<Reply, AllocError>
-    ensures outcome { IfOk result (λ reply. ◌≡◌ {A = AnyReply × AnyStore} (reply, store.new) (outcome_of store.old (statement_of statement.now))) }
+/// The reply to a statement over this store, with what its file says to it. The store is left as the
+/// statement leaves it. Without memory it stays as it was.
+pub fn step(
+    alloc: Global,
+    store: &mut Store,
+    said: &Content,
+    statement: &Statement,
+) -> Result<Reply, AllocError>
+    ensures outcome { IfOk result (λ reply. ◌≡◌ {A = AnyReply × AnyStore} (reply, store.new) (outcome_of store.old said.now (statement_of statement.now))) }
     ensures unchanged { OnErr result (store.new ≡ store.old) }
 {
     match statement {
@@ -40,6 +51,9 @@ pub fn step(alloc: Global, store: &mut Store, statement: &Statement) -> Result<R
         Statement::Delete(change) => delete(alloc, &mut store.tables, change),
         Statement::Rebuild(change) => rebuild(alloc, &mut store.tables, change),
         Statement::Select(query) => select(alloc, &store.tables, query),
+        Statement::Load(request) => load(alloc, &mut store.tables, said, request),
+        Statement::Save(request) => Ok(save(&store.tables, request)),
+        Statement::Open(request) => open_table(alloc, &mut store.tables, said, request),
     }
 }
 
@@ -48,7 +62,7 @@ fn create_table(
     tables: &mut Vec<(Name, Table)>,
     create: &CreateTable,
 ) -> Result<Reply, AllocError>
-    ensures outcome { IfOk result (λ reply. ◌≡◌ {A = AnyReply × AnyStore} (reply, tables.new.items) (outcome_of tables.old.items (statement_of (statements.CreateTable create.now)))) }
+    ensures outcome { IfOk result (λ reply. ◌≡◌ {A = AnyReply × AnyStore} (reply, tables.new.items) (outcome_of tables.old.items Nothing (statement_of (statements.CreateTable create.now)))) }
     ensures unchanged { OnErr result (tables.new.items ≡ tables.old.items) }
 {
     let headers = headers_of(alloc, &create.columns)?;
@@ -73,7 +87,7 @@ fn headers_of(alloc: Global, columns: &[ColumnDefinition]) -> Result<Vec<Header>
 }
 
 fn drop_table(tables: &mut Vec<(Name, Table)>, name: &Name) -> Reply
-    ensures { ◌≡◌ {A = AnyReply × AnyStore} (result, tables.new.items) (outcome_of tables.old.items (statement_of (statements.DropTable name.now))) }
+    ensures { ◌≡◌ {A = AnyReply × AnyStore} (result, tables.new.items) (outcome_of tables.old.items Nothing (statement_of (statements.DropTable name.now))) }
 {
     match place_of_table(tables, name) {
         Some(place) => {
@@ -85,7 +99,7 @@ fn drop_table(tables: &mut Vec<(Name, Table)>, name: &Name) -> Reply
 }
 
 fn insert(alloc: Global, tables: &mut [(Name, Table)], insert: &Insert) -> Result<Reply, AllocError>
-    ensures outcome { IfOk result (λ reply. ◌≡◌ {A = AnyReply × AnyStore} (reply, tables.new) (outcome_of tables.old (statement_of (statements.Insert insert.now)))) }
+    ensures outcome { IfOk result (λ reply. ◌≡◌ {A = AnyReply × AnyStore} (reply, tables.new) (outcome_of tables.old Nothing (statement_of (statements.Insert insert.now)))) }
     ensures unchanged { OnErr result (tables.new ≡ tables.old) }
 {
     let Some(place) = place_of_table(tables, &insert.table) else {
@@ -117,7 +131,7 @@ fn insert_rows(
 }
 
 fn update(alloc: Global, tables: &mut [(Name, Table)], update: &Update) -> Result<Reply, AllocError>
-    ensures outcome { IfOk result (λ reply. ◌≡◌ {A = AnyReply × AnyStore} (reply, tables.new) (outcome_of tables.old (statement_of (statements.Update update.now)))) }
+    ensures outcome { IfOk result (λ reply. ◌≡◌ {A = AnyReply × AnyStore} (reply, tables.new) (outcome_of tables.old Nothing (statement_of (statements.Update update.now)))) }
     ensures unchanged { OnErr result (tables.new ≡ tables.old) }
 {
     let Some(place) = place_of_table(tables, &update.table) else {
@@ -127,7 +141,7 @@ fn update(alloc: Global, tables: &mut [(Name, Table)], update: &Update) -> Resul
 }
 
 fn delete(alloc: Global, tables: &mut [(Name, Table)], delete: &Delete) -> Result<Reply, AllocError>
-    ensures outcome { IfOk result (λ reply. ◌≡◌ {A = AnyReply × AnyStore} (reply, tables.new) (outcome_of tables.old (statement_of (statements.Delete delete.now)))) }
+    ensures outcome { IfOk result (λ reply. ◌≡◌ {A = AnyReply × AnyStore} (reply, tables.new) (outcome_of tables.old Nothing (statement_of (statements.Delete delete.now)))) }
     ensures unchanged { OnErr result (tables.new ≡ tables.old) }
 {
     let Some(place) = place_of_table(tables, &delete.table) else {
@@ -141,7 +155,7 @@ fn rebuild(
     tables: &mut [(Name, Table)],
     rebuild: &Rebuild,
 ) -> Result<Reply, AllocError>
-    ensures outcome { IfOk result (λ reply. ◌≡◌ {A = AnyReply × AnyStore} (reply, tables.new) (outcome_of tables.old (statement_of (statements.Rebuild rebuild.now)))) }
+    ensures outcome { IfOk result (λ reply. ◌≡◌ {A = AnyReply × AnyStore} (reply, tables.new) (outcome_of tables.old Nothing (statement_of (statements.Rebuild rebuild.now)))) }
     ensures unchanged { OnErr result (tables.new ≡ tables.old) }
 {
     let Some(place) = place_of_table(tables, &rebuild.table) else {
@@ -151,7 +165,7 @@ fn rebuild(
 }
 
 fn select(alloc: Global, tables: &[(Name, Table)], query: &Select) -> Result<Reply, AllocError>
-    ensures { IfOk result (λ reply. ◌≡◌ {A = AnyReply × AnyStore} (reply, tables.now) (outcome_of tables.now (statement_of (statements.Select query.now)))) }
+    ensures { IfOk result (λ reply. ◌≡◌ {A = AnyReply × AnyStore} (reply, tables.now) (outcome_of tables.now Nothing (statement_of (statements.Select query.now)))) }
 {
     let Some(table) = table_of(tables, &query.table) else {
         return Ok(Reply::Refused(Refusal::NoSuchTable));
@@ -168,4 +182,68 @@ fn select(alloc: Global, tables: &[(Name, Table)], query: &Select) -> Result<Rep
     }
     let shows = answer_of(alloc, table, &query.items, &query.condition)?;
     Ok(Reply::Rows(shows))
+}
+
+fn load(
+    alloc: Global,
+    tables: &mut [(Name, Table)],
+    said: &Content,
+    request: &Load,
+) -> Result<Reply, AllocError>
+    ensures outcome { IfOk result (λ reply. ◌≡◌ {A = AnyReply × AnyStore} (reply, tables.new) (outcome_of tables.old said.now (statement_of (statements.Load request.now)))) }
+    ensures unchanged { OnErr result (tables.new ≡ tables.old) }
+{
+    let Some(place) = place_of_table(tables, &request.table) else {
+        return Ok(Reply::Refused(Refusal::NoSuchTable));
+    };
+    load_lines(alloc, &mut tables[place].1, said)
+}
+
+/// Puts the rows of a CSV file last in this table.
+fn load_lines(alloc: Global, table: &mut Table, said: &Content) -> Result<Reply, AllocError>
+    ensures outcome { IfOk result (λ reply. MatchOption (first_that_holds (load_tests said.now table.old))
+        ((reply ≡ Count (length (lines_in said.now))) × (table.new ≡ with_lines (lines_in said.now) table.old))
+        (λ refusal. (reply ≡ Refused refusal) × (table.new ≡ table.old))) }
+    ensures unchanged { OnErr result (table.new ≡ table.old) }
+{
+    if let Some(refusal) = first_that_holds(&load_tests(said, table)) {
+        return Ok(Reply::Refused(refusal));
+    }
+    let rows = lines_in(said);
+    table.append(same_rows(alloc, rows)?)?;
+    Ok(Reply::Count(rows.len() as u64))
+}
+
+fn save(tables: &[(Name, Table)], request: &Save) -> Reply
+    ensures { ◌≡◌ {A = AnyReply × AnyStore} (result, tables.now) (outcome_of tables.now Nothing (statement_of (statements.Save request.now))) }
+{
+    let Some(table) = table_of(tables, &request.table) else {
+        return Reply::Refused(Refusal::NoSuchTable);
+    };
+    if let Some(refusal) = first_that_holds(&save_tests(table)) {
+        return Reply::Refused(refusal);
+    }
+    Reply::Count(table.rows().len() as u64)
+}
+
+fn open_table(
+    alloc: Global,
+    tables: &mut Vec<(Name, Table)>,
+    said: &Content,
+    request: &Open,
+) -> Result<Reply, AllocError>
+    ensures outcome { IfOk result (λ reply. ◌≡◌ {A = AnyReply × AnyStore} (reply, tables.new.items) (outcome_of tables.old.items said.now (statement_of (statements.Open request.now)))) }
+    ensures unchanged { OnErr result (tables.new.items ≡ tables.old.items) }
+{
+    if let Some(refusal) = first_that_holds(&open_tests(&request.table, tables, said)) {
+        return Ok(Reply::Refused(refusal));
+    }
+    let Content::Held(table) = said else {
+        unreachable!()
+    };
+    let name = request.table.try_clone(alloc)?;
+    let table = table.try_clone(alloc)?;
+    let count = table.rows().len() as u64;
+    tables.push((name, table))?;
+    Ok(Reply::Count(count))
 }

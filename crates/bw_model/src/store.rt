@@ -47,6 +47,37 @@ impl Row {
     }
 }
 
+/// Rows. A contract sees the list of them.
+#[derive(Debug, Drop)]
+pub struct RowList {
+    rows: Vec<Row>,
+}
+
+impl Model for RowList {
+    ghost use Rattle.std.specs.Prelude.{List};
+    ghost use Rattle.bw_model.specs.Store.{Row};
+
+    ghost Value = { List Row };
+
+    ghost view = { λ list. list.rows.items };
+}
+
+impl RowList {
+    /// These rows, in order.
+    pub fn new(rows: Vec<Row>) -> RowList
+        ensures { result ≡ rows.items }
+    {
+        RowList { rows }
+    }
+
+    /// The rows, in order.
+    pub fn as_slice(&self) -> &[Row]
+        ensures { result.now ≡ self.now }
+    {
+        &self.rows
+    }
+}
+
 /// A column of a table: its name, and how it is to lie in memory.
 #[derive(Debug, Drop)]
 pub struct Header {
@@ -73,6 +104,13 @@ impl Header {
             layout: definition.layout.unwrap_or(LayoutWord::V),
             kind: definition.kind.unwrap_or(KindWord::Offset),
         })
+    }
+
+    /// The column of this name, with this layout and this kind.
+    pub fn of_words(name: Name, layout: LayoutWord, kind: KindWord) -> Header
+        ensures { result ≡ record { name = name; layout = layout; kind = kind } }
+    {
+        Header { name, layout, kind }
     }
 
     /// A column of the same name with this layout and this kind.
@@ -143,6 +181,24 @@ impl Table {
         }
     }
 
+    /// The table of these columns and rows.
+    pub fn of_rows(headers: Vec<Header>, rows: Vec<Row>) -> Table
+        requires { 0 < length headers.items }
+        ensures { result ≡ record { headers = headers.items; rows = rows.items } }
+    {
+        Table { headers, rows }
+    }
+
+    /// A second table of the same columns and rows.
+    pub fn try_clone(&self, alloc: Global) -> Result<Table, AllocError>
+        ensures { IfOk result (λ table. table ≡ self.now) }
+    {
+        Ok(Table {
+            headers: same_headers(alloc, self.headers())?,
+            rows: same_rows(alloc, self.rows())?,
+        })
+    }
+
     /// The columns, in order.
     pub fn headers(&self) -> &[Header]
         ensures value { result.now ≡ self.now.headers }
@@ -205,6 +261,35 @@ impl Store {
             tables: Vec::new(alloc),
         }
     }
+
+    /// The table of this name.
+    pub fn table(&self, name: &Name) -> Option<&Table>
+        ensures { option_copied result ≡ table_of self.now name.now }
+    {
+        table_of(&self.tables, name)
+    }
+}
+
+/// The same columns.
+fn same_headers(alloc: Global, headers: &[Header]) -> Result<Vec<Header>, AllocError>
+    ensures { IfOk result (λ list. list.items ≡ headers.now) }
+{
+    let mut list = Vec::new(alloc);
+    for header in headers {
+        list.push(header.with_words(alloc, header.layout(), header.kind())?)?;
+    }
+    Ok(list)
+}
+
+/// The same rows.
+pub(crate) fn same_rows(alloc: Global, rows: &[Row]) -> Result<Vec<Row>, AllocError>
+    ensures { IfOk result (λ list. list.items ≡ rows.now) }
+{
+    let mut list = Vec::new(alloc);
+    for row in rows {
+        list.push(row.try_clone(alloc)?)?;
+    }
+    Ok(list)
 }
 
 /// The names of the columns.

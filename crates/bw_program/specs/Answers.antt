@@ -1,6 +1,7 @@
 -- Which script the program has answered, and how that may end.
 use Rattle.std.specs.Prelude.{◌≡◌, ℕ, List, Option, Some, None, ⊤}
 use Rattle.bw_shell.specs.Run.{RunsTo}
+use Rattle.bw_shell.specs.States.{seen}
 use Rattle.bw_shell.specs.declared.session.OnError.{OnError}
 use Rattle.bw_shell.specs.declared.session.RunEnd.{RunEnd}
 use Rattle.bw_program.specs.declared.ending.Ending.{Ending}
@@ -8,9 +9,9 @@ use Rattle.bw_program.specs.declared.ending.Ending.TheVariants.{NotAsked, NotOpe
 use Rattle.bw_program.specs.declared.request.WordsFault.TheVariants.{Memory, Usage}
 use Rattle.bw_program.specs.Words.{Asked, Text, on_error_of}
 
--- a run over what the reader gave ends so, whatever the writer held
+-- a run over what the reader gave ends so, whatever the writer held, with a folder that tells nothing of its files
 abbrev pub EndsOver : OnError → Option (List ℕ) → Option (List ℕ) → RunEnd → Type 0
-EndsOver on_error given left end = (old : Option (List ℕ)) × (new : Option (List ℕ)) × RunsTo on_error given left old new end
+EndsOver on_error given left end = (old : Option (List ℕ)) × (new : Option (List ℕ)) × (failures : ℕ) × RunsTo on_error given left old new (seen None 0) (seen None failures) end
 
 -- the program ends as a run over what the reader gave
 abbrev pub AnswersOver : OnError → Option (List ℕ) → Option (List ℕ) → Ending → Type 0

@@ -9,7 +9,7 @@ ghost use Rattle.bw_shell.specs.Writing.{AppendsFront};
 
 use crate::ending::{Ending, end_with};
 use crate::request::{Request, WordsFault, request_of};
-use bw_shell::{MemoryFolder, OnError, RunEnd, run};
+use bw_shell::{HostFolder, OnError, RunEnd, run};
 use std::alloc::Global;
 use std::convert::AsStr;
 use std::env::Env;
@@ -87,16 +87,19 @@ pub fn answer<F: Files, I: Read, O: Write + Drop>(
     ensures { AnswersScript (option_map (λ path. path.now) request.entry.script) request.entry.on_error (I.remaining input.old) (I.remaining input.new) result }
 {
     let Some(path) = request.script else {
-        return Ending::Ran(run_script(alloc, input, output, request.on_error));
+        return Ending::Ran(run_script(alloc, files, input, output, request.on_error));
     };
     match fs::open(files, path) {
-        Ok(mut file) => Ending::Ran(run_script(alloc, &mut file, output, request.on_error)),
+        Ok(mut file) => {
+            Ending::Ran(run_script(alloc, files, &mut file, output, request.on_error))
+        }
         Err(_) => Ending::NotOpened,
     }
 }
 
-fn run_script<R: Read, O: Write + Drop>(
+fn run_script<F: Files, R: Read, O: Write + Drop>(
     alloc: Global,
+    files: &F,
     script: &mut R,
     output: O,
     on_error: OnError,
@@ -106,7 +109,7 @@ fn run_script<R: Read, O: Write + Drop>(
     let Ok(mut output) = BufWriter::with_capacity(alloc, OUTPUT_BUFFER, output) else {
         return RunEnd::Memory;
     };
-    let mut folder = MemoryFolder::new(alloc);
+    let mut folder = HostFolder::new(alloc, files);
     let end = run(alloc, script, &mut output, &mut folder, on_error);
     // What a failed writer left in the buffer is dropped, not tried once more.
     let _ = output.into_parts();

@@ -1,7 +1,7 @@
 //! Each call that may want memory, seen answering.
 
 use crate::harness::statement_in;
-use bw_engine::{Engine, FileAnswer};
+use bw_engine::{Engine, FileAnswer, Outcome};
 use bw_mask::TruthValue;
 use bw_model::{Header, Reply, Row, Table, answer_of, found_rows, truth_at};
 use bw_shell::{Folder, FolderFault, MemoryFolder};
@@ -125,26 +125,29 @@ fn the_plain_program_answers(rt: HostRuntime) {
     }
 }
 
+/// The reply to a statement without a file.
+fn replied<R: Abort>(rt: &R, engine: &mut Engine, statement: Statement) -> Reply {
+    match engine.execute(statement, FileAnswer::NotAsked) {
+        Outcome::Reply(reply) => reply,
+        Outcome::Save(_) => panic!(rt; "a SAVE"),
+    }
+}
+
 #[test]
 fn an_engine_executes(rt: HostRuntime) {
     let mut engine = Engine::new(rt.alloc()).expect(&rt, "memory");
     let create = statement_in(&rt, "CREATE TABLE t (a INT)");
     assert_eq!(rt; engine.wants(&create), None);
-    assert!(rt; matches!(engine.execute(create, FileAnswer::NotAsked), Reply::Done));
+    assert!(rt; matches!(replied(&rt, &mut engine, create), Reply::Done));
     let insert = statement_in(&rt, "INSERT INTO t VALUES (1), (NULL)");
-    assert!(rt;
-        matches!(
-            engine.execute(insert, FileAnswer::NotAsked),
-            Reply::Count(2)
-        )
-    );
+    assert!(rt; matches!(replied(&rt, &mut engine, insert), Reply::Count(2)));
     let tables = statement_in(&rt, "TABLES");
-    match engine.execute(tables, FileAnswer::NotAsked) {
+    match replied(&rt, &mut engine, tables) {
         Reply::Rows(answer) => assert_eq!(rt; answer.line_count(), 1),
         _ => panic!(&rt; "no rows"),
     }
     let select = statement_in(&rt, "SELECT a FROM t");
-    match engine.execute(select, FileAnswer::NotAsked) {
+    match replied(&rt, &mut engine, select) {
         Reply::Rows(answer) => assert_eq!(rt; answer.line_count(), 2),
         _ => panic!(&rt; "no rows"),
     }

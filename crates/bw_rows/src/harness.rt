@@ -1,7 +1,9 @@
 //! Runs a script over bytes in memory, and by the plain program. Where memory is wanting, a test fails.
 
+use crate::contents::content_for;
+use bw_engine::FILE_LIMIT;
 use bw_model::{Refusal, Reply, Store, reply_text, step};
-use bw_shell::{MemoryFolder, OnError, RunEnd, run};
+use bw_shell::{Folder, MemoryFolder, OnError, RunEnd, run};
 use bw_sql::{LONGEST_STATEMENT, Statement, parts, statement};
 use std::alloc::Global;
 use std::io::{Read, Write};
@@ -10,6 +12,18 @@ use std::process::Abort;
 
 /// A script and the replies to it.
 pub(crate) type Example = (&'static str, &'static str);
+
+/// A file: its name and its bytes.
+pub(crate) type File<'a> = (&'a str, &'a [u8]);
+
+/// A folder with these files.
+pub(crate) fn folder_of<R: Abort + AllocGlobal>(rt: &R, files: &[File<'_>]) -> MemoryFolder {
+    let mut folder = MemoryFolder::new(rt.alloc());
+    for (name, bytes) in files {
+        folder.write(name, bytes).expect(rt, "memory");
+    }
+    folder
+}
 
 /// Runs what a reader gives over an empty folder.
 pub(crate) fn run_over<I: Read, O: Write>(
@@ -27,8 +41,13 @@ pub(crate) fn statement_in<R: Abort + AllocGlobal>(rt: &R, text: &str) -> Statem
     statement(rt.alloc(), text.as_bytes()).expect(rt, text)
 }
 
-/// What the plain program answers to a script: its step for each statement, over lists of rows.
-fn plain_output<R: Abort + AllocGlobal>(rt: &R, script: &[u8]) -> Vec<u8> {
+/// What the plain program answers to a script: its step for each statement, over lists of rows. Files are read from this
+/// folder and not written to it.
+fn plain_output<R: Abort + AllocGlobal>(
+    rt: &R,
+    folder: &mut MemoryFolder,
+    script: &[u8],
+) -> Vec<u8> {
     let mut store = Store::new(rt.alloc());
     let mut output = Vec::new(rt.alloc());
     let parts = parts(rt.alloc(), script).expect(rt, "memory");
@@ -36,7 +55,7 @@ fn plain_output<R: Abort + AllocGlobal>(rt: &R, script: &[u8]) -> Vec<u8> {
         let text = script
             .get(part.span.start..part.span.end)
             .expect(rt, "a part of the script");
-        let reply = plain_reply(rt, &mut store, text, part.is_closed);
+        let reply = plain_reply(rt, &mut store, folder, text, part.is_closed);
         let mut text = reply_text(rt.alloc(), &reply).expect(rt, "memory");
         output.append(&mut text).expect(rt, "memory");
     }
@@ -46,6 +65,7 @@ fn plain_output<R: Abort + AllocGlobal>(rt: &R, script: &[u8]) -> Vec<u8> {
 fn plain_reply<R: Abort + AllocGlobal>(
     rt: &R,
     store: &mut Store,
+    folder: &mut MemoryFolder,
     text: &[u8],
     is_closed: bool,
 ) -> Reply {
@@ -56,20 +76,54 @@ fn plain_reply<R: Abort + AllocGlobal>(
         return Reply::Refused(Refusal::Syntax);
     }
     match statement(rt.alloc(), text) {
-        Ok(statement) => step(rt.alloc(), store, &statement).expect(rt, "memory"),
+        Ok(statement) => {
+            let said = content_for(rt, folder, store, &statement);
+            step(rt.alloc(), store, &said, &statement).expect(rt, "memory")
+        }
         Err(fault) => Reply::Refused(Refusal::from(fault)),
     }
 }
 
 /// Checks that a script gets these replies, from the run and from the plain program.
 pub(crate) fn check_script<R: Abort + AllocGlobal>(rt: &R, script: &str, replies: &str) {
+    check_files(rt, &[], script, replies);
+}
+
+/// Checks that a script gets these replies over a folder with these files, from the run and from the plain program, and gives
+/// the folder that the run left. The plain program reads that one, so a script reads no file before it writes it, and writes
+/// none twice.
+pub(crate) fn check_files<R: Abort + AllocGlobal>(
+    rt: &R,
+    files: &[File<'_>],
+    script: &str,
+    replies: &str,
+) -> MemoryFolder {
+    let mut folder = folder_of(rt, files);
     let mut reader = script.as_bytes();
     let mut output = Vec::new(rt.alloc());
-    let end = run_over(rt.alloc(), &mut reader, &mut output, OnError::Continue);
+    let end = run(
+        rt.alloc(),
+        &mut reader,
+        &mut output,
+        &mut folder,
+        OnError::Continue,
+    );
     assert_eq!(rt; end, RunEnd::Done, "{script}");
     assert_eq!(rt; output.as_slice(), replies.as_bytes(), "{script}");
-    let plain = plain_output(rt, script.as_bytes());
+    let plain = plain_output(rt, &mut folder, script.as_bytes());
     assert_eq!(rt; plain.as_slice(), replies.as_bytes(), "{script}");
+    folder
+}
+
+/// Checks the bytes of a file in a folder.
+pub(crate) fn check_file<R: Abort + AllocGlobal>(
+    rt: &R,
+    folder: &mut MemoryFolder,
+    file: File<'_>,
+) {
+    let (name, bytes) = file;
+    let found = folder.read(name, FILE_LIMIT).expect(rt, "a file");
+    assert_eq!(rt; found.as_slice(), bytes);
 }
 
 /// Checks that each script gets its replies.

@@ -9,6 +9,12 @@ mod changes;
 #[cfg(test)]
 mod conditions;
 #[cfg(test)]
+mod contents;
+#[cfg(test)]
+mod devices;
+#[cfg(test)]
+mod files;
+#[cfg(test)]
 mod functions;
 #[cfg(test)]
 mod harness;

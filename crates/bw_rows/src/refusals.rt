@@ -44,14 +44,3 @@ fn of_select(rt: HostRuntime) {
         )],
     );
 }
-
-#[test]
-fn of_what_is_no_statement_yet(rt: HostRuntime) {
-    check_examples(
-        &rt,
-        &[(
-            "CREATE TABLE t (a INT); LOAD t FROM 'f'; SAVE t TO 'f'; SELECT a FROM t",
-            "ok\nerror 10: syntax error\nerror 10: syntax error\nerror 10: syntax error\n",
-        )],
-    );
-}

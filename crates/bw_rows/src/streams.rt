@@ -60,9 +60,9 @@ impl Write for FullWriter {
 
 // Takes everything, and fails at a later flush.
 #[derive(Drop)]
-struct UnflushedWriter {
-    taken: Vec<u8>,
-    flushes_left: u32,
+pub(crate) struct UnflushedWriter {
+    pub(crate) taken: Vec<u8>,
+    pub(crate) flushes_left: usize,
 }
 
 impl Write for UnflushedWriter {

@@ -1,7 +1,10 @@
+pub mod ByFolder
 pub mod FileMaps
 pub mod Items
 pub mod Lines
+pub mod OneAnswer
 pub mod Outputs
+pub mod Saves
 pub mod Sessions
 pub mod Telling
 pub mod Texts

@@ -5,12 +5,12 @@ use Rattle.std.proofs.lemmas.Bool.{true≢false}
 use Rattle.bw_lex.specs.Parts.{AreParts, ArePartsFrom, cut, is_blank_run, last, run_len}
 use Rattle.bw_lex.specs.declared.script.Part.{Part}
 use Rattle.bw_model.specs.ReplyText.{reply_text}
-use Rattle.bw_model.specs.Store.{Store}
 use Rattle.bw_model.specs.declared.reply.Reply.{Reply}
 use Rattle.bw_model.specs.declared.reply.Reply.TheVariants.{Done, Count, Rows, Refused}
 use Rattle.bw_shell.specs.Replies.{LeavesOff, WroteReplies, and_then, none_left}
 use Rattle.bw_shell.specs.Run.{Either, IsOver, MayAnswer, Session, is_dropped, last_end, stops, text_of}
 use Rattle.bw_shell.specs.Script.{IsFrontOf}
+use Rattle.bw_shell.specs.States.{State}
 use Rattle.bw_shell.specs.declared.reading.ScriptEnd.{ScriptEnd}
 use Rattle.bw_shell.specs.declared.reading.ScriptEnd.TheVariants.{Reached, Fault}
 use Rattle.bw_shell.specs.declared.session.OnError.{OnError}
@@ -50,37 +50,42 @@ open_is_last at script parts (last run is) = with_rest (is_blank_run run) (recor
 
 module _ (on_error : OnError) (script : List ℕ) where
   -- no part is left
-  at_end : (read : ScriptEnd) (store : Store) → WroteReplies on_error read script store [] (last_end read) []
-  at_end Reached store = record { answered = []; left = []; split = refl; kept = refl; replies = []; after = store; are_answered = none_left; begun = []; written = refl; leaves_off = (refl, refl, refl, refl) }
-  at_end Fault store = record { answered = []; left = []; split = refl; kept = refl; replies = []; after = store; are_answered = none_left; begun = []; written = refl; leaves_off = (refl, tt, refl, refl) }
+  at_end : (read : ScriptEnd) (state : State) → WroteReplies on_error read script state [] (last_end read) [] state
+  at_end Reached state = record { answered = []; left = []; split = refl; kept = refl; replies = []; after = state; are_answered = none_left; begun = []; written = refl; leaves_off = (refl, refl, refl, refl, refl) }
+  at_end Fault state = record { answered = []; left = []; split = refl; kept = refl; replies = []; after = state; are_answered = none_left; begun = []; written = refl; leaves_off = (refl, refl, tt, refl, refl) }
 
   -- the rest is dropped
-  at_dropped : (read : ScriptEnd) (store : Store) (part : Part) (parts : List Part) → (part.is_closed ≡ false → parts ≡ []) → is_dropped read part ≡ true → WroteReplies on_error read script store (part ∷ parts) (last_end read) []
-  at_dropped Reached store part parts alone dropped = absurd (true≢false (sym dropped))
-  at_dropped Fault store part parts alone dropped = record { answered = []; left = part ∷ parts; split = refl; kept = refl; replies = []; after = store; are_answered = none_left; begun = []; written = refl; leaves_off = (refl, (dropped, alone (isnt part.is_closed dropped)), refl, refl) }
+  at_dropped : (read : ScriptEnd) (state : State) (part : Part) (parts : List Part) → (part.is_closed ≡ false → parts ≡ []) → is_dropped read part ≡ true → WroteReplies on_error read script state (part ∷ parts) (last_end read) [] state
+  at_dropped Reached state part parts alone dropped = absurd (true≢false (sym dropped))
+  at_dropped Fault state part parts alone dropped = record { answered = []; left = part ∷ parts; split = refl; kept = refl; replies = []; after = state; are_answered = none_left; begun = []; written = refl; leaves_off = (refl, refl, (dropped, alone (isnt part.is_closed dropped)), refl, refl) }
 
-  over : (read : ScriptEnd) (store : Store) (parts : List Part) (end : RunEnd) (bytes : List ℕ) → WroteReplies on_error read script store parts (last_end read) [] → IsOver (last_end read) end bytes → WroteReplies on_error read script store parts end bytes
-  over read store parts end bytes wrote is =
-      subst (λ e. WroteReplies on_error read script store parts e bytes) (sym is.0) (subst (WroteReplies on_error read script store parts (last_end read)) (sym is.1) wrote)
+-- a run that is over ended so
+module _ (on_error : OnError) (read : ScriptEnd) (script : List ℕ) (state at : State) (parts : List Part) (wanted end : RunEnd) (front bytes : List ℕ) (final : State) where
+  over : WroteReplies on_error read script state parts wanted (front ++ []) at → IsOver wanted end bytes at final → WroteReplies on_error read script state parts end (front ++ bytes) final
+  over wrote is =
+      subst (λ e. WroteReplies on_error read script state parts e (front ++ bytes) final) (sym is.0)
+      (subst (λ b. WroteReplies on_error read script state parts wanted (front ++ b) final) (sym is.1)
+      (subst (WroteReplies on_error read script state parts wanted (front ++ [])) (sym is.2) wrote))
 
-module _ (read : ScriptEnd) (script : List ℕ) (store : Store) (part : Part) (parts : List Part) (reply : Reply) (after : Store) (kept : is_dropped read part ≡ false) (answers : MayAnswer store part.is_closed (text_of script part) reply after) where
+module _ (read : ScriptEnd) (script : List ℕ) (state : State) (part : Part) (parts : List Part) (reply : Reply) (after : State) (kept : is_dropped read part ≡ false) (answers : MayAnswer state part.is_closed (text_of script part) reply after) where
   -- the writer failed in the reply
-  at_failure : (on_error : OnError) (end : RunEnd) (bytes : List ℕ) → end ≡ ends.WriteFault → IsFrontOf bytes (reply_text reply) → WroteReplies on_error read script store (part ∷ parts) end bytes
-  at_failure on_error end bytes is front =
-      subst (λ e. WroteReplies on_error read script store (part ∷ parts) e bytes) (sym is)
-      (record { answered = []; left = part ∷ parts; split = refl; kept = refl; replies = []; after = store; are_answered = none_left; begun = bytes; written = refl; leaves_off = ((reply, after, answers, front), refl) })
+  at_failure : (on_error : OnError) (end : RunEnd) (bytes : List ℕ) (final : State) → end ≡ ends.WriteFault → IsFrontOf bytes (reply_text reply) → final ≡ after → WroteReplies on_error read script state (part ∷ parts) end bytes final
+  at_failure on_error end bytes final is front same =
+      subst (λ e. WroteReplies on_error read script state (part ∷ parts) e bytes final) (sym is)
+      (subst (WroteReplies on_error read script state (part ∷ parts) ends.WriteFault bytes) (sym same)
+      (record { answered = []; left = part ∷ parts; split = refl; kept = refl; replies = []; after = state; are_answered = none_left; begun = bytes; written = refl; leaves_off = ((reply, answers, front), refl) }))
 
 one_kept : (read : ScriptEnd) (part : Part) → is_dropped read part ≡ false → list_any (is_dropped read) (part ∷ []) ≡ false
 one_kept read part kept = no_front (is_dropped read part) false kept refl
 
 -- the reply is an error, and the run stops there
-at_stop : (on_error : OnError) (read : ScriptEnd) (script : List ℕ) (store : Store) (part : Part) (parts : List Part) (reply : Reply) (after : Store) → is_dropped read part ≡ false → MayAnswer store part.is_closed (text_of script part) reply after → stops on_error reply ≡ true
-    → WroteReplies on_error read script store (part ∷ parts) ends.Stopped (reply_text reply ++ [])
-at_stop Continue read script store part parts reply after kept answers stop = absurd (true≢false (sym stop))
-at_stop Stop read script store part parts Done after kept answers stop = absurd (true≢false (sym stop))
-at_stop Stop read script store part parts (Count n) after kept answers stop = absurd (true≢false (sym stop))
-at_stop Stop read script store part parts (Rows answer) after kept answers stop = absurd (true≢false (sym stop))
-at_stop Stop read script store part parts (Refused refusal) after kept answers stop = record {
+at_stop : (on_error : OnError) (read : ScriptEnd) (script : List ℕ) (state : State) (part : Part) (parts : List Part) (reply : Reply) (after : State) → is_dropped read part ≡ false → MayAnswer state part.is_closed (text_of script part) reply after → stops on_error reply ≡ true
+    → WroteReplies on_error read script state (part ∷ parts) ends.Stopped (reply_text reply ++ []) after
+at_stop Continue read script state part parts reply after kept answers stop = absurd (true≢false (sym stop))
+at_stop Stop read script state part parts Done after kept answers stop = absurd (true≢false (sym stop))
+at_stop Stop read script state part parts (Count n) after kept answers stop = absurd (true≢false (sym stop))
+at_stop Stop read script state part parts (Rows answer) after kept answers stop = absurd (true≢false (sym stop))
+at_stop Stop read script state part parts (Refused refusal) after kept answers stop = record {
   answered = part ∷ [];
   left = parts;
   split = refl;
@@ -90,23 +95,23 @@ at_stop Stop read script store part parts (Refused refusal) after kept answers s
   are_answered = and_then answers none_left;
   begun = [];
   written = sym (append_assoc (reply_text (Refused refusal)) [] []);
-  leaves_off = (refl, refl, ([], refusal, refl, refl));
+  leaves_off = (refl, refl, refl, ([], refusal, refl, refl));
 }
 
 -- one reply more in front, behind which the run goes on
-leaves_off_more : (on_error : OnError) (read : ScriptEnd) (script : List ℕ) (store : Store) (left : List Part) (reply : Reply) (replies : List Reply) (begun : List ℕ) (end : RunEnd) → stops on_error reply ≡ false
-    → LeavesOff on_error read script store left replies begun end → LeavesOff on_error read script store left (reply ∷ replies) begun end
-leaves_off_more on_error read script store left reply replies begun ends.Done going so = (so.0, so.1, so.2, no_front (stops on_error reply) _ going so.3)
-leaves_off_more on_error read script store left reply replies begun ends.ReadFault going so = (so.0, so.1, so.2, no_front (stops on_error reply) _ going so.3)
-leaves_off_more on_error read script store left reply replies begun ends.Stopped going so =
-    let last = so.2 in
-    (so.0, so.1, (reply ∷ last.0, last.1, ap (λ l. reply ∷ l) last.2, no_front (stops Stop reply) _ (subst (λ o. stops o reply ≡ false) so.0 going) last.3))
-leaves_off_more on_error read script store left reply replies begun ends.WriteFault going so = (so.0, no_front (stops on_error reply) _ going so.1)
-leaves_off_more on_error read script store left reply replies begun ends.Memory going so = so
+leaves_off_more : (on_error : OnError) (read : ScriptEnd) (script : List ℕ) (state : State) (left : List Part) (reply : Reply) (replies : List Reply) (begun : List ℕ) (end : RunEnd) (final : State) → stops on_error reply ≡ false
+    → LeavesOff on_error read script state left replies begun end final → LeavesOff on_error read script state left (reply ∷ replies) begun end final
+leaves_off_more on_error read script state left reply replies begun ends.Done final going so = (so.0, so.1, so.2, so.3, no_front (stops on_error reply) _ going so.4)
+leaves_off_more on_error read script state left reply replies begun ends.ReadFault final going so = (so.0, so.1, so.2, so.3, no_front (stops on_error reply) _ going so.4)
+leaves_off_more on_error read script state left reply replies begun ends.Stopped final going so =
+    let ended = so.3 in
+    (so.0, so.1, so.2, (reply ∷ ended.0, ended.1, ap (λ l. reply ∷ l) ended.2, no_front (stops Stop reply) _ (subst (λ o. stops o reply ≡ false) so.1 going) ended.3))
+leaves_off_more on_error read script state left reply replies begun ends.WriteFault final going so = (so.0, no_front (stops on_error reply) _ going so.1)
+leaves_off_more on_error read script state left reply replies begun ends.Memory final going so = so
 
-more : (on_error : OnError) (read : ScriptEnd) (script : List ℕ) (store : Store) (part : Part) (parts : List Part) (reply : Reply) (after : Store) (end : RunEnd) (rest : List ℕ) → is_dropped read part ≡ false → MayAnswer store part.is_closed (text_of script part) reply after → stops on_error reply ≡ false
-    → WroteReplies on_error read script after parts end rest → WroteReplies on_error read script store (part ∷ parts) end (reply_text reply ++ rest)
-more on_error read script store part parts reply after end rest kept answers going wrote = record {
+more : (on_error : OnError) (read : ScriptEnd) (script : List ℕ) (state : State) (part : Part) (parts : List Part) (reply : Reply) (after : State) (end : RunEnd) (rest : List ℕ) (final : State) → is_dropped read part ≡ false → MayAnswer state part.is_closed (text_of script part) reply after → stops on_error reply ≡ false
+    → WroteReplies on_error read script after parts end rest final → WroteReplies on_error read script state (part ∷ parts) end (reply_text reply ++ rest) final
+more on_error read script state part parts reply after end rest final kept answers going wrote = record {
   answered = part ∷ wrote.answered;
   left = wrote.left;
   split = ap (λ l. part ∷ l) wrote.split;
@@ -116,28 +121,28 @@ more on_error read script store part parts reply after end rest kept answers goi
   are_answered = and_then answers wrote.are_answered;
   begun = wrote.begun;
   written = ap (λ l. reply_text reply ++ l) wrote.written ∙ sym (append_assoc (reply_text reply) (flat_map reply_text wrote.replies) wrote.begun);
-  leaves_off = leaves_off_more on_error read script wrote.after wrote.left reply wrote.replies wrote.begun end going wrote.leaves_off;
+  leaves_off = leaves_off_more on_error read script wrote.after wrote.left reply wrote.replies wrote.begun end final going wrote.leaves_off;
 }
 
-by_parts : (on_error : OnError) (read : ScriptEnd) (script : List ℕ) (store : Store) (parts : List Part) (end : RunEnd) (bytes : List ℕ) → OpenIsLast parts → Session on_error read script store parts end bytes → WroteReplies on_error read script store parts end bytes
-by_parts on_error read script store [] end bytes alone session = over on_error script read store [] end bytes (at_end on_error script read store) session
-by_parts on_error read script store (part ∷ parts) end bytes alone session =
+by_parts : (on_error : OnError) (read : ScriptEnd) (script : List ℕ) (state : State) (parts : List Part) (end : RunEnd) (bytes : List ℕ) (final : State) → OpenIsLast parts → Session on_error read script state parts end bytes final → WroteReplies on_error read script state parts end bytes final
+by_parts on_error read script state [] end bytes final alone session = over on_error read script state state [] (last_end read) end [] bytes final (at_end on_error script read state) session
+by_parts on_error read script state (part ∷ parts) end bytes final alone session =
     either (is_dropped read part) _ _ _
-    (λ dropped is. over on_error script read store (part ∷ parts) end bytes (at_dropped on_error script read store part parts alone.0 dropped) is)
-    (λ kept answer. by_reply kept answer.0 answer.1 answer.2 (λ rest. by_parts on_error read script answer.1 parts end rest alone.1) answer.3)
+    (λ dropped is. over on_error read script state state (part ∷ parts) (last_end read) end [] bytes final (at_dropped on_error script read state part parts alone.0 dropped) is)
+    (λ kept answer. by_reply kept answer.0 answer.1 answer.2 (λ rest. by_parts on_error read script answer.1 parts end rest final alone.1) answer.3)
     session
   where
-    by_reply : is_dropped read part ≡ false → (reply : Reply) (after : Store) → MayAnswer store part.is_closed (text_of script part) reply after → ((rest : List ℕ) → Session on_error read script after parts end rest → WroteReplies on_error read script after parts end rest)
-        → ((end ≡ ends.WriteFault) × IsFrontOf bytes (reply_text reply)) ⊎ ((rest : List ℕ) × (bytes ≡ reply_text reply ++ rest) × Either (stops on_error reply) (IsOver ends.Stopped end rest) (Session on_error read script after parts end rest))
-        → WroteReplies on_error read script store (part ∷ parts) end bytes
+    by_reply : is_dropped read part ≡ false → (reply : Reply) (after : State) → MayAnswer state part.is_closed (text_of script part) reply after → ((rest : List ℕ) → Session on_error read script after parts end rest final → WroteReplies on_error read script after parts end rest final)
+        → ((end ≡ ends.WriteFault) × IsFrontOf bytes (reply_text reply) × (final ≡ after)) ⊎ ((rest : List ℕ) × (bytes ≡ reply_text reply ++ rest) × Either (stops on_error reply) (IsOver ends.Stopped end rest after final) (Session on_error read script after parts end rest final))
+        → WroteReplies on_error read script state (part ∷ parts) end bytes final
     by_reply kept reply after answers deeper so =
         elim so [
-          | inl failed ↦ at_failure read script store part parts reply after kept answers on_error end bytes failed.0 failed.1
-          | inr on ↦ subst (WroteReplies on_error read script store (part ∷ parts) end) (sym on.1) (either (stops on_error reply) _ _ _
-              (λ stop is. subst (λ e. WroteReplies on_error read script store (part ∷ parts) e (reply_text reply ++ on.0)) (sym is.0) (subst (λ l. WroteReplies on_error read script store (part ∷ parts) ends.Stopped (reply_text reply ++ l)) (sym is.1) (at_stop on_error read script store part parts reply after kept answers stop)))
-              (λ going session. more on_error read script store part parts reply after end on.0 kept answers going (deeper on.0 session))
+          | inl failed ↦ at_failure read script state part parts reply after kept answers on_error end bytes final failed.0 failed.1 failed.2
+          | inr on ↦ subst (λ b. WroteReplies on_error read script state (part ∷ parts) end b final) (sym on.1) (either (stops on_error reply) _ _ _
+              (λ stop is. over on_error read script state after (part ∷ parts) ends.Stopped end (reply_text reply) on.0 final (at_stop on_error read script state part parts reply after kept answers stop) is)
+              (λ going session. more on_error read script state part parts reply after end on.0 final kept answers going (deeper on.0 session))
               on.2)
         ]
 
-pub wrote_replies : (on_error : OnError) (read : ScriptEnd) (script : List ℕ) (store : Store) (parts : List Part) (end : RunEnd) (bytes : List ℕ) → AreParts script parts → Session on_error read script store parts end bytes → WroteReplies on_error read script store parts end bytes
-wrote_replies on_error read script store parts end bytes are session = by_parts on_error read script store parts end bytes (open_is_last 0 script parts are) session
+pub wrote_replies : (on_error : OnError) (read : ScriptEnd) (script : List ℕ) (state : State) (parts : List Part) (end : RunEnd) (bytes : List ℕ) (final : State) → AreParts script parts → Session on_error read script state parts end bytes final → WroteReplies on_error read script state parts end bytes final
+wrote_replies on_error read script state parts end bytes final are session = by_parts on_error read script state parts end bytes final (open_is_last 0 script parts are) session

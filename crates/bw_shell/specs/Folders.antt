@@ -1,6 +1,6 @@
 -- What a folder's answer says of the folder: how often it failed, and which files it has, where they are known (a finite map
 -- from names to bytes).
-use Rattle.std.specs.Prelude.{◌≡◌, ◌+◌, ◌<◌, ◌≤◌, ℕ, false, List, length, Option, None, Some, IsSomeAnd, Result, Ok, Err, MatchResult, if◌then◌else◌}
+use Rattle.std.specs.Prelude.{◌≡◌, ◌+◌, ◌<◌, ℕ, false, List, length, Option, None, Some, IsSomeAnd, Result, Ok, Err, MatchResult, if◌then◌else◌}
 use Rattle.std.specs.Global.{Vec}
 use Rattle.std.specs.Map.{lookup}
 use Rattle.std.specs.Str.{bytes_eq}
@@ -30,7 +30,7 @@ IsReadFault limit file Memory = Unit {0}
 abbrev pub Reads : ℕ → List ℕ → Option Files → Option Files → Result (Vec ℕ) FolderFault → Type 0
 Reads limit name None new result = Unit {0}
 Reads limit name (Some files) new result =
-    (new ≡ Some files) × MatchResult result (λ bytes. (file_of files name ≡ Some bytes.items) × (length bytes.items ≤ limit)) (IsReadFault limit (file_of files name))
+    (new ≡ Some files) × MatchResult result (λ bytes. file_of files name ≡ Some bytes.items) (IsReadFault limit (file_of files name))
 
 -- these files, with this one made anew
 abbrev pub IsSet : List ℕ → List ℕ → Files → Files → Type 0

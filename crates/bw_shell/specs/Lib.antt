@@ -1,7 +1,11 @@
+pub mod Answers
 pub mod Folders
+pub mod Handing
+pub mod Opening
 pub mod Output
 pub mod Replies
 pub mod Run
 pub mod Script
+pub mod States
 pub mod ValueTexts
 pub mod Writing

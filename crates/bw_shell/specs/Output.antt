@@ -1,12 +1,12 @@
 -- The output of a script (SQL-92, direct invocation of SQL), where nothing fails.
-use Rattle.std.specs.Prelude.{◌≢◌, ℕ, List, ◌++◌}
+use Rattle.std.specs.Prelude.{◌≡◌, ◌≢◌, ℕ, IsSome, List, ◌++◌}
 use Rattle.bw_lex.specs.Parts.{AreParts}
 use Rattle.bw_lex.specs.declared.script.Part.{Part}
 use Rattle.bw_model.specs.ReplyText.{reply_text}
-use Rattle.bw_model.specs.Store.{Store}
 use Rattle.bw_model.specs.declared.refusal.Refusal.TheVariants.{OutOfMemory}
 use Rattle.bw_model.specs.declared.reply.Reply.TheVariants.{Refused}
 use Rattle.bw_shell.specs.Run.{Session}
+use Rattle.bw_shell.specs.States.{State}
 use Rattle.bw_shell.specs.declared.reading.ScriptEnd.{ScriptEnd}
 use Rattle.bw_shell.specs.declared.session.OnError.{OnError}
 use Rattle.bw_shell.specs.declared.session.RunEnd.{RunEnd}
@@ -16,10 +16,13 @@ use Rattle.bw_shell.specs.declared.session.RunEnd.TheVariants as ends
 abbrev pub SaysNoWant : List ℕ → Type 0
 SaysNoWant bytes = (front rest : List ℕ) → bytes ≢ front ++ reply_text (Refused OutOfMemory) ++ rest
 
--- A session over the script's parts that ends so and wrote these bytes, where the writer didn't fail and memory didn't run out.
-pub record IsOutput (on_error : OnError) (read : ScriptEnd) (script : List ℕ) (store : Store) (end : RunEnd) (bytes : List ℕ) : Type 0 where
+-- A session over the script's parts that ends so, wrote these bytes and left that state, where the folder tells its files, neither it
+-- nor the writer failed and memory didn't run out.
+pub record IsOutput (on_error : OnError) (read : ScriptEnd) (script : List ℕ) (state : State) (end : RunEnd) (bytes : List ℕ) (last : State) : Type 0 where
   pub parts : List Part
   pub are_parts : AreParts script parts
-  pub session : Session on_error read script store parts end bytes
+  pub session : Session on_error read script state parts end bytes last
   pub written : end ≢ ends.WriteFault
   pub memory : SaysNoWant bytes
+  pub known : IsSome state.files
+  pub unfailing : last.failures ≡ state.failures

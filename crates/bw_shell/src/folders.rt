@@ -1,6 +1,6 @@
 //! Folders, where a statement's files lie.
 
-ghost use Rattle.std.specs.Prelude.{◌≡◌, ℕ, ◌<◌, ◌^◌, [], None, Option, Some, IfErr};
+ghost use Rattle.std.specs.Prelude.{◌≡◌, ℕ, ◌<◌, ◌≤◌, ◌^◌, [], None, Option, Some, IfErr, IfOk, length};
 ghost use Rattle.bw_shell.specs.Folders.{Files, IsWriteFault, Reads, Writes, failures_after};
 ghost use Rattle.bw_shell.specs.declared.folders.FolderFault.TheVariants.{Memory};
 
@@ -49,6 +49,7 @@ pub trait Folder {
     fn read(&mut self, name: &str, limit: usize) -> Result<Vec<u8>, FolderFault>
         requires { failure_count self.old < 2 ^ 63 }
         ensures failures { failure_count self.new ≡ failures_after result (failure_count self.old) }
+        ensures within { IfOk result (λ bytes. length bytes.items ≤ limit) }
         ensures files { Reads limit name.now (files self.old) (files self.new) result };
 
     /// Makes the file anew with these bytes. The answer is never `Missing` or `TooLarge`. After

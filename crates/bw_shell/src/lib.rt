@@ -3,7 +3,9 @@
 
 mod backward;
 mod cells;
+mod executing;
 mod folders;
+mod host_folder;
 mod laws;
 mod reading;
 mod session;
@@ -11,7 +13,8 @@ mod text;
 mod writing;
 
 pub use folders::{Folder, FolderFault, MemoryFolder};
-pub use laws::{one_output, output_tells_replies, replies_are_written};
+pub use host_folder::HostFolder;
+pub use laws::{one_output, output_tells_replies, replies_are_written, saved_tables_open};
 pub use reading::ScriptEnd;
 pub use session::{OnError, RunEnd, run};
 pub use text::write_reply;

@@ -1,17 +1,19 @@
 //! A script run from its bytes to the bytes of its replies.
 
-ghost use Rattle.std.specs.Prelude.{◌≡◌, All};
+ghost use Rattle.std.specs.Prelude.{◌≡◌, ◌≤◌, ◌<◌, ◌+◌, ◌^◌, All, length};
 ghost use Rattle.bw_lex.specs.Parts.{IsPartOf};
 ghost use Rattle.bw_engine.specs.Stores.{store_of};
 ghost use Rattle.bw_model.specs.ReplyText.{reply_text};
 ghost use Rattle.bw_shell.specs.Run.{HasRun, MayAnswer, RunsTo, is_dropped, last_end, stops};
+ghost use Rattle.bw_shell.specs.States.{seen, with_store};
 ghost use Rattle.bw_shell.specs.Writing.{Wrote};
 
+use crate::executing::execute;
 use crate::folders::Folder;
 use crate::reading::{ScriptEnd, read_script};
 use crate::text::write_reply;
 use crate::writing::WriteFault;
-use bw_engine::{Engine, FileAnswer, Refusal, Reply};
+use bw_engine::{Engine, Refusal, Reply};
 use bw_sql::{LONGEST_STATEMENT, Part, parts, statement};
 use std::alloc::Global;
 use std::io::{Read, Write};
@@ -40,17 +42,17 @@ pub enum RunEnd {
     Memory,
 }
 
-/// Answers each part of a script in order over a store without tables, and writes the replies.
-/// No statement reads or writes a file of the folder yet.
+/// Answers each part of a script in order over a store without tables, and writes the replies. Files are read from
+/// the folder and written to it.
 pub fn run<R: Read, W: Write, F: Folder>(
     alloc: Global,
     reader: &mut R,
     writer: &mut W,
-    _folder: &mut F,
+    folder: &mut F,
     on_error: OnError,
 ) -> RunEnd
-    ensures run { RunsTo on_error (R.remaining reader.old) (R.remaining reader.new) (W.contents writer.old) (W.contents writer.new) result }
-    ensures folder { _folder.new ≡ _folder.old }
+    requires { F.failure_count folder.old ≤ 2 ^ 62 }
+    ensures { RunsTo on_error (R.remaining reader.old) (R.remaining reader.new) (W.contents writer.old) (W.contents writer.new) (seen (F.files folder.old) (F.failure_count folder.old)) (seen (F.files folder.new) (F.failure_count folder.new)) result }
 {
     let Ok(script) = read_script(alloc, reader) else {
         return RunEnd::Memory;
@@ -67,7 +69,7 @@ pub fn run<R: Read, W: Write, F: Folder>(
         parts: parts.as_slice(),
         end: script.end,
     };
-    answer_parts(alloc, &mut engine, writer, script, on_error)
+    answer_parts(alloc, &mut engine, writer, folder, script, on_error)
 }
 
 // A script that was read and split.
@@ -78,22 +80,25 @@ struct Parts<'a> {
     end: ScriptEnd,
 }
 
-fn answer_parts<W: Write>(
+fn answer_parts<W: Write, F: Folder>(
     alloc: Global,
     engine: &mut Engine,
     writer: &mut W,
+    folder: &mut F,
     script: Parts<'_>,
     on_error: OnError,
 ) -> RunEnd
-    requires { All (IsPartOf script.text.now) script.parts.now }
-    ensures { HasRun on_error script.entry.end script.entry.text.now script.entry.parts.now (store_of engine.old) (W.contents writer.old) (W.contents writer.new) result }
+    requires parts { All (IsPartOf script.text.now) script.parts.now }
+    requires failures { F.failure_count folder.old + length script.parts.now < 2 ^ 63 }
+    ensures { HasRun on_error script.entry.end script.entry.text.now script.entry.parts.now (with_store (store_of engine.old) (seen (F.files folder.old) (F.failure_count folder.old))) (W.contents writer.old) (W.contents writer.new) result
+        (with_store (store_of engine.new) (seen (F.files folder.new) (F.failure_count folder.new))) }
 {
     for part in script.parts {
         if is_dropped(script.end, part) {
             return last_end(script.end);
         }
         let text = &script.text[part.span.start..part.span.end];
-        let reply = reply_to(alloc, engine, text, part.is_closed);
+        let reply = reply_to(alloc, engine, folder, text, part.is_closed);
         if let Err(WriteFault) = hand_over(writer, &reply) {
             return RunEnd::WriteFault;
         }
@@ -135,8 +140,16 @@ fn stops(on_error: OnError, reply: &Reply) -> bool
 }
 
 // The reply to a part of a script.
-fn reply_to(alloc: Global, engine: &mut Engine, text: &[u8], is_closed: bool) -> Reply
-    ensures { MayAnswer (store_of engine.old) is_closed text.now result (store_of engine.new) }
+fn reply_to<F: Folder>(
+    alloc: Global,
+    engine: &mut Engine,
+    folder: &mut F,
+    text: &[u8],
+    is_closed: bool,
+) -> Reply
+    requires { F.failure_count folder.old < 2 ^ 63 }
+    ensures answers { MayAnswer (with_store (store_of engine.old) (seen (F.files folder.old) (F.failure_count folder.old))) is_closed text.now result (with_store (store_of engine.new) (seen (F.files folder.new) (F.failure_count folder.new))) }
+    ensures failures { F.failure_count folder.new ≤ F.failure_count folder.old + 1 }
 {
     if text.len() > LONGEST_STATEMENT {
         return Reply::Refused(Refusal::StatementTooLong);
@@ -145,7 +158,7 @@ fn reply_to(alloc: Global, engine: &mut Engine, text: &[u8], is_closed: bool) ->
         return Reply::Refused(Refusal::Syntax);
     }
     match statement(alloc, text) {
-        Ok(statement) => engine.execute(statement, FileAnswer::NotAsked),
+        Ok(statement) => execute(engine, folder, statement),
         Err(fault) => Reply::Refused(Refusal::from(fault)),
     }
 }

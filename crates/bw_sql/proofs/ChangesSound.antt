@@ -4,7 +4,7 @@ use Rattle.bw_lex.specs.declared.token.CompareOp.TheVariants.{Eq}
 use Rattle.bw_lex.specs.declared.token.Symbol.TheVariants as s
 use Rattle.bw_sql.specs.declared.keyword.Keyword.TheVariants as k
 use Rattle.bw_sql.specs.declared.terminal.StatementWord.{StatementWord}
-use Rattle.bw_sql.specs.declared.terminal.StatementWord.TheVariants.{Rebuild, Tables}
+use Rattle.bw_sql.specs.declared.terminal.StatementWord.TheVariants.{Load, Rebuild, Save, Tables}
 use Rattle.bw_sql.specs.declared.terminal.Terminal.{Terminal}
 use Rattle.bw_sql.specs.declared.terminal.Terminal.TheVariants as t
 use Rattle.bw_sql.specs.declared.tree.KindWord.{KindWord}
@@ -16,17 +16,11 @@ use Rattle.bw_sql.specs.Tree.{ConditionTree, StatementTree, delete, drop_table, 
 use Rattle.bw_sql.specs.Grammar.{ChoicePart, ConditionPart, KindPart, ListOf, OperandPart, SetPart, Spells, choice, deletes, deletes_where, drops, lists_tables, rebuilds, rebuilds_columns, set, updates, updates_where}
 use Rattle.bw_sql.specs.Reading.{after_close, after_equals, after_from, after_set, after_table, after_using, behind_word, choice_at, choice_list_at, choices_at, condition_at, delete_at, drop_at, filter_at, kind_at, layout_at, name_at, operand_at, rebuild_at, set_at, set_to, sets_at, statement_word_at, update_at, worded_at}
 use Rattle.bw_sql.specs.Words.{layout_of, layout_spelling, statement_spelling}
+use Rattle.bw_sql.proofs.Begun.{IsStatement, spelled}
 use Rattle.bw_sql.proofs.ConditionsSound.{condition_sound, operand_sound}
+use Rattle.bw_sql.proofs.FilesSound.{load_sound, save_sound}
 use Rattle.bw_sql.proofs.ListsSound.{IsSound, after_from-is, after_table-is, answers_once, bound, closes, kind_sound, mapped, moved, name_is, name_sound, parts_sound, rested, statement_word_is}
 use Rattle.bw_sql.proofs.WordLemmas.{layout_of-is}
-
--- a statement so far, and what is left behind it
-abbrev pub IsStatement : List Terminal → StatementTree → List Terminal → Type 0
-IsStatement ts tree rest = rest ≡ [] → Spells ts tree
-
--- a spelling under equal names
-pub spelled : (word : Terminal) (ts us : List Terminal) (x y : StatementTree) → ts ≡ us → x ≡ y → Spells (word ∷ us) x → Spells (word ∷ ts) y
-spelled word ts us x y e f d = rw (e, ← f) d
 
 -- a keyword or a symbol that was taken stood there
 after_set-is : (ts mid : List Terminal) → after_set ts ≡ Some mid → ts ≡ t.Keyword k.Set ∷ mid
@@ -158,6 +152,8 @@ behind_sound n Tables ts tree rest h nothing =
     let e = answers_once list_tables tree ts rest h in
     spelled (t.Name (statement_spelling Tables)) ts [] list_tables tree (e.1 ∙ nothing) e.0 lists_tables
 behind_sound n Rebuild ts tree rest h nothing = rebuild_sound n ts tree rest h nothing
+behind_sound n Load ts tree rest h nothing = load_sound ts tree rest h nothing
+behind_sound n Save ts tree rest h nothing = save_sound ts tree rest h nothing
 
 pub worded_sound : (n : ℕ) (ts : List Terminal) (tree : StatementTree) (rest : List Terminal) → worded_at n ts ≡ Some (tree, rest) → IsStatement ts tree rest
 unfolding worded_at

@@ -10,7 +10,7 @@ use Rattle.bw_sql.specs.declared.tree.SetFunction.TheVariants.{Count, Sum, Min, 
 use Rattle.bw_sql.specs.Tree.{ItemsTree, listed}
 use Rattle.bw_sql.specs.Words.{function_of, function_word}
 use Rattle.bw_sql.specs.Grammar.{ListOf, last, next, ItemPart, column_item, count_rows, function_item, ItemsPart, star, some_items}
-use Rattle.bw_sql.specs.Reading.{after_close, after_comma, after_open, argument_at, function_at, function_item_at, item_at, item_list_at, items_at, name_at}
+use Rattle.bw_sql.specs.Reading.{after_comma, argument_at, function_at, function_item_at, item_at, item_list_at, items_at, name_at}
 use Rattle.bw_sql.proofs.ListsComplete.{Anything, list_reads, list_shorter}
 
 function_read : (f : SetFunction) (word : List ℕ) (rest : List Terminal)

@@ -1,5 +1,5 @@
 -- Select lists that are read are in the grammar.
-use Rattle.std.proofs.Common.{◌≡◌, ◌∙◌, ℕ, List, ◌∷◌, Option, Some, None, refl, ap, subst, sym}
+use Rattle.std.proofs.Common.{◌≡◌, ◌∙◌, ℕ, List, ◌∷◌, Option, Some, refl, ap, subst, sym}
 use Rattle.bw_lex.specs.declared.token.Symbol.TheVariants as s
 use Rattle.bw_sql.specs.declared.keyword.Keyword.{Keyword}
 use Rattle.bw_sql.specs.declared.keyword.Keyword.TheVariants as k
@@ -8,12 +8,12 @@ use Rattle.bw_sql.specs.declared.terminal.Terminal.TheVariants as t
 use Rattle.bw_sql.specs.declared.tree.SelectItem.{SelectItem}
 use Rattle.bw_sql.specs.declared.tree.SelectItem.TheVariants as items
 use Rattle.bw_sql.specs.declared.tree.SetFunction.{SetFunction}
-use Rattle.bw_sql.specs.declared.tree.SetFunction.TheVariants.{Count, Sum, Min, Max, Median}
-use Rattle.bw_sql.specs.Tree.{ItemsTree, all_columns, listed}
+use Rattle.bw_sql.specs.declared.tree.SetFunction.TheVariants.{Count}
+use Rattle.bw_sql.specs.Tree.{all_columns, listed}
 use Rattle.bw_sql.specs.Words.{function_of, function_word}
 use Rattle.bw_sql.specs.Grammar.{ListOf, ItemPart, column_item, count_rows, function_item, ItemsPart, star, some_items}
-use Rattle.bw_sql.specs.Reading.{after_close, after_open, argument_at, closed, function_at, function_item_at, item_at, item_list_at, items_at, map_first, name_at, with_rest}
-use Rattle.bw_sql.proofs.ListsSound.{IsSound, after_close-is, after_open-is, answers_once, bound, closes, mapped, moved, name_is, name_sound, parts_sound, rested}
+use Rattle.bw_sql.specs.Reading.{after_close, after_open, argument_at, function_at, function_item_at, item_at, item_list_at, items_at, map_first, name_at}
+use Rattle.bw_sql.proofs.ListsSound.{IsSound, after_open-is, answers_once, bound, closes, mapped, moved, name_is, name_sound, parts_sound, rested}
 
 -- it is the reserved word of the function
 function_word_is : (word : Keyword) (f : SetFunction) → function_of word ≡ Some f → word ≡ function_word f

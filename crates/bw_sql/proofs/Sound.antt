@@ -7,10 +7,12 @@ use Rattle.bw_sql.specs.declared.terminal.Terminal.TheVariants as t
 use Rattle.bw_sql.specs.Tree.{ConditionTree, ItemsTree, StatementTree, create_table, insert, select}
 use Rattle.bw_sql.specs.Grammar.{ListOf, NamePart, RowPart, ColumnPart, ItemsPart, ConditionPart, Spells, creates, inserts, inserts_into, selects, selects_where}
 use Rattle.bw_sql.specs.Reading.{after_close, after_from, after_into, after_open, after_table, after_values, column_list_at, columns_at, condition_at, create_at, ended, filter_at, insert_at, items_at, name_at, names_at, rows_at, select_at, statement_at, whole_at}
-use Rattle.bw_sql.proofs.ChangesSound.{IsStatement, delete_sound, drop_sound, spelled, update_sound, worded_sound}
+use Rattle.bw_sql.proofs.Begun.{IsStatement, spelled}
+use Rattle.bw_sql.proofs.ChangesSound.{delete_sound, drop_sound, update_sound, worded_sound}
 use Rattle.bw_sql.proofs.ConditionsSound.{condition_sound}
+use Rattle.bw_sql.proofs.FilesSound.{open_sound}
 use Rattle.bw_sql.proofs.ItemsSound.{items_sound}
-use Rattle.bw_sql.proofs.ListsSound.{IsSound, after_from-is, closes, after_into-is, after_open-is, after_table-is, after_values-is, answers_once, bound, columns_sound, mapped, moved, name_is, name_sound, names_sound, rows_sound}
+use Rattle.bw_sql.proofs.ListsSound.{after_from-is, closes, after_into-is, after_open-is, after_table-is, after_values-is, answers_once, bound, columns_sound, mapped, name_is, name_sound, names_sound, rows_sound}
 
 create_sound : (n : ℕ) (ts : List Terminal) → (tree : StatementTree) (rest : List Terminal) → create_at n ts ≡ Some (tree, rest) → IsStatement (t.Keyword k.Create ∷ ts) tree rest
 unfolding create_at
@@ -75,6 +77,7 @@ statement_sound n (t.Keyword k.Insert ∷ ts) tree rest h = insert_sound n ts tr
 statement_sound n (t.Keyword k.Update ∷ ts) tree rest h = update_sound n ts tree rest h
 statement_sound n (t.Keyword k.Delete ∷ ts) tree rest h = delete_sound n ts tree rest h
 statement_sound n (t.Keyword k.Select ∷ ts) tree rest h = select_sound n ts tree rest h
+statement_sound n (t.Keyword k.Open ∷ ts) tree rest h = open_sound ts tree rest h
 statement_sound n ts tree rest h = worded_sound n ts tree rest h
 
 all_ended : (tree : StatementTree) (rest : List Terminal) (y : StatementTree) → ended tree rest ≡ Some y → (rest ≡ []) × (tree ≡ y)

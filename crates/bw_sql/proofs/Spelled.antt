@@ -1,14 +1,18 @@
--- A statement that a text says brings in only names that are names.
+-- A statement that a text says brings in only names that are names, and names only files that have names of files.
 use Rattle.std.proofs.Common.{◌≡◌, ℕ, ◌+◌, ◌≤◌, List, [], ◌∷◌, ◌++◌, drop, length, map, slice_range, take, Option, None, Some, refl, sym, ap, subst, ◌∙◌, drop-drop}
 use Rattle.std.proofs.Math.Nat.{add-sub_cancel_left}
 use Rattle.std.specs.Char.{to_ascii_uppercase}
 use Rattle.std.specs.List.{All}
 use Rattle.std.proofs.lemmas.List.Elements.{All-cons, All-nil}
 use Rattle.std.proofs.Math.Seq.{drop-append_seam, take-append_seam}
-use Rattle.bw_sql.specs.Grammar.{ColumnPart, KindPart, ListOf, Spells, TypePart, UsingPart, column, creates, deletes, deletes_where, drops, inserts, inserts_into, int, integer, kind, last, lists_tables, next, no_kind, no_layout, rebuilds, rebuilds_columns, selects, selects_where, updates, updates_where, using_layout}
+use Rattle.bw_sql.specs.Grammar.{ColumnPart, KindPart, ListOf, Spells, TypePart, UsingPart, column, creates, deletes, deletes_where, drops, inserts, inserts_into, int, integer, kind, last, lists_tables, loads, loads_with_header, next, no_kind, no_layout, opens, rebuilds, rebuilds_columns, saves, selects, selects_where, updates, updates_where, using_layout}
+use Rattle.bw_sql.specs.Files.{IsFileName}
+use Rattle.bw_sql.specs.Named.{files_named}
 use Rattle.bw_sql.specs.Names.{IsName, keyword_of}
+use Rattle.bw_lex.specs.Pieces.{text_says}
 use Rattle.bw_lex.specs.Spellings.{IsWord}
-use Rattle.bw_sql.specs.Statements.{Says}
+use Rattle.bw_lex.proofs.Quotes.{is_good}
+use Rattle.bw_sql.specs.Statements.{AreTerminals, Says}
 use Rattle.bw_sql.specs.Terminals.{terminal_of, terminals_of, word_or_name}
 use Rattle.bw_lex.specs.Tokens.{AreTokensFrom, IsNext, done, past_separator, past_token, token}
 use Rattle.bw_sql.specs.Tree.{StatementTree}
@@ -24,7 +28,7 @@ use Rattle.bw_sql.specs.declared.tree.LayoutWord.{LayoutWord}
 use Rattle.bw_sql.proofs.NameLemmas.{word_is_name}
 use Rattle.bw_sql.specs.Brought.{names_brought}
 
--- the names among terminals are names
+-- the names among terminals are names, and the texts names of files
 
 abbrev Each : {A : Type 0} → (A → Type 0) → List A → Type 0
 Each P [] = Unit {0}
@@ -32,6 +36,7 @@ Each P (x ∷ xs) = P x × Each P xs
 
 abbrev IsSeen : Terminal → Type 0
 IsSeen (t.Name word) = IsName word
+IsSeen (t.Text says) = IsFileName says
 IsSeen _ = Unit {0}
 
 by_keyword : (bytes : List ℕ) (word : Option Keyword) → keyword_of (map to_ascii_uppercase bytes) ≡ word → IsWord bytes → length bytes ≤ 128 → IsSeen (word_or_name word (map to_ascii_uppercase bytes))
@@ -41,7 +46,7 @@ by_keyword bytes (Some word) e is short = tt
 token_seen : (kind : TokenKind) (bytes left : List ℕ) → IsNext (token kind) bytes left → IsSeen (terminal_of kind bytes)
 token_seen k.Word bytes left is = by_keyword bytes (keyword_of (map to_ascii_uppercase bytes)) refl is.0.fits is.1
 token_seen k.Number bytes left is = tt
-token_seen k.Text bytes left is = tt
+token_seen k.Text bytes left is = is_good bytes (text_says bytes) is.1 refl
 token_seen (k.Symbol symbol) bytes left is = tt
 
 module _ (text : List ℕ) where
@@ -96,8 +101,38 @@ spelled_names terminals statement rebuilds seen = All-nil IsName
 spelled_names terminals statement (rebuilds_columns choices) seen = All-nil IsName
 spelled_names terminals statement (selects items) seen = All-nil IsName
 spelled_names terminals statement (selects_where items condition) seen = All-nil IsName
+spelled_names terminals statement loads seen = All-nil IsName
+spelled_names terminals statement loads_with_header seen = All-nil IsName
+spelled_names terminals statement saves seen = All-nil IsName
+spelled_names terminals statement (opens {table} {file}) seen = All-cons IsName table [] seen.1.0 (All-nil IsName)
+
+one_file : (file : List ℕ) → IsFileName file → All IsFileName (file ∷ [])
+one_file file is = All-cons IsFileName file [] is (All-nil IsFileName)
+
+spelled_files : (terminals : List Terminal) (statement : StatementTree) → Spells terminals statement → Each IsSeen terminals → All IsFileName (files_named statement)
+spelled_files terminals statement (creates many) seen = All-nil IsFileName
+spelled_files terminals statement drops seen = All-nil IsFileName
+spelled_files terminals statement lists_tables seen = All-nil IsFileName
+spelled_files terminals statement (inserts rows) seen = All-nil IsFileName
+spelled_files terminals statement (inserts_into names rows) seen = All-nil IsFileName
+spelled_files terminals statement (updates sets) seen = All-nil IsFileName
+spelled_files terminals statement (updates_where sets condition) seen = All-nil IsFileName
+spelled_files terminals statement deletes seen = All-nil IsFileName
+spelled_files terminals statement (deletes_where condition) seen = All-nil IsFileName
+spelled_files terminals statement rebuilds seen = All-nil IsFileName
+spelled_files terminals statement (rebuilds_columns choices) seen = All-nil IsFileName
+spelled_files terminals statement (selects items) seen = All-nil IsFileName
+spelled_files terminals statement (selects_where items condition) seen = All-nil IsFileName
+spelled_files terminals statement (loads {table} {file}) seen = one_file file seen.1.1.1.0
+spelled_files terminals statement (loads_with_header {table} {file}) seen = one_file file seen.1.1.1.0
+spelled_files terminals statement (saves {table} {file}) seen = one_file file seen.1.1.1.0
+spelled_files terminals statement (opens {table} {file}) seen = one_file file seen.1.1.1.0
+
+seen_in : (text : List ℕ) (terminals : List Terminal) → AreTerminals text terminals → Each IsSeen terminals
+seen_in text terminals are = subst (Each IsSeen) (sym are.seen) (all_seen text are.are_tokens refl)
 
 pub says_names : (text : List ℕ) (statement : StatementTree) → Says text statement → All IsName (names_brought statement)
-says_names text statement says =
-    let are = says.are_terminals in
-    spelled_names says.terminals statement says.spelled (subst (Each IsSeen) (sym are.seen) (all_seen text are.are_tokens refl))
+says_names text statement says = spelled_names says.terminals statement says.spelled (seen_in text says.terminals says.are_terminals)
+
+pub says_files : (text : List ℕ) (statement : StatementTree) → Says text statement → All IsFileName (files_named statement)
+says_files text statement says = spelled_files says.terminals statement says.spelled (seen_in text says.terminals says.are_terminals)

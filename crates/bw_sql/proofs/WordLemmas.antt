@@ -1,14 +1,16 @@
--- Words for layouts, kinds and statements.
+-- Words for layouts, kinds, statements and a file's first record.
 use Rattle.std.proofs.Common.{◌≡◌, ℕ, Bool, true, false, cond, List, codes, Option, Some, None, refl, ap, ◌∙◌}
 use Rattle.std.specs.Str.{bytes_eq}
 use Rattle.std.specs.Cmp.Lexicographic.{bytes_decides}
 use Rattle.bw_sql.specs.declared.terminal.StatementWord.{StatementWord}
-use Rattle.bw_sql.specs.declared.terminal.StatementWord.TheVariants.{Rebuild, Tables}
+use Rattle.bw_sql.specs.declared.terminal.StatementWord.TheVariants.{Load, Rebuild, Save, Tables}
 use Rattle.bw_sql.specs.declared.tree.LayoutWord.{LayoutWord}
 use Rattle.bw_sql.specs.declared.tree.LayoutWord.TheVariants.{P, V, H, S}
 use Rattle.bw_sql.specs.declared.tree.KindWord.{KindWord}
 use Rattle.bw_sql.specs.declared.tree.KindWord.TheVariants.{Offset, Dictionary}
-use Rattle.bw_sql.specs.Words.{kind_of, kind_spelling, layout_of, layout_spelling, statement_spelling, statement_word_of}
+use Rattle.bw_sql.specs.declared.tree.FirstRecord.{FirstRecord}
+use Rattle.bw_sql.specs.declared.tree.FirstRecord.TheVariants.{Header}
+use Rattle.bw_sql.specs.Words.{first_record_of, kind_of, kind_spelling, layout_of, layout_spelling, statement_spelling, statement_word_of}
 
 -- either the first is chosen, or the others are
 module _ {A : Type 0} (spelling : A → List ℕ) (word : List ℕ) (y : A) where
@@ -39,8 +41,21 @@ pub statement_word_of-is : (word : List ℕ) (w : StatementWord) → statement_w
 unfolding statement_word_of
 statement_word_of-is word w h =
     chosen_word statement_spelling word w (bytes_eq word (codes "TABLES")) Tables _ (is word (codes "TABLES"))
-    (chosen_word statement_spelling word w (bytes_eq word (codes "REBUILD")) Rebuild None (is word (codes "REBUILD")) (λ e. cc))
+    (chosen_word statement_spelling word w (bytes_eq word (codes "REBUILD")) Rebuild _ (is word (codes "REBUILD"))
+    (chosen_word statement_spelling word w (bytes_eq word (codes "LOAD")) Load _ (is word (codes "LOAD"))
+    (chosen_word statement_spelling word w (bytes_eq word (codes "SAVE")) Save None (is word (codes "SAVE")) (λ e. cc))))
     h
+
+-- where nothing else can be chosen
+only_word : {A : Type 0} (b : Bool) (x y : A) → cond b (Some x) None ≡ Some y → (b ≡ true) × (x ≡ y)
+only_word true x y h = (refl, cc)
+only_word false x y h = cc
+
+pub first_record_of-is : (word : List ℕ) (first : FirstRecord) → first_record_of word ≡ Some first → (word ≡ codes "HEADER") × (Header ≡ first)
+unfolding first_record_of
+first_record_of-is word first h =
+    let c = only_word (bytes_eq word (codes "HEADER")) Header first h in
+    (is word (codes "HEADER") c.0, c.1)
 
 pub layout_of-spelling : (l : LayoutWord) → layout_of (layout_spelling l) ≡ Some l
 unfolding layout_of
@@ -58,3 +73,9 @@ pub statement_word_of-spelling : (w : StatementWord) → statement_word_of (stat
 unfolding statement_word_of
 statement_word_of-spelling Tables = refl
 statement_word_of-spelling Rebuild = refl
+statement_word_of-spelling Load = refl
+statement_word_of-spelling Save = refl
+
+pub first_record_of-header : first_record_of (codes "HEADER") ≡ Some Header
+unfolding first_record_of
+first_record_of-header = refl

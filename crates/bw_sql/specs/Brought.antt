@@ -1,8 +1,8 @@
 -- Names that a statement brings into a store (SQL-92, table definition).
 use Rattle.std.specs.Prelude.{ℕ, List, [], ◌∷◌, map}
-use Rattle.bw_sql.specs.Tree.{StatementTree, create_table, delete, drop_table, insert, list_tables, rebuild, select, update}
+use Rattle.bw_sql.specs.Tree.{StatementTree, create_table, delete, drop_table, insert, list_tables, load, open_table, rebuild, save, select, update}
 
--- those of a new table and of its columns
+-- those of a new table and of its columns; of a table that a file holds, its name alone
 abbrev pub names_brought : StatementTree → List (List ℕ)
 names_brought (create_table name columns) = name ∷ map (λ c. c.name) columns
 names_brought (drop_table name) = []
@@ -12,3 +12,6 @@ names_brought (update name sets condition) = []
 names_brought (delete name condition) = []
 names_brought (rebuild name choices) = []
 names_brought (select items name condition) = []
+names_brought (load name file first) = []
+names_brought (save name file) = []
+names_brought (open_table name file) = name ∷ []

@@ -1,6 +1,6 @@
--- The grammar (SQL-92: table definition, drop table statement, insert statement, searched update and delete statements, query specification, search condition and predicates): which
--- terminals spell a statement. Each relation reads: these terminals begin with a spelling of the value, and
--- the rest follows it.
+-- The grammar (SQL-92: table definition, drop table statement, insert statement, searched update and delete statements, query specification, search condition and predicates; beyond it,
+-- statements that list, rebuild, load, save and open tables): which terminals spell a statement. Each relation reads: these terminals begin with a spelling of the value,
+-- and the rest follows it.
 use Rattle.std.specs.Prelude.{ℕ, ℤ, ◌<◌, ◌≤◌, ◌^◌, pos, neg_ℤ, List, [], ◌∷◌, codes, Option, Some, None}
 use Rattle.bw_lex.specs.declared.token.CompareOp.{CompareOp}
 use Rattle.bw_lex.specs.declared.token.CompareOp.TheVariants.{Eq}
@@ -20,8 +20,9 @@ use Rattle.bw_sql.specs.declared.tree.SetClause.{SetClause}
 use Rattle.bw_sql.specs.declared.tree.SelectItem.{SelectItem}
 use Rattle.bw_sql.specs.declared.tree.SelectItem.TheVariants as items
 use Rattle.bw_sql.specs.declared.tree.SetFunction.{SetFunction}
+use Rattle.bw_sql.specs.declared.tree.FirstRecord.TheVariants.{Header, Row}
 use Rattle.bw_sql.specs.Words.{function_word, kind_spelling, layout_spelling}
-use Rattle.bw_sql.specs.Tree.{ConditionTree, among, between, comparison, each_of, negated, null, some_of, tested, trees_of, ItemsTree, all_columns, listed, StatementTree, create_table, delete, drop_table, insert, list_tables, rebuild, select, update}
+use Rattle.bw_sql.specs.Tree.{ConditionTree, among, between, comparison, each_of, negated, null, some_of, tested, trees_of, ItemsTree, all_columns, listed, StatementTree, create_table, delete, drop_table, insert, list_tables, load, open_table, rebuild, save, select, update}
 
 -- one {, one}
 pub data ListOf {A : Type 0} (One : List Terminal → A → List Terminal → Type 0) : List Terminal → List A → List Terminal → Type 0 where
@@ -206,3 +207,12 @@ pub data Spells : List Terminal → StatementTree → Type 0 where
   selects_where : {table : List ℕ} {items : ItemsTree} {c : ConditionTree} {ts us : List Terminal} →
       ItemsPart ts items (t.Keyword k.From ∷ t.Name table ∷ t.Keyword k.Where ∷ us) → ConditionPart us c [] →
       Spells (t.Keyword k.Select ∷ ts) (select items table (Some c))
+  -- LOAD name FROM text
+  loads : {table file : List ℕ} → Spells (t.Name (codes "LOAD") ∷ t.Name table ∷ t.Keyword k.From ∷ t.Text file ∷ []) (load table file Row)
+  -- LOAD name FROM text WITH HEADER
+  loads_with_header : {table file : List ℕ} →
+      Spells (t.Name (codes "LOAD") ∷ t.Name table ∷ t.Keyword k.From ∷ t.Text file ∷ t.Keyword k.With ∷ t.Name (codes "HEADER") ∷ []) (load table file Header)
+  -- SAVE name TO text
+  saves : {table file : List ℕ} → Spells (t.Name (codes "SAVE") ∷ t.Name table ∷ t.Keyword k.To ∷ t.Text file ∷ []) (save table file)
+  -- OPEN name FROM text
+  opens : {table file : List ℕ} → Spells (t.Keyword k.Open ∷ t.Name table ∷ t.Keyword k.From ∷ t.Text file ∷ []) (open_table table file)

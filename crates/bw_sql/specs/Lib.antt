@@ -1,5 +1,7 @@
 pub mod Brought
+pub mod Files
 pub mod Grammar
+pub mod Named
 pub mod Names
 pub mod Reading
 pub mod Rows

@@ -7,7 +7,7 @@ use Rattle.bw_lex.specs.declared.token.CompareOp.TheVariants.{Eq}
 use Rattle.bw_lex.specs.declared.token.Symbol.TheVariants as s
 use Rattle.bw_sql.specs.declared.keyword.Keyword.TheVariants as k
 use Rattle.bw_sql.specs.declared.terminal.StatementWord.{StatementWord}
-use Rattle.bw_sql.specs.declared.terminal.StatementWord.TheVariants.{Rebuild, Tables}
+use Rattle.bw_sql.specs.declared.terminal.StatementWord.TheVariants.{Load, Rebuild, Save, Tables}
 use Rattle.bw_sql.specs.declared.terminal.Terminal.{Terminal}
 use Rattle.bw_sql.specs.declared.terminal.Terminal.TheVariants as t
 use Rattle.bw_sql.specs.declared.tree.LayoutWord.{LayoutWord}
@@ -24,8 +24,10 @@ use Rattle.bw_sql.specs.declared.tree.SelectItem.{SelectItem}
 use Rattle.bw_sql.specs.declared.tree.SelectItem.TheVariants as items
 use Rattle.bw_sql.specs.declared.tree.SetFunction.{SetFunction}
 use Rattle.bw_sql.specs.declared.tree.SetFunction.TheVariants.{Count}
-use Rattle.bw_sql.specs.Words.{function_of, kind_of, layout_of, statement_word_of}
-use Rattle.bw_sql.specs.Tree.{ConditionTree, among, between, comparison, negated, null, tested, ItemsTree, all_columns, listed, StatementTree, create_table, delete, drop_table, insert, list_tables, rebuild, select, update}
+use Rattle.bw_sql.specs.declared.tree.FirstRecord.{FirstRecord}
+use Rattle.bw_sql.specs.declared.tree.FirstRecord.TheVariants.{Row}
+use Rattle.bw_sql.specs.Words.{first_record_of, function_of, kind_of, layout_of, statement_word_of}
+use Rattle.bw_sql.specs.Tree.{ConditionTree, among, between, comparison, negated, null, tested, ItemsTree, all_columns, listed, StatementTree, create_table, delete, drop_table, insert, list_tables, load, open_table, rebuild, save, select, update}
 
 -- what is read, and the terminals after it; none is a syntax error
 abbrev pub Read : Type 0 → Type 0
@@ -90,6 +92,10 @@ after_values _ = None
 abbrev pub after_from : List Terminal → Option (List Terminal)
 after_from (t.Keyword k.From ∷ ts) = Some ts
 after_from _ = None
+
+abbrev pub after_to : List Terminal → Option (List Terminal)
+after_to (t.Keyword k.To ∷ ts) = Some ts
+after_to _ = None
 
 abbrev pub after_and : List Terminal → Option (List Terminal)
 after_and (t.Keyword k.And ∷ ts) = Some ts
@@ -376,6 +382,36 @@ choice_list_at n ts = Some ([], ts)
 unfoldable pub rebuild_at : ℕ → List Terminal → Read StatementTree
 rebuild_at n ts = name_at ts >>= λ table. map_first (rebuild table.0) (choice_list_at n table.1)
 
+-- what stands in a text
+unfoldable pub text_at : List Terminal → Read (List ℕ)
+text_at (t.Text says ∷ ts) = Some (says, ts)
+text_at _ = None
+
+-- FROM and a text
+unfoldable pub source_at : List Terminal → Read (List ℕ)
+source_at ts = after_from ts >>= λ us. text_at us
+
+-- what follows WITH
+unfoldable pub with_at : List Terminal → Read FirstRecord
+with_at (t.Name word ∷ ts) = with_rest (first_record_of word) ts
+with_at _ = None
+
+unfoldable pub first_record_at : List Terminal → Read FirstRecord
+first_record_at (t.Keyword k.With ∷ ts) = with_at ts
+first_record_at ts = Some (Row, ts)
+
+-- what follows LOAD
+unfoldable pub load_at : List Terminal → Read StatementTree
+load_at ts = name_at ts >>= λ table. source_at table.1 >>= λ file. map_first (load table.0 file.0) (first_record_at file.1)
+
+-- what follows SAVE
+unfoldable pub save_at : List Terminal → Read StatementTree
+save_at ts = name_at ts >>= λ table. after_to table.1 >>= λ us. map_first (save table.0) (text_at us)
+
+-- what follows OPEN
+unfoldable pub open_at : List Terminal → Read StatementTree
+open_at ts = name_at ts >>= λ table. map_first (open_table table.0) (source_at table.1)
+
 unfoldable pub statement_word_at : List Terminal → Read StatementWord
 statement_word_at (t.Name word ∷ ts) = with_rest (statement_word_of word) ts
 statement_word_at _ = None
@@ -384,6 +420,8 @@ statement_word_at _ = None
 abbrev pub behind_word : ℕ → StatementWord → List Terminal → Read StatementTree
 behind_word n Tables ts = Some (list_tables, ts)
 behind_word n Rebuild ts = rebuild_at n ts
+behind_word n Load ts = load_at ts
+behind_word n Save ts = save_at ts
 
 unfoldable pub worded_at : ℕ → List Terminal → Read StatementTree
 worded_at n ts = statement_word_at ts >>= λ word. behind_word n word.0 word.1
@@ -395,6 +433,7 @@ statement_at n (t.Keyword k.Insert ∷ ts) = insert_at n ts
 statement_at n (t.Keyword k.Update ∷ ts) = update_at n ts
 statement_at n (t.Keyword k.Delete ∷ ts) = delete_at n ts
 statement_at n (t.Keyword k.Select ∷ ts) = select_at n ts
+statement_at n (t.Keyword k.Open ∷ ts) = open_at ts
 statement_at n ts = worded_at n ts
 
 -- nothing is left

@@ -1,4 +1,4 @@
--- What the grammar sees of a token (SQL-92: key word, regular identifier, unsigned integer), and the two
+-- What the grammar sees of a token (SQL-92: key word, regular identifier, unsigned integer, character string literal), and the two
 -- limits on tokens.
 use Rattle.std.specs.Prelude.{ℕ, ◌+◌, ◌-◌, ◌*◌, ◌^◌, Bool, true, false, nat_le, if◌then◌else◌, List, [], ◌∷◌, ◌++◌, map, count_by, slice_range, Option, Some, None}
 use Rattle.std.specs.Char.{to_ascii_uppercase}
@@ -8,6 +8,7 @@ use Rattle.bw_lex.specs.declared.token.Symbol.TheVariants as s
 use Rattle.bw_lex.specs.declared.token.Token.{Token}
 use Rattle.bw_lex.specs.declared.token.TokenKind.{TokenKind}
 use Rattle.bw_lex.specs.declared.token.TokenKind.TheVariants as kinds
+use Rattle.bw_lex.specs.Pieces.{text_says}
 use Rattle.bw_sql.specs.declared.keyword.Keyword.{Keyword}
 use Rattle.bw_sql.specs.declared.terminal.Terminal.{Terminal}
 use Rattle.bw_sql.specs.declared.terminal.Terminal.TheVariants as t
@@ -31,7 +32,7 @@ word_or_name None word = t.Name word
 abbrev pub terminal_of : TokenKind → List ℕ → Terminal
 terminal_of kinds.Word bytes = word_or_name (keyword_of (map to_ascii_uppercase bytes)) (map to_ascii_uppercase bytes)
 terminal_of kinds.Number bytes = t.Number (number_value bytes)
-terminal_of kinds.Text bytes = t.Text
+terminal_of kinds.Text bytes = t.Text (text_says bytes)
 terminal_of (kinds.Symbol symbol) bytes = t.Symbol symbol
 
 abbrev pub token_terminal : List ℕ → Token → Terminal

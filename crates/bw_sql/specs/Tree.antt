@@ -1,5 +1,6 @@
 -- Statements as the language has them (SQL-92: table definition, drop table statement, insert statement, searched update and delete statements, query specification,
--- search condition and predicates), without where they lie in memory. A name is its bytes, a value a number or none.
+-- search condition and predicates; beyond it, statements that go between a table and a file), without where they lie in memory. A name is its bytes, of a
+-- table, a column or a file, a value a number or none.
 use Rattle.std.specs.Prelude.{ℕ, ℤ, List, [], ◌∷◌, map, Option, option_map}
 use Rattle.std.specs.Global.{Vec}
 use Rattle.bw_lex.specs.declared.token.CompareOp.{CompareOp}
@@ -11,6 +12,7 @@ use Rattle.bw_sql.specs.declared.tree.TruthWord.{TruthWord}
 use Rattle.bw_sql.specs.declared.tree.ColumnDefinition.{ColumnDefinition}
 use Rattle.bw_sql.specs.declared.tree.LayoutChoice.{LayoutChoice}
 use Rattle.bw_sql.specs.declared.tree.SetClause.{SetClause}
+use Rattle.bw_sql.specs.declared.tree.FirstRecord.{FirstRecord}
 use Rattle.bw_sql.specs.declared.tree.SelectItem.{SelectItem}
 use Rattle.bw_sql.specs.declared.tree.SelectItems.{SelectItems}
 use Rattle.bw_sql.specs.declared.tree.SelectItems.TheVariants as items
@@ -49,6 +51,9 @@ pub data StatementTree : Type 0 where
   delete : (table : List ℕ) → Option ConditionTree → StatementTree
   rebuild : (table : List ℕ) → List LayoutChoice → StatementTree
   select : ItemsTree → (table : List ℕ) → Option ConditionTree → StatementTree
+  load : (table : List ℕ) → (file : List ℕ) → FirstRecord → StatementTree
+  save : (table : List ℕ) → (file : List ℕ) → StatementTree
+  open_table : (table : List ℕ) → (file : List ℕ) → StatementTree
 
 -- one level of a Rust condition, with trees in the places of its parts
 abbrev pub condition_step : Condition-F ConditionTree → ConditionTree
@@ -83,3 +88,6 @@ statement_of (statements.Update s) = update s.table s.sets.items (option_map con
 statement_of (statements.Delete s) = delete s.table (option_map condition_of s.condition)
 statement_of (statements.Rebuild s) = rebuild s.table s.choices.items
 statement_of (statements.Select s) = select (items_of s.items) s.table (option_map condition_of s.condition)
+statement_of (statements.Load s) = load s.table s.file s.first
+statement_of (statements.Save s) = save s.table s.file
+statement_of (statements.Open s) = open_table s.table s.file

@@ -1,12 +1,14 @@
--- Words that are names, and stand for a layout, a kind or a statement where the grammar has one.
+-- Words that are names, and stand for a layout, a kind, a statement or a file's first record where the grammar has one.
 use Rattle.std.specs.Prelude.{ℕ, List, codes, Option, Some, None, if◌then◌else◌}
 use Rattle.std.specs.Str.{bytes_eq}
 use Rattle.bw_sql.specs.declared.terminal.StatementWord.{StatementWord}
-use Rattle.bw_sql.specs.declared.terminal.StatementWord.TheVariants.{Rebuild, Tables}
+use Rattle.bw_sql.specs.declared.terminal.StatementWord.TheVariants.{Load, Rebuild, Save, Tables}
 use Rattle.bw_sql.specs.declared.tree.LayoutWord.{LayoutWord}
 use Rattle.bw_sql.specs.declared.tree.LayoutWord.TheVariants.{P, V, H, S}
 use Rattle.bw_sql.specs.declared.tree.KindWord.{KindWord}
 use Rattle.bw_sql.specs.declared.tree.KindWord.TheVariants.{Offset, Dictionary}
+use Rattle.bw_sql.specs.declared.tree.FirstRecord.{FirstRecord}
+use Rattle.bw_sql.specs.declared.tree.FirstRecord.TheVariants.{Header}
 use Rattle.bw_sql.specs.declared.keyword.Keyword.{Keyword}
 use Rattle.bw_sql.specs.declared.keyword.Keyword.TheVariants as k
 use Rattle.bw_sql.specs.declared.tree.SetFunction.{SetFunction}
@@ -28,6 +30,8 @@ kind_spelling Dictionary = codes "DICTIONARY"
 abbrev pub statement_spelling : StatementWord → List ℕ
 statement_spelling Tables = codes "TABLES"
 statement_spelling Rebuild = codes "REBUILD"
+statement_spelling Load = codes "LOAD"
+statement_spelling Save = codes "SAVE"
 
 unfoldable pub layout_of : List ℕ → Option LayoutWord
 layout_of word =
@@ -40,7 +44,15 @@ unfoldable pub kind_of : List ℕ → Option KindWord
 kind_of word = if bytes_eq word (codes "OFFSET") then Some Offset else (if bytes_eq word (codes "DICTIONARY") then Some Dictionary else None)
 
 unfoldable pub statement_word_of : List ℕ → Option StatementWord
-statement_word_of word = if bytes_eq word (codes "TABLES") then Some Tables else (if bytes_eq word (codes "REBUILD") then Some Rebuild else None)
+statement_word_of word =
+    if bytes_eq word (codes "TABLES") then Some Tables
+    else (if bytes_eq word (codes "REBUILD") then Some Rebuild
+    else (if bytes_eq word (codes "LOAD") then Some Load
+    else (if bytes_eq word (codes "SAVE") then Some Save else None)))
+
+-- what the word behind WITH says of a file's first record
+unfoldable pub first_record_of : List ℕ → Option FirstRecord
+first_record_of word = if bytes_eq word (codes "HEADER") then Some Header else None
 
 -- the reserved word of a set function
 abbrev pub function_word : SetFunction → Keyword

@@ -168,6 +168,8 @@ impl<'a> Parser<'a> {
         match self.statement_word()? {
             StatementWord::Tables => Ok(Statement::ListTables),
             StatementWord::Rebuild => self.rebuild(),
+            StatementWord::Load => self.load(),
+            StatementWord::Save => self.save(),
         }
     }
 }

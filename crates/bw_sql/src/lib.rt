@@ -4,6 +4,8 @@
 
 mod changes;
 mod condition;
+mod file_name;
+mod files;
 mod item_list;
 mod keyword;
 mod limits;
@@ -20,14 +22,17 @@ pub use bw_lex::{
     CompareOp, Part, Span, SqlFault, Symbol, Token, TokenKind, one_reading, one_splitting, parts,
     tokens,
 };
+pub use file_name::FileName;
 pub use item_list::ItemList;
 pub use keyword::Keyword;
 pub use name::{Name, is_name};
 pub use name_list::NameList;
 pub use rows::ValueRows;
-pub use statement_text::{LONGEST_STATEMENT, names_are_names, one_statement, statement};
+pub use statement_text::{
+    LONGEST_STATEMENT, files_are_files, names_are_names, one_statement, statement,
+};
 pub use tree::{
-    ColumnDefinition, Condition, CreateTable, Delete, Insert, KindWord, LayoutChoice, LayoutWord,
-    Operand, Rebuild, Select, SelectItem, SelectItems, SetClause, SetFunction, Statement,
-    TruthWord, Update, Value,
+    ColumnDefinition, Condition, CreateTable, Delete, FirstRecord, Insert, KindWord, LayoutChoice,
+    LayoutWord, Load, Open, Operand, Rebuild, Save, Select, SelectItem, SelectItems, SetClause,
+    SetFunction, Statement, TruthWord, Update, Value,
 };

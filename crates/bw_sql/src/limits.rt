@@ -9,7 +9,7 @@ ghost use Rattle.bw_sql.specs.Statements.{AreTerminals, IsTerminalsFault};
 ghost use Rattle.bw_sql.specs.Terminals.{depth_fault, is_close, is_minus, is_open, number_fault, number_value, terminal_of, word_or_name};
 
 use crate::keyword::reserved_word;
-use crate::terminal::{NameWord, Terminal};
+use crate::terminal::{NameWord, Terminal, TextToken};
 use bw_lex::{Piece, SqlFault, Symbol, TokenKind, first_piece};
 use std::alloc::Global;
 
@@ -140,7 +140,7 @@ fn terminal<'a>(kind: TokenKind, bytes: &'a [u8], largest: u64) -> Result<Termin
             Some(n) if n <= largest => Ok(Terminal::Number(n)),
             _ => Err(SqlFault::BigNumber),
         },
-        TokenKind::Text => Ok(Terminal::Text),
+        TokenKind::Text => Ok(Terminal::Text(TextToken::new(bytes))),
         TokenKind::Symbol(symbol) => Ok(Terminal::Symbol(symbol)),
     }
 }

@@ -416,6 +416,8 @@ impl<'a> Parser<'a> {
             self.delete()
         } else if self.eat_word(Keyword::Select) {
             self.select()
+        } else if self.eat_word(Keyword::Open) {
+            self.open_table()
         } else {
             self.worded_statement()
         }

@@ -2,6 +2,8 @@
 
 ghost use Rattle.std.specs.Prelude.{◌≡◌, ◌≢◌, ◌<◌, ◌≤◌, ℕ, All, IfErr, IfOk, List, length};
 ghost use Rattle.bw_sql.specs.Brought.{names_brought};
+ghost use Rattle.bw_sql.specs.Files.{IsFileName};
+ghost use Rattle.bw_sql.specs.Named.{files_named};
 ghost use Rattle.bw_sql.specs.Names.{IsName};
 ghost use Rattle.bw_lex.specs.declared.fault.SqlFault.{SqlFault as AnyFault};
 ghost use Rattle.bw_sql.specs.Statements.{IsStatementFault, Says, longest_statement};
@@ -51,4 +53,9 @@ pub fn one_statement()
 /// The names that a statement brings into a store are names.
 pub fn names_are_names()
     ensures { (text : List ℕ) (statement : StatementTree) → Says text statement → All IsName (names_brought statement) }
+{}
+
+/// The files that a statement names have names of files.
+pub fn files_are_files()
+    ensures { (text : List ℕ) (statement : StatementTree) → Says text statement → All IsFileName (files_named statement) }
 {}

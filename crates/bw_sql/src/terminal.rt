@@ -2,12 +2,16 @@
 
 ghost use Rattle.std.specs.Prelude.{◌≡◌, IfOk, map};
 ghost use Rattle.std.specs.Char.{to_ascii_uppercase};
+ghost use Rattle.bw_lex.specs.Pieces.{text_says};
+ghost use Rattle.bw_lex.specs.Spellings.{IsSpelled};
+ghost use Rattle.bw_lex.specs.declared.token.TokenKind.TheVariants as kinds;
 ghost use Rattle.bw_sql.specs.Names.{IsName};
-ghost use Rattle.bw_sql.specs.Words.{kind_of, layout_of, statement_word_of};
+ghost use Rattle.bw_sql.specs.Words.{first_record_of, kind_of, layout_of, statement_word_of};
 
+use crate::file_name::FileName;
 use crate::keyword::{Keyword, spells};
 use crate::name::Name;
-use crate::tree::{KindWord, LayoutWord};
+use crate::tree::{FirstRecord, KindWord, LayoutWord};
 use bw_lex::Symbol;
 use std::alloc::{AllocError, Global};
 use std::marker::Model;
@@ -17,6 +21,8 @@ use std::marker::Model;
 pub(crate) enum StatementWord {
     Tables,
     Rebuild,
+    Load,
+    Save,
 }
 
 /// A word that is a name, in any case. A contract sees the name.
@@ -73,6 +79,13 @@ impl<'a> NameWord<'a> {
     {
         kind_word(self.bytes)
     }
+
+    /// What it says of a file's first record behind WITH.
+    pub(crate) fn first_record(&self) -> Option<FirstRecord>
+        ensures { result ≡ first_record_of self.now }
+    {
+        first_record_word(self.bytes)
+    }
 }
 
 #[tactic(auto, unfolding(crate::specs::Words::layout_of))]
@@ -113,8 +126,59 @@ fn statement_word(word: &[u8]) -> Option<StatementWord>
         Some(StatementWord::Tables)
     } else if spells(word, b"REBUILD") {
         Some(StatementWord::Rebuild)
+    } else if spells(word, b"LOAD") {
+        Some(StatementWord::Load)
+    } else if spells(word, b"SAVE") {
+        Some(StatementWord::Save)
     } else {
         None
+    }
+}
+
+#[tactic(auto, unfolding(crate::specs::Words::first_record_of))]
+fn first_record_word(word: &[u8]) -> Option<FirstRecord>
+    ensures { result ≡ first_record_of (map to_ascii_uppercase word.now) }
+{
+    if spells(word, b"HEADER") {
+        Some(FirstRecord::Header)
+    } else {
+        None
+    }
+}
+
+/// A text, with its quotes. A contract sees what it says.
+#[derive(Debug, Drop)]
+pub(crate) struct TextToken<'a> {
+    bytes: &'a [u8],
+}
+
+impl<'a> Model for TextToken<'a> {
+    ghost use Rattle.std.specs.Prelude.{ℕ, List};
+    ghost use Rattle.bw_lex.specs.Pieces.{text_says};
+    ghost use Rattle.bw_lex.specs.Spellings.{IsSpelled};
+    ghost use Rattle.bw_lex.specs.declared.token.TokenKind.TheVariants as kinds;
+
+    ghost Value = { List ℕ };
+
+    ghost view = { λ text. text_says text.bytes.now };
+
+    ghost invariant = { λ text. IsSpelled kinds.Text text.bytes.now };
+}
+
+impl<'a> TextToken<'a> {
+    /// The text of these bytes.
+    pub(crate) fn new(bytes: &'a [u8]) -> TextToken<'a>
+        requires { IsSpelled kinds.Text bytes.now }
+        ensures { result ≡ text_says bytes.entry.now }
+    {
+        TextToken { bytes }
+    }
+
+    /// The name of a file that it says, in a buffer of its own.
+    pub(crate) fn to_file_name(&self, alloc: Global) -> Result<FileName, AllocError>
+        ensures { IfOk result (λ file. file ≡ self.now) }
+    {
+        FileName::from_text(alloc, self.bytes)
     }
 }
 
@@ -124,7 +188,6 @@ pub(crate) enum Terminal<'a> {
     Keyword(Keyword),
     Name(NameWord<'a>),
     Number(u64),
-    /// What stands between quotes. No statement has one yet.
-    Text,
+    Text(TextToken<'a>),
     Symbol(Symbol),
 }

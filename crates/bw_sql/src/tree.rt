@@ -1,5 +1,6 @@
 //! Statement trees.
 
+use crate::file_name::FileName;
 use crate::item_list::ItemList;
 use crate::name::Name;
 use crate::name_list::NameList;
@@ -22,6 +23,9 @@ pub enum Statement {
     Delete(Delete),
     Select(Select),
     Rebuild(Rebuild),
+    Load(Load),
+    Save(Save),
+    Open(Open),
 }
 
 /// `CREATE TABLE table (columns)`.
@@ -107,6 +111,37 @@ pub struct Select {
     pub items: SelectItems,
     pub table: Name,
     pub condition: Option<Condition>,
+}
+
+/// `LOAD table FROM file [WITH HEADER]`.
+#[derive(Debug, Drop)]
+pub struct Load {
+    pub table: Name,
+    pub file: FileName,
+    pub first: FirstRecord,
+}
+
+/// What the first record of a file is.
+#[derive(Clone, Copy, Debug, PartialEq, Eq)]
+pub enum FirstRecord {
+    /// A row like the others.
+    Row,
+    /// A header, which is left out.
+    Header,
+}
+
+/// `SAVE table TO file`.
+#[derive(Debug, Drop)]
+pub struct Save {
+    pub table: Name,
+    pub file: FileName,
+}
+
+/// `OPEN table FROM file`: the table is new.
+#[derive(Debug, Drop)]
+pub struct Open {
+    pub table: Name,
+    pub file: FileName,
 }
 
 /// What a SELECT shows.

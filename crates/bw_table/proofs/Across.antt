@@ -4,7 +4,6 @@ use Rattle.std.specs.List.{All, range_with_len}
 use Rattle.std.proofs.lemmas.Bool.{cases_lt}
 use Rattle.std.proofs.lemmas.List.{get_or_append_left, get_or-append_right, get_or-map, length-map, length-replicate, get_or-replicate, same_lists, get_or_default}
 use Rattle.std.proofs.lemmas.List.Elements.{All-from_get_or, All-map}
-use Rattle.std.proofs.lemmas.List.FromFn.{get_or-map-range_with_len}
 use Rattle.bw_mask.specs.Masks.{MaskRows, len, row_at}
 use Rattle.bw_column.specs.Columns.{ColumnView}
 use Rattle.bw_column.specs.Preparing.{IsEncodingFor}
@@ -14,7 +13,6 @@ use Rattle.bw_code.proofs.Lists.{made_at, made_is, made_len}
 use Rattle.bw_table.specs.Changes.{AreAppended, AreEncodingsFor, slots_without}
 use Rattle.bw_table.specs.Slots.{AreColumns, Slot, SlotsView, column_of, live_slot, row_of, slot_at, slot_column, slot_of, slots_of}
 use Rattle.bw_table.specs.Halves.{AllKept, AllMadeFrom}
-use Rattle.bw_table.specs.declared.appending.Change.{Change}
 use Rattle.bw_code.specs.declared.encoding.Encoding.{Encoding}
 use Rattle.bw_code.specs.declared.encoding.Encoding.TheVariants.{Dictionary}
 use Rattle.bw_code.specs.declared.kind.Layout.TheVariants.{P}
@@ -126,29 +124,21 @@ module _ (new old : List ColumnView) (live new_live : MaskRows) (rows : List (Li
   }
 
 -- what the two halves do
-pub longer_by_halves : (new mid old : List ColumnView) (changes : List Change) (rows : List (List (Option ℤ))) (n : ℕ) → n ≡ length old → length new ≡ length mid → AllKept mid old → length changes ≡ length old → map (λ change. change.values.items) changes ≡ map (column_of rows) (range_with_len 0 n) → AllMadeFrom 0 new mid changes → ((d : Change) → AreLonger new old rows)
-longer_by_halves new mid old changes rows n cols count kept all values made d = record {
+pub longer : (new mid old : List ColumnView) (rows : List (List (Option ℤ))) → length new ≡ length mid → AllKept mid old → AllMadeFrom 0 rows new mid → AreLonger new old rows
+longer new mid old rows count kept made = record {
   count = count ∙ kept.count;
   each = λ k c l.
       let low : k < length mid = omega (arith, kept.count) in
-      (made k c d (omega arith) low).values ∙ ap (λ xs. xs ++ (get_or changes k d).values.items) (kept.each k c).values ∙ ap (λ xs. (get_or old k c).values ++ xs) (taken k l);
+      (made k c (omega arith) low).values ∙ ap (λ xs. xs ++ column_of rows k) (kept.each k c).values;
   layout = λ k c l.
       let low : k < length mid = omega (arith, kept.count) in
-      (made k c d (omega arith) low).layout ∙ (kept.each k c).layout;
+      (made k c (omega arith) low).layout ∙ (kept.each k c).layout;
   encoding = λ k c l.
       let low : k < length mid = omega (arith, kept.count) in
       let keeps = kept.each k c in
-      subst (λ (xs : List (Option ℤ)). IsEncodingFor (get_or old k c).values (get_or old k c).encoding xs (get_or new k c).encoding) (taken k l)
-      (subst (λ (own : Encoding). IsEncodingFor (get_or old k c).values own (get_or changes k d).values.items (get_or new k c).encoding) keeps.encoding
-      (subst (λ (xs : List (Option ℤ)). IsEncodingFor xs (get_or mid k c).encoding (get_or changes k d).values.items (get_or new k c).encoding) keeps.values (made k c d (omega arith) low).encoding));
+      subst (λ (own : Encoding). IsEncodingFor (get_or old k c).values own (column_of rows k) (get_or new k c).encoding) keeps.encoding
+      (subst (λ (xs : List (Option ℤ)). IsEncodingFor xs (get_or mid k c).encoding (column_of rows k) (get_or new k c).encoding) keeps.values (made k c (omega arith) low).encoding);
 }
-  where
-    taken : (k : ℕ) → k < length old → (get_or changes k d).values.items ≡ column_of rows k
-    taken k l = sym (get_or-map (λ (change : Change). change.values.items) changes k d [] (omega (arith, all))) ∙ ap (λ xs. get_or xs k []) values ∙ get_or-map-range_with_len (column_of rows) 0 n k k [] (omega arith) (omega arith)
-
-pub longer : (new mid old : List ColumnView) (changes : List Change) (rows : List (List (Option ℤ))) (n : ℕ) → n ≡ length old → length new ≡ length mid → AllKept mid old → length changes ≡ length old → map (λ change. change.values.items) changes ≡ map (column_of rows) (range_with_len 0 n) → AllMadeFrom 0 new mid changes → AreLonger new old rows
-longer new mid old [] rows n cols count kept all values made = record { count = count ∙ kept.count; each = λ k c l. absurd (omega (arith, all)); layout = λ k c l. absurd (omega (arith, all)); encoding = λ k c l. absurd (omega (arith, all)) }
-longer new mid old (x ∷ xs) rows n cols count kept all values made = longer_by_halves new mid old (x ∷ xs) rows n cols count kept all values made x
 
 pub on_err : {E : Type 0} (result : Result (Unit {0}) E) (fact : Type 0) → fact → OnErr result fact
 on_err (Ok x) fact h = tt

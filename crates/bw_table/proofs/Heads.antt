@@ -19,12 +19,12 @@ laid slots ls = record slots { layouts = ls }
 
 module _ {N : Type 0} where
   -- a list with an element has a first
-  first_of : (headers : List (Header N)) (k : ℕ) → k < length headers → Header N
+  pub first_of : (headers : List (Header N)) (k : ℕ) → k < length headers → Header N
   first_of [] k l = absurd (omega (arith, l))
   first_of (header ∷ headers) k l = header
 
   -- headers are told by what they are at each place
-  told : {B : Type 0} (f : Header N → B) (headers : List (Header N)) (xs : List B) → length headers ≡ length xs → ((k : ℕ) (h : Header N) (d : B) → k < length headers → f (get_or headers k h) ≡ get_or xs k d) → map f headers ≡ xs
+  pub told : {B : Type 0} (f : Header N → B) (headers : List (Header N)) (xs : List B) → length headers ≡ length xs → ((k : ℕ) (h : Header N) (d : B) → k < length headers → f (get_or headers k h) ≡ get_or xs k d) → map f headers ≡ xs
   told f headers xs count each =
       same_lists (map f headers) xs (length-map headers f ∙ count) (λ k d l.
       let low : k < length headers = omega (arith, l, length-map headers f) in

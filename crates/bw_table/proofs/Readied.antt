@@ -1,17 +1,15 @@
 -- What one column's growth, and one column's change, do to all columns.
-use Rattle.std.proofs.Common.{◌≡◌, ℕ, ℤ, ◌+◌, ◌<◌, ◌≤◌, List, [], ◌∷◌, ◌++◌, length, get_or, set, map, take, sym, ap, subst, ◌∙◌, inl, inr, arith, length-set, Option, None}
-use Rattle.std.specs.List.{All, range_with_len}
+use Rattle.std.proofs.Common.{◌≡◌, ℕ, ℤ, ◌+◌, ◌<◌, ◌≤◌, List, [], ◌∷◌, ◌++◌, length, get_or, set, take, true, sym, ap, subst, ◌∙◌, inl, inr, arith, length-set, Option, None}
+use Rattle.std.specs.List.{All}
 use Rattle.std.proofs.lemmas.Bool.{cases_eq}
-use Rattle.std.proofs.lemmas.List.{get_or-set_same, get_or-set_other, get_or_push, get_or_append_left, map-append, length_push, get_or-take, take-take}
+use Rattle.std.proofs.lemmas.List.{get_or-set_same, get_or-set_other, get_or_push, get_or_append_left, length_push, get_or-take, take-take}
 use Rattle.std.proofs.Math.Seq.{take-append_seam}
-use Rattle.std.proofs.lemmas.List.FromFn.{map-range_with_len_more}
 use Rattle.std.proofs.lemmas.List.Elements.{All-map}
 use Rattle.bw_column.specs.Columns.{ColumnView, Keeps}
-use Rattle.bw_column.specs.Preparing.{IsEncodingFor}
+use Rattle.bw_column.specs.Preparing.{IsEncodingFor, IsPreparedFor, Preparation}
 use Rattle.bw_column.specs.Values.{IsNullOrInteger, value_at}
 use Rattle.bw_table.specs.Slots.{column_of}
-use Rattle.bw_table.specs.Halves.{AllKept, AllMadeFrom, AreReadyBelow, IsReady, IsMade}
-use Rattle.bw_table.specs.declared.appending.Change.{Change}
+use Rattle.bw_table.specs.Halves.{AllKept, AllMadeFrom, AreReadyBelow, IsMade}
 
 keeps_chain : {a b c : ColumnView} → Keeps a b → Keeps b c → Keeps a c
 keeps_chain p q = record { values = p.values ∙ q.values; layout = p.layout ∙ q.layout; encoding = p.encoding ∙ q.encoding; room = omega (arith, p.room, q.room) }
@@ -27,8 +25,8 @@ module _ (columns old : List ColumnView) (k : ℕ) (x : ColumnView) (inside : k 
         ];
   }
 
-  pub ready_more : (changes : List Change) (change : Change) → length changes ≡ k → AreReadyBelow k columns changes → IsReady x change → AreReadyBelow (k + 1) (set columns k x) (changes ++ change ∷ [])
-  ready_more changes change len ready here j c d l =
+  pub ready_more : (rows : List (List (Option ℤ))) (changes : List Preparation) (change : Preparation) → length changes ≡ k → AreReadyBelow k rows columns changes → IsPreparedFor x (column_of rows k) true change → AreReadyBelow (k + 1) rows (set columns k x) (changes ++ change ∷ [])
+  ready_more rows changes change len ready here j c d l =
       elim (cases_eq j k) [
         | inl e ↦ rw (e, get_or-set_same columns k x c inside, get_or_push changes change d k len) here
         | inr n ↦
@@ -36,27 +34,23 @@ module _ (columns old : List ColumnView) (k : ℕ) (x : ColumnView) (inside : k 
             rw (get_or-set_other columns k j x c n, get_or_append_left changes (change ∷ []) d j (omega (arith, len))) (ready j c d low)
       ]
 
-pub values_more : (changes : List Change) (change : Change) (f : ℕ → List (Option ℤ)) (k : ℕ) → map (λ c. c.values.items) changes ≡ map f (range_with_len 0 k) → change.values.items ≡ f k → map (λ c. c.values.items) (changes ++ change ∷ []) ≡ map f (range_with_len 0 (k + 1))
-values_more changes change f k e last =
-    map-append (λ c. c.values.items) changes (change ∷ []) ∙ ap (λ ys. ys ++ change.values.items ∷ []) e ∙ ap (λ y. map f (range_with_len 0 k) ++ y ∷ []) last ∙ sym (map-range_with_len_more f 0 k k (omega arith))
-
 -- a column of rows of integers
 pub integers_down : (rows : List (List (Option ℤ))) (k : ℕ) → All (λ row. k < length row) rows → All (λ row. All IsNullOrInteger row) rows → All IsNullOrInteger (column_of rows k)
 integers_down rows k wide integers = All-map IsNullOrInteger (λ row. value_at row k) rows (λ i d l. integers i d l k None (wide i d l))
 
-pub made_more : (new old : List ColumnView) (changes : List Change) (n : ℕ) (x : ColumnView) → n < length new → ((c : ColumnView) (d : Change) → IsMade x (get_or old n c) (get_or changes n d)) → AllMadeFrom (n + 1) new old changes → AllMadeFrom n (set new n x) old changes
-made_more new old changes n x inside here made j c d low l =
+pub made_more : (rows : List (List (Option ℤ))) (new old : List ColumnView) (n : ℕ) (x : ColumnView) → n < length new → ((c : ColumnView) → IsMade x (get_or old n c) (column_of rows n)) → AllMadeFrom (n + 1) rows new old → AllMadeFrom n rows (set new n x) old
+made_more rows new old n x inside here made j c low l =
     elim (cases_eq j n) [
-      | inl e ↦ rw (e, get_or-set_same new n x c inside) (here c d)
-      | inr m ↦ rw (get_or-set_other new n j x c m) (made j c d (omega arith) l)
+      | inl e ↦ rw (e, get_or-set_same new n x c inside) (here c)
+      | inr m ↦ rw (get_or-set_other new n j x c m) (made j c (omega arith) l)
     ]
 
 -- the last of the first m, taken off
-module _ (changes rest front : List Change) (change : Change) (m n : ℕ) (of : rest ≡ take m changes) (all : length rest ≡ m) (last : rest ≡ front ++ change ∷ []) (len : n ≡ length front) where
+module _ {A : Type 0} (changes rest front : List A) (change : A) (m n : ℕ) (of : rest ≡ take m changes) (all : length rest ≡ m) (last : rest ≡ front ++ change ∷ []) (len : n ≡ length front) where
   pub one_less : m ≡ n + 1
   one_less = sym all ∙ ap length last ∙ length_push front change ∙ ap (λ k. k + 1) (sym len)
 
-  pub popped : (d : Change) → get_or changes n d ≡ change
+  pub popped : (d : A) → get_or changes n d ≡ change
   popped d =
       let low : n < m = omega (arith, one_less) in
       sym (get_or-take m changes n d low) ∙ ap (λ xs. get_or xs n d) (sym of ∙ last) ∙ get_or_push front change d n (sym len)
@@ -67,9 +61,9 @@ module _ (changes rest front : List Change) (change : Change) (m n : ℕ) (of : 
       sym (ap (λ k. take k (front ++ change ∷ [])) len ∙ take-append_seam front (change ∷ [])) ∙ ap (take n) (sym last ∙ of) ∙ take-take n m changes low
 
 -- what an append ensures
-pub made_by : (new now old : ColumnView) (values : List (Option ℤ)) (change : Change) → now ≡ old → values ≡ change.values.items → new.values ≡ now.values ++ values → new.layout ≡ now.layout → IsEncodingFor now.values now.encoding values new.encoding → IsMade new old change
-made_by new now old values change o e v l k = record {
-  values = v ∙ ap (λ xs. now.values ++ xs) e ∙ ap (λ (c : ColumnView). c.values ++ change.values.items) o;
+pub made_by : (new now old : ColumnView) (values : List (Option ℤ)) → now ≡ old → new.values ≡ now.values ++ values → new.layout ≡ now.layout → IsEncodingFor now.values now.encoding values new.encoding → IsMade new old values
+made_by new now old values o v l k = record {
+  values = v ∙ ap (λ (c : ColumnView). c.values ++ values) o;
   layout = l ∙ ap (λ (c : ColumnView). c.layout) o;
-  encoding = subst (λ (c : ColumnView). IsEncodingFor c.values c.encoding change.values.items new.encoding) o (subst (λ (xs : List (Option ℤ)). IsEncodingFor now.values now.encoding xs new.encoding) e k);
+  encoding = subst (λ (c : ColumnView). IsEncodingFor c.values c.encoding values new.encoding) o k;
 }

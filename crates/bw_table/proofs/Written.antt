@@ -8,6 +8,7 @@ use Rattle.std.proofs.lemmas.Map.Entries.{lookup_head, lookup_tail}
 use Rattle.bw_mask.specs.Masks.{MaskRows}
 use Rattle.bw_column.specs.Columns.{ColumnView, Keeps}
 use Rattle.bw_column.specs.Preparing.{IsEncodingFor, IsPreparedFor, Preparation}
+use Rattle.bw_column.specs.declared.kept.KeptCodes.{KeptCodes}
 use Rattle.bw_column.specs.declared.step.Step.{Step}
 use Rattle.bw_column.specs.declared.step.Step.TheVariants.{Replace, Shift, Stay}
 use Rattle.bw_column.specs.Places.{overwritten}
@@ -15,7 +16,7 @@ use Rattle.bw_table.specs.Changes.{places, set_of, value_for}
 use Rattle.bw_table.specs.Slots.{row_of}
 use Rattle.bw_table.specs.Halves.{AllKept}
 use Rattle.bw_table.specs.Sets.{gathered, AllSet, AreReadyFor, IsReadyFor, IsSet}
-use Rattle.bw_table.specs.declared.appending.Change.{Change}
+use Rattle.bw_table.specs.declared.setting.Change.{Change}
 use Rattle.bw_table.specs.declared.setting.SetTo.{SetTo}
 use Rattle.bw_table.proofs.Places.{count_places, map_alike}
 use Rattle.bw_table.proofs.Readied.{one_less, popped}
@@ -23,7 +24,7 @@ use Rattle.bw_table.proofs.Across.{kept_row}
 
 -- what is prepared for a column serves as long as that keeps its list
 module _ (new old : ColumnView) (values : List (Option ℤ)) (keeps : Keeps new old) where
-  still_ready_by : (step : Step) (codes : List ℕ) → IsPreparedFor old values false (record { step = step; codes = codes }) → IsPreparedFor new values false (record { step = step; codes = codes })
+  still_ready_by : (step : Step) (codes : KeptCodes) → IsPreparedFor old values false (record { step = step; codes = codes }) → IsPreparedFor new values false (record { step = step; codes = codes })
   still_ready_by Stay codes is = record {
     can = tt;
     same = refl;

@@ -1,5 +1,6 @@
 pub mod Changes
 pub mod Halves
+pub mod Opening
 pub mod Rows
 pub mod Sets
 pub mod Slots

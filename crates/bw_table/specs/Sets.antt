@@ -8,7 +8,7 @@ use Rattle.bw_column.specs.Preparing.{IsEncodingFor, IsPreparedFor}
 use Rattle.bw_column.specs.Values.{known}
 use Rattle.bw_table.specs.Changes.{choice_of, chosen_kind, chosen_layout, places, set_of, value_for}
 use Rattle.bw_table.specs.Slots.{row_of}
-use Rattle.bw_table.specs.declared.appending.Change.{Change}
+use Rattle.bw_table.specs.declared.setting.Change.{Change}
 use Rattle.bw_table.specs.declared.choice.Choice.{Choice}
 use Rattle.bw_table.specs.declared.header.Header.{Header}
 use Rattle.bw_table.specs.declared.setting.SetTo.{SetTo}

@@ -29,7 +29,7 @@ fn built_as(
 {
     let layout = chosen_layout(choice, own.layout());
     let kind = chosen_kind(choice, own.kind());
-    Column::build(alloc, values, layout, kind)
+    Column::build(alloc, &values, layout, kind)
 }
 
 /// Each column built anew from its values in the rows of a mask, as the choices say.

@@ -1,29 +1,69 @@
 //! Rows that lie flat in memory.
 
-ghost use Rattle.std.specs.Prelude.{IfOk, All, [], length, slice_index_or, ◌<◌, ◌≡◌, ◌≤◌, ◌^◌};
+ghost use Rattle.std.specs.Prelude.{All, drop, length, take, ℕ, ◌*◌, ◌+◌, ◌<◌, ◌^◌, ◌≡◌, ◌≤◌};
 ghost use Rattle.bw_column.specs.Values.{value_at};
-ghost use Rattle.bw_table.specs.Rows.{AreWholeRows, rows_from};
+ghost use Rattle.bw_table.specs.Rows.{AreWholeRows, cells_in, rows_from};
 ghost use Rattle.bw_table.specs.Slots.{column_of};
 
-use std::alloc::{AllocError, Global};
 use std::marker::Model;
+
+/// Cells that lie one after the other: in the form that a statement has them, or in the narrower one of a file's rows.
+#[derive(Clone, Copy)]
+pub(crate) enum RowCells<'a> {
+    Values(&'a [Option<i64>]),
+    Integers(&'a [Option<i32>]),
+}
 
 /// Rows of one width, one after the other in one buffer. A contract sees the list of the rows.
 #[derive(Drop)]
 pub struct Rows<'a> {
     width: usize,
-    cells: &'a [Option<i64>],
+    cells: RowCells<'a>,
 }
 
 impl<'a> Model for Rows<'a> {
     ghost use Rattle.std.specs.Prelude.{List, Option, ℤ};
-    ghost use Rattle.bw_table.specs.Rows.{AreWholeRows, rows_from};
+    ghost use Rattle.bw_table.specs.Rows.{AreWholeRows, cells_in, rows_from};
 
     ghost Value = { List (List (Option ℤ)) };
 
-    ghost view = { λ rows. rows_from rows.width rows.cells.now };
+    ghost view = { λ rows. rows_from rows.width (cells_in rows.cells) };
 
-    ghost invariant = { λ rows. AreWholeRows rows.width rows.cells.now };
+    ghost invariant = { λ rows. AreWholeRows rows.width (cells_in rows.cells) };
+}
+
+/// Fills `out` with cell k of each row of so many cells, from row `at` on.
+fn read_values(cells: &[Option<i64>], width: usize, k: usize, at: usize, out: &mut [Option<i64>])
+    requires small { at + length out.old < 2 ^ 64 }
+    requires there { (i : ℕ) → i < length out.old → (at + i) * width + k < length cells.now }
+    ensures long { length out.new ≡ length out.old }
+    ensures each { (i : ℕ) → i < length out.old → value_at out.new i ≡ value_at cells.now ((at + i) * width + k) }
+{
+    for i in 0..out.len() {
+        out[i] = cells[(at + i) * width + k];
+    }
+}
+
+/// Fills `out` with cell k of each row of so many cells, from row `at` on, as a column takes it.
+fn read_integers(cells: &[Option<i32>], width: usize, k: usize, at: usize, out: &mut [Option<i64>])
+    requires small { at + length out.old < 2 ^ 64 }
+    requires there { (i : ℕ) → i < length out.old → (at + i) * width + k < length cells.now }
+    ensures long { length out.new ≡ length out.old }
+    ensures each { (i : ℕ) → i < length out.old → value_at out.new i ≡ value_at cells.now ((at + i) * width + k) }
+{
+    for i in 0..out.len() {
+        out[i] = wide_cell(cells[(at + i) * width + k]);
+    }
+}
+
+/// The cell, as a column takes it.
+fn wide_cell(cell: Option<i32>) -> Option<i64>
+    ensures { result ≡ cell }
+{
+    match cell {
+        Some(number) => Some(i64::from(number)),
+        None => None,
+    }
 }
 
 impl<'a> Rows<'a> {
@@ -32,6 +72,16 @@ impl<'a> Rows<'a> {
         requires { AreWholeRows width cells.now }
         ensures { result ≡ rows_from width cells.entry.now }
     {
+        let cells = RowCells::Values(cells);
+        Rows { width, cells }
+    }
+
+    /// The rows of this width that lie in these cells, which are narrower in memory and as wide as a column allows.
+    pub fn of_integers(width: usize, cells: &'a [Option<i32>]) -> Rows<'a>
+        requires { AreWholeRows width cells.now }
+        ensures { result ≡ rows_from width cells.entry.now }
+    {
+        let cells = RowCells::Integers(cells);
         Rows { width, cells }
     }
 
@@ -40,29 +90,24 @@ impl<'a> Rows<'a> {
     pub fn len(&self) -> usize
         ensures { result ≡ length self.now }
     {
-        self.cells.len() / self.width
+        let cells = match self.cells {
+            RowCells::Values(cells) => cells.len(),
+            RowCells::Integers(cells) => cells.len(),
+        };
+        cells / self.width
     }
 
-    /// The value of row i in column k.
-    #[tactic(auto, using(crate::proofs::Flat::cell_there, crate::proofs::Flat::cell_is))]
-    fn value(&self, i: usize, k: usize) -> Option<i64>
-        requires row { i < length self.now }
-        requires column { k < length (slice_index_or self.now i []) }
-        ensures { result ≡ value_at (slice_index_or self.now i []) k }
+    /// Fills `out` with the values of column k from row `at` on.
+    pub(crate) fn read_column(&self, k: usize, at: usize, out: &mut [Option<i64>])
+        requires column { All (λ row. k < length row) self.now }
+        requires inside { at + length out.old ≤ length self.now }
+        ensures { out.new ≡ take (length out.old) (drop at (column_of self.now k)) }
     {
-        self.cells[i * self.width + k]
-    }
-
-    /// Column k.
-    #[tactic(auto, using(crate::proofs::Flat::column_made, crate::proofs::Flat::column_more))]
-    pub(crate) fn column(&self, alloc: Global, k: usize) -> Result<Vec<Option<i64>>, AllocError>
-        requires { All (λ row. k < length row) self.now }
-        ensures { IfOk result (λ values. values.items ≡ column_of self.now k) }
-    {
-        let mut values = Vec::with_capacity(alloc, self.len())?;
-        for i in 0..self.len() {
-            values.push(self.value(i, k))?;
+        // There are no more rows than a number of them can tell.
+        let _rows = self.len();
+        match self.cells {
+            RowCells::Values(cells) => read_values(cells, self.width, k, at, out),
+            RowCells::Integers(cells) => read_integers(cells, self.width, k, at, out),
         }
-        Ok(values)
     }
 }

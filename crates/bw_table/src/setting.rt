@@ -9,8 +9,7 @@ ghost use Rattle.bw_table.specs.Halves.{AllKept};
 ghost use Rattle.bw_table.specs.Sets.{gathered, AllSet, AreReadyFor};
 ghost use Rattle.bw_table.specs.Slots.{row_of};
 
-use crate::appending::Change;
-use bw_column::Column;
+use bw_column::{Column, Prepared};
 use bw_mask::Mask;
 use std::alloc::{AllocError, Global};
 
@@ -19,6 +18,13 @@ use std::alloc::{AllocError, Global};
 pub enum SetTo {
     Value(Option<i64>),
     Column(usize),
+}
+
+/// What one column takes: the values, and what it has prepared for them.
+#[derive(Drop)]
+pub(crate) struct Change {
+    pub(crate) prepared: Prepared,
+    pub(crate) values: Vec<Option<i64>>,
 }
 
 /// What a column is set to in row i.
@@ -78,7 +84,7 @@ pub(crate) fn prepare_sets(
     for set in sets {
         let (k, to) = *set;
         let values = gather(columns, alloc, found, to)?;
-        let prepared = columns[k].room_for(alloc, &values, false)?;
+        let prepared = columns[k].room_for(alloc, &values.as_slice(), false)?;
         changes.push(Change { prepared, values })?;
     }
     Ok(changes)

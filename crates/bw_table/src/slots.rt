@@ -81,9 +81,9 @@ impl Slots {
         ensures kinds { map kind_of self.new.encodings ≡ map kind_of self.old.encodings }
         ensures unchanged { OnErr result (self.new ≡ self.old) }
     {
-        let changes = prepare(&mut self.columns, alloc, rows)?;
+        let prepared = prepare(&mut self.columns, alloc, rows)?;
         self.live.reserve(rows.len())?;
-        apply(&mut self.columns, changes);
+        apply(&mut self.columns, prepared, rows);
         push_live(&mut self.live, rows.len());
         Ok(())
     }

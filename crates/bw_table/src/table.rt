@@ -1,23 +1,26 @@
 //! A table of slots.
 
-ghost use Rattle.std.specs.Prelude.{All, Err, IfOk, OnErr, OnOk, [], length, slice_index_or, ℕ, ◌<◌, ◌^◌, ◌≡◌, ◌≢◌, ◌≤◌};
+ghost use Rattle.std.specs.Prelude.{All, Err, IfOk, OnErr, OnOk, [], length, map, slice_index_or, ℕ, ◌<◌, ◌^◌, ◌≡◌, ◌≢◌, ◌≤◌};
 ghost use Rattle.std.specs.List.{AllPairs};
 ghost use Rattle.bw_mask.specs.Masks.{len, row_at};
 ghost use Rattle.bw_code.specs.Encodings.{kind_of};
 ghost use Rattle.bw_code.specs.declared.encoding.Encoding.{Encoding};
 ghost use Rattle.bw_column.specs.Values.{IsNullOrInteger, value_at};
 ghost use Rattle.bw_table.specs.Changes.{AreInserted, AreRebuilt, AreUpdated, IsFull, IsSetTo, slots_without};
+ghost use Rattle.bw_table.specs.Opening.{AreFitted, rows_across};
 ghost use Rattle.bw_table.specs.Sets.{AreEmpty};
-ghost use Rattle.bw_table.specs.Slots.{live_slots, slot_at, slot_column, slot_limit};
+ghost use Rattle.bw_table.specs.Slots.{live_slot, live_slots, slot_at, slot_column, slot_limit};
 ghost use Rattle.bw_table.specs.Tables.{AreChosen, AreFirst, slots_in};
 ghost use Rattle.bw_table.specs.declared.fault.TableFault.TheVariants.{Full};
 
 use crate::choice::Choice;
 use crate::fault::TableFault;
 use crate::header::{Header, choose_all};
+use crate::opening::columns_of;
 use crate::rows::Rows;
 use crate::setting::SetTo;
 use crate::slots::Slots;
+use bw_cells::Cells;
 use bw_column::Column;
 use bw_mask::Mask;
 use std::alloc::{AllocError, Global};
@@ -52,6 +55,30 @@ impl<N: Drop> Table<N> {
         let slots = Slots {
             columns,
             live: Mask::filled(alloc, 0, false)?,
+        };
+        Ok(Table { headers, slots })
+    }
+
+    /// The table of these columns: for each header its values, in live slots. Each column is encoded as its values ask,
+    /// in the layout and of the kind that its header says. Refused only where memory is wanting.
+    pub fn of_columns<C: Cells>(
+        alloc: Global,
+        headers: Vec<Header<N>>,
+        rows: usize,
+        columns: &[C],
+    ) -> Result<Table<N>, AllocError>
+        requires few { rows ≤ slot_limit }
+        requires wide { length columns.now ≡ length headers.items }
+        requires long { All (λ cells. length cells ≡ rows) (map C.cells columns.now) }
+        requires integers { All (All IsNullOrInteger) (map C.cells columns.now) }
+        ensures headers { IfOk result (λ t. t.headers ≡ headers.items) }
+        ensures slots { IfOk result (λ t. t.slots ≡ map live_slot (rows_across rows (map C.cells columns.now))) }
+        ensures encodings { IfOk result (λ t. AreFitted t.headers (map C.cells columns.now) t.encodings) }
+    {
+        let columns = columns_of(alloc, &headers, columns)?;
+        let slots = Slots {
+            columns,
+            live: Mask::filled(alloc, rows, true)?,
         };
         Ok(Table { headers, slots })
     }
@@ -189,9 +216,10 @@ impl<N: Drop> Table<N> {
 fn empty_columns<N>(alloc: Global, headers: &Vec<Header<N>>) -> Result<Vec<Column>, AllocError>
     ensures { IfOk result (λ columns. AreEmpty headers.now.items columns.items) }
 {
+    let none: &[Option<i64>] = &[];
     let mut columns = Vec::with_capacity(alloc, headers.len())?;
     for header in headers {
-        columns.push(Column::build(alloc, &[], header.layout, header.kind)?)?;
+        columns.push(Column::build(alloc, &none, header.layout, header.kind)?)?;
     }
     Ok(columns)
 }

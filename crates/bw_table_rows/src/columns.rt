@@ -22,15 +22,15 @@ fn check_value<R: Abort>(rt: &R, value: Option<i64>)
 
 fn check_values<R: Abort>(rt: &R, values: &[Option<i64>])
     ensures integers { All IsNullOrInteger values.now }
-    ensures few { length values.now ≤ 1000 }
+    ensures few { length values.now ≤ 200000 }
 {
-    assert!(rt; values.len() <= 1000);
+    assert!(rt; values.len() <= 200_000);
     for value in values {
         check_value(rt, *value);
     }
 }
 
-/// A column of at most 1,000 values.
+/// A column of at most 200,000 values.
 pub(crate) fn column_of<R: Abort + AllocGlobal>(
     rt: &R,
     values: &[Option<i64>],
@@ -38,7 +38,7 @@ pub(crate) fn column_of<R: Abort + AllocGlobal>(
     kind: Kind,
 ) -> Column {
     check_values(rt, values);
-    Column::build(rt.alloc(), values, layout, kind).expect(rt, "memory")
+    Column::build(rt.alloc(), &values, layout, kind).expect(rt, "memory")
 }
 
 /// The values from a row on.
@@ -68,11 +68,11 @@ fn span_of(column: &Column) -> Option<(i64, u32)> {
 
 fn append<R: Abort + AllocGlobal>(rt: &R, column: &mut Column, values: &[Option<i64>]) {
     check_values(rt, values);
-    assert!(rt; column.len() <= 1000);
+    assert!(rt; column.len() <= 200_000);
     let prepared = column
-        .room_for(rt.alloc(), values, true)
+        .room_for(rt.alloc(), &values, true)
         .expect(rt, "memory");
-    column.append(prepared, values);
+    column.append(prepared, &values);
 }
 
 /// Puts the values in the places whose bits are set.
@@ -87,7 +87,7 @@ fn overwrite<R: Abort + AllocGlobal>(
     places.put_bits(0, 64, bits);
     assert!(rt; places.count() == values.len() && places.len() == column.len());
     let prepared = column
-        .room_for(rt.alloc(), values, false)
+        .room_for(rt.alloc(), &values, false)
         .expect(rt, "memory");
     column.overwrite(prepared, &places, values);
 }

@@ -1,8 +1,10 @@
 //! Worked examples of tables: what each change makes of the rows, of the slots and of the encodings.
 
 use crate::harness::{
-    Cell, To, check_rows, delete, header_of, insert, rows_of, set_one, set_two, span_of, table_of,
+    Cell, To, check_rows, delete, header_of, insert, opened, rows_of, set_one, set_two, span_of,
+    table_of,
 };
+use crate::random::LAYOUTS;
 use bw_code::{Kind, Layout};
 use bw_mask::Mask;
 use bw_table::{Choice, Rows, Table};
@@ -64,6 +66,39 @@ fn a_compact_drops_dead_slots(rt: HostRuntime) {
     );
     assert_eq!(rt; header_of(&table, 1), Some((1, Layout::P, Kind::Offset)));
     assert_eq!(rt; header_of(&table, 2), None);
+}
+
+/// The least and the greatest INTEGER with a null between them, beside another column, read back from a table.
+fn check_opened<R: Abort + AllocGlobal>(rt: &R, layout: Layout, kind: Kind) {
+    let ends = [Some(i32::MIN), None, Some(i32::MAX)];
+    let mut table = opened(
+        rt,
+        &[(layout, kind), OFFSET],
+        ends,
+        [Some(7), Some(-7), None],
+    );
+    let rows = [
+        Some(i32::MIN),
+        Some(7),
+        None,
+        Some(-7),
+        Some(i32::MAX),
+        None,
+    ];
+    check_rows(rt, &table, &rows);
+    assert_eq!(rt; header_of(&table, 0), Some((0, layout, kind)));
+    assert_eq!(rt; span_of(&table, 1), Some((-7, 4)));
+    delete(rt, &mut table, 0b010);
+    insert(rt, &mut table, &[None, Some(8)]);
+    assert_eq!(rt; (table.row_count(), table.slot_count()), (3, 4));
+}
+
+#[test]
+fn columns_that_become_a_table(rt: HostRuntime) {
+    for layout in LAYOUTS {
+        check_opened(&rt, layout, Kind::Offset);
+        check_opened(&rt, layout, Kind::Dictionary);
+    }
 }
 
 /// A table of one column of kind DICTIONARY with three rows.

@@ -20,8 +20,8 @@ pub(crate) enum To {
     Column(usize),
 }
 
-/// A table without slots, of columns in these layouts and of these kinds.
-pub(crate) fn table_of<R: Abort + AllocGlobal>(rt: &R, columns: &[(Layout, Kind)]) -> Table<usize> {
+/// Headers of columns in these layouts and of these kinds.
+fn headers_of<R: Abort + AllocGlobal>(rt: &R, columns: &[(Layout, Kind)]) -> Vec<Header<usize>> {
     let mut headers = Vec::new(rt.alloc());
     for (layout, kind) in columns {
         let header = Header {
@@ -31,7 +31,27 @@ pub(crate) fn table_of<R: Abort + AllocGlobal>(rt: &R, columns: &[(Layout, Kind)
         };
         headers.push(header).expect(rt, "memory");
     }
-    Table::create(rt.alloc(), headers).expect(rt, "memory")
+    headers
+}
+
+/// A table without slots, of columns in these layouts and of these kinds.
+pub(crate) fn table_of<R: Abort + AllocGlobal>(rt: &R, columns: &[(Layout, Kind)]) -> Table<usize> {
+    Table::create(rt.alloc(), headers_of(rt, columns)).expect(rt, "memory")
+}
+
+/// A table made of two columns of three cells.
+pub(crate) fn opened<R: Abort + AllocGlobal>(
+    rt: &R,
+    columns: &[(Layout, Kind)],
+    first: [Cell; 3],
+    second: [Cell; 3],
+) -> Table<usize> {
+    let headers = headers_of(rt, columns);
+    assert!(rt; headers.len() == 2);
+    let (first, second) = (wide_cells(rt, &first), wide_cells(rt, &second));
+    assert!(rt; first.len() == 3 && second.len() == 3);
+    let cells = [first.as_slice(), second.as_slice()];
+    Table::of_columns(rt.alloc(), headers, 3, &cells).expect(rt, "memory")
 }
 
 /// The value, as a column takes it.
@@ -63,6 +83,35 @@ pub(crate) fn insert<R: Abort + AllocGlobal>(rt: &R, table: &mut Table<usize>, c
     assert!(rt; width > 0);
     assert!(rt; cells.len() / width * width == cells.len());
     let rows = Rows::new(width, &cells);
+    assert_eq!(rt; rows.len(), cells.len() / width);
+    assert_eq!(rt; table.insert(rt.alloc(), &rows), Ok(()));
+}
+
+fn see_integer(cell: Cell)
+    ensures { IsNullOrInteger cell }
+{
+    match cell {
+        Some(_) | None => (),
+    }
+}
+
+/// Says that each cell is null or an INTEGER: 32 bits hold no other.
+fn see_integers(cells: &[Cell])
+    ensures { All IsNullOrInteger cells.now }
+{
+    for cell in cells {
+        see_integer(*cell);
+    }
+}
+
+/// Inserts the rows that lie one behind the other in the cells, in the form that the rows of a file have.
+#[tactic(auto, using(crate::proofs::Flat::are_whole, crate::proofs::Flat::are_wide, crate::proofs::Flat::are_integers))]
+pub(crate) fn load<R: Abort + AllocGlobal>(rt: &R, table: &mut Table<usize>, cells: &[Cell]) {
+    let width = table.headers().len();
+    see_integers(cells);
+    assert!(rt; width > 0);
+    assert!(rt; cells.len() / width * width == cells.len());
+    let rows = Rows::of_integers(width, cells);
     assert_eq!(rt; rows.len(), cells.len() / width);
     assert_eq!(rt; table.insert(rt.alloc(), &rows), Ok(()));
 }

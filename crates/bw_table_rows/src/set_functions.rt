@@ -5,14 +5,14 @@ ghost use Rattle.bw_mask.specs.Masks.{len};
 
 use crate::columns::column_of;
 use crate::random::{LAYOUTS, Random};
-use bw_aggregate::{count, max, median, min, sum};
+use bw_aggregate::{Asked, count, max, median, min, sum, summarize};
 use bw_code::{Kind, Layout};
 use bw_column::Column;
 use bw_mask::Mask;
 use std::process::Abort;
 
 /// COUNT, SUM, MIN, MAX and MEDIAN.
-type Answers = (u64, Option<i128>, Option<i64>, Option<i64>, Option<i64>);
+pub(crate) type Answers = (u64, Option<i128>, Option<i64>, Option<i64>, Option<i64>);
 
 /// Numbers of rows at which words and segments of the layouts end, or just don't.
 const LENGTHS: [usize; 16] = [
@@ -70,7 +70,7 @@ fn drawn_code(random: &mut Random, top: u64, place: usize, length: usize) -> u64
 }
 
 /// Null, or the integer at this distance from the least one.
-fn cell(is_known: bool, distance: u64) -> Option<i64> {
+pub(crate) fn cell(is_known: bool, distance: u64) -> Option<i64> {
     if is_known {
         Some((distance & 0xffff_ffff) as i64 - 0x8000_0000)
     } else {
@@ -112,9 +112,9 @@ fn drawn_rows<R: Abort + AllocGlobal>(rt: &R, random: &mut Random, length: usize
     chosen
 }
 
-fn mask_of<R: Abort + AllocGlobal>(rt: &R, chosen: &[bool]) -> Mask {
+pub(crate) fn mask_of<R: Abort + AllocGlobal>(rt: &R, chosen: &[bool]) -> Mask {
     let length = chosen.len();
-    assert!(rt; length < 1_000);
+    assert!(rt; length <= 200_000);
     let mut rows = Mask::filled(rt.alloc(), length, false).expect(rt, "memory");
     for row in 0..length {
         assert!(rt; row < rows.len());
@@ -124,7 +124,7 @@ fn mask_of<R: Abort + AllocGlobal>(rt: &R, chosen: &[bool]) -> Mask {
 }
 
 /// The values of the chosen rows that are not null.
-fn chosen_values<R: Abort + AllocGlobal>(
+pub(crate) fn chosen_values<R: Abort + AllocGlobal>(
     rt: &R,
     values: &[Option<i64>],
     chosen: &[bool],
@@ -159,7 +159,7 @@ fn ends(first: i64, others: &[i64]) -> (i64, i64) {
 }
 
 /// The answers from the values themselves, which are sorted for it.
-fn folded<R: Abort>(rt: &R, values: &mut Vec<i64>) -> Answers {
+pub(crate) fn folded<R: Abort>(rt: &R, values: &mut Vec<i64>) -> Answers {
     let Some(first) = values.first().copied() else {
         return (0, None, None, None, None);
     };
@@ -189,6 +189,25 @@ fn answered<R: Abort + AllocGlobal>(rt: &R, column: &Column, rows: &Mask) -> Ans
     )
 }
 
+/// The answers of the functions where all are asked for at once.
+pub(crate) fn answered_at_once<R: Abort + AllocGlobal>(
+    rt: &R,
+    column: &Column,
+    rows: &Mask,
+) -> Answers
+    requires { len rows.now ≡ length column.now.values }
+{
+    let all = Asked {
+        sum: true,
+        least: true,
+        greatest: true,
+        median: true,
+    };
+    let told = summarize(rt.alloc(), column, rows, all).expect(rt, "memory");
+    let count = told.count as u64;
+    (count, told.sum, told.least, told.greatest, told.median)
+}
+
 /// Checks the functions of some rows of a column that has these values.
 fn check_rows<R: Abort + AllocGlobal>(
     rt: &R,
@@ -207,6 +226,7 @@ fn check_rows<R: Abort + AllocGlobal>(
         wanted,
         "{layout:?} {kind:?}, {length} rows"
     );
+    assert_eq!(rt; answered_at_once(rt, column, &rows), wanted);
 }
 
 /// Checks a column of this share of known values, whose codes have so many bits if it is an offset.

@@ -1,5 +1,5 @@
 -- Rows of one word of a plane are put behind the others.
-use Rattle.std.proofs.Common.{Bool, List, true, ap, arith, bit_or, false, get_or, inl, inr, length, refl, sym, ℕ, ◌%◌, ◌*◌, ◌+◌, ◌-◌, ◌/◌, ◌<◌, ◌^◌, ◌||◌, ◌≡◌, ◌≤◌, ◌∙◌, ◌⊎◌}
+use Rattle.std.proofs.Common.{Bool, List, true, ap, arith, bit_or, false, get_or, inl, inr, length, refl, sym, ℕ, ◌%◌, ◌*◌, ◌+◌, ◌-◌, ◌/◌, ◌<◌, ◌^◌, ◌||◌, ◌≡◌, ◌≤◌, ◌∙◌}
 use mathlib.Core.Logic.{◌≢◌}
 use Rattle.std.proofs.lemmas.Bool.{cases_eq}
 use Rattle.std.proofs.lemmas.List.{get_or_past}
@@ -13,35 +13,27 @@ or_none false = refl
 
 -- bit b of each code goes to a row from `at` on, in plane i
 module _
-    (k i at word rows b : ℕ) (codes : List ℕ) (old new : List (List (List ℕ)))
+    (k i at rows b : ℕ) (codes : List ℕ) (old new : List (List (List ℕ)))
     (few : at % 64 + length codes ≤ 64)
     (rows_are : (r : ℕ) → r < 64 → bit_of rows r ≡ bit_of (get_or codes r 0) b)
-    (word_is : word ≡ word_of k old i (at / 64))
-    (same : word_of k new i (at / 64) ≡ bit_or word (rows * 2 ^ (at % 64) % 2 ^ 64))
-    (other : (p v : ℕ) → p < k → (p ≢ i) ⊎ (v ≢ at / 64) → word_of k new p v ≡ word_of k old p v)
+    (same : word_of k new i (at / 64) ≡ bit_or (word_of k old i (at / 64)) (rows * 2 ^ (at % 64) % 2 ^ 64))
+    (other : (v : ℕ) → v ≢ at / 64 → word_of k new i v ≡ word_of k old i v)
   where
     -- a row of the word
     row_is : (j : ℕ) → j / 64 ≡ at / 64 → is_set k new i j ≡ (is_set k old i j || bit_of (rows * 2 ^ (at % 64) % 2 ^ 64) (j % 64))
     row_is j e =
         ap (λ v. bit_of (word_of k new i v) (j % 64)) e
         ∙ ap (λ w. bit_of w (j % 64)) same
-        ∙ bit_of_or word (rows * 2 ^ (at % 64) % 2 ^ 64) (j % 64)
-        ∙ ap (λ w. bit_of w (j % 64) || bit_of (rows * 2 ^ (at % 64) % 2 ^ 64) (j % 64)) (word_is ∙ ap (word_of k old i) (sym e))
+        ∙ bit_of_or (word_of k old i (at / 64)) (rows * 2 ^ (at % 64) % 2 ^ 64) (j % 64)
+        ∙ ap (λ v. bit_of (word_of k old i v) (j % 64) || bit_of (rows * 2 ^ (at % 64) % 2 ^ 64) (j % 64)) (sym e)
 
-    pub block_other : (p j : ℕ) → p < k → p ≢ i → is_set k new p j ≡ is_set k old p j
-    block_other p j low d = ap (λ w. bit_of w (j % 64)) (other p (j / 64) low (inl d))
-
-    pub block_kept : (p j : ℕ) → p < k → j < at → is_set k new p j ≡ is_set k old p j
-    block_kept p j low h =
-        elim (cases_eq p i) [
-          | inl e ↦
-              elim (cases_eq (j / 64) (at / 64)) [
-                | inl f ↦
-                    let below : j % 64 < at % 64 = omega (arith, h, f) in
-                    rw e (row_is j f ∙ ap (λ x. is_set k old i j || x) (bit_below_shl rows (at % 64) (j % 64) below (omega arith)) ∙ or_none (is_set k old i j))
-                | inr f ↦ ap (λ w. bit_of w (j % 64)) (other p (j / 64) low (inr f))
-              ]
-          | inr d ↦ block_other p j low d
+    pub block_kept : (j : ℕ) → j < at → is_set k new i j ≡ is_set k old i j
+    block_kept j h =
+        elim (cases_eq (j / 64) (at / 64)) [
+          | inl f ↦
+              let below : j % 64 < at % 64 = omega (arith, h, f) in
+              row_is j f ∙ ap (λ x. is_set k old i j || x) (bit_below_shl rows (at % 64) (j % 64) below (omega arith)) ∙ or_none (is_set k old i j)
+          | inr f ↦ ap (λ w. bit_of w (j % 64)) (other (j / 64) f)
         ]
 
     module _ (clean : (j : ℕ) → at ≤ j → is_set k old i j ≡ false) where
@@ -55,8 +47,8 @@ module _
           ∙ bit_moved_up rows (at % 64) r (omega (arith, few, h))
           ∙ rows_are r (omega (arith, few, h))
 
-      pub block_behind : i < k → (j : ℕ) → at + length codes ≤ j → is_set k new i j ≡ false
-      block_behind low j h =
+      pub block_behind : (j : ℕ) → at + length codes ≤ j → is_set k new i j ≡ false
+      block_behind j h =
           elim (cases_eq (j / 64) (at / 64)) [
             | inl e ↦
                 let above : at % 64 ≤ j % 64 = omega (arith, e, h) in
@@ -67,5 +59,5 @@ module _
                 ∙ rows_are (j % 64 - at % 64) (omega arith)
                 ∙ ap (λ c. bit_of c b) (get_or_past codes (j % 64 - at % 64) 0 past)
                 ∙ bit_of_zero b
-            | inr d ↦ ap (λ w. bit_of w (j % 64)) (other i (j / 64) low (inr d)) ∙ clean j (omega (arith, h))
+            | inr d ↦ ap (λ w. bit_of w (j % 64)) (other (j / 64) d) ∙ clean j (omega (arith, h))
           ]

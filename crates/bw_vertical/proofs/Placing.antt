@@ -2,7 +2,8 @@
 use Rattle.std.proofs.Common.{List, [], Vec, Global, ap, arith, get_or, inl, inr, length, set, subst, sym, ℕ, ◌%◌, ◌*◌, ◌+◌, ◌-◌, ◌/◌, ◌<◌, ◌≡◌, ◌≤◌, ◌∙◌, ◌⊎◌, refl}
 use mathlib.Core.Logic.{◌≢◌}
 use Rattle.std.specs.Prelude.{vec_capacity}
-use Rattle.std.proofs.lemmas.Bool.{cases_eq}
+use Rattle.std.proofs.Math.Nat.{mul-le-mul_right}
+use Rattle.std.proofs.lemmas.Bool.{cases_eq, cases_lt}
 use Rattle.std.proofs.lemmas.Nat.{div-mul-add, mod-mul-add}
 use Rattle.std.proofs.lemmas.List.{get_or-map, get_or-set_other, get_or-set_same, length-map, map-set, length-set}
 use Rattle.bw_vertical.specs.Storage.{KeepsSizes, capacities, lists, plane_at, planes_in, word_of}
@@ -59,6 +60,55 @@ module _ (vs : List (Vec (List ℕ) Global)) (g : ℕ) (v w : Vec (List ℕ) Glo
         ];
     capacities = capacities_more more;
   }
+
+-- a word of a plane of group g
+pub word_in_group : (k i w g m p : ℕ) (vs : List (Vec (List ℕ) Global)) (v : Vec (List ℕ) Global) → g < length vs → v ≡ get_or vs g v → i / 4 ≡ g → m ≡ planes_in k g → p ≡ i % 4
+    → get_or (get_or v.items (w / 4 * m + p) []) (w % 4) 0 ≡ word_of k (lists vs) i w
+word_in_group k i w g m p vs v within read group m_is p_is =
+    ap (λ x. get_or (get_or v.items (w / 4 * x + p) []) (w % 4) 0) m_is
+    ∙ ap (λ x. get_or (get_or v.items (w / 4 * planes_in k g + x) []) (w % 4) 0) p_is
+    ∙ ap (λ xs. get_or (get_or xs (w / 4 * planes_in k g + i % 4) []) (w % 4) 0) (sym (group_is vs g v within read))
+    ∙ ap (λ h. get_or (get_or (get_or (lists vs) h []) (w / 4 * planes_in k h + i % 4) []) (w % 4) 0) (sym group)
+
+-- rows are added to lane w % 4 of all planes of group g in segment w / 4
+module _
+    (k w g m : ℕ) (vs : List (Vec (List ℕ) Global)) (v u : Vec (List ℕ) Global)
+    (within : g < length vs) (read : v ≡ get_or vs g v) (m_is : m ≡ planes_in k g)
+    (lanes : (b n : ℕ) → n ≢ w % 4 → get_or (get_or u.items b []) n 0 ≡ get_or (get_or v.items b []) n 0)
+    (before : (b : ℕ) → b < w / 4 * m → get_or u.items b [] ≡ get_or v.items b [])
+    (behind : (b : ℕ) → w / 4 * m + m ≤ b → get_or u.items b [] ≡ get_or v.items b [])
+  where
+    pub word_now : (i x : ℕ) → i / 4 ≡ g → word_of k (lists (set vs g u)) i x ≡ get_or (get_or u.items (x / 4 * m + i % 4) []) (x % 4) 0
+    word_now i x group =
+        ap (λ h. get_or (get_or (get_or (lists (set vs g u)) h []) (x / 4 * planes_in k h + i % 4) []) (x % 4) 0) group
+        ∙ ap (λ xs. get_or (get_or xs (x / 4 * planes_in k g + i % 4) []) (x % 4) 0) (here vs g v u within read)
+        ∙ ap (λ n. get_or (get_or u.items (x / 4 * n + i % 4) []) (x % 4) 0) (sym m_is)
+
+    pub group_other : (i x : ℕ) → i / 4 ≢ g → word_of k (lists (set vs g u)) i x ≡ word_of k (lists vs) i x
+    group_other i x away = ap (λ xs. get_or (get_or xs (x / 4 * planes_in k (i / 4) + i % 4) []) (x % 4) 0) (elsewhere vs g v u within read (i / 4) away)
+
+    elsewhere_in_group : (i x : ℕ) → i < k → i / 4 ≡ g → x ≢ w → get_or (get_or u.items (x / 4 * m + i % 4) []) (x % 4) 0 ≡ get_or (get_or v.items (x / 4 * m + i % 4) []) (x % 4) 0
+    elsewhere_in_group i x low group away =
+        let column : i % 4 < m = rw m_is (subst (λ h. i % 4 < planes_in k h) group (in_its_group k i low)) in
+        elim (cases_eq (x % 4) (w % 4)) [
+          | inl e ↦
+              elim (cases_lt (x / 4) (w / 4)) [
+                | inl l ↦
+                    let above : x / 4 + 1 ≤ w / 4 = omega (arith, l) in
+                    ap (λ plane. get_or plane (x % 4) 0) (before (x / 4 * m + i % 4) (omega (arith, column, mul-le-mul_right m above)))
+                | inr l ↦
+                    let above : w / 4 + 1 ≤ x / 4 = omega (arith, l, e, away) in
+                    ap (λ plane. get_or plane (x % 4) 0) (behind (x / 4 * m + i % 4) (omega (arith, mul-le-mul_right m above)))
+              ]
+          | inr d ↦ lanes (x / 4 * m + i % 4) (x % 4) d
+        ]
+
+    pub words_other : (i x : ℕ) → i < k → x ≢ w → word_of k (lists (set vs g u)) i x ≡ word_of k (lists vs) i x
+    words_other i x low away =
+        elim (cases_eq (i / 4) g) [
+          | inl e ↦ word_now i x e ∙ elsewhere_in_group i x low e away ∙ word_in_group k i x g m (i % 4) vs v within read e m_is refl
+          | inr d ↦ group_other i x d
+        ]
 
 -- lane w % 4 of the place of plane i in segment w / 4 becomes the word
 module _

@@ -1,43 +1,11 @@
 //! Codes of the rows of a word, all at once.
 
-ghost use Rattle.std.specs.Prelude.{All, cond, false, length, slice_index, vec_len, ℕ, ◌%◌, ◌*◌, ◌+◌, ◌-◌, ◌/◌, ◌<◌, ◌^◌, ◌≡◌, ◌≤◌};
+ghost use Rattle.std.specs.Prelude.{All, [], cond, false, length, slice_index, slice_index_or, vec_len, ℕ, ◌%◌, ◌*◌, ◌+◌, ◌-◌, ◌/◌, ◌<◌, ◌^◌, ◌≡◌, ◌≤◌};
 ghost use Rattle.bw_mask.specs.Masks.{bit_of};
 ghost use Rattle.bw_vertical.specs.Storage.{HasSegment, KeepsSizes, code_of, groups_of, is_set, lists};
 
-use crate::storage::{put_word, word_at};
-use std::simd::prelude::*;
-
-/// The powers of two below 2^32, so that a row's bit is looked at without a shift.
-fn powers_of_two() -> [u32; 32]
-    ensures { (r : ℕ) → r < 32 → slice_index result r ≡ 2 ^ r }
-{
-    let mut powers = [0; 32];
-    for r in 0..32 {
-        powers[r] = 1 << r;
-    }
-    powers
-}
-
-/// The low half of a word, and the high half.
-fn halves(word: u64) -> (u32, u32)
-    ensures low { (r : ℕ) → r < 32 → bit_of result.0 r ≡ bit_of word r }
-    ensures high { (r : ℕ) → r < 32 → bit_of result.1 r ≡ bit_of word (32 + r) }
-{
-    ((word % 0x1_0000_0000) as u32, (word >> 32) as u32)
-}
-
-/// Puts a bit behind each of 32 codes from `at` on: bit r of the rows behind code r.
-fn add_bits(codes: &mut [u32; 64], at: usize, rows: u32, powers: &[u32; 32])
-    requires inside { at + 32 ≤ 64 }
-    requires powers { (r : ℕ) → r < 32 → slice_index powers.now r ≡ 2 ^ r }
-    requires fit { (r : ℕ) → r < 32 → slice_index codes.old (at + r) < 2 ^ 31 }
-    ensures inside { (r : ℕ) → r < 32 → slice_index codes.new (at + r) ≡ cond (bit_of rows r) 1 0 + 2 * slice_index codes.old (at + r) }
-    ensures outside { (j : ℕ) → (at ≤ j → at + 32 ≤ j) → slice_index codes.new j ≡ slice_index codes.old j }
-{
-    for r in 0..32 {
-        codes[at + r] = u32::from(rows & powers[r] != 0) + 2 * codes[at + r];
-    }
-}
+use crate::bytes::{codes_of_words, put_codes};
+use crate::storage::{add_words, words_at};
 
 /// The codes of rows 64 w to 64 w + 63.
 fn block_at(groups: &[Vec<[u64; 4]>], k: usize, w: usize) -> [u32; 64]
@@ -47,14 +15,7 @@ fn block_at(groups: &[Vec<[u64; 4]>], k: usize, w: usize) -> [u32; 64]
     requires there { HasSegment k (lists groups.now) (w / 4) }
     ensures { (r : ℕ) → r < 64 → slice_index result r ≡ code_of k (lists groups.now) (64 * w + r) }
 {
-    let powers = powers_of_two();
-    let mut codes = [0; 64];
-    for i in 0..k {
-        let (low, high) = halves(word_at(groups, k, i, w));
-        add_bits(&mut codes, 0, low, &powers);
-        add_bits(&mut codes, 32, high, &powers);
-    }
-    codes
+    codes_of_words(&words_at(groups, k, w), k)
 }
 
 /// Copies n numbers from a place of a block to a place of `out`.
@@ -89,6 +50,19 @@ pub(crate) fn read_codes(groups: &[Vec<[u64; 4]>], k: usize, at: usize, out: &mu
     }
 }
 
+/// Codes of 32 bits go to the first n places of a block.
+fn narrow(codes: &[u64], n: usize, block: &mut [u32; 64])
+    requires all { n ≡ length codes.now }
+    requires few { n ≤ 64 }
+    requires fit { All (λ code. code < 2 ^ 32) codes.now }
+    ensures codes { (r : ℕ) → r < n → slice_index block.new r ≡ slice_index codes.now r }
+    ensures rest { (r : ℕ) → n ≤ r → slice_index block.new r ≡ slice_index block.old r }
+{
+    for r in 0..n {
+        block[r] = codes[r] as u32;
+    }
+}
+
 /// The codes as numbers of 32 bits, and zeros behind them.
 fn narrowed(codes: &[u64]) -> [u32; 64]
     requires few { length codes.now ≤ 64 }
@@ -96,21 +70,13 @@ fn narrowed(codes: &[u64]) -> [u32; 64]
     ensures { (r : ℕ) → slice_index result r ≡ slice_index codes.now r }
 {
     let mut block = [0; 64];
-    for r in 0..codes.len() {
-        block[r] = codes[r] as u32;
+    // Most come by whole words, and quicker where the length is known.
+    if codes.len() == 64 {
+        narrow(codes, 64, &mut block);
+    } else {
+        narrow(codes, codes.len(), &mut block);
     }
     block
-}
-
-/// Bit r says whether code r has bit i.
-fn rows_with_bit(codes: &[u32], i: u32) -> u64
-    requires long { 64 ≤ length codes.now }
-    requires bit { i < 32 }
-    ensures { (r : ℕ) → r < 64 → bit_of result r ≡ bit_of (slice_index codes.now r) i }
-{
-    (u32x64::from_slice(codes) & u32x64::splat(1 << i))
-        .simd_ne(u32x64::splat(0))
-        .to_bitmask()
 }
 
 /// The codes of rows `at`, `at + 1`, .. become these, so few that they lie in one word. From `at` on
@@ -129,10 +95,7 @@ pub(crate) fn put_block(groups: &mut Vec<Vec<[u64; 4]>>, k: usize, at: usize, co
     ensures added { (i r : ℕ) → i < k → r < length codes.now → is_set k (lists groups.new.items) i (at + r) ≡ bit_of (slice_index codes.now r) (k - 1 - i) }
     ensures clean { (i j : ℕ) → i < k → at + length codes.now ≤ j → is_set k (lists groups.new.items) i j ≡ false }
 {
-    let block = narrowed(codes);
-    for i in 0..k {
-        let word = word_at(groups, k, i, at / 64);
-        let rows = rows_with_bit(&block, (k - 1 - i) as u32);
-        put_word(groups, k, i, at / 64, word | rows << (at % 64));
-    }
+    let mut words = [0; 32];
+    put_codes(&narrowed(codes), k, &mut words);
+    add_words(groups, k, at / 64, &words, at % 64);
 }

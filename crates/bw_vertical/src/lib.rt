@@ -2,6 +2,7 @@
 #![tactic(auto)]
 
 mod blocks;
+mod bytes;
 mod codes;
 mod column;
 mod growing;

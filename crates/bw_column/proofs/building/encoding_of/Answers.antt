@@ -6,22 +6,23 @@ use Rattle.bw_column.specs.Codes.{IsCoded}
 use Rattle.bw_column.specs.Values.{known}
 use Rattle.bw_column.proofs.Known.{all_coded}
 use Rattle.bw_column.proofs.Narrow.{known_integers, narrow}
+use Rattle.bw_column.proofs.building.encoding_of.Given.{Over}
 use Rattle.bw_column.proofs.building.encoding_of.Goals as goal
 
-told : (c : goal.Joined-fitting-2) → AreTold (known c.args.values.now) c.tell_known.new.fitting
-told c = c.in_ok-tell_known.ensures.told [] c.in_ok-fitting.ensures.told
+told : (g : Over) (c : goal.Joined-fitting-2 g) → AreTold (known (g.C.Cells.cells c.args.values.now)) c.tell_cells.new.fitting
+told g c = c.in_ok-tell_cells.ensures.told [] c.in_ok-fitting.ensures.told
 
 pub returns-clause-fits : goal.returns-clause-fits
-returns-clause-fits c =
-    let list = known c.args.values.now in
-    IfOk-weaker c.encoding.result _ (IsFit list) (λ e fits. fits list (told c)) c.encoding.ensures.fits
+returns-clause-fits g c =
+    let list = known (g.C.Cells.cells c.args.values.now) in
+    IfOk-weaker c.encoding.result _ (IsFit list) (λ e fits. fits list (told g c)) c.encoding.ensures.fits
 
 pub returns-clause-coded : goal.returns-clause-coded
-returns-clause-coded c =
-    let values = c.args.values.now in
-    IfOk-weaker c.encoding.result _ (λ e. All (IsCoded e) values) (λ e coded. all_coded e values (coded (known values) (told c))) c.encoding.ensures.coded
+returns-clause-coded g c =
+    let values = g.C.Cells.cells c.args.values.now in
+    IfOk-weaker c.encoding.result _ (λ e. All (IsCoded e) values) (λ e coded. all_coded e values (coded (known values) (told g c))) c.encoding.ensures.coded
 
 pub returns-clause-narrow : goal.returns-clause-narrow
-returns-clause-narrow c =
-    let values = c.args.values.now in
-    IfOk-weaker c.encoding.result _ (λ e. width e ≤ 32) (λ e fits. narrow (known values) e (known_integers values c.requires.integers) (fits (known values) (told c))) c.encoding.ensures.fits
+returns-clause-narrow g c =
+    let values = g.C.Cells.cells c.args.values.now in
+    IfOk-weaker c.encoding.result _ (λ e. width e ≤ 32) (λ e fits. narrow (known values) e (known_integers values c.requires.integers) (fits (known values) (told g c))) c.encoding.ensures.fits

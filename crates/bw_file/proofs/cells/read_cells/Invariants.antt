@@ -1,14 +1,15 @@
-use Rattle.std.proofs.Common.{length, ◌*◌, ◌+◌, ◌-◌, ◌≤◌}
-use Rattle.std.specs.Prelude.{All}
-use Rattle.bw_file.specs.Cells.{IsCell}
-use Rattle.bw_file.specs.Reading.{AreRead, AreSpelled}
+use Rattle.std.proofs.Common.{None, get_or, length, ℕ, ◌*◌, ◌+◌, ◌<◌, ◌≡◌}
+use Rattle.bw_file.specs.Reading.{read_cell}
 use Rattle.bw_file.proofs.cells.read_cells.Given as goal
 
-abbrev pub invariant-blocks-2 : goal.invariant-blocks-2
-invariant-blocks-2 l = record {
-  few : length l.cells.items ≤ l.rows;
-  left : l.rows ≤ length l.cells.items + (l.end - l.counter) * 16384;
-  cells : All IsCell l.cells.items;
-  each : AreRead l.cells.items l.present l.words;
-  same : AreSpelled (length l.cells.items) l.present l.words;
+abbrev pub invariant-eights : goal.invariant-eights
+invariant-eights l = record {
+  count : length l.out ≡ length l.fn.out;
+  each : (k : ℕ) → k < 8 * l.q → get_or l.out k None ≡ read_cell l.present l.words (l.at + k);
+}
+
+abbrev pub invariant-rest : goal.invariant-rest
+invariant-rest l = record {
+  count : length l.out ≡ length l.fn.out;
+  each : (k : ℕ) → k < l.k → get_or l.out k None ≡ read_cell l.present l.words (l.at + k);
 }

@@ -1,5 +1,6 @@
 use Rattle.std.proofs.Common.{None, Some, sym}
 use Rattle.bw_sql.specs.Tree.{create_table}
+use Rattle.bw_model.specs.declared.content.Content.TheVariants.{Nothing}
 use Rattle.bw_model.proofs.Stores.{create_first, created, outcome_is}
 use Rattle.bw_model.proofs.steps.create_table.Goals as goal
 
@@ -8,7 +9,7 @@ returns-in-Some-clause-outcome c =
     let store = c.args.tables.now.items in
     let name = c.args.create.now.table in
     let columns = c.args.create.now.columns.items in
-    sym (outcome_is store (create_table name columns) (Some c.in-Some.refusal)
+    sym (outcome_is store Nothing (create_table name columns) (Some c.in-Some.refusal)
     (create_first store name columns c.in_ok-headers.headers.items c.in_ok-columns.columns.items c.create_tests.result (Some c.in-Some.refusal)
     (rw c.deref.ensures.value at c.in_ok-headers.ensures) (rw c.deref-2.ensures.value at c.in_ok-columns.ensures) (rw (c.deref-3.ensures.value, c.deref-4.ensures.value) at c.create_tests.ensures) c.in-Some.ensures))
 

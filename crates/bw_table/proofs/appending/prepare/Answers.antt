@@ -1,23 +1,21 @@
-use Rattle.std.proofs.Common.{◌≡◌, ◌<◌, arith, length, get_or}
+use Rattle.std.proofs.Common.{arith, get_or, length, ◌<◌, ◌≡◌}
 use Rattle.std.proofs.lemmas.List.{get_or_default}
 use Rattle.bw_column.specs.Columns.{ColumnView, Keeps}
-use Rattle.bw_table.specs.Slots.{column_of}
-use Rattle.bw_table.proofs.Readied.{kept_set, ready_more, values_more, integers_down}
+use Rattle.bw_table.proofs.Readied.{integers_down, kept_set, ready_more}
 use Rattle.bw_table.proofs.appending.prepare.Goals as goal
 
 pub room_for-requires-clause-integers : goal.room_for-requires-clause-integers
 room_for-requires-clause-integers c =
-    rw (c.deref.ensures.value, c.in_ok-values.ensures) (integers_down c.args.rows.now c.loop-k.k (λ i d l. omega (arith, c.requires.widths i d l)) c.requires.integers)
+    rw (c.new-values.ensures.rows, c.new-values.ensures.column) (integers_down c.args.rows.now c.loop-k.k (λ i d l. omega (arith, c.requires.widths i d l)) c.requires.integers)
 
 pub loop-k-preserved : goal.loop-k-preserved
 loop-k-preserved c =
     let columns = c.loop-k.columns.items in
     let inside : c.loop-k.k < length columns = omega arith in
     let keeps : (d : ColumnView) → Keeps c.room_for.new.self (get_or columns c.loop-k.k d) = λ d. rw (get_or_default columns c.loop-k.k d c.index_mut.result.now inside, ← c.index_mut.ensures.value) c.room_for.ensures.keeps in
-    let few : length c.loop-k.changes.items ≡ c.loop-k.k = omega arith in
+    let few : length c.loop-k.prepared.items ≡ c.loop-k.k = omega arith in
     record {
       kept = kept_set columns c.args.columns.now.items c.loop-k.k c.room_for.new.self inside keeps c.loop-k.invariant.kept;
       count = omega (arith, c.in_ok-push.ensures.len);
-      ready = rw c.in_ok-push.ensures.items (ready_more columns c.args.columns.now.items c.loop-k.k c.room_for.new.self inside keeps c.loop-k.changes.items _ few c.loop-k.invariant.ready (rw (← c.deref.ensures.value) c.in_ok-prepared.ensures.prepared));
-      values = rw c.in_ok-push.ensures.items (values_more c.loop-k.changes.items _ (column_of c.args.rows.now) c.loop-k.k c.loop-k.invariant.values c.in_ok-values.ensures);
+      ready = rw c.in_ok-push.ensures.items (ready_more columns c.args.columns.now.items c.loop-k.k c.room_for.new.self inside keeps c.args.rows.now c.loop-k.prepared.items _ few c.loop-k.invariant.ready (rw (c.new-values.ensures.rows, c.new-values.ensures.column) at c.in_ok-room_for.ensures.prepared));
     }

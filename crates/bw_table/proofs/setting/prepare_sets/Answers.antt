@@ -24,6 +24,6 @@ loop-set-preserved c =
       ready = rw c.in_ok-push.ensures.items (more_ready (set columns here.0 x) columns kept c.args.found.now sets c.loop-set.changes.items _ n few c.loop-set.invariant.ready (λ s.
           rw (get_or_default sets n s (0, Value None) inside) record {
             values = c.in_ok-values.ensures.values ∙ sym (gathered_kept (set columns here.0 x) columns kept c.args.found.now here.1);
-            ready = λ d. rw (get_or-set_same columns here.0 x d named, ← c.deref.ensures.value) c.in_ok-prepared.ensures.prepared;
+            ready = λ d. rw (get_or-set_same columns here.0 x d named, ← c.as_slice.ensures.value) c.in_ok-prepared.ensures.prepared;
           }));
     }

@@ -1,56 +1,40 @@
-use Rattle.std.proofs.Common.{Bool, List, ap, arith, cond, get_or, inl, inr, sym, ℕ, ◌*◌, ◌+◌, ◌-◌, ◌<◌, ◌≡◌, ◌≤◌, ◌∙◌}
+use Rattle.std.proofs.Common.{ap, arith, cond, get_or, inl, inr, sym, ℕ, ◌*◌, ◌+◌, ◌-◌, ◌<◌, ◌==◌, ◌^◌, ◌≡◌, ◌≤◌, ◌∙◌}
+use Rattle.std.proofs.Math.Pow.{pow_mono}
 use Rattle.std.proofs.lemmas.Bool.{cases_lt}
+use Rattle.std.proofs.lemmas.Nat.Bits.{bit_at_above, same_from_bits_below}
 use Rattle.bw_mask.specs.Masks.{bit_of}
-use Rattle.bw_code.proofs.LaneLemmas.{zeros}
-use Rattle.bw_vertical.specs.Storage.{is_set, lists, word_of}
-use Rattle.bw_vertical.proofs.Numbers.{number, number_fits, number_more}
+use Rattle.bw_mask.proofs.Bits.{bit_of_zero}
+use Rattle.bw_vertical.specs.Storage.{code_of, lists}
+use Rattle.bw_vertical.proofs.Holding.{code_bit, code_lt}
+use Rattle.bw_vertical.proofs.Numbers.{bit_is}
 use Rattle.bw_vertical.proofs.Settings.{word_row}
 use Rattle.bw_vertical.proofs.blocks.block_at.Goals as goal
 
-pub loop-i-init : goal.loop-i-init
-loop-i-init c r h = zeros 64 r
-
-pub add_bits-requires-clause-fit : goal.add_bits-requires-clause-fit
-add_bits-requires-clause-fit c r h =
-    let place : 0 + r ≡ r = omega arith in
-    let fits = number_fits (λ i. is_set c.args.k (lists c.args.groups.now) i (64 * c.args.w + r)) c.loop-i.i 31 (omega arith) in
-    rw (place, c.loop-i.invariant r (omega (arith, h))) fits
-
-pub add_bits-requires-in-loop-i-clause-fit : goal.add_bits-requires-in-loop-i-clause-fit
-add_bits-requires-in-loop-i-clause-fit c r h =
-    let fits = number_fits (λ i. is_set c.args.k (lists c.args.groups.now) i (64 * c.args.w + (32 + r))) c.loop-i.i 31 (omega arith) in
-    rw (c.add_bits.ensures.outside (32 + r) (λ (l : 0 ≤ 32 + r). omega arith), c.loop-i.invariant (32 + r) (omega (arith, h))) fits
-
--- a row that gets its bit
-module _ (k i w r code : ℕ) (gs : List (List (List ℕ))) (low : r < 64) (bit : Bool) (bit_is : bit ≡ bit_of (word_of k gs i w) r) (code_is : code ≡ number (λ p. is_set k gs p (64 * w + r)) i) where
-  more : cond bit 1 0 + 2 * code ≡ number (λ p. is_set k gs p (64 * w + r)) (i + 1)
-  more =
-      ap (λ b. cond {A = ℕ} b 1 0 + 2 * code) (bit_is ∙ sym (word_row k i w r gs low))
-      ∙ ap (λ x. cond {A = ℕ} (is_set k gs i (64 * w + r)) 1 0 + 2 * x) code_is
-      ∙ sym (number_more (λ p. is_set k gs p (64 * w + r)) i)
-
-pub loop-i-preserved : goal.loop-i-preserved
-loop-i-preserved c r h =
+pub returns : goal.returns
+returns c r h =
     let k = c.args.k in
-    let gs = lists c.args.groups.now in
-    let i = c.loop-i.i in
     let w = c.args.w in
-    let word = c.word_at.ensures in
-    elim (cases_lt r 32) [
-      | inl l ↦
-          let place : 0 + r ≡ r = omega arith in
-          c.add_bits-in-loop-i.ensures.outside r (λ (p : 32 ≤ r). absurd (omega (arith, p, l)))
-          ∙ ap (λ j. get_or c.add_bits.new.codes j 0) (sym place)
-          ∙ c.add_bits.ensures.inside r l
-          ∙ ap (λ j. cond {A = ℕ} (bit_of c.halves-low.result.0 r) 1 0 + 2 * get_or c.loop-i.codes j 0) place
-          ∙ more k i w r (get_or c.loop-i.codes r 0) gs h (bit_of c.halves-low.result.0 r) (c.halves-low.ensures.low r l ∙ ap (λ x. bit_of x r) word) (c.loop-i.invariant r h)
-      | inr l ↦
-          let q = r - 32 in
-          let place : 32 + (r - 32) ≡ r = omega (arith, l) in
-          let low : r - 32 < 32 = omega (arith, h, l) in
-          ap (λ j. get_or c.add_bits-in-loop-i.new.codes j 0) (sym place)
-          ∙ c.add_bits-in-loop-i.ensures.inside (r - 32) low
-          ∙ ap (λ j. cond {A = ℕ} (bit_of c.halves-low.result.1 (r - 32)) 1 0 + 2 * get_or c.add_bits.new.codes j 0) place
-          ∙ ap (λ x. cond {A = ℕ} (bit_of c.halves-low.result.1 (r - 32)) 1 0 + 2 * x) (c.add_bits.ensures.outside r (λ (p : 0 ≤ r). omega (arith, l)))
-          ∙ more k i w r (get_or c.loop-i.codes r 0) gs h (bit_of c.halves-low.result.1 (r - 32)) (c.halves-low.ensures.high (r - 32) low ∙ ap (bit_of c.word_at.result) place ∙ ap (λ x. bit_of x r) word) (c.loop-i.invariant r h)
-    ]
+    let gs = lists c.args.groups.now in
+    let j = 64 * w + r in
+    let x = get_or c.codes_of_words.result r 0 in
+    let y = code_of k gs (64 * w + r) in
+    let most : 2 ^ k ≤ 2 ^ 32 = pow_mono {i = k} {j = 32} c.requires.narrow in
+    let small : code_of k gs (64 * w + r) < 2 ^ 32 = omega (arith, most, code_lt k gs (64 * w + r)) in
+    let bits : (b : ℕ) → b < 32 → bit_of (get_or c.codes_of_words.result r 0) b ≡ bit_of (code_of k gs (64 * w + r)) b = λ b l.
+    c.codes_of_words.ensures.bits r b h l
+    ∙ elim (cases_lt b k) [
+      | inl p ↦
+          let i = k - 1 - b in
+          let low : k - 1 - b < k = omega (arith, p) in
+          let back : k - 1 - (k - 1 - b) ≡ b = omega (arith, p) in
+          ap (λ n. bit_of (get_or c.words_at.result n 0) r) (sym back)
+          ∙ ap (λ v. bit_of v r) (c.words_at.ensures.planes (k - 1 - b) low)
+          ∙ sym (word_row k (k - 1 - b) w r gs h)
+          ∙ sym (code_bit k (k - 1 - b) (64 * w + r) gs low)
+          ∙ ap (bit_of (code_of k gs (64 * w + r))) back
+      | inr p ↦
+          ap (λ v. bit_of v r) (c.words_at.ensures.rest b p) ∙ bit_of_zero r
+          ∙ sym (ap (λ n. n == 1) (bit_at_above (code_of k gs (64 * w + r)) k b (code_lt k gs (64 * w + r)) p))
+    ] in
+    same_from_bits_below 32 (get_or c.codes_of_words.result r 0) (code_of k gs (64 * w + r)) (c.codes_of_words.ensures.fit r h) small (λ b l.
+    sym (bit_is (get_or c.codes_of_words.result r 0) b) ∙ ap (λ t. cond {A = ℕ} t 1 0) (bits b l) ∙ bit_is (code_of k gs (64 * w + r)) b)

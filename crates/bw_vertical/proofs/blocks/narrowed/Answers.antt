@@ -1,7 +1,13 @@
-use Rattle.std.proofs.Common.{arith, ℕ}
-use Rattle.std.proofs.lemmas.List.{length-replicate}
+use Rattle.std.proofs.Common.{arith, inl, inr, length, sym, ◌∙◌}
+use Rattle.std.proofs.lemmas.Bool.{cases_lt}
+use Rattle.std.proofs.lemmas.List.{get_or_past}
 use Rattle.bw_code.proofs.LaneLemmas.{zeros}
 use Rattle.bw_vertical.proofs.blocks.narrowed.Goals as goal
 
-pub loop-r-init : goal.loop-r-init
-loop-r-init c = (λ k h. absurd (omega (arith, h)), λ k h. zeros 64 k, length-replicate {A = ℕ} 64 0)
+pub returns-else-codes-eq64 : goal.returns-else-codes-eq64
+returns-else-codes-eq64 c r =
+    let codes = c.args.codes.now in
+    elim (cases_lt r (length codes)) [
+      | inl h ↦ c.narrow-else-codes-eq64.ensures.codes r (omega (arith, h))
+      | inr h ↦ c.narrow-else-codes-eq64.ensures.rest r (omega (arith, h)) ∙ zeros 64 r ∙ sym (get_or_past codes r 0 h)
+    ]

@@ -1,4 +1,4 @@
-use Rattle.std.proofs.Common.{arith, inr, refl, sym, ℕ, ◌*◌, ◌+◌, ◌/◌, ◌<◌, ◌≤◌, ◌∙◌}
+use Rattle.std.proofs.Common.{arith, inr, refl, sym, ℕ, ◌*◌, ◌+◌, ◌<◌, ◌≤◌, ◌∙◌}
 use Rattle.bw_mask.specs.Masks.{row_in}
 use Rattle.bw_code.specs.Units.{agreement}
 use Rattle.bw_code.proofs.Digits.{compared_none}

@@ -1,6 +1,4 @@
 use Rattle.std.proofs.Common.{arith, ap, get_or, length, length-set, None, ◌≡◌, ◌∙◌}
-use Rattle.std.proofs.lemmas.List.{length-map}
-use Rattle.bw_column.specs.Codes.{code_for}
 use Rattle.bw_column.proofs.Overwriting.{all_done, done_more, next_below, next_rank, place_below, rest_less}
 use Rattle.bw_column.proofs.column.Column.put_all.Goals as goal
 
@@ -10,12 +8,11 @@ bounds-values-next c =
     let i = c.loop-place.invariant in
     omega (arith, c.requires.count, next_below c.args.places.now c.args.values.now old c.loop-place.self.values c.loop-place.at i.len i.done i.rest c.in-Some.place c.loop-place.next c.in-Some.ensures i.next)
 
-pub bounds-codes-next : goal.bounds-codes-next
-bounds-codes-next c =
+pub code_of-code-requires-clause-inside : goal.code_of-code-requires-clause-inside
+code_of-code-requires-clause-inside c =
     let old = c.args.self.now.values in
     let i = c.loop-place.invariant in
-    let many : length c.args.codes.now ≡ length c.args.values.now = ap length c.requires.codes ∙ length-map c.args.values.now (code_for c.args.self.now.encoding) in
-    omega (arith, many, c.requires.count, next_below c.args.places.now c.args.values.now old c.loop-place.self.values c.loop-place.at i.len i.done i.rest c.in-Some.place c.loop-place.next c.in-Some.ensures i.next)
+    omega (arith, c.requires.count, next_below c.args.places.now c.args.values.now old c.loop-place.self.values c.loop-place.at i.len i.done i.rest c.in-Some.place c.loop-place.next c.in-Some.ensures i.next)
 
 pub overflow_add-at : goal.overflow_add-at
 overflow_add-at c =

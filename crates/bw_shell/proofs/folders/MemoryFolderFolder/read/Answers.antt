@@ -1,4 +1,4 @@
-use Rattle.std.proofs.Common.{◌≡◌, ◌∙◌, ◌≤◌, Some, None, ap, arith, length, refl, sym}
+use Rattle.std.proofs.Common.{◌≡◌, ◌∙◌, Some, None, ap, arith, length, refl, sym}
 use Rattle.bw_shell.specs.Folders.{file_of}
 use Rattle.bw_shell.proofs.FileMaps.{file_is}
 use Rattle.bw_shell.proofs.folders.MemoryFolderFolder.read.Goals as goal
@@ -17,5 +17,9 @@ pub returns-clause-files : goal.returns-clause-files
 returns-clause-files c =
     let file : file_of c.args.self.now c.args.name.now ≡ Some c.in-Some.bytes.now.items = rw (← c.self.view_is) (file_is c.self.inside.files.entries c.args.name.now (Some c.in-Some.bytes.now) c.in-Some.ensures.value) in
     let copied = c.in_ok-from_slice.ensures.items ∙ c.as_slice.ensures.value in
-    let short : length c.in_ok-from_slice.field-0.items ≤ c.args.limit = omega (arith, ap length copied, c.len.ensures, c.if-len-limit.false) in
-    (refl, (file ∙ ap (λ l. Some l) (sym copied), short))
+    (refl, file ∙ ap (λ l. Some l) (sym copied))
+
+pub returns-clause-within : goal.returns-clause-within
+returns-clause-within c =
+    let copied = c.in_ok-from_slice.ensures.items ∙ c.as_slice.ensures.value in
+    omega (arith, ap length copied, c.len.ensures, c.if-len-limit.false)

@@ -1,4 +1,4 @@
-use Rattle.std.proofs.Common.{refl, ◌≡◌, ◌+◌, ◌≤◌, ◌^◌, arith, map, length, ◌∙◌, ap, ◌++◌, replicate, true, vec_len}
+use Rattle.std.proofs.Common.{refl, ◌≡◌, ◌+◌, ◌≤◌, ◌^◌, arith, map, length, ◌∙◌, ap, ◌++◌, replicate, true}
 use Rattle.std.specs.List.{All}
 use Rattle.std.proofs.lemmas.List.{length-map}
 use Rattle.bw_mask.specs.Masks.{len}
@@ -16,16 +16,16 @@ prepare-requires-clause-few c =
     let few : len c.self.inside.live + length c.args.rows.now ≤ 2 ^ 24 = grind (arith, made_len) in
     λ k d l. omega (arith, few, c.self.invariant.rows k d l)
 
-pub returns-in_err-changes-clause-unchanged : goal.returns-in_err-changes-clause-unchanged
-returns-in_err-changes-clause-unchanged c =
+pub returns-in_err-prepared-clause-unchanged : goal.returns-in_err-prepared-clause-unchanged
+returns-in_err-prepared-clause-unchanged c =
     on_err _ _ (kept_view c.prepare.new.columns.items c.self.inside.columns.items c.prepare.ensures.kept c.self.inside.live c.self.inside.live refl ∙ c.self.view_is)
 
-pub returns-in_err-changes-clause-layouts : goal.returns-in_err-changes-clause-layouts
-returns-in_err-changes-clause-layouts c =
+pub returns-in_err-prepared-clause-layouts : goal.returns-in_err-prepared-clause-layouts
+returns-in_err-prepared-clause-layouts c =
     ap (λ (s : SlotsView). s.layouts) (kept_view c.prepare.new.columns.items c.self.inside.columns.items c.prepare.ensures.kept c.self.inside.live c.self.inside.live refl ∙ c.self.view_is)
 
-pub returns-in_err-changes-clause-kinds : goal.returns-in_err-changes-clause-kinds
-returns-in_err-changes-clause-kinds c =
+pub returns-in_err-prepared-clause-kinds : goal.returns-in_err-prepared-clause-kinds
+returns-in_err-prepared-clause-kinds c =
     ap (λ (s : SlotsView). map kind_of s.encodings) (kept_view c.prepare.new.columns.items c.self.inside.columns.items c.prepare.ensures.kept c.self.inside.live c.self.inside.live refl ∙ c.self.view_is)
 
 pub returns-in_err-reserve-clause-unchanged : goal.returns-in_err-reserve-clause-unchanged
@@ -42,8 +42,7 @@ returns-in_err-reserve-clause-kinds c =
 
 got_longer : (c : goal.After-push_live) → AreLonger c.apply.new.columns.items c.self.inside.columns.items c.args.rows.now
 got_longer c =
-    let old = c.self.inside.columns in
-    longer c.apply.new.columns.items c.prepare.new.columns.items old.items c.in_ok-changes.changes.items c.args.rows.now (vec_len old) old.ok.0 (omega (arith, c.apply.ensures.count)) c.prepare.ensures.kept (omega (arith, c.in_ok-changes.ensures.count)) c.in_ok-changes.ensures.values c.apply.ensures.made
+    longer c.apply.new.columns.items c.prepare.new.columns.items c.self.inside.columns.items c.args.rows.now (omega (arith, c.apply.ensures.count)) c.prepare.ensures.kept c.apply.ensures.made
 
 are_wide : (c : goal.After-push_live) → All (λ row. length row ≡ length c.self.inside.columns.items) c.args.rows.now
 are_wide c =

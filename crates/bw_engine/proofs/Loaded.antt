@@ -1,0 +1,130 @@
+-- The rows of a CSV file, as they are answered and as the table takes them.
+use Rattle.std.proofs.Common.{◌≡◌, ◌∙◌, inl, inr, ℕ, ◌<◌, Bool, true, false, List, [], ◌∷◌, Bor, nat_lt, length, ◌++◌, ◌^◌, None, Some, get_or, Result, Ok, Err, IsErrAnd, refl, sym, ap, subst, arith}
+use Rattle.std.specs.Bool.{MatchBool}
+use Rattle.std.specs.List.{All, flat_map}
+use Rattle.std.proofs.lemmas.Bool.{ltb-false}
+use Rattle.std.proofs.lemmas.List.{length-map}
+use Rattle.bw_column.specs.Values.{IsNullOrInteger}
+use Rattle.bw_csvload.specs.Fitting.{FitsColumns, IsCell, IsOrFault}
+use Rattle.bw_csvload.specs.Rows.{IsFault, rows_of_file}
+use Rattle.bw_csvload.specs.declared.fault.CsvFault.{CsvFault}
+use Rattle.bw_csvload.specs.declared.fault.CsvFault.TheVariants as fault
+use Rattle.bw_csvload.proofs.Fits.{rows_in_file}
+use Rattle.bw_table.specs.Rows.{AreWholeRows, rows_from}
+use Rattle.bw_table.specs.declared.header.Header.{Header}
+use Rattle.bw_sql.specs.Rows.{joined}
+use Rattle.bw_sql.specs.declared.tree.FirstRecord.{FirstRecord}
+use Rattle.bw_model.specs.Contents.{first_of, lines_or_fault}
+use Rattle.bw_model.specs.Filing.{file_limit}
+use Rattle.bw_model.specs.Refusals.{refusal_of_csv}
+use Rattle.bw_model.specs.Store.{AreHeaders, Row, Value}
+use Rattle.bw_model.specs.declared.content.Content.{Content}
+use Rattle.bw_model.specs.declared.content.Content.TheVariants.{Lines, TooLarge}
+use Rattle.bw_model.specs.declared.refusal.Refusal.{Refusal}
+use Rattle.bw_model.specs.declared.refusal.Refusal.TheVariants.{FileTooLarge, OutOfMemory, UnreadableFile}
+use Rattle.bw_model.proofs.Lines.{length-joined}
+use Rattle.bw_plan.specs.Columns.{columns_of, words_of}
+use Rattle.bw_engine.specs.Files.{AnswersFile, IsAnswered, IsBytesOf, SaysLines, Within, lines_tests}
+use Rattle.bw_engine.specs.declared.file_answer.FileAnswer.{FileAnswer}
+use Rattle.bw_engine.specs.declared.file_answer.FileAnswer.TheVariants as file
+use Rattle.bw_engine.proofs.Inserted.{rows_again}
+
+-- the rows of what is said, where all of it is rows
+abbrev pub AnswersLines : Result (List Row) Refusal → Content → Type 0
+AnswersLines r said = AnswersFile (lines_tests said) r (λ rows. said ≡ Lines rows)
+
+-- a file without bytes to be read
+module _ (columns : ℕ) (first : FirstRecord) (x : Refusal) where
+  pub unread : (answer : FileAnswer) (r : Result (List Row) Refusal) → IsBytesOf answer (Err x) → IsErrAnd r (λ e. e ≡ x)
+      → IsAnswered answer (Within (SaysLines columns first)) (AnswersLines r) (r ≡ Err OutOfMemory)
+  unread answer (Ok rows) is h = absurd h
+  unread file.NotAsked (Err e) is h = let same : e ≡ UnreadableFile = cc in inr (ap Some (sym same))
+  unread file.Unreadable (Err e) is h = let same : e ≡ UnreadableFile = cc in inr (ap Some (sym same))
+  unread file.TooLarge (Err e) is h = let same : e ≡ FileTooLarge = cc in inr (ap Some (sym same))
+  unread file.NoMemory (Err e) is h = let same : e ≡ OutOfMemory = cc in ap Err same
+  unread (file.Bytes bytes) (Err e) is h = by (nat_lt file_limit (length bytes.now)) is
+    where
+      by : (b : Bool) → MatchBool b (◌≡◌ {A = Result (Bor (List ℕ)) Refusal} (Err x) (Err FileTooLarge)) ⊥ → (said : Content) × MatchBool b (said ≡ TooLarge) (SaysLines columns first bytes.now said) × AnswersLines (Err e) said
+      by true long = let same : e ≡ FileTooLarge = cc in (TooLarge, refl, inr (ap Some (sym same)))
+      by false none = absurd none
+
+-- a file whose bytes have a fault
+fault_answers : (wanted : Result (List Row) CsvFault) (found : CsvFault) (r : Result (List Row) Refusal) → IsFault wanted found → IsErrAnd r (λ e. e ≡ refusal_of_csv found) → AnswersLines r (lines_or_fault wanted)
+fault_answers wanted found (Ok rows) is h = absurd h
+fault_answers (Ok rows) fault.Memory (Err e) is h = inl h
+fault_answers (Ok rows) (fault.Fields record') (Err e) is h = absurd (cc)
+fault_answers (Ok rows) (fault.NotInteger record' field) (Err e) is h = absurd (cc)
+fault_answers (Ok rows) fault.Range (Err e) is h = absurd (cc)
+fault_answers (Err other) fault.Memory (Err e) is h = inl h
+fault_answers (Err other) (fault.Fields record') (Err e) is h = let same : other ≡ fault.Fields record' = cc in inr (ap Some (ap refusal_of_csv same ∙ sym h))
+fault_answers (Err other) (fault.NotInteger record' field) (Err e) is h = let same : other ≡ fault.NotInteger record' field = cc in inr (ap Some (ap refusal_of_csv same ∙ sym h))
+fault_answers (Err other) fault.Range (Err e) is h = let same : other ≡ fault.Range = cc in inr (ap Some (ap refusal_of_csv same ∙ sym h))
+
+module _ (columns : ℕ) (first : FirstRecord) (given : Bor (List ℕ)) (found : CsvFault) where
+  pub faulty : (answer : FileAnswer) (r : Result (List Row) Refusal) → IsBytesOf answer (Ok given) → IsFault (rows_of_file columns (first_of first) given.now) found → IsErrAnd r (λ e. e ≡ refusal_of_csv found)
+      → IsAnswered answer (Within (SaysLines columns first)) (AnswersLines r) (r ≡ Err OutOfMemory)
+  faulty file.NotAsked r is wrong h = absurd (cc)
+  faulty file.Unreadable r is wrong h = absurd (cc)
+  faulty file.TooLarge r is wrong h = absurd (cc)
+  faulty file.NoMemory r is wrong h = absurd (cc)
+  faulty (file.Bytes bytes) r is wrong h = by (nat_lt file_limit (length bytes.now)) is
+    where
+      by : (b : Bool) → MatchBool b (◌≡◌ {A = Result (Bor (List ℕ)) Refusal} (Ok given) (Err FileTooLarge)) (given.now ≡ bytes.now)
+          → (said : Content) × MatchBool b (said ≡ TooLarge) (SaysLines columns first bytes.now said) × AnswersLines r said
+      by true long = absurd (cc)
+      by false same =
+          let wanted = rows_of_file columns (first_of first) bytes.now in
+          (lines_or_fault wanted, refl, fault_answers wanted found r (subst (λ text. IsFault (rows_of_file columns (first_of first) text) found) same wrong) h)
+
+-- the cells of all rows, and the rows again
+
+flat-joined : {A : Type 0} (rows : List (List A)) → flat_map (λ (row : List A). row) rows ≡ joined rows
+flat-joined [] = refl
+flat-joined (row ∷ rows) = ap (λ l. row ++ l) (flat-joined rows)
+
+module _ (headers : List (Header (List ℕ))) (rows : List Row) (n : ℕ) (cells : List Value) (wide : All (λ row. length row ≡ length headers) rows)
+    (same : n ≡ length (columns_of headers)) (valid : AreHeaders (columns_of headers)) (is : cells ≡ flat_map (λ (row : Row). row) rows) where
+  some : 0 < n
+  some = omega (arith, valid.some)
+
+  wide_rows : All (λ row. length row ≡ n) rows
+  wide_rows = λ i other within. wide i other within ∙ sym (same ∙ length-map headers words_of)
+
+  pub whole_lines : AreWholeRows n cells
+  whole_lines = record { some = some; count = length rows; whole = ap length (is ∙ flat-joined rows) ∙ length-joined n rows wide_rows }
+
+  pub lines_again : rows_from n cells ≡ rows
+  lines_again = ap (rows_from n) (is ∙ flat-joined rows) ∙ rows_again n rows some wide_rows
+
+-- what is answered fits the columns
+
+as_cell : (value : Value) → IsCell value → IsNullOrInteger value
+as_cell None is = tt
+as_cell (Some number) is = is
+
+module _ (columns : ℕ) (few : columns < 2 ^ 64) (first : FirstRecord) (rows : List Row) where
+  among_lines : (wanted : Result (List Row) CsvFault) → IsOrFault (All (FitsColumns columns)) wanted → lines_or_fault wanted ≡ Lines rows → All (FitsColumns columns) rows
+  among_lines (Ok others) fits is = let same : others ≡ rows = cc in subst (All (FitsColumns columns)) same fits
+  among_lines (Err found) fits is = absurd (cc)
+
+  fitting : (answer : FileAnswer) → IsAnswered answer (Within (SaysLines columns first)) (AnswersLines (Ok rows)) (◌≡◌ {A = Result (List Row) Refusal} (Ok rows) (Err OutOfMemory)) → All (FitsColumns columns) rows
+  fitting file.NotAsked h = absurd (cc)
+  fitting file.Unreadable h = absurd (cc)
+  fitting file.TooLarge h = absurd (cc)
+  fitting file.NoMemory h = absurd (cc)
+  fitting (file.Bytes bytes) h = by (nat_lt file_limit (length bytes.now)) refl h.1
+    where
+      by : (b : Bool) → nat_lt file_limit (length bytes.now) ≡ b → MatchBool b (h.0 ≡ TooLarge) (SaysLines columns first bytes.now h.0) → All (FitsColumns columns) rows
+      by true long is = let lines : h.0 ≡ Lines rows = h.2.1 in absurd (cc)
+      by false short is = among_lines (rows_of_file columns (first_of first) bytes.now) (rows_in_file columns few (first_of first) bytes.now (omega (arith, ltb-false file_limit (length bytes.now) short))) (sym is ∙ h.2.1)
+
+module _ (headers : List (Header (List ℕ))) (n : ℕ) (same : n ≡ length (columns_of headers)) (valid : AreHeaders (columns_of headers)) (first : FirstRecord) (rows : List Row) (answer : FileAnswer)
+    (h : IsAnswered answer (Within (SaysLines n first)) (AnswersLines (Ok rows)) (◌≡◌ {A = Result (List Row) Refusal} (Ok rows) (Err OutOfMemory))) where
+  few : n < 2 ^ 64
+  few = omega (arith, same, valid.few)
+
+  pub wide_lines : All (λ row. length row ≡ length headers) rows
+  wide_lines = λ i other within. (fitting n few first rows answer h i other within).full ∙ same ∙ length-map headers words_of
+
+  pub integer_lines : All (λ row. All IsNullOrInteger row) rows
+  integer_lines = λ i other within k value there. as_cell (get_or (get_or rows i other) k value) ((fitting n few first rows answer h i other within).cells k value there)

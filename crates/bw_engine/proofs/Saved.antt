@@ -1,0 +1,163 @@
+-- The columns that a SAVE writes are those of the table's rows, and what it answers by its tests.
+use Rattle.std.proofs.Common.{◌≡◌, ◌∙◌, ℕ, ℤ, ◌+◌, ◌<◌, ◌≤◌, Bool, if◌then◌else◌, List, [], ◌∷◌, ◌++◌, length, map, Option, None, Some, option_map, Result, Ok, Err, IsErrAnd, inl, inr, refl, sym, ap, subst, arith}
+use Rattle.std.specs.Prelude.{IsTrue}
+use Rattle.std.specs.List.{All, filter, range_with_len}
+use Rattle.std.specs.Map.{lookup}
+use Rattle.std.specs.Str.{bytes_eq}
+use Rattle.std.proofs.lemmas.Bool.{cases_Bool, le-ltb, lt-ltb}
+use Rattle.std.proofs.lemmas.List.{length-map}
+use Rattle.std.proofs.lemmas.List.Elements.{All-append, All-cons, All-head, All-nil, All-tail}
+use Rattle.std.proofs.lemmas.List.FromFn.{length-map-range_with_len, map-range_with_len_more}
+use Rattle.bw_mask.specs.Masks.{MaskRows, len, row_at}
+use Rattle.bw_column.specs.Values as values
+use Rattle.bw_file.specs.Cells.{IsCell}
+use Rattle.bw_file.specs.Format.{Spells}
+use Rattle.bw_file.specs.Table as file
+use Rattle.bw_file.specs.Table.{AreHeaders as AreFiled}
+use Rattle.bw_file.specs.declared.header.ColumnHeader.{ColumnHeader}
+use Rattle.bw_table.specs.Slots.{Slot, live_slots, slot_at, slot_column}
+use Rattle.bw_table.specs.declared.header.Header.{Header as StoredHeader}
+use Rattle.bw_table.proofs.Places.{map_twice}
+use Rattle.bw_sql.specs.Rows.{joined}
+use Rattle.bw_sql.specs.Tree.{StatementTree, save}
+use Rattle.bw_model.specs.Filing.{Holds, column_of, file_limit, filed, filed_header, filed_length}
+use Rattle.bw_model.specs.Refusals.{first_that_holds, over, refused_early, save_tests}
+use Rattle.bw_model.specs.Store.{AreHeaders, Header, Row, Store, Value, are_distinct, table_of, value_at}
+use Rattle.bw_model.specs.declared.refusal.Refusal.{Refusal}
+use Rattle.bw_model.specs.declared.refusal.Refusal.TheVariants.{FileTooLarge, OutOfMemory}
+use Rattle.bw_model.proofs.Lines.{All-map}
+use Rattle.bw_model.proofs.Names.{map-push}
+use Rattle.bw_plan.specs.Columns.{columns_of, words_of}
+use Rattle.bw_plan.proofs.Operanding.{one_value}
+use Rattle.bw_plan.proofs.Tests.{no_test, this_test}
+use Rattle.bw_engine.specs.Files.{SavesOr}
+use Rattle.bw_engine.specs.Found.{is_found_by, rows_where}
+use Rattle.bw_engine.specs.Saving.{saved_cells}
+use Rattle.bw_engine.specs.Stores.{Stored, StoredTable, rows_in, rows_of_slots, store_of, table_in}
+use Rattle.bw_engine.specs.declared.outcome.Saving.{Saving}
+use Rattle.bw_engine.specs.declared.live_cells.LiveCells.{LiveCells}
+use Rattle.bw_engine.proofs.FoundLaws.{live_found, where_found}
+use Rattle.bw_engine.proofs.LiveLaws.{live_wide}
+use Rattle.bw_engine.proofs.Steps.{found_in}
+
+-- one value of each row
+ones_joined : (k : ℕ) (rows : List Row) → joined (map (λ row. map (λ place. value_at row place) (k ∷ [])) rows) ≡ column_of rows k
+ones_joined k [] = refl
+ones_joined k (row ∷ rows) = ap (λ l. value_at row k ∷ l) (ones_joined k rows)
+
+all_found : (rows : List Row) → filter (is_found_by None) rows ≡ rows
+all_found [] = refl
+all_found (row ∷ rows) = ap (λ l. row ∷ l) (all_found rows)
+
+-- the values of a column in the live slots
+pub live_column : (slots : List Slot) (live : MaskRows) (k : ℕ) (found : List Value) → len live ≡ length slots → ((i : ℕ) → i < length slots → row_at live i ≡ (slot_at slots i).live)
+    → found ≡ joined (map (λ row. map (λ place. value_at row place) (k ∷ [])) (rows_where (row_at live) (rows_of_slots slots))) → found ≡ column_of (rows_in slots) k
+live_column slots live k found long each is =
+    is
+    ∙ ap (λ rows. joined (map (λ row. map (λ place. value_at row place) (k ∷ [])) rows)) (where_found slots None live (live_found slots live long each) ∙ all_found (rows_in slots))
+    ∙ ones_joined k (rows_in slots)
+
+pub live_integers : (slots : List Slot) (k : ℕ) → All values.IsNullOrInteger (slot_column slots k) → All values.IsNullOrInteger (column_of (rows_in slots) k)
+live_integers [] k all = All-nil values.IsNullOrInteger
+live_integers (slot ∷ slots) k all =
+    let first : values.IsNullOrInteger (value_at slot.row k) = subst values.IsNullOrInteger (one_value slot.row k) (All-head values.IsNullOrInteger (values.value_at slot.row k) (slot_column slots k) all) in
+    let rest : All values.IsNullOrInteger (column_of (rows_in slots) k) = live_integers slots k (All-tail values.IsNullOrInteger (values.value_at slot.row k) (slot_column slots k) all) in
+    elim (cases_Bool slot.live) [
+      | inl e ↦ rw e (All-cons values.IsNullOrInteger (value_at slot.row k) (column_of (rows_in slots) k) first rest)
+      | inr e ↦ rw e rest
+    ]
+
+-- where no slot is dead, a column of the slots is that of the rows
+no_more_live : (slots : List Slot) → length (live_slots slots) ≤ length slots
+no_more_live [] = omega arith
+no_more_live (slot ∷ slots) =
+    elim (cases_Bool slot.live) [
+      | inl e ↦ rw e (omega (arith, no_more_live slots))
+      | inr e ↦ rw e (omega (arith, no_more_live slots))
+    ]
+
+all_live : (slots : List Slot) → length (live_slots slots) ≡ length slots → live_slots slots ≡ slots
+all_live [] same = refl
+all_live (slot ∷ slots) same =
+    elim (cases_Bool slot.live) [
+      | inl e ↦
+          let rest : length (live_slots slots) ≡ length slots = omega (arith, (rw e at same)) in
+          ap (λ (b : Bool). if b then slot ∷ live_slots slots else live_slots slots) e ∙ ap (λ l. slot ∷ l) (all_live slots rest)
+      | inr e ↦
+          let fewer : length (live_slots slots) ≡ length slots + 1 = omega (arith, (rw e at same)) in
+          absurd (omega (arith, fewer, no_more_live slots))
+    ]
+
+pub whole_column : (slots : List Slot) (k : ℕ) → length (live_slots slots) ≡ length slots → slot_column slots k ≡ column_of (rows_in slots) k
+whole_column slots k same =
+    ap (λ (l : List Slot). map (λ row. values.value_at row k) (map (λ slot. slot.row) l)) (sym (all_live slots same))
+    ∙ (λ j. map (λ (row : Row). one_value row k j) (rows_in slots))
+
+-- a column more
+pub columns_more : (columns new : List LiveCells) (column : LiveCells) (rows : List Row) (k : ℕ) → map saved_cells columns ≡ map (column_of rows) (range_with_len 0 k) → saved_cells column ≡ column_of rows k
+    → new ≡ columns ++ column ∷ [] → map saved_cells new ≡ map (column_of rows) (range_with_len 0 (k + 1))
+columns_more columns new column rows k so_far is more =
+    ap (map saved_cells) more ∙ map-push saved_cells columns column ∙ (λ j. so_far j ++ is j ∷ []) ∙ sym (map-range_with_len_more (column_of rows) 0 k k (omega arith))
+
+pub integers_more : (columns new : List LiveCells) (column : LiveCells) → All (All values.IsNullOrInteger) (map saved_cells columns) → All values.IsNullOrInteger (saved_cells column) → new ≡ columns ++ column ∷ [] → All (All values.IsNullOrInteger) (map saved_cells new)
+integers_more columns new column so_far here more =
+    subst (All (All values.IsNullOrInteger)) (sym (ap (map saved_cells) more ∙ map-push saved_cells columns column))
+    (All-append (All values.IsNullOrInteger) (map saved_cells columns) (saved_cells column ∷ []) so_far (All-cons (All values.IsNullOrInteger) (saved_cells column) [] here (All-nil (All values.IsNullOrInteger))))
+
+-- what a column may hold, a file may
+is_cell : (value : Value) → values.IsNullOrInteger value → IsCell value
+is_cell None integer = tt
+is_cell (Some x) integer = integer
+
+pub are_cells : (columns : List (List Value)) → All (All values.IsNullOrInteger) columns → All (All IsCell) columns
+are_cells columns all k d l i e m = is_cell _ (all k d l i e m)
+
+-- headers and columns as a file has them
+pub are_filed : (headers : List Header) → AreHeaders headers → AreFiled (map filed_header headers)
+are_filed headers are = record {
+  some = omega (arith, are.some, length-map headers filed_header);
+  few = omega (arith, are.few, length-map headers filed_header);
+  distinct = subst (λ names. IsTrue (are_distinct names)) (sym (map_twice (λ (header : ColumnHeader). header.name) filed_header headers)) are.distinct;
+}
+
+pub filed_width : (columns : List LiveCells) (rows : List Row) (headers : List ColumnHeader) (stored : List (StoredHeader (List ℕ)))
+    → map saved_cells columns ≡ map (column_of rows) (range_with_len 0 (length stored)) → headers ≡ map filed_header (columns_of stored) → length columns ≡ length headers
+filed_width columns rows headers stored are is =
+    sym (length-map columns saved_cells) ∙ ap length are ∙ length-map-range_with_len (column_of rows) 0 (length stored)
+    ∙ sym (length-map stored words_of) ∙ sym (length-map (columns_of stored) filed_header) ∙ ap length (sym is)
+
+pub filed_long : (columns : List LiveCells) (rows : List Row) (n count : ℕ) → map saved_cells columns ≡ map (column_of rows) (range_with_len 0 n) → count ≡ length rows → All (λ cells. length cells ≡ count) (map saved_cells columns)
+filed_long columns rows n count are same =
+    subst (All (λ (cells : List Value). length cells ≡ count)) (sym are) (All-map (column_of rows) count (range_with_len 0 n) (λ k. length-map rows (λ row. value_at row k) ∙ sym same))
+
+-- a stored table by its columns
+filed_is : (table : StoredTable) (headers : List ColumnHeader) (rows : ℕ) (columns : List (List Value)) → headers ≡ map filed_header (columns_of table.headers) → rows ≡ length (rows_in table.slots)
+    → columns ≡ map (column_of (rows_in table.slots)) (range_with_len 0 (length table.headers)) → ◌≡◌ {A = file.Table} (record { headers = headers; rows = rows; columns = columns }) (filed (table_in table))
+filed_is table headers rows columns heads count are =
+    let all = are ∙ ap (λ n. map (column_of (rows_in table.slots)) (range_with_len 0 n)) (sym (length-map table.headers words_of)) in
+    λ j. record { headers = heads j; rows = count j; columns = all j }
+
+-- bytes that spell a stored table hold it
+pub holds_stored : (bytes : List ℕ) (table : StoredTable) (headers : List ColumnHeader) (rows : ℕ) (columns : List (List Value)) → headers ≡ map filed_header (columns_of table.headers) → rows ≡ length (rows_in table.slots)
+    → columns ≡ map (column_of (rows_in table.slots)) (range_with_len 0 (length table.headers)) → All (λ slot. length slot.row ≡ length table.headers) table.slots
+    → Spells bytes (record { headers = headers; rows = rows; columns = columns }) → Holds bytes (table_in table)
+holds_stored bytes table headers rows columns heads count are wide spells = record {
+  wide = subst (λ n. All (λ (row : Row). length row ≡ n) (rows_in table.slots)) (sym (length-map table.headers words_of)) (live_wide (length table.headers) table.slots wide);
+  spells = subst (Spells bytes) (filed_is table headers rows columns heads count are) spells;
+}
+
+-- a SAVE of a table that is there
+module _ (tables : Stored) (name file : List ℕ) (table : StoredTable) (there : lookup (bytes_eq name) tables ≡ Some table) where
+  pub saved_table : table_of (store_of tables) name ≡ Some (table_in table)
+  saved_table = found_in tables name ∙ ap (option_map table_in) there
+
+  pub save_too_large : file_limit < filed_length (table_in table) → refused_early (store_of tables) (save name file) ≡ Some FileTooLarge
+  save_too_large long = ap (λ o. first_that_holds (over o save_tests)) saved_table ∙ this_test _ _ _ (lt-ltb file_limit (filed_length (table_in table)) long)
+
+  pub save_accepted : filed_length (table_in table) ≤ file_limit → refused_early (store_of tables) (save name file) ≡ None
+  save_accepted fits = ap (λ o. first_that_holds (over o save_tests)) saved_table ∙ no_test _ _ _ (le-ltb file_limit (filed_length (table_in table)) fits)
+
+-- a SAVE for which memory is wanting
+pub save_wants : (store : Store) (statement : StatementTree) (r : Result Saving Refusal) (after : Store) → refused_early store statement ≡ None → IsErrAnd r (λ e. e ≡ OutOfMemory) → SavesOr store statement r after
+save_wants store statement (Ok saving) after accepted wants = absurd wants
+save_wants store statement (Err e) after accepted wants = inl (accepted, wants)

@@ -1,0 +1,30 @@
+use Rattle.std.proofs.Common.{◌≡◌, ◌∙◌, ap, arith, length, map, subst, sym}
+use Rattle.std.specs.List.{All}
+use Rattle.std.proofs.lemmas.List.{length-map}
+use Rattle.bw_column.specs.Values as values
+use Rattle.bw_table.specs.Slots.{Slot, live_slots}
+use Rattle.bw_model.specs.Filing.{column_of}
+use Rattle.bw_model.specs.Store.{Row}
+use Rattle.bw_engine.specs.Stores.{StoredTable, rows_in}
+use Rattle.bw_engine.proofs.Saved.{live_column, live_integers, whole_column}
+use Rattle.bw_engine.proofs.live_cells.live_column.Goals as goal
+
+pub returns-then-row_count-slots-clause-cells : goal.returns-then-row_count-slots-clause-cells
+returns-then-row_count-slots-clause-cells c =
+    let slots = c.stored-stored.result.now.slots in
+    let rows : length (map (λ (slot : Slot). slot.row) slots) ≡ length slots = length-map slots (λ (slot : Slot). slot.row) in
+    let down = length-map (map (λ (slot : Slot). slot.row) slots) (λ (row : Row). values.value_at row c.args.k) in
+    let all : length (live_slots slots) ≡ length slots = omega (arith, c.row_count.ensures.count, c.len-slots.ensures.count, c.if-row_count-slots.true, ap length c.column-column.ensures.values, down, rows) in
+    c.column-column.ensures.values ∙ whole_column slots c.args.k all ∙ ap (λ (table : StoredTable). column_of (rows_in table.slots) c.args.k) c.stored-stored.ensures
+
+pub returns-clause-cells : goal.returns-clause-cells
+returns-clause-cells c =
+    let slots = c.stored-stored.result.now.slots in
+    live_column slots c.live.result.now c.args.k c.in_ok-values.values.items c.live.ensures.len c.live.ensures.rows c.in_ok-values.ensures
+    ∙ ap (λ (table : StoredTable). column_of (rows_in table.slots) c.args.k) c.stored-stored.ensures
+
+pub returns-clause-integers : goal.returns-clause-integers
+returns-clause-integers c =
+    let slots = c.stored-stored.result.now.slots in
+    let found = live_column slots c.live.result.now c.args.k c.in_ok-values.values.items c.live.ensures.len c.live.ensures.rows c.in_ok-values.ensures in
+    subst (All values.IsNullOrInteger) (sym found) (live_integers slots c.args.k (subst (All values.IsNullOrInteger) c.column-column.ensures.values c.len-slots.ensures.integers))

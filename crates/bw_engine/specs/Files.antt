@@ -1,0 +1,125 @@
+-- What a statement answers over its file, as it was handed in, and what it hands out to be saved (this product's own).
+use Rattle.std.specs.Prelude.{◌≡◌, ◌⊎◌, ◌∷◌, [], ℕ, List, length, map, nat_lt, Option, Some, None, Result, Ok, Err, MatchOption, MatchResult}
+use Rattle.std.specs.Bool.{MatchBool}
+use Rattle.std.specs.Borrow.{Bor}
+use Rattle.std.specs.Result.{IsOkAnd}
+use Rattle.bw_csvload.specs.Rows.{rows_of_file}
+use Rattle.bw_sql.specs.Tree.{StatementTree, save}
+use Rattle.bw_sql.specs.declared.tree.FirstRecord.{FirstRecord}
+use Rattle.bw_file.specs.Table as filed
+use Rattle.bw_file.specs.declared.header.ColumnHeader.{ColumnHeader}
+use Rattle.bw_table.specs.Opening.{rows_across}
+use Rattle.bw_model.specs.Contents.{IsTableIn, SaysTo, first_of, is_missing_file, is_no_table, is_too_large, lines_or_fault}
+use Rattle.bw_model.specs.FileUse.{FileUse, file_read, file_use, no_file, reads, writes}
+use Rattle.bw_model.specs.Filing.{Holds, file_limit}
+use Rattle.bw_model.specs.Refusals.{Tests, fault_test, first_that_holds, refused_early}
+use Rattle.bw_model.specs.Step.{Step, WantsMemory}
+use Rattle.bw_model.specs.Store.{Header, Store, Table, table_of}
+use Rattle.bw_model.specs.declared.content.Content.{Content}
+use Rattle.bw_model.specs.declared.content.Content.TheVariants.{Missing, Nothing, TooLarge}
+use Rattle.bw_model.specs.declared.refusal.Refusal.{Refusal}
+use Rattle.bw_model.specs.declared.refusal.Refusal.TheVariants.{FileTooLarge, NotTableFile, OutOfMemory, UnreadableFile}
+use Rattle.bw_model.specs.declared.reply.Reply.{Reply}
+use Rattle.bw_model.specs.declared.reply.Reply.TheVariants.{Refused}
+use Rattle.bw_engine.specs.Outcomes.{CarriesOut}
+use Rattle.bw_engine.specs.declared.file_answer.FileAnswer.{FileAnswer}
+use Rattle.bw_engine.specs.declared.file_answer.FileAnswer.TheVariants as file
+use Rattle.bw_engine.specs.declared.outcome.Outcome.{Outcome}
+use Rattle.bw_engine.specs.declared.outcome.Outcome.TheVariants as outcome
+use Rattle.bw_engine.specs.declared.outcome.Saving.{Saving}
+
+-- By what was handed in: P of what the file says, where bytes may say it by `says`; or W, where there was no memory for them.
+abbrev pub IsAnswered : FileAnswer → (List ℕ → Content → Type 0) → (Content → Type 0) → Type 0 → Type 0
+IsAnswered file.NotAsked says P W = P Missing
+IsAnswered file.Unreadable says P W = P Missing
+IsAnswered file.TooLarge says P W = P TooLarge
+IsAnswered file.NoMemory says P W = W
+IsAnswered (file.Bytes bytes) says P W = (said : Content) × says bytes.now said × P said
+
+-- the reply and the store after a statement that reads a file, where there is one
+abbrev pub RepliesBy : Option (List ℕ) → Store → StatementTree → FileAnswer → Reply → Store → Type 0
+RepliesBy None store statement answer reply after = Step store Nothing statement reply after
+RepliesBy (Some name) store statement answer reply after =
+    IsAnswered answer (SaysTo store statement) (λ said. Step store said statement reply after) (WantsMemory store statement reply after)
+
+-- the reply and the store after a statement, with what was handed in as its file
+abbrev pub Replies : Store → StatementTree → FileAnswer → Reply → Store → Type 0
+Replies store statement answer reply after = RepliesBy (file_read (file_use store statement)) store statement answer reply after
+
+-- a SAVE that isn't refused hands its bytes out, but where memory is wanting
+abbrev pub IsNoSave : FileUse → Reply → Type 0
+IsNoSave (writes name) reply = reply ≡ Refused OutOfMemory
+IsNoSave _ reply = Unit {0}
+
+-- what a SAVE hands out: the file's name, the bytes that hold the table, and how many rows it has
+pub record Saves (store : Store) (statement : StatementTree) (saving : Saving) (after : Store) : Type 0 where
+  pub name : List ℕ
+  pub table : Table
+  pub asks : statement ≡ save name saving.file
+  pub there : table_of store name ≡ Some table
+  pub accepted : refused_early store statement ≡ None
+  pub holds : Holds saving.bytes.items table
+  pub rows : saving.rows ≡ length table.rows
+  pub stays : after ≡ store
+
+abbrev pub Executes : Store → StatementTree → FileAnswer → Outcome → Store → Type 0
+Executes store statement answer (outcome.Reply reply) after = Replies store statement answer reply after × IsNoSave (file_use store statement) reply
+Executes store statement answer (outcome.Save saving) after = Saves store statement saving after
+
+-- P of a value where none of the tests holds; want of memory, or the first test that holds
+abbrev pub AnswersFile : {T : Type 0} → Tests → Result T Refusal → (T → Type 0) → Type 0
+AnswersFile tests result P = MatchResult result (λ x. (first_that_holds tests ≡ None) × P x) (λ e. (e ≡ OutOfMemory) ⊎ (first_that_holds tests ≡ Some e))
+
+-- what bytes that are not too many say, as they are to be read
+abbrev pub Within : (List ℕ → Content → Type 0) → List ℕ → Content → Type 0
+Within says bytes said = MatchBool (nat_lt file_limit (length bytes)) (said ≡ TooLarge) (says bytes said)
+
+-- bytes as a CSV file for so many columns
+abbrev pub SaysLines : ℕ → FirstRecord → List ℕ → Content → Type 0
+SaysLines columns first bytes said = said ≡ lines_or_fault (rows_of_file columns (first_of first) bytes)
+
+-- the file's bytes, or why there are none
+abbrev pub IsBytesOf : FileAnswer → Result (Bor (List ℕ)) Refusal → Type 0
+IsBytesOf (file.Bytes bytes) result = MatchBool (nat_lt file_limit (length bytes.now)) (result ≡ Err FileTooLarge) (IsOkAnd result (λ given. given.now ≡ bytes.now))
+IsBytesOf file.TooLarge result = result ≡ Err FileTooLarge
+IsBytesOf file.NotAsked result = result ≡ Err UnreadableFile
+IsBytesOf file.Unreadable result = result ≡ Err UnreadableFile
+IsBytesOf file.NoMemory result = result ≡ Err OutOfMemory
+
+-- the tests of what a CSV file says, and of what a table file says
+abbrev pub lines_tests : Content → Tests
+lines_tests said = (UnreadableFile, is_missing_file said) ∷ (FileTooLarge, is_too_large said) ∷ fault_test said ∷ []
+
+abbrev pub table_tests : Content → Tests
+table_tests said = (UnreadableFile, is_missing_file said) ∷ (FileTooLarge, is_too_large said) ∷ (NotTableFile, is_no_table said) ∷ []
+
+-- a table that a file has by its columns, by its rows
+abbrev pub unfiled_header : ColumnHeader → Header
+unfiled_header header = record { name = header.name; layout = header.layout; kind = header.kind }
+
+abbrev pub unfiled : filed.Table → Table
+unfiled parts = record { headers = map unfiled_header parts.headers; rows = rows_across parts.rows parts.columns }
+
+-- a statement that reads a file, refused for a reason that needs none, or answered by what was handed in
+abbrev pub CarriesFile : Store → StatementTree → FileAnswer → Result Reply Refusal → Store → Type 0
+CarriesFile store statement answer result after =
+    MatchOption (refused_early store statement)
+    (IsAnswered answer (SaysTo store statement) (λ said. CarriesOut store said statement result after) (result ≡ Err OutOfMemory))
+    (λ refusal. result ≡ Err refusal)
+
+-- what a SAVE hands out, or why it doesn't
+abbrev pub SavesOr : Store → StatementTree → Result Saving Refusal → Store → Type 0
+SavesOr store statement result after =
+    MatchResult result (λ saving. Saves store statement saving after)
+    (λ e. ((refused_early store statement ≡ None) × (e ≡ OutOfMemory)) ⊎ (refused_early store statement ≡ Some e))
+
+-- the outcome of a SAVE
+abbrev pub saving_of : Result Saving Refusal → Outcome
+saving_of (Ok saving) = outcome.Save saving
+saving_of (Err e) = outcome.Reply (Refused e)
+
+-- P where a statement is refused or hands bytes out
+abbrev pub OnRefusedOrSaved : Outcome → Type 0 → Type 0
+OnRefusedOrSaved (outcome.Reply (Refused refusal)) P = P
+OnRefusedOrSaved (outcome.Save saving) P = P
+OnRefusedOrSaved _ P = Unit {0}

@@ -1,0 +1,77 @@
+//! The columns of a table as a SAVE writes them: their cells in the rows.
+
+ghost use Rattle.std.specs.Prelude.{◌≡◌, ◌<◌, All, IfOk, length, map};
+ghost use Rattle.std.specs.List.{range_with_len};
+ghost use Rattle.bw_column.specs.Values.{IsNullOrInteger};
+ghost use Rattle.bw_model.specs.Filing.{column_of};
+ghost use Rattle.bw_engine.specs.Saving.{saved_cells};
+ghost use Rattle.bw_engine.specs.Stores.{rows_in};
+
+use crate::shown::found_values;
+use crate::table::Table;
+use bw_cells::Cells;
+use bw_column::Column;
+use bw_sql::Value;
+use std::alloc::{AllocError, Global};
+
+/// The cells of a column in the rows of its table.
+#[derive(Drop)]
+pub(crate) enum LiveCells<'a> {
+    /// Each slot is a row: the column as it stands.
+    Whole(&'a Column),
+    /// Some slots are dead: the values of the others.
+    Gathered(Vec<Value>),
+}
+
+impl Cells for LiveCells<'_> {
+    ghost use Rattle.bw_engine.specs.Saving.{saved_cells};
+
+    ghost cells = { saved_cells };
+
+    fn len(&self) -> usize {
+        match self {
+            LiveCells::Whole(column) => column.len(),
+            LiveCells::Gathered(values) => values.len(),
+        }
+    }
+
+    fn read(&self, at: usize, out: &mut [Value]) {
+        match self {
+            LiveCells::Whole(column) => column.read(at, out),
+            LiveCells::Gathered(values) => values.as_slice().read(at, out),
+        }
+    }
+}
+
+/// The columns, each with its cells in the rows.
+pub(crate) fn live_columns<'a>(
+    alloc: Global,
+    table: &'a Table,
+) -> Result<Vec<LiveCells<'a>>, AllocError>
+    ensures cells { IfOk result (λ columns. map saved_cells columns.items ≡ map (column_of (rows_in table.entry.now.slots)) (range_with_len 0 (length table.entry.now.headers))) }
+    ensures integers { IfOk result (λ columns. All (All IsNullOrInteger) (map saved_cells columns.items)) }
+{
+    let width = table.headers().len();
+    let mut columns = Vec::with_capacity(alloc, width)?;
+    for k in 0..width {
+        columns.push(live_column(alloc, table, k)?)?;
+    }
+    Ok(columns)
+}
+
+/// The cells of column k in the rows.
+fn live_column<'a>(alloc: Global, table: &'a Table, k: usize) -> Result<LiveCells<'a>, AllocError>
+    requires { k < length table.now.headers }
+    ensures cells { IfOk result (λ column. saved_cells column ≡ column_of (rows_in table.entry.now.slots) k) }
+    ensures integers { IfOk result (λ column. All IsNullOrInteger (saved_cells column)) }
+{
+    let stored = table.stored();
+    let column = stored.column(k);
+    // The values of a column are integers and nulls.
+    let slots = column.len();
+    if stored.row_count() == slots {
+        return Ok(LiveCells::Whole(column));
+    }
+    let values = found_values(alloc, stored, &[k], stored.live())?;
+    Ok(LiveCells::Gathered(values))
+}

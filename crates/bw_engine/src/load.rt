@@ -1,0 +1,100 @@
+//! LOAD.
+
+ghost use Rattle.std.specs.Prelude.{◌≡◌, ◌+◌, ◌∷◌, [], All, Err, OnErr, length, nat_lt};
+ghost use Rattle.bw_column.specs.Values.{IsNullOrInteger};
+ghost use Rattle.bw_model.specs.Contents.{first_of, lines_in};
+ghost use Rattle.bw_model.specs.Refusals.{load_tests};
+ghost use Rattle.bw_model.specs.Step.{with_lines};
+ghost use Rattle.bw_model.specs.Store.{row_limit};
+ghost use Rattle.bw_model.specs.declared.content.Content.TheVariants.{Lines};
+ghost use Rattle.bw_model.specs.declared.refusal.Refusal.TheVariants.{OutOfMemory, TableFull};
+ghost use Rattle.bw_model.specs.declared.reply.Reply.TheVariants.{Count};
+ghost use Rattle.bw_sql.specs.Tree.{statement_of};
+ghost use Rattle.bw_sql.specs.declared.tree.Statement.TheVariants as statements;
+ghost use Rattle.bw_engine.specs.Files.{AnswersFile, CarriesFile, IsAnswered, SaysLines, Within, lines_tests};
+ghost use Rattle.bw_engine.specs.Stores.{rows_in, store_of, table_in};
+
+use crate::file_answer::{FileAnswer, bytes_of};
+use crate::table::Table;
+use bw_csvload::{CsvRows, FirstRecord as CsvFirst, rows};
+use bw_model::{Refusal, Reply};
+use bw_sql::{FirstRecord, Load, Name};
+use bw_table::Rows;
+use indexmap::IndexMap;
+use std::alloc::Global;
+
+/// Puts the rows of a CSV file last in a table: all of them, or none where one is refused.
+pub(crate) fn load(
+    alloc: Global,
+    tables: &mut IndexMap<Name, Table>,
+    statement: Load,
+    file: FileAnswer<'_>,
+) -> Result<Reply, Refusal>
+    ensures reply { CarriesFile (store_of tables.old.entries) (statement_of (statements.Load statement)) file.entry result (store_of tables.new.entries) }
+    ensures refused { OnErr result (tables.new.entries ≡ tables.old.entries) }
+{
+    let Load {
+        table,
+        file: _,
+        first,
+    } = statement;
+    match tables.get_mut(&table) {
+        Some(table) => load_file(alloc, table, first, file),
+        None => Err(Refusal::NoSuchTable),
+    }
+}
+
+/// Puts the rows of a CSV file last in this table. All that can be refused comes before the table changes.
+fn load_file(
+    alloc: Global,
+    table: &mut Table,
+    first: FirstRecord,
+    file: FileAnswer<'_>,
+) -> Result<Reply, Refusal>
+    ensures reply { IsAnswered file.entry (Within (SaysLines (length table.old.headers) first))
+        (λ said. AnswersFile (load_tests said (table_in table.old)) result (λ reply. (reply ≡ Count (length (lines_in said))) × (table_in table.new ≡ with_lines (lines_in said) (table_in table.old))))
+        (result ≡ Err OutOfMemory) }
+    ensures refused { OnErr result (table.new ≡ table.old) }
+{
+    let rows = rows_in_file(alloc, file, table.headers().len(), first)?;
+    load_rows(alloc, table, rows)
+}
+
+/// The rows that a CSV file spells for so many columns.
+fn rows_in_file(
+    alloc: Global,
+    file: FileAnswer<'_>,
+    columns: usize,
+    first: FirstRecord,
+) -> Result<CsvRows, Refusal>
+    ensures { IsAnswered file.entry (Within (SaysLines columns first)) (λ said. AnswersFile (lines_tests said) result (λ rows. said ≡ Lines rows)) (result ≡ Err OutOfMemory) }
+{
+    let bytes = bytes_of(file)?;
+    Ok(rows(alloc, bytes, columns, first_of(first))?)
+}
+
+/// Whether the first record is a row, as the reader of CSV files has it.
+fn first_of(first: FirstRecord) -> CsvFirst
+    ensures { result ≡ first_of first }
+{
+    match first {
+        FirstRecord::Row => CsvFirst::Row,
+        FirstRecord::Header => CsvFirst::Header,
+    }
+}
+
+/// Puts rows last in this table, if there is room for them.
+fn load_rows(alloc: Global, table: &mut Table, rows: CsvRows) -> Result<Reply, Refusal>
+    requires wide { All (λ row. length row ≡ length table.old.headers) rows }
+    requires integers { All (λ row. All IsNullOrInteger row) rows }
+    ensures reply { AnswersFile ((TableFull, nat_lt row_limit (length (rows_in table.old.slots) + length rows)) ∷ []) result (λ reply. (reply ≡ Count (length rows)) × (table_in table.new ≡ with_lines rows (table_in table.old))) }
+    ensures refused { OnErr result (table.new ≡ table.old) }
+{
+    let count = rows.len();
+    if count > table.room() {
+        return Err(Refusal::TableFull);
+    }
+    let width = table.headers().len();
+    table.insert(alloc, &Rows::of_integers(width, rows.cells()))?;
+    Ok(Reply::Count(count as u64))
+}

@@ -1,0 +1,116 @@
+//! OPEN.
+
+ghost use Rattle.std.specs.Prelude.{◌≡◌, Err, IfOk, OnErr, map};
+ghost use Rattle.bw_model.specs.Contents.{IsTableIn};
+ghost use Rattle.bw_model.specs.declared.content.Content.TheVariants.{Held};
+ghost use Rattle.bw_model.specs.declared.refusal.Refusal.TheVariants.{OutOfMemory};
+ghost use Rattle.bw_plan.specs.Columns.{columns_of, words_of};
+ghost use Rattle.bw_plan.specs.Words.{word_of_kind, word_of_layout};
+ghost use Rattle.bw_sql.specs.Tree.{statement_of};
+ghost use Rattle.bw_sql.specs.declared.tree.Statement.TheVariants as statements;
+ghost use Rattle.bw_engine.specs.Files.{AnswersFile, CarriesFile, IsAnswered, Within, table_tests, unfiled, unfiled_header};
+ghost use Rattle.bw_engine.specs.Stores.{store_of, table_in};
+
+use crate::create::TABLE_LIMIT;
+use crate::file_answer::{FileAnswer, bytes_of};
+use crate::table::Table;
+use bw_code::{Kind, Layout};
+use bw_file::{ColumnHeader, FileFault, TableFile, decode};
+use bw_model::{Refusal, Reply};
+use bw_sql::{KindWord, LayoutWord, Name, Open};
+use bw_table::Header;
+use indexmap::IndexMap;
+use std::alloc::{AllocError, Global};
+
+/// Adds the table that a table file holds, as the last one.
+pub(crate) fn open_table(
+    alloc: Global,
+    tables: &mut IndexMap<Name, Table>,
+    statement: Open,
+    file: FileAnswer<'_>,
+) -> Result<Reply, Refusal>
+    ensures reply { CarriesFile (store_of tables.old.entries) (statement_of (statements.Open statement)) file.entry result (store_of tables.new.entries) }
+    ensures refused { OnErr result (tables.new.entries ≡ tables.old.entries) }
+{
+    let Open { table, file: _ } = statement;
+    if tables.contains_key(&table) {
+        return Err(Refusal::TableExists);
+    }
+    if tables.len() >= TABLE_LIMIT {
+        return Err(Refusal::OverLimit);
+    }
+    let parts = table_in_file(alloc, file)?;
+    let new = opened(alloc, parts)?;
+    let count = new.row_count();
+    tables.insert(table, new)?;
+    Ok(Reply::Count(count as u64))
+}
+
+/// The table that a table file holds, by its columns.
+fn table_in_file<'a>(alloc: Global, file: FileAnswer<'a>) -> Result<TableFile<'a>, Refusal>
+    ensures { IsAnswered file.entry (Within IsTableIn) (λ said. AnswersFile (table_tests said) result (λ parts. said ≡ Held (unfiled parts))) (result ≡ Err OutOfMemory) }
+{
+    let bytes = bytes_of(file)?;
+    match decode(alloc, bytes) {
+        Ok(parts) => Ok(parts),
+        Err(FileFault::NotTable) => Err(Refusal::NotTableFile),
+        Err(FileFault::Memory) => Err(Refusal::OutOfMemory),
+    }
+}
+
+/// The table of these columns.
+fn opened(alloc: Global, parts: TableFile<'_>) -> Result<Table, AllocError>
+    ensures { IfOk result (λ table. table_in table ≡ unfiled parts.entry) }
+{
+    let rows = parts.rows();
+    let (headers, columns) = parts.into_headers_and_columns();
+    let headers = stored_headers(alloc, headers)?;
+    Table::of_columns(alloc, headers, rows, &columns)
+}
+
+/// The columns as a table has them.
+fn stored_headers(
+    alloc: Global,
+    headers: Vec<ColumnHeader>,
+) -> Result<Vec<Header<Name>>, AllocError>
+    ensures { IfOk result (λ stored. columns_of stored.items ≡ map unfiled_header headers.items) }
+{
+    let mut stored = Vec::with_capacity(alloc, headers.len())?;
+    for header in headers {
+        stored.push(stored_header(header))?;
+    }
+    Ok(stored)
+}
+
+fn stored_header(header: ColumnHeader) -> Header<Name>
+    ensures { words_of result ≡ unfiled_header header }
+{
+    let ColumnHeader { name, layout, kind } = header;
+    Header {
+        name,
+        layout: layout_of(layout),
+        kind: kind_of(kind),
+    }
+}
+
+/// The layout that a word spells.
+fn layout_of(word: LayoutWord) -> Layout
+    ensures { word_of_layout result ≡ word }
+{
+    match word {
+        LayoutWord::P => Layout::P,
+        LayoutWord::V => Layout::V,
+        LayoutWord::H => Layout::H,
+        LayoutWord::S => Layout::S,
+    }
+}
+
+/// The kind that a word spells.
+fn kind_of(word: KindWord) -> Kind
+    ensures { word_of_kind result ≡ word }
+{
+    match word {
+        KindWord::Offset => Kind::Offset,
+        KindWord::Dictionary => Kind::Dictionary,
+    }
+}

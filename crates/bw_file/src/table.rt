@@ -1,0 +1,88 @@
+//! A table that lies in the bytes of a table file.
+
+ghost use Rattle.std.specs.Prelude.{All, length, ◌≡◌, ◌≤◌};
+ghost use Rattle.bw_file.specs.Cells.{row_limit, IsCell};
+ghost use Rattle.bw_file.specs.Table.{AreHeaders, IsTable};
+
+use crate::column::FileColumn;
+use crate::header::ColumnHeader;
+use crate::headers::have_names;
+use std::marker::Model;
+
+/// A table as a table file holds it: 1 to 64 headers, and for each of them a column of as many cells as there are
+/// rows, lent from the file's bytes. A contract sees headers, rows and columns.
+#[derive(Drop)]
+pub struct TableFile<'a> {
+    headers: Vec<ColumnHeader>,
+    rows: usize,
+    columns: Vec<FileColumn<'a>>,
+}
+
+impl<'a> Model for TableFile<'a> {
+    ghost use Rattle.bw_file.specs.Table.{Table, IsTable};
+
+    ghost Value = { Table };
+
+    ghost view = { λ table. record { headers = table.headers.items; rows = table.rows; columns = table.columns.items } };
+
+    ghost invariant = { λ table. IsTable (record { headers = table.headers.items; rows = table.rows; columns = table.columns.items }) };
+}
+
+impl<'a> TableFile<'a> {
+    /// The table of these headers and columns.
+    pub(crate) fn new(
+        headers: Vec<ColumnHeader>,
+        rows: usize,
+        columns: Vec<FileColumn<'a>>,
+    ) -> TableFile<'a>
+        requires headers { AreHeaders headers.items }
+        requires few { rows ≤ row_limit }
+        requires wide { length columns.items ≡ length headers.items }
+        requires long { All (λ cells. length cells ≡ rows) columns.items }
+        requires integers { All (All IsCell) columns.items }
+        ensures { result ≡ record { headers = headers.items; rows = rows; columns = columns.entry.items } }
+    {
+        have_names(&headers);
+        TableFile {
+            headers,
+            rows,
+            columns,
+        }
+    }
+
+    /// The headers of the columns, in order.
+    pub fn headers(&self) -> &[ColumnHeader]
+        ensures value { result.now ≡ self.now.headers }
+        ensures table { IsTable self.now }
+    {
+        &self.headers
+    }
+
+    /// How many rows there are.
+    pub fn rows(&self) -> usize
+        ensures { result ≡ self.now.rows }
+    {
+        self.rows
+    }
+
+    /// The columns, each with the cells of all rows.
+    pub fn columns(&self) -> &[FileColumn<'a>]
+        ensures { result.now ≡ self.now.columns }
+    {
+        &self.columns
+    }
+
+    /// The headers and the columns, to take over.
+    pub fn into_headers_and_columns(self) -> (Vec<ColumnHeader>, Vec<FileColumn<'a>>)
+        ensures headers { result.0.items ≡ self.entry.headers }
+        ensures columns { result.1.items ≡ self.entry.columns }
+        ensures table { IsTable self.entry }
+    {
+        let TableFile {
+            headers,
+            rows: _,
+            columns,
+        } = self;
+        (headers, columns)
+    }
+}

@@ -1,0 +1,68 @@
+-- What a statement may be answered, with a folder for its file (this product's own).
+use Rattle.std.specs.Prelude.{◌≡◌, ◌⊎◌, ℕ, List, Option, Some, None, length}
+use Rattle.bw_sql.specs.Tree.{StatementTree, save}
+use Rattle.bw_model.specs.Contents.{IsSaid}
+use Rattle.bw_model.specs.FileUse.{FileUse, file_use, no_file, reads, writes}
+use Rattle.bw_model.specs.Filing.{Holds}
+use Rattle.bw_model.specs.Refusals.{refused_early}
+use Rattle.bw_model.specs.Step.{outcome_of}
+use Rattle.bw_model.specs.Store.{Table, table_of}
+use Rattle.bw_model.specs.declared.content.Content.{Content}
+use Rattle.bw_model.specs.declared.content.Content.TheVariants.{Nothing}
+use Rattle.bw_model.specs.declared.refusal.Refusal.TheVariants.{OutOfMemory, UnreadableFile, UnwritableFile}
+use Rattle.bw_model.specs.declared.reply.Reply.{Reply}
+use Rattle.bw_model.specs.declared.reply.Reply.TheVariants.{Count, Refused}
+use Rattle.bw_shell.specs.States.{Failed, HasFile, KeepsFiles, KeepsOthers, Leaves, SetsFile, State}
+
+-- memory is wanting: nothing changes
+pub record Wants (before : State) (statement : StatementTree) (reply : Reply) (after : State) : Type 0 where
+  pub accepted : refused_early before.store statement ≡ None
+  pub says : reply ≡ Refused OutOfMemory
+  pub stays : Leaves before before.store after
+
+-- the outcome, with what the file says
+pub record Outcome (before : State) (said : Content) (statement : StatementTree) (reply : Reply) (after : State) : Type 0 where
+  pub replies : reply ≡ (outcome_of before.store said statement).0
+  pub leaves : Leaves before (outcome_of before.store said statement).1 after
+
+-- the outcome, by the file that the folder has
+pub record ByFile (before : State) (statement : StatementTree) (name : List ℕ) (reply : Reply) (after : State) : Type 0 where
+  pub file : Option (List ℕ)
+  pub there : HasFile before.files name file
+  pub said : Content
+  pub says : IsSaid before.store statement file said
+  pub outcome : Outcome before said statement reply after
+
+-- the folder failed at reading
+pub record CannotRead (before : State) (reply : Reply) (after : State) : Type 0 where
+  pub says : reply ≡ Refused UnreadableFile
+  pub failed : Failed before after
+  pub files_stay : KeepsFiles before.files after.files
+
+-- the file was made anew with bytes that hold the table
+pub record IsSaved (before : State) (statement : StatementTree) (file : List ℕ) (reply : Reply) (after : State) : Type 0 where
+  pub name : List ℕ
+  pub asks : statement ≡ save name file
+  pub table : Table
+  pub there : table_of before.store name ≡ Some table
+  pub bytes : List ℕ
+  pub holds : Holds bytes table
+  pub says : reply ≡ Count (length table.rows)
+  pub store_stays : after.store ≡ before.store
+  pub file_set : SetsFile file bytes before.files after.files
+  pub failures_stay : after.failures ≡ before.failures
+
+-- the folder failed at writing
+pub record CannotWrite (before : State) (file : List ℕ) (reply : Reply) (after : State) : Type 0 where
+  pub says : reply ≡ Refused UnwritableFile
+  pub failed : Failed before after
+  pub others_stay : KeepsOthers file before.files after.files
+
+abbrev pub AnswersBy : FileUse → State → StatementTree → Reply → State → Type 0
+AnswersBy no_file before statement reply after = Outcome before Nothing statement reply after
+AnswersBy (reads file) before statement reply after = ByFile before statement file reply after ⊎ CannotRead before reply after
+AnswersBy (writes file) before statement reply after = IsSaved before statement file reply after ⊎ CannotWrite before file reply after
+
+-- a statement's answer: its outcome, or what it comes to where memory is wanting or the folder fails
+abbrev pub Answers : State → StatementTree → Reply → State → Type 0
+Answers before statement reply after = Wants before statement reply after ⊎ AnswersBy (file_use before.store statement) before statement reply after

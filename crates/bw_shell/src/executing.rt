@@ -1,0 +1,59 @@
+//! A statement carried out, with a folder for its file.
+
+ghost use Rattle.std.specs.Prelude.{◌≡◌, ◌≤◌, ◌<◌, ◌+◌, ◌^◌, IsSome};
+ghost use Rattle.bw_engine.specs.Files.{Replies};
+ghost use Rattle.bw_engine.specs.Stores.{store_of};
+ghost use Rattle.bw_model.specs.FileUse.{file_read, file_use};
+ghost use Rattle.bw_sql.specs.Tree.{statement_of};
+ghost use Rattle.bw_shell.specs.Answers.{Answers};
+ghost use Rattle.bw_shell.specs.Handing.{WritesOut};
+ghost use Rattle.bw_shell.specs.States.{seen, with_store};
+
+use crate::folders::{Folder, FolderFault};
+use bw_engine::{Engine, FILE_LIMIT, FileAnswer, Outcome, Refusal, Reply, Saving};
+use bw_sql::Statement;
+
+/// Carries out a statement. The file that it wants is read first, and what it hands out is written.
+pub(crate) fn execute<F: Folder>(engine: &mut Engine, folder: &mut F, statement: Statement) -> Reply
+    requires { F.failure_count folder.old < 2 ^ 63 }
+    ensures answers { Answers (with_store (store_of engine.old) (seen (F.files folder.old) (F.failure_count folder.old))) (statement_of statement) result (with_store (store_of engine.new) (seen (F.files folder.new) (F.failure_count folder.new))) }
+    ensures failures { F.failure_count folder.new ≤ F.failure_count folder.old + 1 }
+{
+    let Some(name) = engine.wants(&statement) else {
+        return match engine.execute(statement, FileAnswer::NotAsked) {
+            Outcome::Reply(reply) => reply,
+            Outcome::Save(saving) => save(folder, saving),
+        };
+    };
+    match folder.read(name, FILE_LIMIT) {
+        Ok(bytes) => answer_of(engine, statement, FileAnswer::Bytes(bytes.as_slice())),
+        Err(FolderFault::Missing) => answer_of(engine, statement, FileAnswer::Unreadable),
+        Err(FolderFault::TooLarge) => answer_of(engine, statement, FileAnswer::TooLarge),
+        Err(FolderFault::Failed) => Reply::Refused(Refusal::UnreadableFile),
+        Err(FolderFault::Memory) => Reply::Refused(Refusal::OutOfMemory),
+    }
+}
+
+/// The reply to a statement that reads a file.
+fn answer_of(engine: &mut Engine, statement: Statement, file: FileAnswer<'_>) -> Reply
+    requires { IsSome (file_read (file_use (store_of engine.old) (statement_of statement))) }
+    ensures { Replies (store_of engine.old) (statement_of statement) file.entry result (store_of engine.new) }
+{
+    match engine.execute(statement, file) {
+        Outcome::Reply(reply) => reply,
+        Outcome::Save(_) => unreachable!(),
+    }
+}
+
+/// Makes a file anew with the bytes of a table.
+fn save<F: Folder>(folder: &mut F, saving: Saving) -> Reply
+    requires { F.failure_count folder.old < 2 ^ 63 }
+    ensures { WritesOut saving.file saving.bytes.items saving.rows (seen (F.files folder.old) (F.failure_count folder.old)) (seen (F.files folder.new) (F.failure_count folder.new)) result }
+{
+    match folder.write(saving.file.as_str(), saving.bytes.as_slice()) {
+        Ok(()) => Reply::Count(saving.rows),
+        Err(FolderFault::Memory) => Reply::Refused(Refusal::OutOfMemory),
+        Err(FolderFault::Failed) => Reply::Refused(Refusal::UnwritableFile),
+        Err(FolderFault::Missing | FolderFault::TooLarge) => unreachable!(),
+    }
+}

@@ -1,0 +1,158 @@
+//! The host's files.
+
+ghost use Rattle.std.specs.Prelude.{◌≡◌, ◌≤◌, ◌<◌, ◌^◌, ℕ, IfErr, IfOk, length};
+ghost use Rattle.bw_shell.specs.Folders.{IsWriteFault, failures_after};
+
+use crate::folders::{Folder, FolderFault};
+use crate::writing::put;
+use std::alloc::Global;
+use std::fs::{self, Files, OpenFile};
+use std::io::{Error, ErrorKind, Read, Write};
+use std::marker::Model;
+
+// How many bytes are asked for at a time.
+const PIECE: usize = 65_536;
+
+/// The host's files: a name is a path from the working directory. It tells nothing of them. A contract sees how often it
+/// failed.
+#[derive(Drop)]
+pub struct HostFolder<'a, H: Files> {
+    alloc: Global,
+    host: &'a H,
+    failures: u64,
+}
+
+impl<'a, H: Files> Model for HostFolder<'a, H> {
+    ghost use Rattle.std.specs.Prelude.{ℕ};
+
+    ghost Value = { ℕ };
+
+    ghost view = { λ folder. folder.failures };
+}
+
+impl<'a, H: Files> HostFolder<'a, H> {
+    /// The host's files, of which none has failed yet.
+    pub fn new(alloc: Global, host: &'a H) -> HostFolder<'a, H>
+        ensures { result ≡ 0 }
+    {
+        HostFolder {
+            alloc,
+            host,
+            failures: 0,
+        }
+    }
+}
+
+impl<'a, H: Files> Folder for HostFolder<'a, H> {
+    ghost failure_count = { λ folder. folder };
+
+    fn read(&mut self, name: &str, limit: usize) -> Result<Vec<u8>, FolderFault> {
+        let answer = read_file(self.alloc, self.host, name, limit);
+        count_failure(&mut self.failures, &answer);
+        answer
+    }
+
+    fn write(&mut self, name: &str, bytes: &[u8]) -> Result<(), FolderFault> {
+        let answer = write_file(self.host, name, bytes);
+        count_failure(&mut self.failures, &answer);
+        answer
+    }
+
+    fn failures(&self) -> u64 {
+        self.failures
+    }
+}
+
+// A failure counts, and nothing else.
+fn count_failure<T>(failures: &mut u64, answer: &Result<T, FolderFault>)
+    requires { failures.old < 2 ^ 63 }
+    ensures { failures.new ≡ failures_after answer.now failures.old }
+{
+    if let Err(FolderFault::Failed) = answer {
+        *failures += 1;
+    }
+}
+
+// The bytes of a file. One that is longer than the limit is not read.
+fn read_file<H: Files>(
+    alloc: Global,
+    host: &H,
+    name: &str,
+    limit: usize,
+) -> Result<Vec<u8>, FolderFault>
+    ensures { IfOk result (λ bytes. length bytes.items ≤ limit) }
+{
+    let mut file = match fs::open(host, name) {
+        Ok(file) => file,
+        Err(error) => return Err(fault_of(&error)),
+    };
+    let length = match file.metadata() {
+        Ok(metadata) => metadata.len(),
+        Err(error) => return Err(fault_of(&error)),
+    };
+    if length > limit as u64 {
+        return Err(FolderFault::TooLarge);
+    }
+    let mut bytes = Vec::with_capacity(alloc, length as usize)?;
+    read_rest(alloc, &mut file, limit, &mut bytes)?;
+    Ok(bytes)
+}
+
+// Puts what is left to read last. The file may have grown meanwhile.
+fn read_rest<R: Read>(
+    alloc: Global,
+    reader: &mut R,
+    limit: usize,
+    bytes: &mut Vec<u8>,
+) -> Result<(), FolderFault>
+    requires { length bytes.old.items ≤ limit }
+    ensures { IfOk result (λ _. length bytes.new.items ≤ limit) }
+{
+    let mut piece = vec![in alloc; 0u8; PIECE]?;
+    while bytes.len() <= limit {
+        match reader.read(&mut piece) {
+            Ok(0) => return Ok(()),
+            Ok(n) => bytes.extend_from_slice(&piece[..n])?,
+            Err(error) => return Err(fault_of(&error)),
+        }
+    }
+    Err(FolderFault::TooLarge)
+}
+
+// Makes a file anew with these bytes.
+fn write_file<H: Files>(host: &H, name: &str, bytes: &[u8]) -> Result<(), FolderFault>
+    ensures { IfErr result IsWriteFault }
+{
+    match fs::create(host, name) {
+        Ok(mut file) => put_all(&mut file, bytes),
+        Err(error) => Err(write_fault_of(&error)),
+    }
+}
+
+fn put_all<W: Write>(writer: &mut W, bytes: &[u8]) -> Result<(), FolderFault>
+    ensures { IfErr result IsWriteFault }
+{
+    if put(writer, bytes).is_err() || writer.flush().is_err() {
+        return Err(FolderFault::Failed);
+    }
+    Ok(())
+}
+
+// Why a file can't be read.
+fn fault_of(error: &Error) -> FolderFault {
+    match error.kind() {
+        ErrorKind::NotFound => FolderFault::Missing,
+        ErrorKind::OutOfMemory => FolderFault::Memory,
+        _ => FolderFault::Failed,
+    }
+}
+
+// Why a file can't be written.
+fn write_fault_of(error: &Error) -> FolderFault
+    ensures { IsWriteFault result }
+{
+    match error.kind() {
+        ErrorKind::OutOfMemory => FolderFault::Memory,
+        _ => FolderFault::Failed,
+    }
+}

@@ -1,0 +1,9 @@
+use Rattle.std.proofs.Common.{get_or, ℕ, ◌*◌, ◌<◌, ◌≡◌}
+use Rattle.bw_mask.specs.Masks.{bit_of}
+use Rattle.bw_vertical.proofs.bytes.put_codes.Given as goal
+
+-- the words of the bytes so far
+abbrev pub invariant-loop-j : goal.invariant-loop-j
+invariant-loop-j l = record {
+  done : (b r : ℕ) → b < 8 * l.j → r < 64 → bit_of (get_or l.words b 0) r ≡ bit_of (get_or l.codes r 0) b;
+}

@@ -1,0 +1,9 @@
+-- Bits of two words that change places.
+use Rattle.std.specs.Prelude.{not, true, ℕ, ◌-◌, ◌<◌, ◌≡◌, ◌≤◌}
+use Rattle.bw_mask.specs.Masks.{bit_of}
+
+-- the mask chooses the bits that have another s places higher, and leaves out those that have one s places lower
+pub record Exchanges (s mask : ℕ) : Type 0 where
+  pub small : s < 64
+  pub first : (r : ℕ) → r < s → bit_of mask r ≡ true
+  pub apart : (r : ℕ) → s ≤ r → r < 64 → bit_of mask r ≡ not (bit_of mask (r - s))

@@ -1,0 +1,176 @@
+//! Codes of 64 rows and the words of their planes. Word b holds bit b of each code.
+//!
+//! Between them stand the bytes of the codes, 64 at once: four times as many rows of bytes lie in a
+//! vector as of whole codes.
+
+ghost use Rattle.std.specs.Prelude.{[], cond, false, length, not, slice_index, slice_index_or, true, ℕ, ◌%◌, ◌*◌, ◌+◌, ◌-◌, ◌/◌, ◌<◌, ◌^◌, ◌≡◌, ◌≤◌};
+ghost use Rattle.bw_mask.specs.Masks.{bit_of};
+ghost use Rattle.bw_vertical.specs.Exchanges.{Exchanges};
+
+use std::simd::prelude::*;
+
+/// Byte j of each code, counted from the lowest.
+fn byte_of_each(codes: &[u32; 64], j: usize) -> [u8; 64]
+    requires { j < 4 }
+    ensures { (r : ℕ) → r < 64 → slice_index result r ≡ slice_index codes.now r / 2 ^ (8 * j) % 2 ^ 8 }
+{
+    let mut bytes = [0; 64];
+    for r in 0..64 {
+        bytes[r] = ((codes[r] >> (8 * j)) % 0x100) as u8;
+    }
+    bytes
+}
+
+/// Bit r says whether byte r has bit i.
+fn rows_with_bit(bytes: &[u8; 64], i: u32) -> u64
+    requires { i < 8 }
+    ensures { (r : ℕ) → r < 64 → bit_of result r ≡ bit_of (slice_index bytes.now r) i }
+{
+    (u8x64::from_array(*bytes) & u8x64::splat(1 << i))
+        .simd_ne(u8x64::splat(0))
+        .to_bitmask()
+}
+
+/// The words of the eight planes of these bytes go to the words from `at` on.
+fn put_words(words: &mut [u64; 32], at: usize, bytes: &[u8; 64])
+    requires { at + 8 ≤ 32 }
+    ensures inside { (t r : ℕ) → t < 8 → r < 64 → bit_of (slice_index words.new (at + t)) r ≡ bit_of (slice_index bytes.now r) t }
+    ensures before { (b : ℕ) → b < at → slice_index words.new b ≡ slice_index words.old b }
+{
+    for t in 0..8 {
+        words[at + t] = rows_with_bit(bytes, t as u32);
+    }
+}
+
+/// The words become those of the planes of codes of k bits.
+pub(crate) fn put_codes(codes: &[u32; 64], k: usize, words: &mut [u64; 32])
+    requires { k ≤ 32 }
+    ensures { (b r : ℕ) → b < k → r < 64 → bit_of (slice_index words.new b) r ≡ bit_of (slice_index codes.now r) b }
+{
+    for j in 0..k.div_ceil(8) {
+        put_words(words, 8 * j, &byte_of_each(codes, j));
+    }
+}
+
+/// The bits of `low` that the mask leaves out change places with the bits of `high` that stand s
+/// places lower, which the mask chooses.
+fn exchanged(low: u64, high: u64, s: u32, mask: u64) -> (u64, u64)
+    requires { Exchanges s mask }
+    ensures low { (r : ℕ) → r < 64 → bit_of result.0 r ≡ cond (bit_of mask r) (bit_of low r) (bit_of high (r - s)) }
+    ensures high { (r : ℕ) → r < 64 → bit_of result.1 r ≡ cond (bit_of mask r) (bit_of low (s + r)) (bit_of high r) }
+{
+    let differ = ((low >> s) ^ high) & mask;
+    (low ^ differ << s, high ^ differ)
+}
+
+/// Bits of the first four words change places with bits of the next four, and then the words are
+/// laid in turn: the first, the fifth, the second, .. So one bit of the word's number becomes one of
+/// the place in the word, and the other way round.
+fn exchange(words: &[u64], s: u32, mask: u64) -> [u64; 8]
+    requires long { 8 ≤ length words.now }
+    requires mask { Exchanges s mask }
+    ensures { (q r : ℕ) → q < 8 → r < 64 → bit_of (slice_index result q) r ≡ cond (bit_of mask r) (bit_of (slice_index words.now (q / 2)) (s * (q % 2) + r)) (bit_of (slice_index words.now (4 + q / 2)) (s * (q % 2) + r - s)) }
+{
+    let mut next = [0; 8];
+    for i in 0..4 {
+        let (low, high) = exchanged(words[i], words[4 + i], s, mask);
+        next[2 * i] = low;
+        next[2 * i + 1] = high;
+    }
+    next
+}
+
+/// Eight rows in each word, a byte for each: bit t of a row is its bit of word t.
+fn by_rows(words: &[u64]) -> [u64; 8]
+    requires { 8 ≤ length words.now }
+    ensures { (q r : ℕ) → q < 8 → r < 64 → bit_of (slice_index result q) r ≡ bit_of (slice_index words.now (r % 8)) (8 * q + r / 8) }
+{
+    // The three bits of a row's place in its byte change places with those of the word's number, and
+    // then with those of the byte's number.
+    let words = exchange(words, 4, 0x0f0f_0f0f_0f0f_0f0f);
+    let words = exchange(&words, 2, 0x3333_3333_3333_3333);
+    let words = exchange(&words, 1, 0x5555_5555_5555_5555);
+    let words = exchange(&words, 32, 0x0000_0000_ffff_ffff);
+    let words = exchange(&words, 16, 0x0000_ffff_0000_ffff);
+    exchange(&words, 8, 0x00ff_00ff_00ff_00ff)
+}
+
+/// The bytes of eight words, the lowest of each first.
+fn bytes_in(words: &[u64]) -> u8x64
+    requires { 8 ≤ length words.now }
+    ensures { (q i : ℕ) → q < 8 → i < 8 → slice_index result (8 * q + i) ≡ slice_index words.now q / (2 ^ 8) ^ i % 2 ^ 8 }
+{
+    u64x8::from_slice(words).to_le_bytes()
+}
+
+/// A byte for each row: bit t of it is the row's bit of word t.
+fn bytes_of_words(words: &[u64]) -> [u8; 64]
+    requires { 8 ≤ length words.now }
+    ensures bits { (r t : ℕ) → r < 64 → t < 8 → bit_of (slice_index result r) t ≡ bit_of (slice_index words.now t) r }
+    ensures fit { (r : ℕ) → slice_index result r < 2 ^ 8 }
+{
+    bytes_in(&by_rows(words)).to_array()
+}
+
+/// Numbers of one byte.
+fn widened(bytes: &[u8; 64]) -> [u32; 64]
+    ensures { (r : ℕ) → r < 64 → slice_index result r ≡ slice_index bytes.now r }
+{
+    let mut numbers = [0; 64];
+    for r in 0..64 {
+        numbers[r] = u32::from(bytes[r]);
+    }
+    numbers
+}
+
+/// Numbers of two bytes.
+fn pairs(low: &[u8; 64], high: &[u8; 64]) -> [u16; 64]
+    ensures { (r : ℕ) → r < 64 → slice_index result r ≡ slice_index low.now r + 2 ^ 8 * slice_index high.now r }
+{
+    let mut numbers = [0; 64];
+    for r in 0..64 {
+        numbers[r] = u16::from(low[r]) + 0x100 * u16::from(high[r]);
+    }
+    numbers
+}
+
+/// Numbers of four bytes, the lowest first.
+fn joined(bytes: &[[u8; 64]; 4]) -> [u32; 64]
+    ensures { (r : ℕ) → r < 64 → slice_index result r
+        ≡ slice_index (slice_index_or bytes.now 0 []) r + 2 ^ 8 * slice_index (slice_index_or bytes.now 1 []) r
+        + 2 ^ 16 * (slice_index (slice_index_or bytes.now 2 []) r + 2 ^ 8 * slice_index (slice_index_or bytes.now 3 []) r) }
+{
+    let low = pairs(&bytes[0], &bytes[1]);
+    let high = pairs(&bytes[2], &bytes[3]);
+    let mut numbers = [0; 64];
+    for r in 0..64 {
+        numbers[r] = u32::from(low[r]) + 0x1_0000 * u32::from(high[r]);
+    }
+    numbers
+}
+
+/// The codes of at most 8 bits of which these are the words.
+fn codes_of_byte(words: &[u64; 32]) -> [u32; 64]
+    requires { (b : ℕ) → 8 ≤ b → slice_index words.now b ≡ 0 }
+    ensures bits { (r b : ℕ) → r < 64 → b < 32 → bit_of (slice_index result r) b ≡ bit_of (slice_index words.now b) r }
+    ensures fit { (r : ℕ) → r < 64 → slice_index result r < 2 ^ 32 }
+{
+    widened(&bytes_of_words(words))
+}
+
+/// The codes of k bits of which these are the words.
+pub(crate) fn codes_of_words(words: &[u64; 32], k: usize) -> [u32; 64]
+    requires narrow { k ≤ 32 }
+    requires rest { (b : ℕ) → k ≤ b → slice_index words.now b ≡ 0 }
+    ensures bits { (r b : ℕ) → r < 64 → b < 32 → bit_of (slice_index result r) b ≡ bit_of (slice_index words.now b) r }
+    ensures fit { (r : ℕ) → r < 64 → slice_index result r < 2 ^ 32 }
+{
+    if k <= 8 {
+        return codes_of_byte(words);
+    }
+    let mut bytes = [[0; 64]; 4];
+    for j in 0..k.div_ceil(8) {
+        bytes[j] = bytes_of_words(&words[8 * j..]);
+    }
+    joined(&bytes)
+}
