@@ -1,5 +1,6 @@
 pub mod Changed
 pub mod Extremes
+pub mod Flat
 pub mod Known
 pub mod Listed
 pub mod Narrow

@@ -1,6 +1,6 @@
 use Rattle.std.proofs.Common.{None, get_or, ℕ, ◌<◌, ◌≡◌}
 use Rattle.bw_column.specs.Codes.{IsCoded, code_for}
-use Rattle.bw_column.proofs.codes.encode_all.Given as goal
+use Rattle.bw_column.proofs.codes.encode_each.Given as goal
 
 abbrev pub invariant-loop-i : goal.invariant-loop-i
 invariant-loop-i l = record {
