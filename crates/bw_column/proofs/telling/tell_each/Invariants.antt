@@ -1,7 +1,7 @@
 use Rattle.std.proofs.Common.{List, take, ℤ, ◌++◌, ◌≡◌}
 use Rattle.bw_code.specs.Fittings.{AreTold, told_kind}
 use Rattle.bw_column.specs.Values.{known}
-use Rattle.bw_column.proofs.telling.tell_known.Given as goal
+use Rattle.bw_column.proofs.telling.tell_each.Given as goal
 
 abbrev pub invariant-loop-value : goal.invariant-loop-value
 invariant-loop-value l = record {
