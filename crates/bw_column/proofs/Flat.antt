@@ -1,5 +1,5 @@
 -- Values encoded side by side by their distance from a base, a null being taken as the base.
-use Rattle.std.proofs.Common.{◌≡◌, ℕ, ℤ, pos, ◌+◌, ◌-◌, ◌^◌, ◌<◌, ◌≤◌, ◌≤ℤ◌, ◌+ℤ◌, Bool, true, false, ◌&&◌, int_le, leb, List, length, get_or, refl, arith, below_more, ◌↔◌, Option, None, Some, unwrap_or, [], ◌∷◌, ◌≢◌, ◌∙◌, suc, set, get_or-set_other, get_or-set_same}
+use Rattle.std.proofs.Common.{FitsSigned, of_z, w64, ◌%◌, ◌≡◌, ℕ, ℤ, pos, ◌+◌, ◌-◌, ◌^◌, ◌<◌, ◌≤◌, ◌≤ℤ◌, ◌+ℤ◌, Bool, true, false, ◌&&◌, int_le, leb, List, length, get_or, refl, arith, below_more, ◌↔◌, Option, None, Some, unwrap_or, [], ◌∷◌, ◌≢◌, ◌∙◌, suc, set, get_or-set_other, get_or-set_same}
 use Rattle.std.specs.Bool.{IsTrue}
 use Rattle.std.specs.List.{All}
 use Rattle.std.proofs.lemmas.Int.{ints}
@@ -60,13 +60,29 @@ distance_is o (Some x) h =
     let t : int_le x (o.base +ℤ pos (2 ^ o.width - 1)) ≡ true = grind (arith, ints, h.1) in
     rw (s, t) refl
 
+-- a distance that may wrap tells the same
+pub same_passes : (o : Offset) (x : ℤ) (d : ℕ) → (o.base ≤ℤ x → d ≡ distance x o.base) → (int_le o.base x && leb d (2 ^ o.width - 1)) ≡ passes o x
+same_passes o x d near = by_case (int_le o.base x) refl
+  where
+    by_case : (b : Bool) → int_le o.base x ≡ b → (int_le o.base x && leb d (2 ^ o.width - 1)) ≡ passes o x
+    by_case true h = let e : d ≡ distance x o.base = near (grind (arith, ints, h)) in rw e refl
+    by_case false h = rw h refl
+
+-- a value that has a code isn't below the base
+pub coded_above : (o : Offset) (value : Option ℤ) → IsCoded (by.Offset o) value → o.base ≤ℤ taken o value
+coded_above o None h = omega (arith, ints)
+coded_above o (Some x) h = h.0
+
+-- from the base on, the distance doesn't wrap
+pub unwrapped : (b x : ℤ) (d : ℕ) → FitsSigned w64 b → FitsSigned w64 x → d ≡ (of_z w64 x + (2 ^ 64 - of_z w64 b)) % 2 ^ 64 → b ≤ℤ x → d ≡ distance x b
+unwrapped b x d fits_b fits_x is h = omega (arith, ints, fits_b, fits_x, is, h)
+
 -- one distance more is put in its place
-pub codes_more : (o : Offset) (xs : List (Option ℤ)) (codes : List ℕ) (i : ℕ) → i < length codes → ((k : ℕ) → k < i → get_or codes k 0 ≡ distance (taken o (get_or xs k None)) o.base) → (k : ℕ) → k < i + 1 → get_or (set codes i (distance (taken o (get_or xs i None)) o.base)) k 0 ≡ distance (taken o (get_or xs k None)) o.base
-codes_more o xs codes i l before =
-    let here = distance (taken o (get_or xs i None)) o.base in
-    below_more (λ k. get_or (set codes i here) k 0 ≡ distance (taken o (get_or xs k None)) o.base) i
-    (λ k m. let apart : k ≢ i = omega arith in rw get_or-set_other (before k m))
-    (rw get_or-set_same refl)
+pub codes_more : (o : Offset) (xs : List (Option ℤ)) (codes : List ℕ) (i d : ℕ) → i < length codes → ((k : ℕ) → k < i → IsCoded (by.Offset o) (get_or xs k None) → get_or codes k 0 ≡ distance (taken o (get_or xs k None)) o.base) → (o.base ≤ℤ taken o (get_or xs i None) → d ≡ distance (taken o (get_or xs i None)) o.base) → (k : ℕ) → k < i + 1 → IsCoded (by.Offset o) (get_or xs k None) → get_or (set codes i d) k 0 ≡ distance (taken o (get_or xs k None)) o.base
+codes_more o xs codes i d l before here =
+    below_more (λ k. IsCoded (by.Offset o) (get_or xs k None) → get_or (set codes i d) k 0 ≡ distance (taken o (get_or xs k None)) o.base) i
+    (λ k m coded. let apart : k ≢ i = omega arith in rw get_or-set_other (before k m coded))
+    (λ coded. rw get_or-set_same (here (coded_above o (get_or xs i None) coded)))
 
 -- the distances of values that have codes are their codes
 pub codes_by : (o : Offset) (xs : List (Option ℤ)) (codes : List ℕ) → length codes ≡ length xs → ((k : ℕ) → k < length xs → IsCoded (by.Offset o) (get_or xs k None)) → ((k : ℕ) → k < length xs → get_or codes k 0 ≡ distance (taken o (get_or xs k None)) o.base) → codes ≡ codes_for (by.Offset o) xs

@@ -39,7 +39,8 @@ fn greatest_code(offset: Offset) -> u64
     u64::MAX >> (64 - offset.width)
 }
 
-/// Writes each value's distance from the base to its place in `codes`, and answers whether every value has a code.
+/// Writes each value's distance from the base to its place in `codes`, and answers whether every value has a code. The
+/// distance of a value below the base wraps, and at 64 bits only the comparison with the base tells it.
 fn encode_by_offset(offset: Offset, values: &[Option<i64>], codes: &mut [u64]) -> bool
     requires { length codes.old ≡ length values.now }
     ensures all { IsTrue result ↔ All (IsCoded (by.Offset offset)) values.now }
@@ -50,7 +51,9 @@ fn encode_by_offset(offset: Offset, values: &[Option<i64>], codes: &mut [u64]) -
     // No branch a value, so that values are taken side by side. A null is taken as the base, whose code is 0.
     for i in 0..values.len() {
         let value = values[i].unwrap_or(offset.base);
-        let distance = value.abs_diff(offset.base);
+        let distance = value
+            .cast_unsigned()
+            .wrapping_sub(offset.base.cast_unsigned());
         codes[i] = distance;
         all &= (offset.base <= value) & (distance <= greatest);
     }

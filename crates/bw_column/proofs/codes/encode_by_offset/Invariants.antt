@@ -8,5 +8,5 @@ abbrev pub invariant-loop-i : goal.invariant-loop-i
 invariant-loop-i l = record {
   held : l.all ≡ true → (k : ℕ) → k < l.i → IsCoded (by.Offset l.offset) (get_or l.values k None);
   missed : l.all ≡ false → (k : ℕ) × (k < length l.values) × ¬ IsCoded (by.Offset l.offset) (get_or l.values k None);
-  codes : (k : ℕ) → k < l.i → get_or l.codes k 0 ≡ distance (unwrap_or (get_or l.values k None) l.offset.base) l.offset.base;
+  codes : (k : ℕ) → k < l.i → IsCoded (by.Offset l.offset) (get_or l.values k None) → get_or l.codes k 0 ≡ distance (unwrap_or (get_or l.values k None) l.offset.base) l.offset.base;
 }
