@@ -35,7 +35,7 @@ fn many_values<R: Abort + AllocGlobal>(rt: &R, length: usize, nulls: bool) -> Ve
     values
 }
 
-/// From row 60,000 on three rows of four, and the last one: so there are fewer of the first block than of a whole one.
+/// Behind the first 60,000 rows three of four, and the last one: so there are fewer of the first block than of a whole one.
 fn many_rows<R: Abort + AllocGlobal>(rt: &R, length: usize) -> Vec<bool> {
     let mut chosen = Vec::new(rt.alloc());
     let mut number = 2;
