@@ -1,6 +1,8 @@
 pub mod Changed
 pub mod Extremes
+pub mod Flat
 pub mod Known
+pub mod KnownEnds
 pub mod Listed
 pub mod Narrow
 pub mod Overwriting

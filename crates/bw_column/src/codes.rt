@@ -1,12 +1,13 @@
 //! Many values at a time: their codes, and which of them are there.
 
 ghost use Rattle.std.specs.Bool.{OnTrue};
-ghost use Rattle.std.specs.Prelude.{All, IfSome, IsSome, IsTrue, is_some, length, map, ◌++◌, ◌+◌, ◌^◌, ◌↔◌, ◌≡◌, ◌≤◌};
+ghost use Rattle.std.specs.Prelude.{All, IfSome, IsSome, IsTrue, is_some, length, map, ◌++◌, ◌+◌, ◌-◌, ◌^◌, ◌↔◌, ◌≡◌, ◌≤◌};
 ghost use Rattle.bw_mask.specs.Masks.{bit_of, len, rows_of};
+ghost use Rattle.bw_code.specs.declared.encoding.Encoding.TheVariants as by;
 ghost use Rattle.bw_column.specs.Codes.{IsCoded, code_for, codes_for};
 
 use crate::bits::set_bytes;
-use bw_code::Encoding;
+use bw_code::{Encoding, Offset};
 use bw_mask::Mask;
 
 /// The code of a value, if it has one.
@@ -31,9 +32,36 @@ pub(crate) fn code_of(encoding: &Encoding, value: Option<i64>) -> u64
     code
 }
 
-/// Writes each value's code to its place in `codes`, and answers whether every value has one. Where one has none,
-/// nothing is said of what `codes` holds.
-pub(crate) fn encode_all(encoding: &Encoding, values: &[Option<i64>], codes: &mut [u64]) -> bool
+/// The greatest code by an offset.
+fn greatest_code(offset: Offset) -> u64
+    ensures { result ≡ 2 ^ offset.width - 1 }
+{
+    u64::MAX >> (64 - offset.width)
+}
+
+/// Writes each value's distance from the base to its place in `codes`, and answers whether every value has a code. The
+/// distance of a value below the base wraps, and at 64 bits only the comparison with the base tells it.
+fn encode_by_offset(offset: Offset, values: &[Option<i64>], codes: &mut [u64]) -> bool
+    requires { length codes.old ≡ length values.now }
+    ensures all { IsTrue result ↔ All (IsCoded (by.Offset offset)) values.now }
+    ensures codes { OnTrue result (codes.new ≡ codes_for (by.Offset offset) values.now) }
+{
+    let greatest = greatest_code(offset);
+    let mut all = true;
+    // No branch a value, so that values are taken side by side. A null is taken as the base, whose code is 0.
+    for i in 0..values.len() {
+        let value = values[i].unwrap_or(offset.base);
+        let distance = value
+            .cast_unsigned()
+            .wrapping_sub(offset.base.cast_unsigned());
+        codes[i] = distance;
+        all &= (offset.base <= value) & (distance <= greatest);
+    }
+    all
+}
+
+/// The same by any encoding, value by value.
+fn encode_each(encoding: &Encoding, values: &[Option<i64>], codes: &mut [u64]) -> bool
     requires { length codes.old ≡ length values.now }
     ensures all { IsTrue result ↔ All (IsCoded encoding.now) values.now }
     ensures codes { OnTrue result (codes.new ≡ codes_for encoding.now values.now) }
@@ -45,6 +73,19 @@ pub(crate) fn encode_all(encoding: &Encoding, values: &[Option<i64>], codes: &mu
         codes[i] = code;
     }
     true
+}
+
+/// Writes each value's code to its place in `codes`, and answers whether every value has one. Where one has none,
+/// nothing is said of what `codes` holds.
+pub(crate) fn encode_all(encoding: &Encoding, values: &[Option<i64>], codes: &mut [u64]) -> bool
+    requires { length codes.old ≡ length values.now }
+    ensures all { IsTrue result ↔ All (IsCoded encoding.now) values.now }
+    ensures codes { OnTrue result (codes.new ≡ codes_for encoding.now values.now) }
+{
+    match encoding {
+        Encoding::Offset(offset) => encode_by_offset(*offset, values, codes),
+        Encoding::Dictionary(_) => encode_each(encoding, values, codes),
+    }
 }
 
 /// Bit i says whether value i is there.
