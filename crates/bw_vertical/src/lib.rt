@@ -7,6 +7,7 @@ mod bytes;
 mod codes;
 mod column;
 mod growing;
+mod pair;
 mod rows;
 mod scan;
 mod shifting;
@@ -14,5 +15,8 @@ mod source;
 mod storage;
 
 pub use addition::add_from;
+pub use blocks::plane_words;
 pub use column::VerticalColumn;
+pub use pair::pair_from;
 pub use scan::scan_from;
+pub use source::PlaneSource;
