@@ -3,10 +3,10 @@ use Rattle.std.proofs.Common.{ap, arith, sym, suc, ℕ, ◌%◌, ◌*◌, ◌+�
 use Rattle.std.specs.Int.{bit_at}
 use Rattle.std.proofs.Math.Nat.{add-mul-div_left, div-div-eq-div-mul, mod-add-div, mul-add, mul_comm, pow-suc}
 use Rattle.std.proofs.lemmas.Nat.{mod-pow-add}
+use Rattle.bw_vertical.specs.Carries.{carried}
 
--- what is carried from the n lowest bits
-abbrev pub carried : ℕ → ℕ → ℕ → ℕ
-carried x y n = (x % 2 ^ n + y % 2 ^ n) / 2 ^ n
+pub power_more : (n : ℕ) → 2 ^ (1 + n) ≡ 2 ^ n + 2 ^ n
+power_more n = let e : 1 + n ≡ suc n = omega arith in ap (λ m. 2 ^ m) e ∙ pow-suc 2 n ∙ omega arith
 
 -- one bit more, at the high end
 pub low : (n z : ℕ) → z % 2 ^ (n + 1) ≡ z % 2 ^ n + 2 ^ n * bit_at z n

@@ -7,15 +7,14 @@ ghost use Rattle.bw_code.specs.Choosing.{by_masks};
 ghost use Rattle.bw_code.specs.Tests.{code_compares, int_compares};
 ghost use Rattle.bw_code.specs.Units.{some_below};
 ghost use Rattle.bw_code.specs.declared.compare.CmpOp.{CmpOp as Op};
+ghost use Rattle.bw_vertical.specs.Carries.{carried};
 ghost use Rattle.bw_vertical.specs.Planes.{code_in, segments_of};
-ghost use Rattle.bw_vertical.proofs.Adding.{carried};
 
-use crate::rows::{either, lanes_at, put_lanes, without};
+use crate::rows::{both, differing, either, lanes_at, put_lanes, without};
 use crate::scan::chosen;
 use bw_code::{CmpOp, Offset, Source};
 use bw_lane::{add_const_step, low_first_step};
 use bw_mask::Mask;
-use std::simd::prelude::*;
 
 /// What is added to the codes of two columns so that the sums compare as the values do: of each base what it is above
 /// the lower one.
@@ -51,6 +50,13 @@ impl Lifts {
     }
 }
 
+/// Whether a number has bit n.
+fn has_bit(number: u64, n: usize) -> bool
+    ensures { result ≡ bit_of number n }
+{
+    n < 64 && number >> n & 1 == 1
+}
+
 /// Plane n, counted from the lowest, of the codes of segment q with `lift` added. `carry` is what the planes below carried
 /// over, and becomes what this one does.
 #[inline(always)]
@@ -65,7 +71,7 @@ fn lifted_plane<S: Source<[u64; 4]>>(
     requires narrow { k ≤ 32 }
     requires small { q < 2 ^ 32 }
     requires there { (q + 1) * k ≤ length (S.units source.old) }
-    requires few { S.reads source.old < 2 ^ 63 }
+    requires few { S.reads source.old + (if nat_lt n k then 1 else 0) ≤ 2 ^ 63 }
     requires carry { (j : ℕ) → j < 256 → row_in carry.old j ≡ (carried (code_in k (S.units source.old) (256 * q + j)) lift n == 1) }
     ensures units { S.units source.new ≡ S.units source.old }
     ensures reads { S.reads source.new ≡ S.reads source.old + (if nat_lt n k then 1 else 0) }
@@ -77,15 +83,8 @@ fn lifted_plane<S: Source<[u64; 4]>>(
     } else {
         [0; 4]
     };
-    add_const_step(&mut plane, carry, n < 64 && lift >> n & 1 == 1);
+    add_const_step(&mut plane, carry, has_bit(lift, n));
     plane
-}
-
-/// The rows in one of the two alone.
-fn differing(a: &[u64; 4], b: &[u64; 4]) -> [u64; 4]
-    ensures { (j : ℕ) → j < 256 → row_in result j ≡ not (if row_in a.now j then row_in b.now j else not (row_in b.now j)) }
-{
-    (u64x4::from_array(*a) ^ u64x4::from_array(*b)).to_array()
 }
 
 /// The rows of segment q whose first sum is below the second one, and those where the sums differ.
@@ -134,8 +133,7 @@ fn compare_sums<A: Source<[u64; 4]>, B: Source<[u64; 4]>>(
 fn chosen_of_sums(op: CmpOp, need: &[u64; 4], lt: &[u64; 4], differ: &[u64; 4]) -> [u64; 4]
     ensures { (j : ℕ) → j < 256 → row_in result j ≡ by_masks op (row_in need.now j) (row_in need.now j && row_in lt.now j) (row_in need.now j && not (row_in differ.now j)) }
 {
-    let below = (u64x4::from_array(*need) & u64x4::from_array(*lt)).to_array();
-    chosen(op, need, &below, &without(need, differ))
+    chosen(op, need, &both(need, lt), &without(need, differ))
 }
 
 /// Compares the values of two columns of kind OFFSET over their planes: `out` becomes the needed rows where the first
