@@ -4,9 +4,7 @@ use Rattle.std.specs.Int.{div_ceil}
 use Rattle.std.proofs.lemmas.Bool.{cases_lt}
 use Rattle.std.proofs.lemmas.List.{get_or_past}
 use Rattle.bw_mask.specs.Masks.{MaskRows, len, row_at, row_in}
-use Rattle.bw_code.specs.Tests.{code_compares, meets}
 use Rattle.bw_code.specs.Units.{agreement, by_planes, cost_of, scan_units, segment_units, side_units, units_of_pair, units_of_scan}
-use Rattle.bw_code.specs.declared.compare.CmpOp.{CmpOp}
 use Rattle.bw_code.specs.declared.compare.CodeTest.{CodeTest}
 use Rattle.bw_code.specs.declared.kind.Layout.TheVariants.{V}
 use Rattle.bw_code.proofs.UnitLemmas.{cost_same, segment_same, sum_same}
@@ -45,13 +43,6 @@ abbrev pub AreCodes : ℕ → List (List ℕ) → List ℕ → Type 0
 AreCodes k units codes = (j : ℕ) → j / 256 < segments_of (length codes) → code_in k units j ≡ get_or codes j 0
 
 module _ (k : ℕ) (units : List (List ℕ)) (codes : List ℕ) (same : AreCodes k units codes) (test : CodeTest) (needed : ℕ → Bool) where
-  pub rows_scanned : ((j : ℕ) → length codes ≤ j → needed j ≡ false) → (j : ℕ) → (needed j && meets test (code_in k units j)) ≡ (needed j && meets test (get_or codes j 0))
-  rows_scanned none j =
-      elim (cases_lt j (length codes)) [
-        | inl h ↦ ap (λ c. needed j && meets test c) (same j (omega arith))
-        | inr h ↦ rw (none j h) refl
-      ]
-
   pub units_scanned : scan_units (by_planes k) test needed (code_in k units) (segments_of (length codes)) ≡ units_of_scan V k test needed codes
   unfolding units_of_scan
   units_scanned =
@@ -69,16 +60,6 @@ module _
   where
     other_same : (j : ℕ) → j / 256 < segments_of (length codes) → code_in k more j ≡ get_or others j 0
     other_same j h = also j (omega (arith, h, count))
-
-    pub rows_paired : (op : CmpOp) → ((j : ℕ) → length codes ≤ j → needed j ≡ false) → (j : ℕ)
-        → (needed j && code_compares op (code_in k units j) (code_in k more j)) ≡ (needed j && code_compares op (get_or codes j 0) (get_or others j 0))
-    rows_paired op none j =
-        elim (cases_lt j (length codes)) [
-          | inl h ↦
-              let low : j / 256 < segments_of (length codes) = omega arith in
-              ap (λ c. needed j && code_compares op c (code_in k more j)) (same j low) ∙ ap (λ c. needed j && code_compares op (get_or codes j 0) c) (other_same j low)
-          | inr h ↦ rw (none j h) refl
-        ]
 
     -- what is read of one, and as much of the other
     pub units_paired : 2 * side_units (by_planes k) needed (code_in k units) (code_in k more) (segments_of (length codes)) ≡ units_of_pair V k needed codes others

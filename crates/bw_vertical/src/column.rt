@@ -184,4 +184,6 @@ impl CodeColumn for VerticalColumn {
 }
 
 #[cfg(test)]
+mod pair_tests;
+#[cfg(test)]
 mod tests;
