@@ -12,5 +12,6 @@ mod shifting;
 mod source;
 mod storage;
 
+pub use blocks::plane_words;
 pub use column::VerticalColumn;
 pub use scan::scan_from;
