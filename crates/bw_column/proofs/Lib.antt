@@ -7,6 +7,7 @@ pub mod Listed
 pub mod Narrow
 pub mod Overwriting
 pub mod Pieces
+pub mod Planed
 pub mod Presence
 pub mod Ranks
 pub mod Rows

@@ -11,6 +11,7 @@ mod compare_anew;
 mod ends;
 mod kept;
 mod pairs;
+mod planes;
 mod reading;
 mod split;
 mod step;
