@@ -8,6 +8,7 @@ pub mod Narrow
 pub mod Overwriting
 pub mod PairRows
 pub mod Pieces
+pub mod Planed
 pub mod Presence
 pub mod Ranks
 pub mod Rows

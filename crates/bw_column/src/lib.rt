@@ -13,6 +13,7 @@ mod ends;
 mod kept;
 mod pair_codes;
 mod pairs;
+mod planes;
 mod reading;
 mod split;
 mod step;

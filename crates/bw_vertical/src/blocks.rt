@@ -79,6 +79,18 @@ fn narrowed(codes: &[u64]) -> [u32; 64]
     block
 }
 
+/// The words of the planes of k bits: bit r of word b is bit b of code r, and not set where there is no such code.
+pub fn plane_words(codes: &[u64], k: usize) -> [u64; 32]
+    requires few { length codes.now ≤ 64 }
+    requires narrow { k ≤ 32 }
+    requires fit { All (λ code. code < 2 ^ 32) codes.now }
+    ensures { (b r : ℕ) → b < k → r < 64 → bit_of (slice_index result b) r ≡ bit_of (slice_index codes.now r) b }
+{
+    let mut words = [0; 32];
+    put_codes(&narrowed(codes), k, &mut words);
+    words
+}
+
 /// The codes of rows `at`, `at + 1`, .. become these, so few that they lie in one word. From `at` on
 /// no row was set.
 #[tactic(auto, using(crate::proofs::Settings::word_there))]

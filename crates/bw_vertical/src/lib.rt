@@ -14,5 +14,6 @@ mod source;
 mod storage;
 
 pub use addition::add_from;
+pub use blocks::plane_words;
 pub use column::VerticalColumn;
 pub use scan::scan_from;
