@@ -1,8 +1,8 @@
 -- What two codes say of two values.
-use Rattle.std.proofs.Common.{Bool, None, Option, Some, ap, arith, inl, inr, is_some, pos, refl, subst, sym, true, false, ℕ, ℤ, ◌&&◌, ◌+ℤ◌, ◌<◌, ◌≡◌, ◌∙◌}
-use Rattle.bw_mask.specs.Masks.{MaskRows, row_at}
+use Rattle.std.proofs.Common.{Bool, None, Option, Some, ap, arith, inl, inr, is_some, pos, pow_pos, refl, subst, sym, true, false, ℕ, ℤ, ◌%◌, ◌&&◌, ◌*◌, ◌+◌, ◌+ℤ◌, ◌-◌, ◌/◌, ◌<◌, ◌^◌, ◌≡◌, ◌∙◌}
+use Rattle.bw_mask.specs.Masks.{MaskRows, bit_of, row_at}
 use Rattle.bw_code.specs.Columns.{CodeList, code_at, count}
-use Rattle.bw_code.specs.Encodings.{IsEncoding, code_of, value_of}
+use Rattle.bw_code.specs.Encodings.{IsEncoding, code_of, value_of, width}
 use Rattle.bw_code.specs.Tests.{code_compares, int_compares}
 use Rattle.bw_code.specs.declared.compare.CmpOp.{CmpOp}
 use Rattle.bw_code.specs.declared.encoding.Encoding.{Encoding}
@@ -14,7 +14,11 @@ use Rattle.std.proofs.lemmas.Bool.{cases_lt}
 use Rattle.std.proofs.lemmas.List.{get_or_past}
 use Rattle.bw_column.specs.Codes.{AreRowCodes, IsRowCode, value_from, values_from}
 use Rattle.bw_column.specs.Comparisons.{compare_so}
+use Rattle.bw_column.specs.PlaneSources.{HoldsCodes, units_in}
 use Rattle.bw_column.specs.Values.{value_at}
+use Rattle.bw_column.specs.declared.column_planes.ColumnPlanes.{ColumnPlanes}
+use Rattle.bw_vertical.specs.Planes.{code_in, in_plane}
+use Rattle.bw_vertical.proofs.Numbers.{number_is}
 use Rattle.bw_column.proofs.Rows.{known_rows, value_of_row}
 
 -- two codes of one encoding compare as their values do
@@ -87,3 +91,19 @@ module _ (op : CmpOp) (e d : Encoding) (codes others : CodeList) (nonnull nonnul
   known_both h =
       let both = and_both (is_some value) (is_some other) h in
       ((known_at e codes nonnull are i both.0).inside, (known_at d others nonnull_others others_are i both.1).inside)
+
+-- the codes of planes that hold the codes of a column
+module _ (e : Encoding) (codes : CodeList) (nonnull : MaskRows) (are : AreRowCodes e codes nonnull) (source : ColumnPlanes) (holds : HoldsCodes codes source) where
+  low : (code : ℕ) (there : Bool) → IsRowCode e code there → code < 2 ^ width e
+  low code true h = code_low e are.sound (value_of e code) code h.0
+  low code false h = let some = pow_pos (width e) in omega (arith, h)
+
+  pub code_held : (i : ℕ) → i < count codes → code_in codes.width (units_in source) i ≡ code_at codes i
+  code_held i h =
+      let k = codes.width in
+      let q = i / 256 in
+      let r = i % 256 in
+      let at : 256 * q + r ≡ i = omega arith in
+      let fits : code_at codes i < 2 ^ k = subst (λ n. code_at codes i < 2 ^ n) (sym are.width) (low (code_at codes i) (row_at nonnull i) (are.each i h)) in
+      number_is (λ p. in_plane k (units_in source) p i) k (code_at codes i) fits (λ p l.
+      holds.rows q p r (omega (arith, h)) l (omega arith) ∙ ap (λ n. bit_of (code_at codes n) (k - 1 - p)) at)

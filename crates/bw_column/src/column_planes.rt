@@ -1,8 +1,6 @@
 //! The planes of a column's codes, each layout's in its own way.
 
-ghost use Rattle.std.specs.Prelude.{IfSome, IsSome, false, length, ℕ, ◌*◌, ◌<◌, ◌≡◌, ◌≤◌, ◌↔◌};
-ghost use Rattle.bw_code.specs.Columns.{code_at, count};
-ghost use Rattle.bw_vertical.specs.Planes.{code_in, segments_of};
+ghost use Rattle.std.specs.Prelude.{IfSome, IsSome, false, ◌≡◌, ◌≤◌, ◌↔◌};
 ghost use Rattle.bw_column.specs.Costs.{is_plain};
 ghost use Rattle.bw_column.specs.PlaneSources.{HoldsCodes};
 ghost use Rattle.bw_column.specs.Storing.{layout_of, list_of};
