@@ -19,3 +19,29 @@ pub fn plane_step(lt: &mut [u64; 4], eq: &mut [u64; 4], plane: &[u64; 4], bit: b
         *eq = (e ^ (e & p)).to_array();
     }
 }
+
+/// Adds one bit to that of each of 256 rows, and what is carried from the plane below. `a` becomes the bits of the sums,
+/// and `carry` what is carried to the plane above.
+pub fn add_const_step(a: &mut [u64; 4], carry: &mut [u64; 4], bit: bool)
+    ensures sum { (j : ℕ) → j < 256 → row_in a.new j ≡ (if row_in a.old j then (if bit then row_in carry.old j else not (row_in carry.old j)) else (if bit then not (row_in carry.old j) else row_in carry.old j)) }
+    ensures carry { (j : ℕ) → j < 256 → row_in carry.new j ≡ (if bit then (row_in a.old j || row_in carry.old j) else (row_in a.old j && row_in carry.old j)) }
+{
+    let (p, c) = (u64x4::from_array(*a), u64x4::from_array(*carry));
+    if bit {
+        *a = (p ^ c ^ u64x4::splat(u64::MAX)).to_array();
+        *carry = (p | c).to_array();
+    } else {
+        *a = (p ^ c).to_array();
+        *carry = (p & c).to_array();
+    }
+}
+
+/// Compares 256 rows of two columns by one plane more, of the bit above those that were compared: `lt` are the rows where
+/// the first number is below the second by the bits so far.
+pub fn low_first_step(lt: &mut [u64; 4], a: &[u64; 4], b: &[u64; 4])
+    ensures { (j : ℕ) → j < 256 → row_in lt.new j ≡ (if row_in a.now j then (row_in b.now j && row_in lt.old j) else (row_in b.now j || row_in lt.old j)) }
+{
+    let (x, y, l) = (u64x4::from_array(*a), u64x4::from_array(*b), u64x4::from_array(*lt));
+    // Of x and its own complement, each row takes the one that says what to do with the lower bits.
+    *lt = ((y & l) | ((y | l) ^ ((y | l) & x))).to_array();
+}

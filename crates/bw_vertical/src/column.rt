@@ -160,6 +160,10 @@ impl CodeColumn for VerticalColumn {
         scan_from(&mut source, self.width, test, need, out);
         meter.add(source.reads());
     }
+
+    fn scan_pair(&self, other: &VerticalColumn, op: bw_code::CmpOp, need: &Mask, out: &mut Mask, meter: &mut Meter) {
+        unreachable!()
+    }
 }
 
 #[cfg(test)]

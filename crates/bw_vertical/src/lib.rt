@@ -1,6 +1,7 @@
 //! Codes as planes of bits (layout V, BitWeaving/V).
 #![tactic(auto)]
 
+mod addition;
 mod blocks;
 mod bytes;
 mod codes;
@@ -12,6 +13,7 @@ mod shifting;
 mod source;
 mod storage;
 
+pub use addition::add_from;
 pub use blocks::plane_words;
 pub use column::VerticalColumn;
 pub use scan::scan_from;
