@@ -1,5 +1,5 @@
 -- What a segment costs: all its words where a row is needed, whatever the codes.
-use Rattle.std.proofs.Common.{Bool, List, get_or, length, ap, arith, eqb, false, if◌then◌else◌, refl, true, ℕ, ◌+◌, ◌<◌, ◌≡◌, ◌≤◌, ◌∙◌, inl, inr}
+use Rattle.std.proofs.Common.{Bool, List, get_or, length, ap, arith, eqb, false, if◌then◌else◌, refl, true, ℕ, ◌*◌, ◌+◌, ◌<◌, ◌≡◌, ◌≤◌, ◌∙◌, inl, inr}
 use mathlib.Core.Logic.{◌≢◌}
 use Rattle.std.proofs.lemmas.Bool.{cases_lt}
 use Rattle.std.proofs.lemmas.Nat.Bits.{bit_at-lt, bit_at-zero, same_from_bits}
@@ -7,7 +7,8 @@ use Rattle.bw_lane.specs.Sections.{on}
 use Rattle.bw_code.specs.declared.compare.CodeTest.{CodeTest}
 use Rattle.bw_code.specs.declared.compare.CodeTest.TheVariants.{None, All, Cmp, Range}
 use Rattle.bw_code.specs.declared.kind.Layout.TheVariants.{H}
-use Rattle.bw_code.specs.Units.{by_words, cost_of, scan_units, segment_units, some_below, units_of_scan}
+use Rattle.bw_code.specs.Meters.{raised}
+use Rattle.bw_code.specs.Units.{by_words, cost_of, scan_units, segment_units, side_units, some_below, units_of_pair, units_of_scan}
 use Rattle.bw_code.proofs.Reach.{none_at, none_if}
 use Rattle.bw_code.proofs.UnitLemmas.{cost_same, sum_same}
 use Rattle.bw_horizontal.specs.Words.{segment_rows, segments_of}
@@ -67,3 +68,11 @@ unfolding units_of_scan
 units_are k n test needed codes code len =
     ap (λ m. scan_units (by_words k) test needed (λ i. get_or codes i 0) (segments_of k m)) len
     ∙ sum_same (segments_of k n) _ _ (λ q h. cost_by_need k test _ _ _ _ (λ r l. refl))
+
+-- what a scan of two columns costs, by their words
+pub pair_units_are : (k n : ℕ) (needed : ℕ → Bool) (codes others : List ℕ) (code other : ℕ → ℕ) → length codes ≡ n → units_of_pair H k needed codes others ≡ 2 * side_units (by_words k) needed code other (segments_of k n)
+unfolding units_of_pair
+pair_units_are k n needed codes others code other len = ap (λ m. 2 * side_units (by_words k) needed code other (segments_of k m)) len
+
+pub raised_twice : (units more : ℕ) → raised (raised units more) more ≡ raised units (2 * more)
+raised_twice units more = omega arith
