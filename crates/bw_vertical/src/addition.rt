@@ -174,6 +174,10 @@ pub fn add_from<A: Source<[u64; 4]>, B: Source<[u64; 4]>>(
     let words = need.words();
     for q in 0..need.len().div_ceil(256) {
         let (lt, differ) = compare_sums(a, width, b, other, q, lifts, planes);
-        put_lanes(out, q, &chosen_of_sums(op, &lanes_at(words, q), &lt, &differ));
+        put_lanes(
+            out,
+            q,
+            &chosen_of_sums(op, &lanes_at(words, q), &lt, &differ),
+        );
     }
 }

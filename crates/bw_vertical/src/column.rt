@@ -175,7 +175,14 @@ impl CodeColumn for VerticalColumn {
     }
 
     #[tactic(auto, using(crate::proofs::Holding::codes_len))]
-    fn scan_pair(&self, other: &VerticalColumn, op: CmpOp, need: &Mask, out: &mut Mask, meter: &mut Meter) {
+    fn scan_pair(
+        &self,
+        other: &VerticalColumn,
+        op: CmpOp,
+        need: &Mask,
+        out: &mut Mask,
+        meter: &mut Meter,
+    ) {
         let (mut left, mut right) = (self.planes(), other.planes());
         pair_from(&mut left, &mut right, self.width, op, need, out);
         meter.add(left.reads());

@@ -1,4 +1,4 @@
-use Rattle.std.proofs.Common.{Bool, FitsSigned, ap, arith, false, if◌then◌else◌, inl, inr, nat_lt, not, of_z, pos, refl, rules, subst, sym, to_z, true, w64, ℕ, ◌&&◌, ◌*◌, ◌+◌, ◌+ℤ◌, ◌-◌, ◌<◌, ◌==◌, ◌≡◌, ◌≤◌, ◌∙◌}
+use Rattle.std.proofs.Common.{Bool, FitsSigned, ap, arith, false, inl, inr, nat_lt, not, of_z, pos, refl, rules, subst, sym, to_z, true, w64, ℕ, ◌&&◌, ◌*◌, ◌+◌, ◌+ℤ◌, ◌-◌, ◌<◌, ◌==◌, ◌≡◌, ◌≤◌, ◌∙◌}
 use Rattle.std.proofs.lemmas.Bool.{cases_lt}
 use Rattle.std.proofs.lemmas.Int.{to_z-of_z}
 use Rattle.std.proofs.lemmas.List.{get_or_past}
@@ -45,8 +45,8 @@ loop-q-preserved g c =
     let needed : (j : ℕ) → j < 256 → row_in c.lanes_at.result j ≡ row_at need (256 * q + j) = λ j h. c.lanes_at.ensures j h ∙ c.words-words.ensures.rows (256 * q + j) in
     let found : (j : ℕ) → j < 256 → row_in c.chosen_of_sums.result j ≡ (row_at need (256 * q + j) && compares (256 * q + j)) = λ j h.
     c.chosen_of_sums.ensures j h ∙ rw (needed j h, less j h, differ j h) (
-        by_sums op (row_at need (256 * q + j)) (code (256 * q + j) + left) (other (256 * q + j) + right)
-        ∙ ap (λ b. row_at need (256 * q + j) && b) (sym (in_order (256 * q + j)))) in
+    by_sums op (row_at need (256 * q + j)) (code (256 * q + j) + left) (other (256 * q + j) + right)
+    ∙ ap (λ b. row_at need (256 * q + j) && b) (sym (in_order (256 * q + j)))) in
     record {
       units = c.compare_sums.ensures.units ∙ inv.units;
       other_units = c.compare_sums.ensures.other_units ∙ inv.other_units;

@@ -1,4 +1,3 @@
-use Rattle.std.proofs.Common.{not, ◌&&◌, ◌∙◌}
 use Rattle.bw_vertical.proofs.addition.chosen_of_sums.Goals as goal
 
 pub returns : goal.returns

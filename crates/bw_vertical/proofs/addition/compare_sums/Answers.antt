@@ -1,9 +1,8 @@
-use Rattle.std.proofs.Common.{ap, arith, min, nat_lt, not, refl, sym, ℕ, ◌%◌, ◌*◌, ◌+◌, ◌<◌, ◌==◌, ◌^◌, ◌≡◌, ◌∙◌}
+use Rattle.std.proofs.Common.{ap, arith, refl, sym, ℕ, ◌%◌, ◌*◌, ◌+◌, ◌<◌, ◌==◌, ◌^◌, ◌≡◌, ◌∙◌}
 use native.Mathlib.Nat.{mod-eq_of_lt}
 use Rattle.bw_mask.specs.Masks.{bit_of, row_in}
 use Rattle.bw_vertical.specs.Carries.{carried}
 use Rattle.bw_vertical.specs.Planes.{code_in}
-use Rattle.bw_vertical.proofs.Lanes.{no_rows}
 use Rattle.bw_vertical.proofs.Planes.{code_lt}
 use Rattle.bw_vertical.proofs.Sums.{differ_more, lt_more, min_more}
 use Rattle.bw_vertical.proofs.addition.compare_sums.Given.{Over}

@@ -1,4 +1,4 @@
-use Rattle.std.proofs.Common.{Bool, [], ap, arith, false, get_or, length, ℕ, sym, ◌*◌, ◌+◌, ◌-◌, ◌<◌, ◌==◌, ◌≡◌, ◌∙◌}
+use Rattle.std.proofs.Common.{[], ap, arith, length, ℕ, sym, ◌*◌, ◌+◌, ◌-◌, ◌<◌, ◌≡◌, ◌∙◌}
 use Rattle.std.proofs.lemmas.List.{get_or_default}
 use Rattle.bw_mask.specs.Masks.{bit_of, row_in}
 use Rattle.bw_vertical.specs.Planes.{code_in}

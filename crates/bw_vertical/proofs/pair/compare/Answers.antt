@@ -95,5 +95,5 @@ loop-i-preserved g c =
       other_reads = omega (arith, p.ensures.other_reads, c.loop-i.invariant.other_reads);
       left = c.loop-i.invariant.left;
       rows = pair_more k c.args.q (g.A.Source.units c.args.a.now) (g.B.Source.units c.args.b.now) c.args.need.now c.requires.there c.loop-i.i _ _ low c.loop-i.invariant.units c.loop-i.invariant.other_units
-      c.loop-i.lt c.loop-i.eq p.new.lt p.new.eq (p.ensures.less, p.ensures.same) c.loop-i.invariant.rows;
+          c.loop-i.lt c.loop-i.eq p.new.lt p.new.eq (p.ensures.less, p.ensures.same) c.loop-i.invariant.rows;
     }

@@ -37,5 +37,5 @@ loop-q-preserved g c =
       most = omega arith;
       shape = (c.put_lanes.ensures.shape.0 ∙ before.shape.0, c.put_lanes.ensures.shape.1 ∙ before.shape.1);
       rows = found_more need c.loop-q.out c.put_lanes.new.out c.lanes_at.result c.segment-found.result wanted q (before.shape.0 ∙ c.requires.out) c.put_lanes.ensures.shape.0
-      c.put_lanes.ensures.inside c.put_lanes.ensures.before here rows before.rows;
+          c.put_lanes.ensures.inside c.put_lanes.ensures.before here rows before.rows;
     }

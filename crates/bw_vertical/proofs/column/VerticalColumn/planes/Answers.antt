@@ -1,4 +1,4 @@
-use Rattle.std.proofs.Common.{[], ap, arith, get_or, length, sym, ◌*◌, ◌+◌, ◌-◌, ◌/◌, ◌<◌, ◌≡◌, ◌∙◌}
+use Rattle.std.proofs.Common.{[], ap, arith, get_or, length, sym, ◌*◌, ◌+◌, ◌≡◌, ◌∙◌}
 use Rattle.bw_mask.specs.Masks.{row_in}
 use Rattle.bw_vertical.specs.Planes.{code_in, segments_of}
 use Rattle.bw_vertical.specs.Storage.{lists, units_of}

@@ -1,4 +1,4 @@
-use Rattle.std.proofs.Common.{ap, arith, get_or, length, min, sym, ℕ, ◌*◌, ◌+◌, ◌-◌, ◌/◌, ◌<◌, ◌^◌, ◌≡◌, ◌∙◌}
+use Rattle.std.proofs.Common.{ap, arith, length, sym, ℕ, ◌*◌, ◌≡◌, ◌∙◌}
 use Rattle.bw_mask.specs.Masks.{len, row_at}
 use Rattle.bw_code.specs.Columns.{CodeList}
 use Rattle.bw_code.specs.Meters.{raised}
