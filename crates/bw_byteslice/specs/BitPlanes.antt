@@ -1,5 +1,5 @@
 -- Planes of bits off slices. A segment of planes is 256 rows. Of codes of k bits, unit q * k + i is plane i of segment q: bit k - 1 - i of each code, which lies in slice i / 8 at bit 7 - i % 8.
-use Rattle.std.specs.Prelude.{Bool, List, [], slice_index, ℕ, ◌%◌, ◌*◌, ◌+◌, ◌-◌, ◌/◌, ◌≡◌}
+use Rattle.std.specs.Prelude.{Bool, List, slice_index, ℕ, ◌%◌, ◌*◌, ◌+◌, ◌-◌, ◌/◌, ◌≡◌}
 use Rattle.std.specs.Simd.Lanes.{mask_l}
 use Rattle.bw_mask.specs.Masks.{bit_of}
 use Rattle.bw_code.specs.Lists.{made}

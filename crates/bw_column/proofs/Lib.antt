@@ -6,6 +6,7 @@ pub mod KnownEnds
 pub mod Listed
 pub mod Narrow
 pub mod Overwriting
+pub mod PairRows
 pub mod Pieces
 pub mod Planed
 pub mod Presence

@@ -107,7 +107,5 @@ pub(crate) fn put_block(groups: &mut Vec<Vec<[u64; 4]>>, k: usize, at: usize, co
     ensures added { (i r : ℕ) → i < k → r < length codes.now → is_set k (lists groups.new.items) i (at + r) ≡ bit_of (slice_index codes.now r) (k - 1 - i) }
     ensures clean { (i j : ℕ) → i < k → at + length codes.now ≤ j → is_set k (lists groups.new.items) i j ≡ false }
 {
-    let mut words = [0; 32];
-    put_codes(&narrowed(codes), k, &mut words);
-    add_words(groups, k, at / 64, &words, at % 64);
+    add_words(groups, k, at / 64, &plane_words(codes, k), at % 64);
 }

@@ -1,4 +1,4 @@
-use Rattle.std.proofs.Common.{arith, inl, inr, refl, sym, ℕ, ◌*◌, ◌+◌, ◌∙◌}
+use Rattle.std.proofs.Common.{arith, inr, refl, sym, ℕ, ◌*◌, ◌+◌, ◌∙◌}
 use Rattle.bw_mask.specs.Masks.{bit_of}
 use Rattle.bw_mask.proofs.Bits.{bit_of_zero}
 use Rattle.bw_code.proofs.Digits.{compared_none}

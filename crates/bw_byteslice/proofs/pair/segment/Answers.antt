@@ -1,4 +1,4 @@
-use Rattle.std.proofs.Common.{arith, false, refl, sym, ◌≡◌, ◌∙◌}
+use Rattle.std.proofs.Common.{false, refl, sym, ◌≡◌, ◌∙◌}
 use Rattle.bw_mask.specs.Masks.{bit_of}
 use Rattle.bw_mask.proofs.Bits.{bit_of_zero}
 use Rattle.bw_code.specs.Units.{some_below}

@@ -1,4 +1,4 @@
-use Rattle.std.proofs.Common.{length, ◌*◌, ◌+◌, ◌/◌, ◌≡◌}
+use Rattle.std.proofs.Common.{◌≡◌}
 use Rattle.bw_byteslice.proofs.column.tests.check_planes.Given as goal
 
 abbrev pub invariant-loop-unit : goal.invariant-loop-unit

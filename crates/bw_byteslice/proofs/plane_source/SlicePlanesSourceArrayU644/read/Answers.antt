@@ -1,7 +1,7 @@
 use Rattle.std.proofs.Common.{ap, get_or, length, subst, sym, ◌<◌, ◌^◌, ◌∙◌}
 use Rattle.bw_byteslice.specs.BitPlanes.{PlanesRead}
 use Rattle.bw_byteslice.specs.Storing.{bytes_of}
-use Rattle.bw_byteslice.proofs.BitPlanes.{plane_is, plane_read, segment_small, slice_at, slice_low, slice_whole}
+use Rattle.bw_byteslice.proofs.BitPlanes.{plane_is, plane_read, segment_small, slice_at, slice_whole}
 use Rattle.bw_byteslice.proofs.plane_source.SlicePlanesSourceArrayU644.read.Goals as goal
 
 pub plane_at-requires-clause-small : goal.plane_at-requires-clause-small
