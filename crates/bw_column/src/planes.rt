@@ -137,3 +137,6 @@ impl<'a, C: CodeColumn> Source<[u64; 4]> for CodePlanes<'a, C> {
         self.reads
     }
 }
+
+#[cfg(test)]
+mod tests;

@@ -140,4 +140,6 @@ impl CodeColumn for HorizontalColumn {
 }
 
 #[cfg(test)]
+mod pair_tests;
+#[cfg(test)]
 mod tests;

@@ -1,9 +1,9 @@
-use Rattle.std.proofs.Common.{◌&&◌, ap, arith, refl, subst, ℕ, ◌*◌, ◌+◌, ◌<◌, ◌≡◌, ◌≤◌, ◌∙◌}
+use Rattle.std.proofs.Common.{◌&&◌, ap, arith, refl, subst, ℕ, ◌*◌, ◌+◌, ◌<◌, ◌≡◌, ◌∙◌}
 use Rattle.std.proofs.lemmas.Bool.{lt-ltb}
 use Rattle.std.specs.Int.{div_ceil}
 use Rattle.std.proofs.Math.Nat.{mul-le-mul_right}
 use Rattle.bw_mask.specs.Masks.{len, row_at}
-use Rattle.bw_lane.specs.Sections.{holds, on}
+use Rattle.bw_lane.specs.Sections.{on}
 use Rattle.bw_code.specs.Tests.{code_compares}
 use Rattle.bw_code.specs.Units.{by_words, cost_of}
 use Rattle.bw_code.proofs.Reach.{sum_more, sum_none}

@@ -1,10 +1,10 @@
-use Rattle.std.proofs.Common.{ap, arith, get_or, length, sym, ◌&&◌, ◌*◌, ◌≡◌, ◌∙◌}
+use Rattle.std.proofs.Common.{ap, arith, get_or, length, sym, ◌&&◌, ◌≡◌, ◌∙◌}
 use Rattle.bw_mask.specs.Masks.{len, row_at}
 use Rattle.bw_code.specs.Columns.{CodeList}
 use Rattle.bw_code.specs.Meters.{raised}
 use Rattle.bw_code.specs.Tests.{code_compares}
 use Rattle.bw_code.specs.Units.{by_words, side_units}
-use Rattle.bw_horizontal.specs.Words.{AreSegments, code_in, codes_of, segments_of}
+use Rattle.bw_horizontal.specs.Words.{code_in, codes_of, segments_of}
 use Rattle.bw_horizontal.proofs.Costs.{pair_units_are, raised_twice}
 use Rattle.bw_horizontal.proofs.Views.{code_is, count_is}
 use Rattle.bw_horizontal.proofs.column.HorizontalColumnCodeColumn.scan_pair.Goals as goal
