@@ -24,6 +24,7 @@ impl Column {
     }
 
     /// `out` becomes the known rows whose values compare so, by the codes side by side.
+    #[tactic(auto, using(bw_code::proofs::Lists::made_len))]
     pub(crate) fn compare_codes(
         &self,
         op: CmpOp,
@@ -57,6 +58,7 @@ impl Column {
     }
 
     /// `out` becomes the known rows whose values compare so, by the planes of both, to which the bases are added.
+    #[tactic(auto, using(bw_code::proofs::Lists::made_len))]
     pub(crate) fn compare_sums(
         &self,
         op: CmpOp,
@@ -83,6 +85,7 @@ impl Column {
             unreachable!()
         };
         add_from(&mut planes, *left, &mut others, *right, op, known, out);
-        meter.add(planes.reads() + others.reads());
+        meter.add(planes.reads());
+        meter.add(others.reads());
     }
 }
