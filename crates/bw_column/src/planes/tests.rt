@@ -8,6 +8,7 @@ use bw_byteslice::SliceColumn;
 use bw_code::{CodeColumn, PlainColumn, Source};
 use bw_horizontal::HorizontalColumn;
 use bw_vertical::VerticalColumn;
+use std::process::Abort;
 
 /// A code of so many bits for a row.
 fn code_for(width: u32, row: usize) -> u64
@@ -17,7 +18,7 @@ fn code_for(width: u32, row: usize) -> u64
     ((row as u64).wrapping_mul(0x9e37_79b9_7f4a_7c15) >> 13) % (1 << width)
 }
 
-fn column_of<C: CodeColumn + Drop>(rt: &HostRuntime, width: u32, rows: usize) -> C
+fn column_of<C: CodeColumn + Drop, R: Abort + AllocGlobal>(rt: &R, width: u32, rows: usize) -> C
     requires some { 1 ≤ width }
     requires narrow { width ≤ 32 }
     requires wide { width ≤ C.WIDEST }
@@ -48,7 +49,7 @@ fn word_of<C: CodeColumn>(column: &C, at: usize, b: u32) -> u64
 }
 
 /// Reads all planes from the last down.
-fn check_planes<C: CodeColumn + Drop>(rt: &HostRuntime, width: u32, rows: usize)
+fn check_planes<C: CodeColumn + Drop, R: Abort + AllocGlobal>(rt: &R, width: u32, rows: usize)
     requires some { 1 ≤ width }
     requires narrow { width ≤ 32 }
     requires wide { width ≤ C.WIDEST }
@@ -73,10 +74,10 @@ fn check_planes<C: CodeColumn + Drop>(rt: &HostRuntime, width: u32, rows: usize)
 fn planes_beside_codes(rt: HostRuntime) {
     for width in [1, 5, 17, 32] {
         for rows in [0, 1, 64, 65, 257] {
-            check_planes::<PlainColumn>(&rt, width, rows);
-            check_planes::<VerticalColumn>(&rt, width, rows);
-            check_planes::<HorizontalColumn>(&rt, width, rows);
-            check_planes::<SliceColumn>(&rt, width, rows);
+            check_planes::<PlainColumn, _>(&rt, width, rows);
+            check_planes::<VerticalColumn, _>(&rt, width, rows);
+            check_planes::<HorizontalColumn, _>(&rt, width, rows);
+            check_planes::<SliceColumn, _>(&rt, width, rows);
         }
     }
 }
