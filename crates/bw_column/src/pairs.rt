@@ -101,6 +101,7 @@ impl Column {
         meter: &mut Meter,
     )
         requires other { length other.now.values ≡ length self.now.values }
+        requires few { len known.now ≤ 2 ^ 24 }
         requires known { len known.now ≡ length self.now.values }
         requires there { (i : ℕ) → row_at known.now i ≡ true → (is_some (value_at self.now.values i) && is_some (value_at other.now.values i)) ≡ true }
         requires out { len out.old ≡ length self.now.values }
