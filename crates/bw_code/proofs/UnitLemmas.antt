@@ -106,6 +106,6 @@ pub plain_pairs : (width : ℕ) (needed : ℕ → Bool) (codes others : List ℕ
 unfolding units_of_pair units_of_fetches
 plain_pairs width needed codes others =
     let each : sum_below (length codes / 1 + min 1 (length codes % 1)) (λ q. cost_of by_codes (λ j. needed (1 * q + j)) (λ j. 0)) ≡ count_below (length codes) needed =
-      ap (λ n. sum_below n (λ q. cost_of by_codes (λ j. needed (1 * q + j)) (λ j. 0))) (by_ones (length codes))
-      ∙ sum_same (length codes) _ (λ q. if needed q then 1 else 0) (λ q h. one_row needed (λ j. 0) q) in
+    ap (λ n. sum_below n (λ q. cost_of by_codes (λ j. needed (1 * q + j)) (λ j. 0))) (by_ones (length codes))
+    ∙ sum_same (length codes) _ (λ q. if needed q then 1 else 0) (λ q h. one_row needed (λ j. 0) q) in
     ap (λ n. 2 * n) each

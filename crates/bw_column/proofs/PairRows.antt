@@ -80,8 +80,8 @@ module _ (op : CmpOp) (e d : Encoding) (codes others : CodeList) (nonnull nonnul
       let right = known_at d others nonnull_others others_are i both.1 in
       let coded : IsRowCode e (code_at others i) true = subst (λ f. IsRowCode f (code_at others i) true) (sym same) right.coded in
       met (code_compares op (code_at codes i) (code_at others i)) (there refl) (
-          codes_compare e are.sound op (code_at codes i) (code_at others i) left.coded coded
-          ∙ ap (λ f. int_compares op (value_of e (code_at codes i)) (value_of f (code_at others i))) same)
+      codes_compare e are.sound op (code_at codes i) (code_at others i) left.coded coded
+      ∙ ap (λ f. int_compares op (value_of e (code_at codes i)) (value_of f (code_at others i))) same)
 
   -- distances from bases
   pub sums_met : (o p : Offset) → e ≡ by.Offset o → d ≡ by.Offset p → (known : Bool) → (known ≡ true → (is_some value && is_some other) ≡ true)
@@ -89,7 +89,7 @@ module _ (op : CmpOp) (e d : Encoding) (codes others : CodeList) (nonnull nonnul
   sums_met o p is other_is false there = refl
   sums_met o p is other_is true there =
       met (int_compares op (o.base +ℤ pos (code_at codes i)) (p.base +ℤ pos (code_at others i))) (there refl) (
-          sym (ap (λ f. int_compares op (value_of f (code_at codes i)) (value_of d (code_at others i))) is ∙ ap (λ f. int_compares op (o.base +ℤ pos (code_at codes i)) (value_of f (code_at others i))) other_is))
+      sym (ap (λ f. int_compares op (value_of f (code_at codes i)) (value_of d (code_at others i))) is ∙ ap (λ f. int_compares op (o.base +ℤ pos (code_at codes i)) (value_of f (code_at others i))) other_is))
 
   pub known_both : (is_some value && is_some other) ≡ true → (i < count codes) × (i < count others)
   known_both h =

@@ -26,7 +26,11 @@ pub fn plane_pair_step(lt: &mut [u64; 4], eq: &mut [u64; 4], a: &[u64; 4], b: &[
     ensures less { (j : ℕ) → j < 256 → row_in lt.new j ≡ (row_in lt.old j || (row_in eq.old j && (row_in b.now j && not (row_in a.now j)))) }
     ensures same { (j : ℕ) → j < 256 → row_in eq.new j ≡ (row_in eq.old j && (if row_in b.now j then row_in a.now j else not (row_in a.now j))) }
 {
-    let (x, y, e) = (u64x4::from_array(*a), u64x4::from_array(*b), u64x4::from_array(*eq));
+    let (x, y, e) = (
+        u64x4::from_array(*a),
+        u64x4::from_array(*b),
+        u64x4::from_array(*eq),
+    );
     let decided = e & (x ^ y);
     *lt = (u64x4::from_array(*lt) | (decided & y)).to_array();
     *eq = (e ^ decided).to_array();
@@ -53,7 +57,11 @@ pub fn add_const_step(a: &mut [u64; 4], carry: &mut [u64; 4], bit: bool)
 pub fn low_first_step(lt: &mut [u64; 4], a: &[u64; 4], b: &[u64; 4])
     ensures { (j : ℕ) → j < 256 → row_in lt.new j ≡ (if row_in a.now j then (row_in b.now j && row_in lt.old j) else (row_in b.now j || row_in lt.old j)) }
 {
-    let (x, y, l) = (u64x4::from_array(*a), u64x4::from_array(*b), u64x4::from_array(*lt));
-    // Of x and its own complement, each row takes the one that says what to do with the lower bits.
+    let (x, y, l) = (
+        u64x4::from_array(*a),
+        u64x4::from_array(*b),
+        u64x4::from_array(*lt),
+    );
+    // Where x has the bit y and the lower bits are both needed, and else one of them is.
     *lt = ((y & l) | ((y | l) ^ ((y | l) & x))).to_array();
 }

@@ -45,10 +45,10 @@ returns-clause-rows c i =
     let other_width_is : others.width ≡ right.width = c.other.invariant.width ∙ ap width c.in-Offset-Offset.is-1 in
     let there = rw (← c.self.view_is, ← c.other.view_is) at (c.requires.there i) in
     let held : known ≡ true → int_compares op (left.base +ℤ pos (code_in left.width units i)) (right.base +ℤ pos (code_in right.width other_units i)) ≡ int_compares op (left.base +ℤ pos (code_at codes i)) (right.base +ℤ pos (code_at others i)) = λ h.
-      let inside = known_both op e d codes others nonnull nonnull_others c.self.invariant c.other.invariant i (there h) in
-      let first : code_in left.width units i ≡ code_at codes i = ap (λ k. code_in k units i) (sym width_is) ∙ code_held e codes nonnull c.self.invariant c.in-Some-Some.planes c.in-Some-Some.ensures.planes i inside.0 in
-      let second : code_in right.width other_units i ≡ code_at others i = ap (λ k. code_in k other_units i) (sym other_width_is) ∙ code_held d others nonnull_others c.other.invariant c.in-Some-Some.others c.in-Some-Some.ensures'.planes i inside.1 in
-      ap (λ x. int_compares op (left.base +ℤ pos x) (right.base +ℤ pos (code_in right.width other_units i))) first ∙ ap (λ y. int_compares op (left.base +ℤ pos (code_at codes i)) (right.base +ℤ pos y)) second in
+    let inside = known_both op e d codes others nonnull nonnull_others c.self.invariant c.other.invariant i (there h) in
+    let first : code_in left.width units i ≡ code_at codes i = ap (λ k. code_in k units i) (sym width_is) ∙ code_held e codes nonnull c.self.invariant c.in-Some-Some.planes c.in-Some-Some.ensures.planes i inside.0 in
+    let second : code_in right.width other_units i ≡ code_at others i = ap (λ k. code_in k other_units i) (sym other_width_is) ∙ code_held d others nonnull_others c.other.invariant c.in-Some-Some.others c.in-Some-Some.ensures'.planes i inside.1 in
+    ap (λ x. int_compares op (left.base +ℤ pos x) (right.base +ℤ pos (code_in right.width other_units i))) first ∙ ap (λ y. int_compares op (left.base +ℤ pos (code_at codes i)) (right.base +ℤ pos y)) second in
     rw (← c.self.view_is, ← c.other.view_is) (
     c.add_from.ensures.rows i
     ∙ on_known known (int_compares op (left.base +ℤ pos (code_in left.width units i)) (right.base +ℤ pos (code_in right.width other_units i))) (int_compares op (left.base +ℤ pos (code_at codes i)) (right.base +ℤ pos (code_at others i))) held
