@@ -1,5 +1,5 @@
 -- What two codes say of two values.
-use Rattle.std.proofs.Common.{Bool, None, Option, Some, ap, arith, if◌then◌else◌, inl, inr, is_some, pos, pow_pos, refl, subst, sym, true, false, ℕ, ℤ, ◌%◌, ◌&&◌, ◌*◌, ◌+◌, ◌+ℤ◌, ◌-◌, ◌/◌, ◌<◌, ◌^◌, ◌≡◌, ◌∙◌}
+use Rattle.std.proofs.Common.{Bool, Option, Some, ap, arith, if◌then◌else◌, inl, inr, is_some, pos, pow_pos, refl, subst, sym, true, false, ℕ, ℤ, ◌%◌, ◌&&◌, ◌*◌, ◌+◌, ◌+ℤ◌, ◌-◌, ◌/◌, ◌<◌, ◌^◌, ◌≡◌, ◌∙◌}
 use Rattle.bw_mask.specs.Masks.{MaskRows, bit_of, row_at}
 use Rattle.bw_code.specs.Columns.{CodeList, code_at, count}
 use Rattle.bw_code.specs.Encodings.{IsEncoding, code_of, value_of, width}

@@ -1,7 +1,7 @@
 -- How many units of storage a comparison reads.
 use Rattle.std.specs.Prelude.{Bool, List, Option, [], false, if◌then◌else◌, is_some, length, not, true, ℕ, ℤ, ◌&&◌, ◌+◌, ◌∷◌, ◌||◌}
 use Rattle.std.specs.Ordering.{int_eq}
-use Rattle.bw_mask.specs.Masks.{MaskRows, len, row_at}
+use Rattle.bw_mask.specs.Masks.{MaskRows, row_at}
 use Rattle.bw_code.specs.Encodings.{range_of, same_encoding, test_of, width}
 use Rattle.bw_code.specs.Units.{units_of_addition, units_of_fetches, units_of_pair, units_of_scan}
 use Rattle.bw_code.specs.declared.compare.CmpOp.{CmpOp}

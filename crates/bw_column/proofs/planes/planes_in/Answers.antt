@@ -1,4 +1,4 @@
-use Rattle.std.proofs.Common.{List, [], arith, below_more, get_or, get_or-set_other, get_or-set_same, length, length-set, set, ℕ, ◌∷◌, ◌-◌, ◌<◌, ◌≡◌, ◌≢◌, ◌∙◌, refl}
+use Rattle.std.proofs.Common.{List, [], arith, below_more, get_or, get_or-set_other, get_or-set_same, length, length-set, set, ℕ, ◌∷◌, ◌-◌, ◌<◌, ◌≡◌, ◌≢◌, ◌∙◌}
 use Rattle.bw_column.specs.Planes.{plane_of}
 use Rattle.bw_column.proofs.Planed.{plane_is}
 use Rattle.bw_column.proofs.planes.planes_in.Goals as goal

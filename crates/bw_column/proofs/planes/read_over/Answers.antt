@@ -1,6 +1,5 @@
-use Rattle.std.proofs.Common.{ap, arith, drop, get_or, length, length-append, length-drop, length-take, take, sym, ◌+◌, ◌<◌, ◌≡◌, ◌∙◌}
-use Rattle.std.proofs.lemmas.List.{get_or-append_right, get_or-drop, get_or_append_left, get_or_default}
-use Rattle.bw_code.specs.Columns.{code_at}
+use Rattle.std.proofs.Common.{ap, arith, drop, get_or, length, length-append, length-drop, take, ◌≡◌, ◌∙◌}
+use Rattle.std.proofs.lemmas.List.{get_or-append_right, get_or-drop, get_or_append_left}
 use Rattle.bw_code.proofs.Lists.{part_at}
 use Rattle.bw_column.proofs.Planed.{part_long}
 use Rattle.bw_column.proofs.planes.read_over.Goals as goal

@@ -1,4 +1,4 @@
-use Rattle.std.proofs.Common.{arith, get_or, inl, inr, length, sym, ◌*◌, ◌+◌, ◌<◌, ◌^◌, ◌≡◌, ◌≤◌, ◌∙◌}
+use Rattle.std.proofs.Common.{arith, inl, inr, sym, ◌*◌, ◌+◌, ◌^◌, ◌≤◌, ◌∙◌}
 use Rattle.std.proofs.Math.Pow.{pow_mono}
 use Rattle.std.proofs.lemmas.Bool.{cases_lt}
 use Rattle.std.proofs.lemmas.List.{get_or_default, get_or_past}

@@ -1,6 +1,5 @@
-use Rattle.std.proofs.Common.{ap, get_or, ℕ, ◌*◌, ◌+◌, ◌-◌, ◌∙◌}
+use Rattle.std.proofs.Common.{get_or, ◌*◌, ◌+◌, ◌-◌, ◌∙◌}
 use Rattle.bw_code.specs.Columns.{code_at}
-use Rattle.bw_column.specs.Planes.{plane_of}
 use Rattle.bw_column.proofs.Planed.{plane_same}
 use Rattle.bw_column.proofs.planes.segment_planes.Goals as goal
 

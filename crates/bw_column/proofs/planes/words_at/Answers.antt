@@ -1,4 +1,4 @@
-use Rattle.std.proofs.Common.{ap, arith, get_or, ◌*◌, ◌+◌, ◌-◌, ◌<◌, ◌≡◌, ◌∙◌, drop}
+use Rattle.std.proofs.Common.{ap, arith, ◌*◌, ◌+◌, ◌-◌, ◌<◌, ◌∙◌, drop}
 use Rattle.std.proofs.lemmas.List.{get_or-drop, get_or-take}
 use Rattle.bw_mask.specs.Masks.{bit_of}
 use Rattle.bw_column.proofs.planes.words_at.Goals as goal

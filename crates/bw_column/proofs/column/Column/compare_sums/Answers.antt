@@ -1,4 +1,4 @@
-use Rattle.std.proofs.Common.{Bool, ap, arith, if◌then◌else◌, length, pos, sym, true, ℕ, ◌&&◌, ◌*◌, ◌+◌, ◌+ℤ◌, ◌<◌, ◌≡◌, ◌∙◌}
+use Rattle.std.proofs.Common.{ap, arith, if◌then◌else◌, pos, sym, true, ◌*◌, ◌+ℤ◌, ◌≡◌, ◌∙◌}
 use Rattle.bw_mask.specs.Masks.{len, row_at}
 use Rattle.bw_code.specs.Columns.{code_at, count}
 use Rattle.bw_code.specs.Encodings.{width}

@@ -1,4 +1,4 @@
-use Rattle.std.proofs.Common.{arith, subst, ◌*◌, ◌≡◌}
+use Rattle.std.proofs.Common.{arith, subst}
 use Rattle.bw_column.specs.Planes.{AreInHand}
 use Rattle.bw_column.proofs.Planed.{in_hand, unit_row, units_len}
 use Rattle.bw_column.proofs.planes.CodePlanes.new.Goals as goal

@@ -4,7 +4,7 @@ use Rattle.bw_code.specs.Columns.{count}
 use Rattle.bw_vertical.specs.Planes.{segments_of}
 use Rattle.bw_vertical.specs.Storage.{PlanesRead}
 use Rattle.bw_column.specs.Planes.{AreInHand, planes_of}
-use Rattle.bw_column.proofs.Planed.{in_hand, unit_at, unit_segment, units_len}
+use Rattle.bw_column.proofs.Planed.{in_hand, unit_at, unit_segment}
 use Rattle.bw_column.proofs.planes.CodePlanesSourceArrayU644.read.Goals as goal
 
 pub segment_planes-self-inside-requires-clause-low : goal.segment_planes-self-inside-requires-clause-low
