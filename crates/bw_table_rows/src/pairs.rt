@@ -98,20 +98,21 @@ fn value(base: i32, distance: u32) -> i64 {
     (i64::from(base) + i64::from(distance)).min(2_147_483_647)
 }
 
-/// Where the values of a column begin, and how many bits their distances from there have.
+/// Where the values of a column begin, and the greatest distance from there.
 #[derive(Clone, Copy)]
 struct Span {
     base: i32,
-    width: u32,
+    greatest: u32,
 }
 
 impl Span {
+    /// A distance of 1 to 32 bits, from near 0 or from far.
     fn random(random: &mut Random) -> Span {
         let word = random.next();
-        let base = (word >> 32) as u32 as i32;
+        let base = ((word >> 32) as u32).cast_signed();
         Span {
             base: base >> (word % 32),
-            width: (word >> 8) as u32 % 33,
+            greatest: u32::MAX >> (word / 32 % 32),
         }
     }
 }
@@ -123,16 +124,15 @@ fn values_of<R: Abort + AllocGlobal>(
     span: Span,
 ) -> Vec<Option<i64>> {
     let mut values = Vec::from_elem(rt.alloc(), None, 130).expect(rt, "memory");
-    let greatest = ((1u64 << (span.width % 64)) - 1) as u32;
     for i in 0..values.len() {
         let word = random.next();
         if word % 8 != 0 {
-            values[i] = Some(value(span.base, (word >> 32) as u32 & greatest));
+            values[i] = Some(value(span.base, (word >> 32) as u32 & span.greatest));
         }
     }
     if values.len() > 2 {
         values[1] = Some(value(span.base, 0));
-        values[2] = Some(value(span.base, greatest));
+        values[2] = Some(value(span.base, span.greatest));
     }
     values
 }

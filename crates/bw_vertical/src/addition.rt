@@ -181,3 +181,6 @@ pub fn add_from<A: Source<[u64; 4]>, B: Source<[u64; 4]>>(
         );
     }
 }
+
+#[cfg(test)]
+mod tests;
