@@ -63,6 +63,18 @@ def scans(crate, column):
         yield Strike(upper, (Clause(f"{crate}/src/scan.rt", "scan_from", name, thing),))
 
 
+def pairs(crate, column):
+    """The answer and the reads of both sources of a layout's `pair_from`, for the column's `scan_pair`."""
+    upper = f"{crate}::column::{column}CodeColumn::scan_pair"
+    for name, thing in (("rows", "out.new"), ("reads", "A.reads a.new"), ("other_reads", "B.reads b.new")):
+        yield Strike(upper, (Clause(f"{crate}/src/pair.rt", "pair_from", name, thing),))
+
+
+def of_addition(name, thing):
+    """A clause of the comparison of sums over planes."""
+    return Clause("bw_vertical/src/addition.rt", "add_from", name, thing)
+
+
 def of_column(function, file="compare.rt", name="truth", thing="truth.new"):
     return Clause(f"bw_column/src/{file}", function, name, thing)
 
@@ -94,6 +106,17 @@ STRIKES = [
     Strike("bw_plan::range_truth::set_between", with_its_own("range")),
     Strike("bw_plan::list_truth::set_column_listed", with_its_own("in_list")),
     Strike("bw_engine::found::true_slots", (Clause("bw_plan/src/evaluation.rt", "evaluate", "truths", "result"),)),
+    *pairs("bw_vertical", "VerticalColumn"),
+    *pairs("bw_horizontal", "HorizontalColumn"),
+    *pairs("bw_byteslice", "SliceColumn"),
+    Strike("bw_column::storage::Codes::scan_pair", (of_every_column("scan_pair", "rows", "out.new"),)),
+    Strike("bw_column::column::Column::compare_codes", (of_column("scan_pair", "storage.rt", "rows", "out.new"),)),
+    Strike("bw_column::column::Column::compare_sums", (of_addition("rows", "out.new"),)),
+    Strike("bw_column::column::Column::compare_sums", (of_addition("reads", "A.reads a.new"),)),
+    Strike("bw_column::column::Column::compare_sums", (of_addition("other_reads", "B.reads b.new"),)),
+    Strike("bw_column::column::Column::compare_known", (of_column("compare_codes", "pair_codes.rt", "rows", "out.new"),)),
+    Strike("bw_column::column::Column::compare_known", (of_column("compare_sums", "pair_codes.rt", "rows", "out.new"),)),
+    Strike("bw_column::column::Column::split_by_column", (of_column("compare_known", "pairs.rt", "rows", "out.new"),)),
     Strike("bw_column::storage::Codes::get", (of_every_column("get", "code", "result"),)),
     Strike("bw_column::column::Column::get", (of_column("get", "storage.rt", "code", "result"),)),
     Strike("bw_column::storage::Codes::plane", (of_every_column("plane", "rows", "out.new"),)),

@@ -1,7 +1,9 @@
+pub mod BitPlanes
 pub mod Bytes
 pub mod InUnits
 pub mod Keeping
 pub mod Numbers
+pub mod Pairs
 pub mod Planes
 pub mod Raised
 pub mod Replacing

@@ -6,8 +6,8 @@ use Rattle.std.proofs.lemmas.Bool.{cases_lt, cases_order, eq-eqb, le-ltb, lt-ltb
 use Rattle.std.proofs.lemmas.Bool.Decides.{nat_tests}
 use Rattle.std.proofs.lemmas.Nat.{pow-add}
 use Rattle.bw_code.specs.Tests.{code_compares, meets}
-use Rattle.bw_code.specs.Units.{by_slices, scan_units, segment_units}
-use Rattle.bw_code.proofs.UnitLemmas.{segment_same, sum_same}
+use Rattle.bw_code.specs.Units.{agreement, by_slices, cost_of, scan_units, segment_units, side_units}
+use Rattle.bw_code.proofs.UnitLemmas.{cost_same, segment_same, sum_same}
 use Rattle.bw_code.specs.declared.compare.CmpOp.{CmpOp}
 use Rattle.bw_code.specs.declared.compare.CmpOp.TheVariants.{Eq, Ne, Lt, Le, Gt, Ge}
 use Rattle.bw_code.specs.declared.compare.CodeTest.{CodeTest}
@@ -50,7 +50,7 @@ le_scaled d pos x c = other (x * d) (c * d) ∙ ap not (lt_scaled d pos c x) ∙
     other : (a b : ℕ) → leb a b ≡ not (ltb b a)
     other a b = grind (arith, nat_tests)
 
-compares_raised : (d : ℕ) → 0 < d → (op : CmpOp) (x c : ℕ) → code_compares op (x * d) (c * d) ≡ code_compares op x c
+pub compares_raised : (d : ℕ) → 0 < d → (op : CmpOp) (x c : ℕ) → code_compares op (x * d) (c * d) ≡ code_compares op x c
 compares_raised d pos Eq x c = eq_scaled d pos x c
 compares_raised d pos Ne x c = ap not (eq_scaled d pos x c)
 compares_raised d pos Lt x c = lt_scaled d pos x c
@@ -85,6 +85,25 @@ module _ (k : ℕ) (units : List (List ℕ)) (stored : AreStored k units) where
   units_raised All needed segments = units_same All All needed segments (λ code. refl)
   units_raised (Cmp op c) needed segments = units_same (Cmp op c) (Cmp op (c * 2 ^ shift_of k)) needed segments (λ code. refl)
   units_raised (Range lo hi) needed segments = units_same (Range lo hi) (Range (lo * 2 ^ shift_of k) (hi * 2 ^ shift_of k)) needed segments (λ code. refl)
+
+-- two columns of codes shifted up, side by side
+module _ (k : ℕ) (units others : List (List ℕ)) (stored : AreStored k units) (also_stored : AreStored k others) where
+  pub numbers_compare : (op : CmpOp) (j : ℕ) → code_compares op (number_in (slices_of k) units j) (number_in (slices_of k) others j) ≡ code_compares op (code_in k units j) (code_in k others j)
+  numbers_compare op j =
+      ap (λ x. code_compares op x (number_in (slices_of k) others j)) (number_is k units stored j)
+      ∙ ap (code_compares op (code_in k units j * 2 ^ shift_of k)) (number_is k others also_stored j)
+      ∙ compares_raised (2 ^ shift_of k) (pow_pos (shift_of k)) op (code_in k units j) (code_in k others j)
+
+  pub sides_raised : (needed : ℕ → Bool) (segments : ℕ)
+      → side_units (by_bytes (slices_of k)) needed (number_in (slices_of k) units) (number_in (slices_of k) others) segments
+      ≡ side_units (by_slices k (slices_of k)) needed (code_in k units) (code_in k others) segments
+  sides_raised needed segments =
+      sum_same segments
+      (λ q. cost_of (by_bytes (slices_of k)) (λ j. needed (32 * q + j)) (λ j. agreement 256 (slices_of k) (number_in (slices_of k) units (32 * q + j)) (number_in (slices_of k) others (32 * q + j))))
+      (λ q. cost_of (by_bytes (slices_of k)) (λ j. needed (32 * q + j)) (λ j. agreement 256 (slices_of k) (code_in k units (32 * q + j) * 2 ^ shift_of k) (code_in k others (32 * q + j) * 2 ^ shift_of k)))
+      (λ q h. cost_same (by_bytes (slices_of k)) _ _ _ _ (λ j l. refl) (λ j l.
+      ap (λ x. agreement 256 (slices_of k) x (number_in (slices_of k) others (32 * q + j))) (number_is k units stored (32 * q + j))
+      ∙ ap (agreement 256 (slices_of k) (code_in k units (32 * q + j) * 2 ^ shift_of k)) (number_is k others also_stored (32 * q + j))))
 
 -- what the shift of a u64 leaves
 pub raised_is : (k s c : ℕ) → k ≤ 32 → s ≡ shift_of k → c < 2 ^ k → c * 2 ^ s % 2 ^ 64 ≡ c * 2 ^ shift_of k

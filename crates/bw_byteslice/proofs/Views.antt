@@ -58,6 +58,17 @@ module _ (k n : ℕ) (slices : List (Vec ℕ Global)) (column : CodeList) (store
   pub room_is : room_of (capacities_of slices) ≡ column.room
   room_is = ap (λ v. v.room) is
 
+-- a column beside one whose codes have k bits
+module _ (k own n : ℕ) (slices : List (Vec ℕ Global)) (column : CodeList) (stored : AreSlices own n (bytes_of slices)) (is : view_of own n slices ≡ column) (same : column.width ≡ k) where
+  own_is : own ≡ k
+  own_is = width_is own n slices column stored is ∙ same
+
+  pub also_stored : AreSlices k n (bytes_of slices)
+  also_stored = subst (λ w. AreSlices w n (bytes_of slices)) own_is stored
+
+  pub also_code : (i : ℕ) → code_of k (bytes_of slices) i ≡ get_or column.codes i 0
+  also_code i = subst (λ w. code_of w (bytes_of slices) i ≡ get_or column.codes i 0) own_is (code_is own n slices column stored is i)
+
 pub capacity_count : (slices : List (Vec ℕ Global)) → length (capacities_of slices) ≡ length slices
 capacity_count slices = length-map slices (λ v. vec_capacity v)
 

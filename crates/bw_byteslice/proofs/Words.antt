@@ -75,6 +75,28 @@ sum_by_twos n words f count none =
       | inr h ↦ let same : 2 * words ≡ segments_of n = omega (arith, count, h) in ap (λ k. sum_below k f) same
     ]
 
+-- two segments more
+pub sum_two_more : (w : ℕ) (f : ℕ → ℕ) → sum_below (2 * (w + 1)) f ≡ sum_below (2 * w) f + f (2 * w) + f (2 * w + 1)
+sum_two_more w f =
+    let more : 2 * (w + 1) ≡ 2 * w + 1 + 1 = omega arith in
+    ap (λ k. sum_below k f) more ∙ omega (arith, sum_more (2 * w) f, sum_more (2 * w + 1) f)
+
+-- a word of two halves has the rows of two segments
+pub halves_found : (word low high w : ℕ) (wanted : ℕ → Bool)
+    → ((r : ℕ) → r < 32 → bit_of word r ≡ bit_of low r) → ((r : ℕ) → r < 32 → bit_of word (32 + r) ≡ bit_of high r)
+    → ((r : ℕ) → r < 32 → bit_of low r ≡ wanted (32 * (2 * w) + r)) → ((r : ℕ) → r < 32 → bit_of high r ≡ wanted (32 * (2 * w + 1) + r))
+    → (r : ℕ) → r < 64 → bit_of word r ≡ wanted (64 * w + r)
+halves_found word low high w wanted low_is high_is low_found high_found r h =
+    elim (cases_lt r 32) [
+      | inl l ↦ let place : 32 * (2 * w) + r ≡ 64 * w + r = omega arith in low_is r l ∙ low_found r l ∙ ap wanted place
+      | inr l ↦
+          let e = r - 32 in
+          let back : 32 + e ≡ r = omega (arith, l) in
+          let place : 32 * (2 * w + 1) + e ≡ 64 * w + r = omega (arith, l) in
+          let short : e < 32 = omega (arith, l, h) in
+          ap (bit_of word) (sym back) ∙ high_is e short ∙ high_found e short ∙ ap wanted place
+    ]
+
 -- n rows of a word are put behind those before
 pub word_put : (old new : MaskRows) (wanted : ℕ → Bool) (w n word : ℕ) → n ≤ 64 → len new ≡ len old
     → ((j : ℕ) → len old ≤ j → wanted j ≡ false)

@@ -1,2 +1,3 @@
+pub mod BitPlanes
 pub mod Slices
 pub mod Storing

@@ -1,6 +1,6 @@
 -- Codes of k bits as slices of bytes. Each code is shifted up until its highest bit is a byte's, and slice i holds byte i of it, the highest byte first. A segment is 32 rows. With m slices, unit q * m + i is slice i of segment q.
-use Rattle.std.specs.Prelude.{List, [], min, slice_index, slice_index_or, suc, zero, ℕ, ⊤, ◌%◌, ◌*◌, ◌+◌, ◌-◌, ◌/◌, ◌<◌, ◌^◌, ◌≡◌}
-use Rattle.bw_code.specs.Units.{Segmentation, agreement}
+use Rattle.std.specs.Prelude.{Bool, List, [], min, slice_index, slice_index_or, suc, zero, ℕ, ⊤, ◌%◌, ◌*◌, ◌+◌, ◌-◌, ◌/◌, ◌<◌, ◌^◌, ◌≡◌}
+use Rattle.bw_code.specs.Units.{Segmentation, agreement, cost_of}
 use Rattle.bw_code.specs.declared.compare.CodeTest.{CodeTest}
 use Rattle.bw_code.specs.declared.compare.CodeTest.TheVariants.{None, All, Cmp, Range}
 
@@ -44,6 +44,10 @@ pub record AreStored (k : ℕ) (units : List (List ℕ)) : Type 0 where
 -- how numbers of m bytes are cut into segments
 abbrev pub by_bytes : ℕ → Segmentation
 by_bytes m = record { rows = 32; agree = agreement 256 m; cost = λ p. min m (p + 1) }
+
+-- the slices that a segment costs of one of two columns of numbers of m bytes, by its own rows
+abbrev pub side_cost : ℕ → (ℕ → Bool) → (ℕ → ℕ) → (ℕ → ℕ) → ℕ
+side_cost m needed number other = cost_of (by_bytes m) needed (λ r. agreement 256 m (number r) (other r))
 
 -- a test of codes as one of codes shifted up
 abbrev pub raised : ℕ → CodeTest → CodeTest

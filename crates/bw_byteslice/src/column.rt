@@ -1,16 +1,19 @@
 //! The column of layout S.
 
-ghost use Rattle.std.specs.Prelude.{length, slice_index, ℕ, ◌*◌, ◌<◌, ◌^◌, ◌≡◌, ◌≤◌};
+ghost use Rattle.std.specs.Prelude.{[], length, slice_index, slice_index_or, ℕ, ◌*◌, ◌+◌, ◌-◌, ◌/◌, ◌<◌, ◌^◌, ◌≡◌, ◌≤◌};
+ghost use Rattle.bw_mask.specs.Masks.{bit_of, row_in};
 ghost use Rattle.bw_code.specs.Columns.{code_at, count};
 ghost use Rattle.bw_code.specs.Units.{digit};
 ghost use Rattle.bw_code.specs.declared.kind.Layout.TheVariants as layouts;
 ghost use Rattle.bw_byteslice.specs.Slices.{segments_of, shift_of, slices_of};
 
+use crate::pair::pair_from;
+use crate::plane_source::SlicePlanes;
 use crate::scan::scan_from;
 use crate::shift::{shift_of, slices_of};
 use crate::source::SliceSource;
 use crate::{plane, reading, storage};
-use bw_code::{CodeColumn, CodeTest, Meter, Source};
+use bw_code::{CmpOp, CodeColumn, CodeTest, Meter, Source};
 use bw_mask::Mask;
 use std::alloc::{AllocError, Global};
 use std::marker::Model;
@@ -54,6 +57,17 @@ impl SliceColumn {
         ensures bytes { (r : ℕ) → slice_index result.now r ≡ digit 256 (slices_of self.now.width) (code_at self.now r * 2 ^ shift_of self.now.width) j }
     {
         &self.slices[j]
+    }
+
+    /// The planes of the codes, straight off the slices and none of them read yet. With k bits, unit q * k + i is plane i of
+    /// segment q, which is rows 256 q to 256 q + 255: bit k - 1 - i of each code. Rows past the last are not set.
+    pub fn planes(&self) -> SlicePlanes<'_>
+        ensures units { length result.units ≡ (count self.now + 255) / 256 * self.now.width }
+        ensures rows { (q i r : ℕ) → q < (count self.now + 255) / 256 → i < self.now.width → r < 256
+            → row_in (slice_index_or result.units (q * self.now.width + i) []) r ≡ bit_of (code_at self.now (256 * q + r)) (self.now.width - 1 - i) }
+        ensures none { result.reads ≡ 0 }
+    {
+        SlicePlanes::new(&self.slices, self.width, self.len)
     }
 }
 
@@ -122,7 +136,24 @@ impl CodeColumn for SliceColumn {
         scan_from(&mut source, self.width, test, need, out);
         meter.add(source.reads());
     }
+
+    fn scan_pair(
+        &self,
+        other: &SliceColumn,
+        op: CmpOp,
+        need: &Mask,
+        out: &mut Mask,
+        meter: &mut Meter,
+    ) {
+        let mut left = SliceSource::new(&self.slices);
+        let mut right = SliceSource::new(&other.slices);
+        pair_from(&mut left, &mut right, self.width, op, need, out);
+        meter.add(left.reads());
+        meter.add(right.reads());
+    }
 }
 
+#[cfg(test)]
+mod pair_tests;
 #[cfg(test)]
 mod tests;

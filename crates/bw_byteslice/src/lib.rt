@@ -3,7 +3,9 @@
 
 mod column;
 mod laws;
+mod pair;
 mod plane;
+mod plane_source;
 mod reading;
 mod rows;
 mod scan;
@@ -13,4 +15,6 @@ mod storage;
 
 pub use column::SliceColumn;
 pub use laws::codes_of_units;
+pub use pair::pair_from;
+pub use plane_source::SlicePlanes;
 pub use scan::scan_from;

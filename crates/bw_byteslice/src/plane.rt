@@ -1,6 +1,6 @@
 //! Planes of bits off slices.
 
-ghost use Rattle.std.specs.Prelude.{length, slice_index, ℕ, ◌*◌, ◌+◌, ◌<◌, ◌^◌, ◌≡◌, ◌≤◌};
+ghost use Rattle.std.specs.Prelude.{length, slice_index, ℕ, ◌%◌, ◌*◌, ◌+◌, ◌<◌, ◌^◌, ◌≡◌, ◌≤◌};
 ghost use Rattle.bw_mask.specs.Masks.{SameShape, bit_of, len, row_at};
 ghost use Rattle.bw_byteslice.specs.Slices.{segments_of};
 
@@ -28,6 +28,23 @@ fn word_with_bit(slice: &[u8], w: usize, i: u32) -> u64
     let low = rows_with_bit(&bytes_at(slice, 2 * w), i);
     let high = rows_with_bit(&bytes_at(slice, 2 * w + 1), i);
     joined(low_half(low), low_half(high))
+}
+
+/// The same, where there may be no such bytes.
+pub(crate) fn word_up_to_end(slice: &[u8], w: usize, i: u32) -> u64
+    requires bit { i < 8 }
+    requires small { w < 2 ^ 35 }
+    requires whole { length slice.now % 32 ≡ 0 }
+    ensures fits { result < 2 ^ 64 }
+    ensures rows { (r : ℕ) → r < 64 → bit_of result r ≡ bit_of (slice_index slice.now (64 * w + r)) i }
+{
+    if 64 * w + 64 <= slice.len() {
+        word_with_bit(slice, w, i)
+    } else if 64 * w < slice.len() {
+        joined(low_half(rows_with_bit(&bytes_at(slice, 2 * w), i)), 0)
+    } else {
+        0
+    }
 }
 
 /// `out` becomes the rows whose byte has bit i.

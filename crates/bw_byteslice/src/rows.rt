@@ -2,7 +2,10 @@
 
 ghost use Rattle.std.specs.Prelude.{not, ℕ, ◌&&◌, ◌+◌, ◌<◌, ◌||◌, ◌≡◌};
 ghost use Rattle.bw_mask.specs.Masks.{bit_of};
+ghost use Rattle.bw_code.specs.Choosing.{by_masks};
 ghost use Rattle.bw_code.specs.Units.{some_below};
+
+use bw_code::CmpOp;
 
 /// Rows 0 to 31 of a word.
 pub(crate) fn low_half(word: u64) -> u32
@@ -44,4 +47,18 @@ pub(crate) fn without(a: u32, b: u32) -> u32
     ensures { (r : ℕ) → bit_of result r ≡ (bit_of a r && not (bit_of b r)) }
 {
     a ^ (a & b)
+}
+
+/// The needed rows that compare so, by those that are below and those that are equal.
+pub(crate) fn chosen(op: CmpOp, need: u32, lt: u32, eq: u32) -> u32
+    ensures { (r : ℕ) → bit_of result r ≡ by_masks op (bit_of need r) (bit_of lt r) (bit_of eq r) }
+{
+    match op {
+        CmpOp::Eq => eq,
+        CmpOp::Ne => without(need, eq),
+        CmpOp::Lt => lt,
+        CmpOp::Le => either(lt, eq),
+        CmpOp::Gt => without(need, either(lt, eq)),
+        CmpOp::Ge => without(need, lt),
+    }
 }

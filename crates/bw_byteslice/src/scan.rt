@@ -4,28 +4,13 @@ ghost use Rattle.std.specs.Prelude.{length, max, nat_le, nat_lt, not, true, ℕ,
 ghost use Rattle.bw_mask.specs.Masks.{SameShape, bit_of, len, row_at};
 ghost use Rattle.bw_code.specs.Tests.{TestFits, meets};
 ghost use Rattle.bw_code.specs.Units.{agreement, by_slices, cost_of, scan_units, segment_units, some_below};
-ghost use Rattle.bw_code.specs.Choosing.{by_masks};
 ghost use Rattle.bw_byteslice.specs.Slices.{AreBytes, AreStored, IsBelow, by_bytes, code_in, number_in, segments_of, slices_of};
 
-use crate::rows::{either, high_half, is_empty, joined, low_half, without};
+use crate::rows::{chosen, either, high_half, is_empty, joined, low_half, without};
 use crate::shift::{byte_at, raise_test, slices_of};
-use bw_code::{CmpOp, CodeTest, Source};
+use bw_code::{CodeTest, Source};
 use bw_lane::byte_step;
 use bw_mask::Mask;
-
-/// The needed rows that compare so, by those that are below and those that are equal.
-fn chosen(op: CmpOp, need: u32, lt: u32, eq: u32) -> u32
-    ensures { (r : ℕ) → bit_of result r ≡ by_masks op (bit_of need r) (bit_of lt r) (bit_of eq r) }
-{
-    match op {
-        CmpOp::Eq => eq,
-        CmpOp::Ne => without(need, eq),
-        CmpOp::Lt => lt,
-        CmpOp::Le => either(lt, eq),
-        CmpOp::Gt => without(need, either(lt, eq)),
-        CmpOp::Ge => without(need, lt),
-    }
-}
 
 /// The needed rows of segment q whose number of m bytes is below the constant, and those where it is equal to it.
 fn compare<S: Source<[u8; 32]>>(

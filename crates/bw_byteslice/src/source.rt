@@ -9,7 +9,7 @@ use std::simd::prelude::*;
 
 /// The segment of unit i and its first unit, by those of the unit that was read before: without a division if the unit
 /// is of the same segment or of the next.
-fn place(q: usize, start: usize, m: usize, i: usize) -> (usize, usize)
+pub(crate) fn place(q: usize, start: usize, m: usize, i: usize) -> (usize, usize)
     requires some { 0 < m }
     requires start { start ≡ q * m }
     ensures segment { result.0 ≡ i / m }

@@ -1,5 +1,5 @@
 -- What 64 lanes say of the codes in them.
-use Rattle.std.proofs.Common.{Bool, List, ap, arith, bit_and, cond, false, get_or, inl, inr, leb, length, map, not, refl, replicate, take, true, ℕ, ◌%◌, ◌&&◌, ◌*◌, ◌+◌, ◌-◌, ◌<◌, ◌==◌, ◌^◌, ◌≡◌, ◌≤◌, ◌∙◌}
+use Rattle.std.proofs.Common.{Bool, List, ap, arith, bit_and, cond, false, get_or, inl, inr, leb, length, map, not, refl, replicate, take, true, w32, ℕ, ◌%◌, ◌&&◌, ◌*◌, ◌+◌, ◌-◌, ◌<◌, ◌==◌, ◌^◌, ◌≡◌, ◌≤◌, ◌∙◌}
 use Rattle.std.specs.Int.{bit_at}
 use Rattle.std.proofs.Math.Nat.{one-le-pow}
 use Rattle.std.proofs.Math.Pow.{pow_mono}
@@ -37,6 +37,15 @@ module _ (f : ℕ → ℕ → ℕ) (xs : List ℕ) (y : ℕ) (long : 64 ≤ leng
   lane_with i h =
       get_or-zip2 f (take 64 xs) (replicate 64 y) i 0 0 0 (omega (arith, first)) (omega (arith, length-replicate {A = ℕ} 64 y))
       ∙ ap (λ x. f x (get_or (replicate 64 y) i 0)) (get_or-take 64 xs i 0 h) ∙ ap (f (get_or xs i 0)) (get_or-replicate 64 i y 0 h)
+
+-- the first 64 codes of two lists, lane by lane
+pub both_firsts : (test : ℕ → ℕ → Bool) (xs ys : List ℕ) (i : ℕ) → 64 ≤ length xs → 64 ≤ length ys → i < 64
+    → bit_of (mask_l (map (top (hbits w32)) (zip2 (λ a b. cond (test a b) (2 ^ bits w32 - 1) 0) (take 64 xs) (take 64 ys))) % 2 ^ 64) i ≡ test (get_or xs i 0) (get_or ys i 0)
+both_firsts test xs ys i long other h =
+    let x_first : length (take 64 xs) ≡ 64 = omega (arith, length-take 64 xs) in
+    let y_first : length (take 64 ys) ≡ 64 = omega (arith, length-take 64 ys) in
+    lane_bit w32 test (take 64 xs) (take 64 ys) i x_first y_first h
+    ∙ ap (λ x. test x (get_or (take 64 ys) i 0)) (get_or-take 64 xs i 0 h) ∙ ap (test (get_or xs i 0)) (get_or-take 64 ys i 0 h)
 
 -- a code moved down by `low`, so that those below it come to stand above all others
 pub moved_down : (x low span : ℕ) → x < 2 ^ 32 → low + span < 2 ^ 32 → leb ((x + (2 ^ 32 - low)) % 2 ^ 32) span ≡ (leb low x && leb x (low + span))

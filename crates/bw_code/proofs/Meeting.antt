@@ -18,7 +18,7 @@ use Rattle.bw_code.proofs.Entries.{below-le-upto, upto-le-below, upto-le-length,
 use Rattle.bw_code.proofs.Offsets.{same_bool}
 
 -- two pairs in one order compare alike
-same_order : (op : CmpOp) (x y : ℤ) (i j : ℕ) → (x <ℤ y → i < j) → (x ≡ y → i ≡ j) → (y <ℤ x → j < i) → int_compares op x y ≡ code_compares op i j
+pub same_order : (op : CmpOp) (x y : ℤ) (i j : ℕ) → (x <ℤ y → i < j) → (x ≡ y → i ≡ j) → (y <ℤ x → j < i) → int_compares op x y ≡ code_compares op i j
 same_order Eq x y i j lt eq gt = grind (arith, ints, nat_tests, Decides-int_eq)
 same_order Ne x y i j lt eq gt = grind (arith, ints, nat_tests, Decides-int_eq)
 same_order Lt x y i j lt eq gt = grind (arith, ints, nat_tests)

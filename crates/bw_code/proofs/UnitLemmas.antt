@@ -2,7 +2,7 @@
 use Rattle.std.proofs.Common.{Bool, List, ap, arith, cond, count_by, false, get_or, length, max, min, refl, suc, sum_by, sym, take, zero, ℕ, ◌%◌, ◌*◌, ◌+◌, ◌/◌, ◌<◌, ◌≡◌, ◌≤◌, ◌∙◌, if◌then◌else◌}
 use Rattle.std.proofs.lemmas.List.{take_all}
 use Rattle.std.proofs.lemmas.List.Sums.{sum_by_more}
-use Rattle.bw_code.specs.Units.{Segmentation, greatest_below, segmentation, segments_of, segment_units, by_codes, cost_of, count_below, some_below, sum_below, units_of_scan}
+use Rattle.bw_code.specs.Units.{Segmentation, greatest_below, segmentation, segments_of, segment_units, by_codes, cost_of, count_below, some_below, sum_below, units_of_fetches, units_of_pair, units_of_scan}
 use Rattle.bw_code.specs.declared.compare.CodeTest.{CodeTest}
 use Rattle.bw_code.specs.declared.compare.CodeTest.TheVariants.{All, Cmp, None, Range}
 use Rattle.bw_code.specs.declared.compare.CmpOp.{CmpOp}
@@ -96,3 +96,16 @@ module _ (width : ℕ) (rows : List Bool) (codes : List ℕ) (same : length code
   pub units_of_range : (low high : ℕ) → units_of_scan P width (Range low high) needed codes ≡ count_by (λ row. row) rows
   unfolding units_of_scan
   units_of_range low high = each_needed (λ q j. 0)
+
+  pub units_of_pairs : (others : List ℕ) → units_of_pair P width needed codes others ≡ 2 * count_by (λ row. row) rows
+  unfolding units_of_pair
+  units_of_pairs others = ap (λ n. 2 * n) (each_needed (λ q j. 0))
+
+-- two lists of plain codes side by side cost what it costs to fetch both codes of each needed row
+pub plain_pairs : (width : ℕ) (needed : ℕ → Bool) (codes others : List ℕ) → units_of_pair P width needed codes others ≡ units_of_fetches needed (length codes)
+unfolding units_of_pair units_of_fetches
+plain_pairs width needed codes others =
+    let each : sum_below (length codes / 1 + min 1 (length codes % 1)) (λ q. cost_of by_codes (λ j. needed (1 * q + j)) (λ j. 0)) ≡ count_below (length codes) needed =
+    ap (λ n. sum_below n (λ q. cost_of by_codes (λ j. needed (1 * q + j)) (λ j. 0))) (by_ones (length codes))
+    ∙ sum_same (length codes) _ (λ q. if needed q then 1 else 0) (λ q h. one_row needed (λ j. 0) q) in
+    ap (λ n. 2 * n) each

@@ -83,10 +83,14 @@ segment_units cut (Range low high) needed code = cost_of cut needed (λ j. max (
 abbrev pub scan_units : Segmentation → CodeTest → (ℕ → Bool) → (ℕ → ℕ) → ℕ → ℕ
 scan_units cut test needed code segments = sum_below segments (λ q. segment_units cut test (λ j. needed (cut.rows * q + j)) (λ j. code (cut.rows * q + j)))
 
--- the units of a scan of two columns side by side: twice those of one
-abbrev pub pair_units : Segmentation → (ℕ → Bool) → (ℕ → ℕ) → (ℕ → ℕ) → ℕ → ℕ
-pair_units cut needed code other segments = 2 * sum_below segments (λ q.
+-- the units that a scan of two columns side by side reads of one of them
+abbrev pub side_units : Segmentation → (ℕ → Bool) → (ℕ → ℕ) → (ℕ → ℕ) → ℕ → ℕ
+side_units cut needed code other segments = sum_below segments (λ q.
     cost_of cut (λ j. needed (cut.rows * q + j)) (λ j. cut.agree (code (cut.rows * q + j)) (other (cut.rows * q + j))))
+
+-- the units of such a scan: as many of each column
+abbrev pub pair_units : Segmentation → (ℕ → Bool) → (ℕ → ℕ) → (ℕ → ℕ) → ℕ → ℕ
+pair_units cut needed code other segments = 2 * side_units cut needed code other segments
 
 -- in how many segments n rows lie
 abbrev pub segments_of : Segmentation → ℕ → ℕ

@@ -5,10 +5,10 @@ ghost use Rattle.bw_mask.specs.Masks.{bit_of, len, row_at, SameShape};
 ghost use Rattle.bw_code.specs.declared.kind.Layout.{Layout};
 ghost use Rattle.bw_code.specs.Columns.{code_at, count, CodeList, Fit, KeepsShape};
 ghost use Rattle.bw_code.specs.Meters.{raised};
-ghost use Rattle.bw_code.specs.Tests.{meets, TestFits};
-ghost use Rattle.bw_code.specs.Units.{units_of_scan};
+ghost use Rattle.bw_code.specs.Tests.{code_compares, meets, TestFits};
+ghost use Rattle.bw_code.specs.Units.{units_of_pair, units_of_scan};
 
-use crate::compare::CodeTest;
+use crate::compare::{CmpOp, CodeTest};
 use crate::meter::Meter;
 use bw_mask::Mask;
 use std::alloc::{AllocError, Global};
@@ -100,4 +100,15 @@ pub trait CodeColumn: Sized {
         ensures shape { SameShape out.new out.old }
         ensures rows { (r : ℕ) → row_at out.new r ≡ (row_at need.now r && meets test (code_at (seen self.now) r)) }
         ensures units { meter.new ≡ raised meter.old (units_of_scan layout (seen self.now).width test (row_at need.now) (seen self.now).codes) };
+
+    /// `out` becomes the needed rows whose codes in both columns compare so, this column's on the left. The units that
+    /// this reads of both in their layout are added to the meter.
+    fn scan_pair(&self, other: &Self, op: CmpOp, need: &Mask, out: &mut Mask, meter: &mut Meter)
+        requires width { (seen other.now).width ≡ (seen self.now).width }
+        requires other { count (seen other.now) ≡ count (seen self.now) }
+        requires need { len need.now ≡ count (seen self.now) }
+        requires out { len out.old ≡ count (seen self.now) }
+        ensures shape { SameShape out.new out.old }
+        ensures rows { (r : ℕ) → row_at out.new r ≡ (row_at need.now r && code_compares op (code_at (seen self.now) r) (code_at (seen other.now) r)) }
+        ensures units { meter.new ≡ raised meter.old (units_of_pair layout (seen self.now).width (row_at need.now) (seen self.now).codes (seen other.now).codes) };
 }

@@ -92,6 +92,23 @@ fn between(codes: &[u32], low: u32, span: u32) -> u64
         .to_bitmask()
 }
 
+/// Bit i says whether the i-th of the first 64 codes and that of the others compare so.
+pub(crate) fn compared(op: CmpOp, codes: &[u32], others: &[u32]) -> u64
+    requires long { 64 ≤ length codes.now }
+    requires other { 64 ≤ length others.now }
+    ensures { (i : ℕ) → i < 64 → bit_of result i ≡ code_compares op (slice_index codes.now i) (slice_index others.now i) }
+{
+    let (x, y) = (u32x64::from_slice(codes), u32x64::from_slice(others));
+    match op {
+        CmpOp::Eq => x.simd_eq(y).to_bitmask(),
+        CmpOp::Ne => x.simd_ne(y).to_bitmask(),
+        CmpOp::Lt => x.simd_lt(y).to_bitmask(),
+        CmpOp::Le => x.simd_le(y).to_bitmask(),
+        CmpOp::Gt => y.simd_lt(x).to_bitmask(),
+        CmpOp::Ge => y.simd_le(x).to_bitmask(),
+    }
+}
+
 /// Bit r says whether the r-th of the first 64 codes has bit i.
 pub(crate) fn rows_with_bit(codes: &[u32], i: u32) -> u64
     requires long { 64 ≤ length codes.now }

@@ -13,6 +13,7 @@ mod laws;
 mod meter;
 mod offset;
 mod plain;
+mod plain_pair;
 mod ranks;
 mod shift;
 mod source;

@@ -7,9 +7,10 @@ ghost use Rattle.bw_code.specs.Units.{units_of_scan};
 ghost use Rattle.bw_code.specs.declared.kind.Layout.TheVariants as layouts;
 
 use crate::column::CodeColumn;
-use crate::compare::CodeTest;
+use crate::compare::{CmpOp, CodeTest};
 use crate::lanes::{self, Interval, filled_up};
 use crate::meter::Meter;
+use crate::plain_pair;
 use crate::shift::shift_codes;
 use bw_mask::Mask;
 use std::alloc::{AllocError, Global};
@@ -103,6 +104,18 @@ impl CodeColumn for PlainColumn {
             }
         }
         meter.add(units(test, need));
+    }
+
+    fn scan_pair(
+        &self,
+        other: &PlainColumn,
+        op: CmpOp,
+        need: &Mask,
+        out: &mut Mask,
+        meter: &mut Meter,
+    ) {
+        plain_pair::compare_rows(op, &self.codes, &other.codes, need, out);
+        meter.add(plain_pair::units(need));
     }
 }
 

@@ -2,7 +2,7 @@
 
 ghost use Rattle.std.specs.Prelude.{Bool, List, count_by, false, length, ℕ, ◌<◌, ◌≡◌};
 ghost use Rattle.bw_mask.specs.Masks.{len, row_at, MaskRows};
-ghost use Rattle.bw_code.specs.Units.{Segmentation, segment_units, some_below, units_of_scan};
+ghost use Rattle.bw_code.specs.Units.{Segmentation, segment_units, some_below, units_of_fetches, units_of_pair, units_of_scan};
 ghost use Rattle.bw_code.specs.declared.compare.CmpOp.{CmpOp as Op};
 ghost use Rattle.bw_code.specs.declared.compare.CodeTest.{CodeTest as Test};
 ghost use Rattle.bw_code.specs.declared.compare.CodeTest.TheVariants.{All, Cmp, None, Range};
@@ -19,7 +19,7 @@ pub fn units_of_segments()
 {}
 
 /// In each layout a test that no code meets, or each code, costs nothing. Of plain codes each needed
-/// row costs one unit in every other test.
+/// row costs one unit in every other test, and a scan of two columns what it costs to fetch both codes.
 pub fn units_of_scans()
     ensures none { (layout : Form) (width : ℕ) (needed : ℕ → Bool) (codes : List ℕ) → units_of_scan layout width None needed codes ≡ 0 }
     ensures all { (layout : Form) (width : ℕ) (needed : ℕ → Bool) (codes : List ℕ) → units_of_scan layout width All needed codes ≡ 0 }
@@ -27,4 +27,6 @@ pub fn units_of_scans()
         → units_of_scan P width (Cmp op constant) (row_at need) codes ≡ count_by (λ row. row) need.rows }
     ensures plain_range { (width low high : ℕ) (need : MaskRows) (codes : List ℕ) → length codes ≡ len need
         → units_of_scan P width (Range low high) (row_at need) codes ≡ count_by (λ row. row) need.rows }
+    ensures plain_pair { (width : ℕ) (needed : ℕ → Bool) (codes others : List ℕ)
+        → units_of_pair P width needed codes others ≡ units_of_fetches needed (length codes) }
 {}

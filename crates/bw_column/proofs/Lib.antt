@@ -6,7 +6,9 @@ pub mod KnownEnds
 pub mod Listed
 pub mod Narrow
 pub mod Overwriting
+pub mod PairRows
 pub mod Pieces
+pub mod Planed
 pub mod Presence
 pub mod Ranks
 pub mod Rows

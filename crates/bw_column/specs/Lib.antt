@@ -5,6 +5,8 @@ pub mod Extremes
 pub mod Costs
 pub mod Keeping
 pub mod Places
+pub mod PlaneSources
+pub mod Planes
 pub mod Preparing
 pub mod Storing
 pub mod Values

@@ -6,11 +6,14 @@ mod building;
 mod change;
 mod codes;
 mod column;
+mod column_planes;
 mod compare;
 mod compare_anew;
 mod ends;
 mod kept;
+mod pair_codes;
 mod pairs;
+mod planes;
 mod reading;
 mod split;
 mod step;
@@ -20,3 +23,6 @@ mod telling;
 pub use change::Prepared;
 pub use column::Column;
 pub use storage::Storage;
+
+/// Columns of kind OFFSET compared over sources of planes, where their bases differ.
+pub use bw_vertical::add_from;

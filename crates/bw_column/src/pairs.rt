@@ -1,11 +1,11 @@
 //! Two columns compared row by row.
 
-ghost use Rattle.std.specs.Prelude.{is_some, length, not, ℕ, ◌&&◌, ◌+◌, ◌<◌, ◌^◌, ◌≡◌, ◌≤◌};
+ghost use Rattle.std.specs.Prelude.{is_some, length, not, true, ℕ, ◌&&◌, ◌+◌, ◌<◌, ◌^◌, ◌≡◌, ◌≤◌};
 ghost use Rattle.bw_mask.specs.Masks.{SameShape, bit_of, len, row_at};
 ghost use Rattle.bw_code.specs.Meters.{raised};
 ghost use Rattle.bw_code.specs.Units.{units_of_fetches};
 ghost use Rattle.bw_column.specs.Comparisons.{compare_so};
-ghost use Rattle.bw_column.specs.Costs.{needed_known, units_of_columns};
+ghost use Rattle.bw_column.specs.Costs.{needed_known, units_of_both, units_of_columns};
 ghost use Rattle.bw_column.specs.Values.{value_at};
 
 use crate::bits::set_bytes;
@@ -91,6 +91,34 @@ impl Column {
         }
     }
 
+    /// `out` becomes the known rows whose values compare so, by the cheapest way that the two columns allow.
+    fn compare_known(
+        &self,
+        op: CmpOp,
+        other: &Column,
+        known: &Mask,
+        out: &mut Mask,
+        meter: &mut Meter,
+    )
+        requires other { length other.now.values ≡ length self.now.values }
+        requires few { len known.now ≤ 2 ^ 24 }
+        requires known { len known.now ≡ length self.now.values }
+        requires there { (i : ℕ) → row_at known.now i ≡ true → (is_some (value_at self.now.values i) && is_some (value_at other.now.values i)) ≡ true }
+        requires out { len out.old ≡ length self.now.values }
+        ensures shape { SameShape out.new out.old }
+        ensures rows { (i : ℕ) → row_at out.new i ≡ (row_at known.now i && compare_so op (value_at self.now.values i) (value_at other.now.values i)) }
+        ensures units { meter.new ≡ raised meter.old (units_of_both self.now other.now (row_at known.now)) }
+    {
+        if self.is_alike(other) {
+            self.compare_codes(op, other, known, out, meter);
+        } else if self.has_sums_with(other) {
+            self.compare_sums(op, other, known, out, meter);
+        } else {
+            self.compare_rows(op, other, known, out);
+            meter.add(units_of_rows(known));
+        }
+    }
+
     /// Those where the values of both columns compare so, and the others where neither is null.
     pub(crate) fn split_by_column(
         &self,
@@ -113,8 +141,7 @@ impl Column {
     {
         falses.become_intersection(need, self.nonnull());
         falses.and_in(other.nonnull());
-        meter.add(units_of_rows(falses));
-        self.compare_rows(op, other, falses, trues);
+        self.compare_known(op, other, falses, trues, meter);
         falses.andnot_in(trues);
     }
 }

@@ -5,12 +5,12 @@ ghost use Rattle.bw_mask.specs.Masks.{SameShape, bit_of, len, row_at};
 ghost use Rattle.bw_code.specs.Columns.{Fit, KeepsShape, code_at, count};
 ghost use Rattle.bw_code.specs.Meters.{raised};
 ghost use Rattle.bw_code.specs.Shifts.{StaysBelow, shifted};
-ghost use Rattle.bw_code.specs.Tests.{TestFits, meets};
-ghost use Rattle.bw_code.specs.Units.{units_of_scan};
+ghost use Rattle.bw_code.specs.Tests.{TestFits, code_compares, meets};
+ghost use Rattle.bw_code.specs.Units.{units_of_pair, units_of_scan};
 ghost use Rattle.bw_column.specs.Storing.{ShiftsTo, layout_of, lent_layout, lent_list, list_of};
 
 use bw_byteslice::SliceColumn;
-use bw_code::{CodeColumn, CodeTest, Layout, Meter, PlainColumn};
+use bw_code::{CmpOp, CodeColumn, CodeTest, Layout, Meter, PlainColumn};
 use bw_horizontal::HorizontalColumn;
 use bw_mask::Mask;
 use bw_vertical::VerticalColumn;
@@ -186,6 +186,32 @@ impl Codes {
             Codes::V(codes) => codes.scan(test, need, out, meter),
             Codes::H(codes) => codes.scan(test, need, out, meter),
             Codes::S(codes) => codes.scan(test, need, out, meter),
+        }
+    }
+
+    pub(crate) fn scan_pair(
+        &self,
+        other: &Codes,
+        op: CmpOp,
+        need: &Mask,
+        out: &mut Mask,
+        meter: &mut Meter,
+    )
+        requires layout { layout_of other.now ≡ layout_of self.now }
+        requires width { (list_of other.now).width ≡ (list_of self.now).width }
+        requires other { count (list_of other.now) ≡ count (list_of self.now) }
+        requires need { len need.now ≡ count (list_of self.now) }
+        requires out { len out.old ≡ count (list_of self.now) }
+        ensures shape { SameShape out.new out.old }
+        ensures rows { (r : ℕ) → row_at out.new r ≡ (row_at need.now r && code_compares op (code_at (list_of self.now) r) (code_at (list_of other.now) r)) }
+        ensures units { meter.new ≡ raised meter.old (units_of_pair (layout_of self.now) (list_of self.now).width (row_at need.now) (list_of self.now).codes (list_of other.now).codes) }
+    {
+        match (self, other) {
+            (Codes::P(codes), Codes::P(others)) => codes.scan_pair(others, op, need, out, meter),
+            (Codes::V(codes), Codes::V(others)) => codes.scan_pair(others, op, need, out, meter),
+            (Codes::H(codes), Codes::H(others)) => codes.scan_pair(others, op, need, out, meter),
+            (Codes::S(codes), Codes::S(others)) => codes.scan_pair(others, op, need, out, meter),
+            _ => unreachable!(),
         }
     }
 

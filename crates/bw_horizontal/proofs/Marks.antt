@@ -88,7 +88,10 @@ below_is s w r =
     ]
 
 -- the rows of the segment by all its words
+pub all_rows : (k i rows : ℕ) (passes : ℕ → ℕ → Bool) → i ≡ k + 1 → AreJoined k (λ n t. ltb t (sections_in k) && passes n t) i rows → (r : ℕ) → on rows r ≡ (ltb r (segment_rows k) && passes (r % (k + 1)) (r / (k + 1)))
+all_rows k i rows passes all joined r =
+    all_joined k (λ n t. ltb t (sections_in k) && passes n t) rows (subst (λ n. AreJoined k (λ m t. ltb t (sections_in k) && passes m t) n rows) all joined) r
+    ∙ ap (λ b. b && passes (r % (k + 1)) (r / (k + 1))) (below_is (sections_in k) k r)
+
 pub rows_all : (k q i rows : ℕ) (passes : ℕ → Bool) (units : List ℕ) → i ≡ k + 1 → AreJoined k (passing k passes units q) i rows → (r : ℕ) → on rows r ≡ (ltb r (segment_rows k) && passes (code_at k units q r))
-rows_all k q i rows passes units all joined r =
-    all_joined k (passing k passes units q) rows (subst (λ n. AreJoined k (passing k passes units q) n rows) all joined) r
-    ∙ ap (λ b. b && passes (code_at k units q r)) (below_is (sections_in k) k r)
+rows_all k q i rows passes units all joined r = all_rows k i rows (λ n t. passes (section_of k t (get_or units (q * (k + 1) + n) 0))) all joined r

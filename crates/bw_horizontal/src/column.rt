@@ -7,12 +7,13 @@ ghost use Rattle.bw_code.specs.Columns.{code_at, count};
 ghost use Rattle.bw_code.specs.declared.kind.Layout.TheVariants as layouts;
 ghost use Rattle.bw_horizontal.specs.Words.{row_of_bit, segments_of};
 
+use crate::pair::pair_from;
 use crate::place::Place;
 use crate::planes;
 use crate::scan::scan_from;
 use crate::source::WordSource;
 use crate::storage::{fill_up, put_codes, read_codes, words_for};
-use bw_code::{CodeColumn, CodeTest, Meter, Source};
+use bw_code::{CmpOp, CodeColumn, CodeTest, Meter, Source};
 use bw_mask::Mask;
 use std::alloc::{AllocError, Global};
 use std::marker::Model;
@@ -120,7 +121,25 @@ impl CodeColumn for HorizontalColumn {
         scan_from(&mut source, self.width, test, need, out);
         meter.add(source.reads());
     }
+
+    #[tactic(auto, using(crate::proofs::Views::count_is))]
+    fn scan_pair(
+        &self,
+        other: &HorizontalColumn,
+        op: CmpOp,
+        need: &Mask,
+        out: &mut Mask,
+        meter: &mut Meter,
+    ) {
+        let mut words = WordSource::new(&self.words);
+        let mut others = WordSource::new(&other.words);
+        pair_from(&mut words, &mut others, self.width, op, need, out);
+        meter.add(words.reads());
+        meter.add(others.reads());
+    }
 }
 
+#[cfg(test)]
+mod pair_tests;
 #[cfg(test)]
 mod tests;

@@ -3,6 +3,7 @@
 
 mod column;
 mod gather;
+mod pair;
 mod place;
 mod planes;
 mod scan;
@@ -10,4 +11,5 @@ mod source;
 mod storage;
 
 pub use column::HorizontalColumn;
+pub use pair::pair_from;
 pub use scan::scan_from;

@@ -15,7 +15,7 @@ use bw_lane::{LaneOp, SectionMasks};
 use bw_mask::Mask;
 
 /// The comparison of lanes that compares so.
-fn lane_op(op: CmpOp) -> LaneOp
+pub(crate) fn lane_op(op: CmpOp) -> LaneOp
     ensures { (x y : ℕ) → holds result x y ≡ code_compares op x y }
 {
     match op {

@@ -120,3 +120,11 @@ four_compared op k w xs y i four e each j h =
     subst (λ n. IsCompared op n (get_or xs (i + j) 0) y (get_or four j 0)) e
     (subst (λ n. IsCompared op w n y (get_or four j 0)) (get_or-chunk i 4 xs j 0 h)
     (subst (λ n. IsCompared op w (get_or (chunk i 4 xs) j 0) n (get_or four j 0)) (get_or-replicate {A = ℕ} 4 j y 0 h) (each j h)))
+
+pub fours_compared : (op : LaneOp) (k w : ℕ) (xs ys : List ℕ) (i : ℕ) (four : List ℕ) → w ≡ k
+    → ((j : ℕ) → j < 4 → IsCompared op w (get_or (chunk i 4 xs) j 0) (get_or (chunk i 4 ys) j 0) (get_or four j 0))
+    → (j : ℕ) → j < 4 → IsCompared op k (get_or xs (i + j) 0) (get_or ys (i + j) 0) (get_or four j 0)
+fours_compared op k w xs ys i four e each j h =
+    subst (λ n. IsCompared op n (get_or xs (i + j) 0) (get_or ys (i + j) 0) (get_or four j 0)) e
+    (subst (λ n. IsCompared op w n (get_or ys (i + j) 0) (get_or four j 0)) (get_or-chunk i 4 xs j 0 h)
+    (subst (λ n. IsCompared op w (get_or (chunk i 4 xs) j 0) n (get_or four j 0)) (get_or-chunk i 4 ys j 0 h) (each j h)))

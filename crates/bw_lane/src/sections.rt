@@ -214,3 +214,26 @@ pub fn word_compare(op: LaneOp, x: &[u64], y: u64, k: u32, out: &mut [u64])
         i += 1;
     }
 }
+
+/// Compares the codes of each word of `x` with those of the word of `y` in its place, as `word_compare` does with one
+/// word.
+pub fn word_compare_pair(op: LaneOp, x: &[u64], y: &[u64], k: u32, out: &mut [u64])
+    requires width { k ≤ 32 }
+    requires same { length out.old ≡ length x.now }
+    requires other { length y.now ≡ length x.now }
+    requires x_stored { All (IsStored k) x.now }
+    requires y_stored { All (IsStored k) y.now }
+    ensures { (j : ℕ) → j < length x.now → IsCompared op k (slice_index x.now j) (slice_index y.now j) (slice_index out.new j) }
+{
+    let masks = SectionMasks::new(k);
+    let mut i = 0;
+    'fours: while x.len() - i >= 4 {
+        let four = masks.compare_lanes(op, u64x4::from_slice(&x[i..]), u64x4::from_slice(&y[i..]));
+        four.copy_to_slice(&mut out[i..]);
+        i += 4;
+    }
+    'rest: while i < x.len() {
+        out[i] = masks.compare(op, x[i], y[i]);
+        i += 1;
+    }
+}

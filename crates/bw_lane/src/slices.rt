@@ -21,3 +21,14 @@ pub fn byte_step(slice: &[u8; 32], c: u8, lt: &mut u32, eq: &mut u32)
     *lt |= *eq & low_half(s.simd_lt(c).to_bitmask());
     *eq &= low_half(s.simd_eq(c).to_bitmask());
 }
+
+/// Compares 32 rows of two columns by one byte more. `lt` are the rows in which the first is below the second so far, `eq`
+/// those in which they are equal so far.
+pub fn byte_pair_step(a: &[u8; 32], b: &[u8; 32], lt: &mut u32, eq: &mut u32)
+    ensures less { (r : ℕ) → r < 32 → bit_of lt.new r ≡ (bit_of lt.old r || (bit_of eq.old r && nat_lt (slice_index a.now r) (slice_index b.now r))) }
+    ensures same { (r : ℕ) → r < 32 → bit_of eq.new r ≡ (bit_of eq.old r && (slice_index a.now r == slice_index b.now r)) }
+{
+    let (x, y) = (u8x32::from_array(*a), u8x32::from_array(*b));
+    *lt |= *eq & low_half(x.simd_lt(y).to_bitmask());
+    *eq &= low_half(x.simd_eq(y).to_bitmask());
+}

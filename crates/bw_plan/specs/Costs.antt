@@ -5,11 +5,10 @@ use Rattle.bw_lex.specs.declared.token.CompareOp.TheVariants.{Ge, Le}
 use Rattle.bw_mask.specs.Truth.{is_value}
 use Rattle.bw_mask.specs.declared.truth_value.TruthValue.TheVariants.{False, True}
 use Rattle.bw_code.specs.Encodings.{range_of, test_of}
-use Rattle.bw_code.specs.Units.{units_of_fetches}
 use Rattle.bw_code.specs.declared.encoding.Encoding.TheVariants.{Dictionary}
 use Rattle.bw_code.specs.declared.kind.Layout.TheVariants.{P}
 use Rattle.bw_column.specs.Columns.{ColumnView}
-use Rattle.bw_column.specs.Costs.{units_of_entries, units_of_test}
+use Rattle.bw_column.specs.Costs.{units_of_both, units_of_entries, units_of_test}
 use Rattle.bw_column.specs.Values as values
 use Rattle.bw_model.specs.Condition.{compared}
 use Rattle.bw_model.specs.Store.{Value}
@@ -53,10 +52,10 @@ number_of (of_constant value) = value
 abbrev pub known_in : ColumnView → (ℕ → Bool) → ℕ → Bool
 known_in column needed i = needed i && is_some (values.value_at column.values i)
 
--- one scan, or two values fetched at each needed slot at which neither is null; a literal compared with a column costs what the
+-- one scan, or two columns compared at the needed slots at which neither is null; a literal compared with a column costs what the
 -- column compared with it does; a null costs nothing
 abbrev pub units_of_compared : Reading → CompareOp → Reading → (ℕ → Bool) → ℕ
-units_of_compared (of_column x) sign (of_column y) needed = units_of_fetches (λ i. known_in x needed i && is_some (values.value_at y.values i)) (length x.values)
+units_of_compared (of_column x) sign (of_column y) needed = units_of_both x y (λ i. known_in x needed i && is_some (values.value_at y.values i))
 units_of_compared (of_column x) sign (of_constant None) needed = 0
 units_of_compared (of_column x) sign (of_constant (Some number)) needed = units_of_test x (test_of x.encoding (cmp_of sign) number) (known_in x needed)
 units_of_compared (of_constant None) sign (of_column y) needed = 0

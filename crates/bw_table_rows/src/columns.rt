@@ -10,7 +10,7 @@ use bw_mask::{Mask, Truth};
 use std::process::Abort;
 
 /// The rows where a truth is true, those where it is false, and the units that were read for it.
-type Outcome = (u64, u64, u64);
+pub(crate) type Outcome = (u64, u64, u64);
 
 fn check_value<R: Abort>(rt: &R, value: Option<i64>)
     ensures { IsNullOrInteger value }
@@ -154,7 +154,7 @@ fn listed<R: Abort + AllocGlobal>(rt: &R, column: &Column, entries: &[i64], need
     outcome(&truth, &meter)
 }
 
-fn side_by_side<R: Abort + AllocGlobal>(
+pub(crate) fn side_by_side<R: Abort + AllocGlobal>(
     rt: &R,
     left: &Column,
     op: CmpOp,
@@ -241,8 +241,8 @@ fn a_dictionary_without_values(rt: HostRuntime) {
     );
 }
 
-/// All rows of two runs.
-const ALL: u64 = 0xffff_ffff;
+/// The first 32 rows.
+pub(crate) const ALL: u64 = 0xffff_ffff;
 
 /// A constant that two runs are below or not, at which rows it is asked, and what comes of it.
 const BELOW: [(i64, u64, Outcome); 3] = [

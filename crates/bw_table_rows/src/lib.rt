@@ -13,6 +13,8 @@ mod harness;
 #[cfg(test)]
 mod loaded;
 #[cfg(test)]
+mod pairs;
+#[cfg(test)]
 mod random;
 #[cfg(test)]
 mod set_functions;

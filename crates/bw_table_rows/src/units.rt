@@ -128,19 +128,18 @@ fn a_range_is_one_scan_and_else_two_comparisons(rt: HostRuntime) {
     let number = |value| Source::Constant(Some(value));
     let range = Predicate::Between(column(), number(3), number(200));
     assert_eq!(rt; units(&rt, &RowCondition::Test(range)), [32, 8, 9, 1]);
-    // A value is at most itself, which is fetched twice at each of the 29 rows where it is 3 at least.
+    // A value is at most itself: both columns are scanned side by side at the 29 rows where it is 3 at least.
     let upto_itself = Predicate::Between(column(), number(3), column());
-    let fetched = 2 * 29;
     assert_eq!(rt;
         units(&rt, &RowCondition::Test(upto_itself)),
-        [32 + fetched, 8 + fetched, 9 + fetched, 1 + fetched]
+        [32 + 2 * 29, 8 + 2 * 8, 9 + 2 * 9, 1 + 2]
     );
 }
 
 #[test]
-fn two_columns_are_fetched(rt: HostRuntime) {
+fn two_columns_of_one_encoding_are_scanned_side_by_side(rt: HostRuntime) {
     let same = Predicate::Compare(column(), CompareOp::Eq, column());
-    assert_eq!(rt; units(&rt, &RowCondition::Test(same)), [64; 4]);
+    assert_eq!(rt; units(&rt, &RowCondition::Test(same)), [2 * 32, 2 * 8, 2 * 9, 2]);
 }
 
 #[test]

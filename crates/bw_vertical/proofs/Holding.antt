@@ -78,17 +78,20 @@ module _ (k n : ℕ) (gs : List (List (List ℕ))) where
       let unit : first + (u - first) ≡ u = omega (arith, from) in
       held (u - first) to ∙ ap (λ v. plane_at k gs (v / k) (v % k)) unit ∙ sym (unit_at u d h)
 
+  pub unit_row : (q i r : ℕ) → q < segments_of n → i < k → r < 256 → row_in (get_or (units_of k gs n) (q * k + i) []) r ≡ is_set k gs i (256 * q + r)
+  unit_row q i r within low h =
+      let more : q + 1 ≤ segments_of n = omega (arith, within) in
+      let inside : q * k + i < segments_of n * k = omega (arith, low, mul-le-mul_right k more) in
+      ap (λ p. row_in p r) (
+      unit_at (q * k + i) [] inside
+      ∙ ap (λ s. plane_at k gs s ((q * k + i) % k)) (div-mul-add q k i low)
+      ∙ ap (plane_at k gs q) (mod-mul-add q k i low))
+      ∙ plane_row k q i r gs h
+
   plane_is : (i j : ℕ) → i < k → j / 256 < segments_of n → in_plane k (units_of k gs n) i j ≡ is_set k gs i j
   plane_is i j low h =
-      let more : j / 256 + 1 ≤ segments_of n = omega arith in
-      let inside : j / 256 * k + i < segments_of n * k = omega (arith, mul-le-mul_right k more) in
       let row : 256 * (j / 256) + j % 256 ≡ j = omega arith in
-      ap (λ p. row_in p (j % 256)) (
-      unit_at (j / 256 * k + i) [] inside
-      ∙ ap (λ q. plane_at k gs q ((j / 256 * k + i) % k)) (div-mul-add (j / 256) k i low)
-      ∙ ap (plane_at k gs (j / 256)) (mod-mul-add (j / 256) k i low))
-      ∙ plane_row k (j / 256) i (j % 256) gs (omega arith)
-      ∙ ap (is_set k gs i) row
+      unit_row (j / 256) i (j % 256) h low (omega arith) ∙ ap (is_set k gs i) row
 
   pub code_in_is : (j : ℕ) → j / 256 < segments_of n → code_in k (units_of k gs n) j ≡ code_of k gs j
   code_in_is j h = number_same (λ i. in_plane k (units_of k gs n) i j) (λ i. is_set k gs i j) k (λ i low. plane_is i j low h)

@@ -79,6 +79,18 @@ fn narrowed(codes: &[u64]) -> [u32; 64]
     block
 }
 
+/// The words of the planes of k bits: bit r of word b is bit b of code r, and not set where there is no such code.
+pub fn plane_words(codes: &[u64], k: usize) -> [u64; 32]
+    requires few { length codes.now ≤ 64 }
+    requires narrow { k ≤ 32 }
+    requires fit { All (λ code. code < 2 ^ 32) codes.now }
+    ensures { (b r : ℕ) → b < k → r < 64 → bit_of (slice_index result b) r ≡ bit_of (slice_index codes.now r) b }
+{
+    let mut words = [0; 32];
+    put_codes(&narrowed(codes), k, &mut words);
+    words
+}
+
 /// The codes of rows `at`, `at + 1`, .. become these, so few that they lie in one word. From `at` on
 /// no row was set.
 #[tactic(auto, using(crate::proofs::Settings::word_there))]
@@ -95,7 +107,5 @@ pub(crate) fn put_block(groups: &mut Vec<Vec<[u64; 4]>>, k: usize, at: usize, co
     ensures added { (i r : ℕ) → i < k → r < length codes.now → is_set k (lists groups.new.items) i (at + r) ≡ bit_of (slice_index codes.now r) (k - 1 - i) }
     ensures clean { (i j : ℕ) → i < k → at + length codes.now ≤ j → is_set k (lists groups.new.items) i j ≡ false }
 {
-    let mut words = [0; 32];
-    put_codes(&narrowed(codes), k, &mut words);
-    add_words(groups, k, at / 64, &words, at % 64);
+    add_words(groups, k, at / 64, &plane_words(codes, k), at % 64);
 }

@@ -1,19 +1,20 @@
 //! Columns of codes as planes of bits.
 
-ghost use Rattle.std.specs.Prelude.{[], pos, ◌++◌, ◌%◌, ◌≤◌, ◌^◌, length, slice_index_or, ℕ, ◌*◌, ◌+◌, ◌-◌, ◌<◌, ◌≡◌};
+ghost use Rattle.std.specs.Prelude.{[], pos, ◌++◌, ◌%◌, ◌/◌, ◌≤◌, ◌^◌, length, slice_index_or, ℕ, ◌*◌, ◌+◌, ◌-◌, ◌<◌, ◌≡◌};
 ghost use Rattle.bw_mask.specs.Masks.{bit_of, len, row_at, row_in};
 ghost use Rattle.bw_code.specs.Columns.{code_at, count, Fit, KeepsShape};
 ghost use Rattle.bw_code.specs.Shifts.{StaysBelow, shifted};
 ghost use Rattle.bw_code.specs.declared.kind.Layout.TheVariants as layouts;
-ghost use Rattle.bw_vertical.specs.Planes.{segments_of};
+ghost use Rattle.bw_vertical.specs.Planes.{code_in, segments_of};
 ghost use Rattle.bw_vertical.specs.Storage.{groups_of, planes_in};
 
 use crate::growing::{begin_segment, empty_groups, reserve_segments};
+use crate::pair::pair_from;
 use crate::scan::scan_from;
 use crate::shifting::{as_word, shift_codes};
 use crate::source::PlaneSource;
 use crate::{blocks, codes};
-use bw_code::{CodeColumn, CodeTest, Meter, Source};
+use bw_code::{CmpOp, CodeColumn, CodeTest, Meter, Source};
 use bw_mask::Mask;
 use std::alloc::{AllocError, Global};
 use std::marker::Model;
@@ -50,6 +51,18 @@ impl VerticalColumn {
             → row_in (slice_index_or result.now (q * planes_in self.now.width g + i) []) r ≡ bit_of (code_at self.now (256 * q + r)) (self.now.width - 1 - (4 * g + i)) }
     {
         &self.groups[g]
+    }
+
+    /// The planes as units that are read one at a time, none of them read yet: unit q * width + i is plane i of segment q.
+    #[tactic(auto, using(crate::proofs::Holding::codes_len))]
+    pub fn planes(&self) -> PlaneSource<'_>
+        ensures units { length result.units ≡ segments_of (count self.now) * self.now.width }
+        ensures rows { (q i r : ℕ) → q < segments_of (count self.now) → i < self.now.width → r < 256
+            → row_in (slice_index_or result.units (q * self.now.width + i) []) r ≡ bit_of (code_at self.now (256 * q + r)) (self.now.width - 1 - i) }
+        ensures codes { (j : ℕ) → j / 256 < segments_of (count self.now) → code_in self.now.width result.units j ≡ code_at self.now j }
+        ensures none { result.reads ≡ 0 }
+    {
+        PlaneSource::new(&self.groups, self.width, self.len)
     }
 
     /// Adds so much to the code of each of the rows. Each of them then is a code of the column's width, too. Takes no
@@ -156,11 +169,28 @@ impl CodeColumn for VerticalColumn {
 
     #[tactic(auto, using(crate::proofs::Holding::codes_len))]
     fn scan(&self, test: CodeTest, need: &Mask, out: &mut Mask, meter: &mut Meter) {
-        let mut source = PlaneSource::new(&self.groups, self.width, self.len);
+        let mut source = self.planes();
         scan_from(&mut source, self.width, test, need, out);
         meter.add(source.reads());
     }
+
+    #[tactic(auto, using(crate::proofs::Holding::codes_len))]
+    fn scan_pair(
+        &self,
+        other: &VerticalColumn,
+        op: CmpOp,
+        need: &Mask,
+        out: &mut Mask,
+        meter: &mut Meter,
+    ) {
+        let (mut left, mut right) = (self.planes(), other.planes());
+        pair_from(&mut left, &mut right, self.width, op, need, out);
+        meter.add(left.reads());
+        meter.add(right.reads());
+    }
 }
 
+#[cfg(test)]
+mod pair_tests;
 #[cfg(test)]
 mod tests;

@@ -1,16 +1,22 @@
 //! Codes as planes of bits (layout V, BitWeaving/V).
 #![tactic(auto)]
 
+mod addition;
 mod blocks;
 mod bytes;
 mod codes;
 mod column;
 mod growing;
+mod pair;
 mod rows;
 mod scan;
 mod shifting;
 mod source;
 mod storage;
 
+pub use addition::add_from;
+pub use blocks::plane_words;
 pub use column::VerticalColumn;
+pub use pair::pair_from;
 pub use scan::scan_from;
+pub use source::PlaneSource;

@@ -1,6 +1,6 @@
 //! 256 rows as four lanes of 64.
 
-ghost use Rattle.std.specs.Prelude.{length, not, slice_index, ℕ, ◌&&◌, ◌*◌, ◌+◌, ◌<◌, ◌^◌, ◌||◌, ◌≡◌};
+ghost use Rattle.std.specs.Prelude.{if◌then◌else◌, length, not, slice_index, ℕ, ◌&&◌, ◌*◌, ◌+◌, ◌<◌, ◌^◌, ◌||◌, ◌≡◌};
 ghost use Rattle.bw_mask.specs.Masks.{SameShape, len, row_at, row_in};
 ghost use Rattle.bw_code.specs.Units.{some_below};
 
@@ -55,6 +55,20 @@ pub(crate) fn either(a: &[u64; 4], b: &[u64; 4]) -> [u64; 4]
     ensures { (j : ℕ) → j < 256 → row_in result j ≡ (row_in a.now j || row_in b.now j) }
 {
     (u64x4::from_array(*a) | u64x4::from_array(*b)).to_array()
+}
+
+/// The rows of both.
+pub(crate) fn both(a: &[u64; 4], b: &[u64; 4]) -> [u64; 4]
+    ensures { (j : ℕ) → j < 256 → row_in result j ≡ (row_in a.now j && row_in b.now j) }
+{
+    (u64x4::from_array(*a) & u64x4::from_array(*b)).to_array()
+}
+
+/// The rows of one of the two alone.
+pub(crate) fn differing(a: &[u64; 4], b: &[u64; 4]) -> [u64; 4]
+    ensures { (j : ℕ) → j < 256 → row_in result j ≡ not (if row_in a.now j then row_in b.now j else not (row_in b.now j)) }
+{
+    (u64x4::from_array(*a) ^ u64x4::from_array(*b)).to_array()
 }
 
 /// The rows of a that are not in b.

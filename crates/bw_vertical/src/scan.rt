@@ -20,7 +20,7 @@ fn stops(i: usize, left: &[u64; 4]) -> bool
 }
 
 /// The needed rows that compare so, by those that are below and those that are equal.
-fn chosen(op: CmpOp, need: &[u64; 4], lt: &[u64; 4], eq: &[u64; 4]) -> [u64; 4]
+pub(crate) fn chosen(op: CmpOp, need: &[u64; 4], lt: &[u64; 4], eq: &[u64; 4]) -> [u64; 4]
     ensures { (j : ℕ) → j < 256 → row_in result j ≡ by_masks op (row_in need.now j) (row_in lt.now j) (row_in eq.now j) }
 {
     match op {

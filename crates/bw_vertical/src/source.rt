@@ -77,7 +77,7 @@ fn run_at<'a>(
 /// The planes of a column, read one at a time: unit q * width + i is plane i of segment q. A plane of
 /// the run that was read from last is read without looking for its place.
 #[derive(Drop)]
-pub(crate) struct PlaneSource<'a> {
+pub struct PlaneSource<'a> {
     groups: &'a [Vec<[u64; 4]>],
     width: usize,
     len: usize,

@@ -7,11 +7,11 @@ ghost use Rattle.bw_code.specs.Columns.{Fit};
 ghost use Rattle.bw_code.specs.Tests.{TestFits};
 
 use super::SliceColumn;
-use bw_code::{CmpOp, CodeColumn, CodeTest, Meter, PlainColumn};
+use bw_code::{CmpOp, CodeColumn, CodeTest, Meter, PlainColumn, Source};
 use bw_mask::Mask;
 use std::process::Abort;
 
-const OPS: [CmpOp; 6] = [
+pub(super) const OPS: [CmpOp; 6] = [
     CmpOp::Eq,
     CmpOp::Ne,
     CmpOp::Lt,
@@ -21,7 +21,7 @@ const OPS: [CmpOp; 6] = [
 ];
 
 /// A code of so many bits.
-fn code_of(row: u64, width: u32) -> u64
+pub(super) fn code_of(row: u64, width: u32) -> u64
     requires some { 1 ≤ width }
     requires narrow { width ≤ 32 }
     ensures { result < 2 ^ width }
@@ -29,7 +29,7 @@ fn code_of(row: u64, width: u32) -> u64
     row.wrapping_mul(0x9e37_79b9_7f4a_7c15) >> (64 - width)
 }
 
-fn codes_of<R: Abort + AllocGlobal>(rt: &R, width: u32, rows: usize) -> Vec<u64>
+pub(super) fn codes_of<R: Abort + AllocGlobal>(rt: &R, width: u32, rows: usize) -> Vec<u64>
     requires some { 1 ≤ width }
     requires narrow { width ≤ 32 }
     ensures count { vec_len result ≡ rows }
@@ -60,7 +60,7 @@ fn column_of<C: CodeColumn + Drop, R: Abort + AllocGlobal>(rt: &R, width: u32, m
 }
 
 /// Each row of three but one.
-fn needed_rows<R: Abort + AllocGlobal>(rt: &R, rows: usize) -> Mask
+pub(super) fn needed_rows<R: Abort + AllocGlobal>(rt: &R, rows: usize) -> Mask
     requires { rows < 2000 }
     ensures { len result ≡ rows }
 {
@@ -153,6 +153,57 @@ fn codes_beside_a_plain_column(rt: HostRuntime) {
     for width in 1..=32 {
         for more in [0, 30, 31, 32] {
             check_codes(&rt, width, more);
+        }
+    }
+}
+
+/// The rows of a plane, beside the bits of the codes.
+fn check_plane<R: Abort + AllocGlobal>(
+    rt: &R,
+    column: &SliceColumn,
+    plane: &[u64; 4],
+    q: usize,
+    i: u32,
+)
+    requires segment { q < 1000 }
+    requires plane { i < column.now.width }
+{
+    let bit = column.width() - 1 - i;
+    for r in 0..256 {
+        let row = 256 * q + r;
+        let wanted = row < column.len() && column.get(row) >> bit & 1 == 1;
+        assert_eq!(rt;
+            plane[r / 64] >> (r % 64) & 1 == 1,
+            wanted,
+            "row {row}, bit {bit}"
+        );
+    }
+}
+
+/// All planes in the order of their units, and the first once more.
+fn check_planes<R: Abort + AllocGlobal>(rt: &R, width: u32, more: usize)
+    requires some { 1 ≤ width }
+    requires narrow { width ≤ 32 }
+    requires few { more < 1000 }
+{
+    let column: SliceColumn = column_of(rt, width, more);
+    let k = width as usize;
+    let units = (more + 1).div_ceil(256) * k;
+    let mut planes = column.planes();
+    for unit in 0..units {
+        let plane = planes.read(unit);
+        check_plane(rt, &column, &plane, unit / k, (unit % k) as u32);
+    }
+    let first = planes.read(0);
+    check_plane(rt, &column, &first, 0, 0);
+    assert_eq!(rt; planes.reads(), units as u64 + 1);
+}
+
+#[test]
+fn planes_beside_codes(rt: HostRuntime) {
+    for width in [1, 5, 8, 9, 17, 32] {
+        for more in [0, 31, 32, 64, 255, 256, 300] {
+            check_planes(&rt, width, more);
         }
     }
 }

@@ -39,7 +39,7 @@ fn fitted(test: CodeTest, width: u32) -> CodeTest
 }
 
 /// Codes of all sizes, among them 0, the greatest and the constants of the tests.
-fn code_at(width: u32, row: usize) -> u64
+pub(super) fn code_at(width: u32, row: usize) -> u64
     requires { width ≤ 32 }
     ensures { result < 2 ^ width }
 {

@@ -6,12 +6,22 @@ ghost use Rattle.bw_code.specs.Columns.{count};
 ghost use Rattle.bw_code.specs.Tests.{TestFits};
 
 use super::VerticalColumn;
-use bw_code::{CmpOp, CodeColumn, CodeTest, Meter, PlainColumn};
+use crate::blocks::plane_words;
+use bw_code::{CmpOp, CodeColumn, CodeTest, Meter, PlainColumn, Source};
 use bw_mask::Mask;
 use std::process::Abort;
 
+pub(super) const OPS: [CmpOp; 6] = [
+    CmpOp::Eq,
+    CmpOp::Ne,
+    CmpOp::Lt,
+    CmpOp::Le,
+    CmpOp::Gt,
+    CmpOp::Ge,
+];
+
 /// A code of so many bits for a row.
-fn code_for(width: u32, row: usize) -> u64
+pub(super) fn code_for(width: u32, row: usize) -> u64
     requires some { 1 ≤ width }
     requires narrow { width ≤ 32 }
     ensures { result < 2 ^ width }
@@ -42,7 +52,7 @@ fn column_of<C: CodeColumn + Drop, R: Abort + AllocGlobal>(rt: &R, width: u32, r
 }
 
 /// A mask in which two rows of three are in.
-fn need_of<R: Abort + AllocGlobal>(rt: &R, rows: usize) -> Mask
+pub(super) fn need_of<R: Abort + AllocGlobal>(rt: &R, rows: usize) -> Mask
     requires { rows ≤ 1000 }
     ensures { len result ≡ rows }
 {
@@ -121,14 +131,7 @@ fn check_scans<R: Abort + AllocGlobal>(
     requires few { count planes.now ≤ 1000 }
 {
     let (code, other) = (code_for(width, 2), code_for(width, 11));
-    for op in [
-        CmpOp::Eq,
-        CmpOp::Ne,
-        CmpOp::Lt,
-        CmpOp::Le,
-        CmpOp::Gt,
-        CmpOp::Ge,
-    ] {
+    for op in OPS {
         check_scan(rt, planes, plain, CodeTest::Cmp(op, code));
     }
     check_scan(rt, planes, plain, CodeTest::Range(code, other));
@@ -184,6 +187,20 @@ fn planes_of_two_codes(rt: HostRuntime) {
         [[1, 0, 0, 0], [0; 4], [1, 0, 0, 0], [1, 0, 0, 0]].as_slice()
     );
     assert_eq!(&rt; low, [[2, 0, 0, 0]].as_slice());
+}
+
+/// The same planes, read one at a time, and their words by themselves.
+#[test]
+fn planes_of_two_codes_as_units(rt: HostRuntime) {
+    let mut column = VerticalColumn::with_width(rt.alloc(), 5).expect(&rt, "memory");
+    column.reserve(2).expect(&rt, "memory");
+    column.extend(&[0b10110, 0b00001]);
+    let mut planes = column.planes();
+    let (high, low) = (planes.read(0), planes.read(4));
+    assert_eq!(&rt; (high, low), ([1, 0, 0, 0], [2, 0, 0, 0]));
+    assert_eq!(&rt; planes.reads(), 2);
+    let words = plane_words(&[0b10110, 0b00001], 5);
+    assert_eq!(&rt; (words[0], words[1], words[3], words[4]), (2, 1, 0, 1));
 }
 
 /// The units of a scan of four codes 3 of eight bits, and one code 128 behind them where it is asked for.

@@ -1,11 +1,8 @@
-use Rattle.std.proofs.Common.{List, ap, arith, drop, get_or, inl, inr, subst, take, ℕ, ◌*◌, ◌+◌, ◌-◌, ◌<◌, ◌≡◌, ◌∙◌}
+use Rattle.std.proofs.Common.{ap, arith, get_or, inl, inr, subst, ℕ, ◌*◌, ◌+◌, ◌-◌, ◌<◌, ◌≡◌, ◌∙◌}
 use Rattle.std.proofs.lemmas.Bool.{cases_lt}
-use Rattle.std.proofs.lemmas.List.{get_or-drop, get_or-take}
 use Rattle.bw_mask.specs.Masks.{bit_of}
+use Rattle.bw_byteslice.proofs.Planes.{byte_there}
 use Rattle.bw_byteslice.proofs.plane.word_with_bit.Goals as goal
-
-byte_there : (slice bytes : List ℕ) (at r : ℕ) → bytes ≡ take 32 (drop at slice) → r < 32 → get_or bytes r 0 ≡ get_or slice (at + r) 0
-byte_there slice bytes at r is h = ap (λ xs. get_or xs r 0) is ∙ get_or-take 32 (drop at slice) r 0 h ∙ get_or-drop at slice r 0
 
 pub returns : goal.returns
 returns c r h =

@@ -1,13 +1,12 @@
-use Rattle.std.proofs.Common.{Bool, ap, arith, false, inl, inr, length, refl, subst, sym, ℕ, ◌&&◌, ◌*◌, ◌+◌, ◌-◌, ◌<◌, ◌≡◌, ◌≤◌, ◌∙◌}
-use Rattle.std.proofs.lemmas.Bool.{cases_lt}
+use Rattle.std.proofs.Common.{Bool, ap, arith, false, length, refl, ℕ, ◌&&◌, ◌*◌, ◌+◌, ◌<◌, ◌≡◌, ◌≤◌, ◌∙◌}
 use Rattle.std.proofs.lemmas.List.{get_or_past}
 use Rattle.bw_mask.specs.Masks.{bit_of, len, row_at}
 use Rattle.bw_code.specs.Tests.{meets}
-use Rattle.bw_code.specs.Units.{segment_units, sum_below}
-use Rattle.bw_code.proofs.Reach.{sum_more, sum_none}
+use Rattle.bw_code.specs.Units.{segment_units}
+use Rattle.bw_code.proofs.Reach.{sum_none}
 use Rattle.bw_code.proofs.UnitLemmas.{segment_none, segment_same}
 use Rattle.bw_byteslice.specs.Slices.{by_bytes, number_in, segments_of}
-use Rattle.bw_byteslice.proofs.Words.{none_past, segment_there, sum_by_twos, word_row}
+use Rattle.bw_byteslice.proofs.Words.{halves_found, none_past, segment_there, sum_by_twos, sum_two_more, word_put, word_row}
 use Rattle.bw_byteslice.proofs.scan.scan_numbers.Goals as goal
 
 pub loop-w-init : goal.loop-w-init
@@ -45,41 +44,21 @@ loop-w-preserved g c =
     segment_same (by_bytes m) test _ _ _ _ here_low (λ r h. refl) ∙ ap (λ us. segment_units (by_bytes m) test (λ r. need (32 * (2 * w) + r)) (λ r. number_in m us (32 * (2 * w) + r))) units_low in
     let cost_high : segment_units (by_bytes m) test (bit_of c.high_half.result) (λ r. number_in m (g.S.Source.units c.segment-low.new.source) (32 * (2 * w + 1) + r)) ≡ cost (2 * w + 1) =
     segment_same (by_bytes m) test _ _ _ _ here_high (λ r h. refl) ∙ ap (λ us. segment_units (by_bytes m) test (λ r. need (32 * (2 * w + 1) + r)) (λ r. number_in m us (32 * (2 * w + 1) + r))) units_high in
-    let found_low : (r : ℕ) → r < 32 → bit_of c.joined.result r ≡ wanted (32 * (2 * w) + r) = λ r h.
-    c.joined.ensures.low r h ∙ c.segment-low.ensures.rows r h ∙ ap (λ b. b && meets test (number_in m (g.S.Source.units c.loop-w.source) (32 * (2 * w) + r))) (here_low r h) ∙ ap (λ us. need (32 * (2 * w) + r) && meets test (number_in m us (32 * (2 * w) + r))) units_low in
-    let found_high : (r : ℕ) → r < 32 → bit_of c.joined.result (32 + r) ≡ wanted (32 * (2 * w + 1) + r) = λ r h.
-    c.joined.ensures.high r h ∙ c.segment-high.ensures.rows r h ∙ ap (λ b. b && meets test (number_in m (g.S.Source.units c.segment-low.new.source) (32 * (2 * w + 1) + r))) (here_high r h) ∙ ap (λ us. need (32 * (2 * w + 1) + r) && meets test (number_in m us (32 * (2 * w + 1) + r))) units_high in
-    let found : (r : ℕ) → r < 64 → bit_of c.joined.result r ≡ wanted (64 * w + r) = λ r h.
-    elim (cases_lt r 32) [
-      | inl l ↦ let place : 32 * (2 * w) + r ≡ 64 * w + r = omega arith in found_low r l ∙ ap wanted place
-      | inr l ↦
-          let e = r - 32 in
-          let back : 32 + e ≡ r = omega (arith, l) in
-          let place : 32 * (2 * w + 1) + e ≡ 64 * w + r = omega (arith, l) in
-          ap (bit_of c.joined.result) (sym back) ∙ found_high e (omega (arith, l, h)) ∙ ap wanted place
-    ] in
-    let more : sum_below (2 * (w + 1)) cost ≡ sum_below (2 * w + 1 + 1) cost = let e : 2 * (w + 1) ≡ 2 * w + 1 + 1 = omega arith in ap (λ k. sum_below k cost) e in
+    let found_low : (r : ℕ) → r < 32 → bit_of c.segment-low.result r ≡ wanted (32 * (2 * w) + r) = λ r h.
+    c.segment-low.ensures.rows r h ∙ ap (λ b. b && meets test (number_in m (g.S.Source.units c.loop-w.source) (32 * (2 * w) + r))) (here_low r h) ∙ ap (λ us. need (32 * (2 * w) + r) && meets test (number_in m us (32 * (2 * w) + r))) units_low in
+    let found_high : (r : ℕ) → r < 32 → bit_of c.segment-high.result r ≡ wanted (32 * (2 * w + 1) + r) = λ r h.
+    c.segment-high.ensures.rows r h ∙ ap (λ b. b && meets test (number_in m (g.S.Source.units c.segment-low.new.source) (32 * (2 * w + 1) + r))) (here_high r h) ∙ ap (λ us. need (32 * (2 * w + 1) + r) && meets test (number_in m us (32 * (2 * w + 1) + r))) units_high in
+    let found = halves_found c.joined.result c.segment-low.result c.segment-high.result w wanted c.joined.ensures.low c.joined.ensures.high found_low found_high in
+    let kept = c.loop-w.invariant in
+    let past : (j : ℕ) → len c.loop-w.out ≤ j → wanted j ≡ false = λ j h.
+    let none : need j ≡ false = get_or_past c.args.need.now.rows j false (omega (arith, h, kept.shape.0, c.requires.out)) in rw none refl in
+    let more = word_put c.loop-w.out c.put_word.new.self wanted w 64 c.joined.result (omega arith) c.put_word.ensures.shape.0 past kept.rows found c.put_word.ensures.inside c.put_word.ensures.outside in
     record {
       units = c.segment-high.ensures.units ∙ units_high;
-      reads = omega (arith, c.segment-low.ensures.reads, c.segment-high.ensures.reads, c.loop-w.invariant.reads, cost_low, cost_high, sum_more (2 * w) cost, sum_more (2 * w + 1) cost, more);
-      most = omega (arith, c.segment-low.ensures.most, c.segment-high.ensures.most, c.loop-w.invariant.most);
-      shape = (c.put_word.ensures.shape.0 ∙ c.loop-w.invariant.shape.0, c.put_word.ensures.shape.1 ∙ c.loop-w.invariant.shape.1);
-      rows = λ j h.
-          elim (cases_lt j (64 * w)) [
-            | inl l ↦ c.put_word.ensures.outside j (λ up. absurd (omega arith)) ∙ c.loop-w.invariant.rows j l
-            | inr l ↦
-                let r = j - 64 * w in
-                let within : r < 64 = omega (arith, h, l) in
-                let at : 64 * w + r ≡ j = omega (arith, l) in
-                let same_len : len c.loop-w.out ≡ len c.args.need.now = c.loop-w.invariant.shape.0 ∙ c.requires.out in
-                elim (cases_lt j (len c.args.need.now)) [
-                  | inl inside ↦ subst (λ n. row_at c.put_word.new.self n ≡ wanted n) at (c.put_word.ensures.inside r within (omega (arith, same_len, inside, at)) ∙ found r within)
-                  | inr past ↦
-                      let left : row_at c.put_word.new.self j ≡ false = get_or_past c.put_word.new.self.rows j false (omega (arith, c.put_word.ensures.shape.0, same_len, past)) in
-                      let right : need j ≡ false = get_or_past c.args.need.now.rows j false past in
-                      left ∙ rw right refl
-                ]
-          ];
+      reads = omega (arith, c.segment-low.ensures.reads, c.segment-high.ensures.reads, kept.reads, cost_low, cost_high, sum_two_more w cost);
+      most = omega (arith, c.segment-low.ensures.most, c.segment-high.ensures.most, kept.most);
+      shape = (c.put_word.ensures.shape.0 ∙ kept.shape.0, c.put_word.ensures.shape.1 ∙ kept.shape.1);
+      rows = λ j h. more j (omega (arith, h));
     }
 
 pub returns-clause-reads : goal.returns-clause-reads

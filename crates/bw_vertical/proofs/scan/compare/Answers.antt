@@ -1,5 +1,5 @@
-use Rattle.std.proofs.Common.{arith, inr, refl, sym, ℕ, ◌*◌, ◌+◌, ◌<◌, ◌≤◌, ◌∙◌}
-use Rattle.bw_mask.specs.Masks.{row_in}
+use Rattle.std.proofs.Common.{arith, inr, refl, sym, ℕ, ◌*◌, ◌+◌, ◌-◌, ◌<◌, ◌≤◌, ◌∙◌}
+use Rattle.bw_mask.specs.Masks.{bit_of, row_in}
 use Rattle.bw_code.specs.Units.{agreement}
 use Rattle.bw_code.proofs.Digits.{compared_none}
 use Rattle.bw_code.proofs.Segments.{rows_final, rows_left}
@@ -28,7 +28,7 @@ loop-g-preserved g c =
     let b = c.compare_plane-in-loop-g in
     let d = c.compare_plane-in-loop-g-2 in
     let e = c.compare_plane-in-loop-g-3 in
-    let rows = group_more k c.args.q c.args.constant units c.args.need.now c.requires.there c.requires.constant n _ _ _ _ low c.loop-g.invariant.units a.ensures.units b.ensures.units d.ensures.units
+    let rows = group_more k c.args.q (λ _. c.args.constant) (λ i _. bit_of c.args.constant (k - 1 - i)) units c.args.need.now c.requires.there (λ _. c.requires.constant) (λ i l j h. refl) n _ _ _ _ low c.loop-g.invariant.units a.ensures.units b.ensures.units d.ensures.units
     c.loop-g.lt c.loop-g.eq a.new.lt a.new.eq b.new.lt b.new.eq d.new.lt d.new.eq e.new.lt e.new.eq a.ensures.less a.ensures.same b.ensures.less b.ensures.same d.ensures.less d.ensures.same e.ensures.less e.ensures.same c.loop-g.invariant.rows in
     let left = rows_left 256 2 k need code c.args.constant (4 * (n + 1)) (row_in e.new.lt) (row_in e.new.eq) (omega arith) (λ j. code_lt k units (256 * c.args.q + j)) c.requires.constant rows low c.requires.needed in
     record {
@@ -51,7 +51,7 @@ returns-then-is_empty g c =
     let b = c.compare_plane-in-loop-g in
     let d = c.compare_plane-in-loop-g-2 in
     let e = c.compare_plane-in-loop-g-3 in
-    let rows = group_more k c.args.q c.args.constant units c.args.need.now c.requires.there c.requires.constant n _ _ _ _ low c.loop-g.invariant.units a.ensures.units b.ensures.units d.ensures.units
+    let rows = group_more k c.args.q (λ _. c.args.constant) (λ i _. bit_of c.args.constant (k - 1 - i)) units c.args.need.now c.requires.there (λ _. c.requires.constant) (λ i l j h. refl) n _ _ _ _ low c.loop-g.invariant.units a.ensures.units b.ensures.units d.ensures.units
     c.loop-g.lt c.loop-g.eq a.new.lt a.new.eq b.new.lt b.new.eq d.new.lt d.new.eq e.new.lt e.new.eq a.ensures.less a.ensures.same b.ensures.less b.ensures.same d.ensures.less d.ensures.same e.ensures.less e.ensures.same c.loop-g.invariant.rows in
     let left = rows_left 256 2 k need code c.args.constant (4 * (n + 1)) (row_in e.new.lt) (row_in e.new.eq) (omega arith) code_fits c.requires.constant rows low c.requires.needed in
     let stopped = group_stopped k n _ need (λ j. agreement 2 k (code j) c.args.constant) c.requires.needed refl _ left (sym c.is_empty.ensures ∙ c.if-is_empty.true) c.loop-g.invariant.left low in
@@ -73,5 +73,5 @@ loop-i-preserved g c =
       units = p.ensures.units ∙ c.loop-i.invariant.units;
       reads = omega (arith, p.ensures.reads, c.loop-i.invariant.reads);
       left = c.loop-i.invariant.left;
-      rows = plane_more k c.args.q c.args.constant units c.args.need.now c.requires.there c.requires.constant c.loop-i.i _ low c.loop-i.invariant.units c.loop-i.lt c.loop-i.eq p.new.lt p.new.eq p.ensures.less p.ensures.same c.loop-i.invariant.rows;
+      rows = plane_more k c.args.q (λ _. c.args.constant) (λ i _. bit_of c.args.constant (k - 1 - i)) units c.args.need.now c.requires.there (λ _. c.requires.constant) (λ i l j h. refl) c.loop-i.i _ low c.loop-i.invariant.units c.loop-i.lt c.loop-i.eq p.new.lt p.new.eq p.ensures.less p.ensures.same c.loop-i.invariant.rows;
     }

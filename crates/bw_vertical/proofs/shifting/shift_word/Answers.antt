@@ -6,7 +6,8 @@ use Rattle.std.proofs.lemmas.Bool.{cases_eq}
 use Rattle.std.proofs.lemmas.Nat.Bits.{bit_at-lt}
 use Rattle.bw_mask.specs.Masks.{bit_of}
 use Rattle.bw_vertical.specs.Storage.{code_of, is_set, lists, word_of}
-use Rattle.bw_vertical.proofs.Adding.{carried, carry_more, sum_bit}
+use Rattle.bw_vertical.specs.Carries.{carried}
+use Rattle.bw_vertical.proofs.Adding.{carry_more, sum_bit}
 use Rattle.bw_vertical.proofs.Holding.{code_bit}
 use Rattle.bw_vertical.proofs.Numbers.{bit_is}
 use Rattle.bw_vertical.proofs.Placing.{sizes_more}

@@ -4,7 +4,7 @@ use Rattle.std.specs.Int.{bit_at}
 use Rattle.std.specs.Prelude.{if◌then◌else◌}
 use Rattle.bw_mask.specs.Masks.{bit_of}
 use Rattle.bw_vertical.specs.Storage.{KeepsSizes, code_of, is_set, lists, word_of}
-use Rattle.bw_vertical.proofs.Adding.{carried}
+use Rattle.bw_vertical.specs.Carries.{carried}
 use Rattle.bw_vertical.proofs.shifting.shift_word.Given as goal
 
 -- the planes of the n lowest bits are added, and those above them are as they were

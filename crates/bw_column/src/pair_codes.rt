@@ -1,0 +1,91 @@
+//! Two columns compared by their codes, without fetching a value.
+
+ghost use Rattle.std.specs.Prelude.{is_some, length, true, ℕ, ◌&&◌, ◌≡◌};
+ghost use Rattle.bw_mask.specs.Masks.{SameShape, len, row_at};
+ghost use Rattle.bw_code.specs.Encodings.{width};
+ghost use Rattle.bw_code.specs.Meters.{raised};
+ghost use Rattle.bw_code.specs.Units.{units_of_addition, units_of_pair};
+ghost use Rattle.bw_column.specs.Codes.{codes_for};
+ghost use Rattle.bw_column.specs.Comparisons.{compare_so};
+ghost use Rattle.bw_column.specs.Costs.{are_alike, have_sums};
+ghost use Rattle.bw_column.specs.Values.{value_at};
+
+use crate::column::Column;
+use bw_code::{CmpOp, Encoding, Layout, Meter, Source};
+use bw_mask::Mask;
+use bw_vertical::add_from;
+
+impl Column {
+    /// Whether the codes of both compare as their values do, and lie in the same way.
+    pub(crate) fn is_alike(&self, other: &Column) -> bool
+        ensures { result ≡ are_alike self.now other.now }
+    {
+        self.layout() == other.layout() && self.encoding == other.encoding
+    }
+
+    /// `out` becomes the known rows whose values compare so, by the codes side by side.
+    #[tactic(auto, using(bw_code::proofs::Lists::made_len))]
+    pub(crate) fn compare_codes(
+        &self,
+        op: CmpOp,
+        other: &Column,
+        known: &Mask,
+        out: &mut Mask,
+        meter: &mut Meter,
+    )
+        requires other { length other.now.values ≡ length self.now.values }
+        requires layout { other.now.layout ≡ self.now.layout }
+        requires encoding { other.now.encoding ≡ self.now.encoding }
+        requires known { len known.now ≡ length self.now.values }
+        requires there { (i : ℕ) → row_at known.now i ≡ true → (is_some (value_at self.now.values i) && is_some (value_at other.now.values i)) ≡ true }
+        requires out { len out.old ≡ length self.now.values }
+        ensures shape { SameShape out.new out.old }
+        ensures rows { (i : ℕ) → row_at out.new i ≡ (row_at known.now i && compare_so op (value_at self.now.values i) (value_at other.now.values i)) }
+        ensures units { meter.new ≡ raised meter.old (units_of_pair self.now.layout (width self.now.encoding) (row_at known.now) (codes_for self.now.encoding self.now.values) (codes_for other.now.encoding other.now.values)) }
+    {
+        self.codes.scan_pair(&other.codes, op, known, out, meter);
+    }
+
+    /// Whether both hold distances from bases, in layouts that have planes at hand.
+    pub(crate) fn has_sums_with(&self, other: &Column) -> bool
+        ensures { result ≡ have_sums self.now other.now }
+    {
+        let are_offsets = match (&self.encoding, &other.encoding) {
+            (Encoding::Offset(_), Encoding::Offset(_)) => true,
+            _ => false,
+        };
+        are_offsets && self.layout() != Layout::P && other.layout() != Layout::P
+    }
+
+    /// `out` becomes the known rows whose values compare so, by the planes of both, to which the bases are added.
+    #[tactic(auto, using(bw_code::proofs::Lists::made_len))]
+    pub(crate) fn compare_sums(
+        &self,
+        op: CmpOp,
+        other: &Column,
+        known: &Mask,
+        out: &mut Mask,
+        meter: &mut Meter,
+    )
+        requires sums { have_sums self.now other.now ≡ true }
+        requires other { length other.now.values ≡ length self.now.values }
+        requires known { len known.now ≡ length self.now.values }
+        requires there { (i : ℕ) → row_at known.now i ≡ true → (is_some (value_at self.now.values i) && is_some (value_at other.now.values i)) ≡ true }
+        requires out { len out.old ≡ length self.now.values }
+        ensures shape { SameShape out.new out.old }
+        ensures rows { (i : ℕ) → row_at out.new i ≡ (row_at known.now i && compare_so op (value_at self.now.values i) (value_at other.now.values i)) }
+        ensures units { meter.new ≡ raised meter.old (units_of_addition (width self.now.encoding) (width other.now.encoding) (row_at known.now) (length self.now.values)) }
+    {
+        let (Encoding::Offset(left), Encoding::Offset(right)) = (&self.encoding, &other.encoding)
+        else {
+            unreachable!()
+        };
+        let (Some(mut planes), Some(mut others)) = (self.codes.planes(), other.codes.planes())
+        else {
+            unreachable!()
+        };
+        add_from(&mut planes, *left, &mut others, *right, op, known, out);
+        meter.add(planes.reads());
+        meter.add(others.reads());
+    }
+}

@@ -1,0 +1,106 @@
+use Rattle.std.proofs.Common.{◌&&◌, ap, arith, refl, subst, ℕ, ◌*◌, ◌+◌, ◌<◌, ◌≡◌, ◌∙◌}
+use Rattle.std.proofs.lemmas.Bool.{lt-ltb}
+use Rattle.std.specs.Int.{div_ceil}
+use Rattle.std.proofs.Math.Nat.{mul-le-mul_right}
+use Rattle.bw_mask.specs.Masks.{len, row_at}
+use Rattle.bw_lane.specs.Sections.{on}
+use Rattle.bw_code.specs.Tests.{code_compares}
+use Rattle.bw_code.specs.Units.{by_words, cost_of}
+use Rattle.bw_code.proofs.Reach.{sum_more, sum_none}
+use Rattle.bw_code.proofs.UnitLemmas.{cost_same}
+use Rattle.bw_horizontal.specs.Words.{code_at, code_in, segment_rows, segments_of}
+use Rattle.bw_horizontal.specs.Gathering.{AreGathered}
+use Rattle.bw_horizontal.proofs.Costs.{words_most}
+use Rattle.bw_horizontal.proofs.Gathered.{none_gathered}
+use Rattle.bw_horizontal.proofs.Places.{rows_pos}
+use Rattle.bw_horizontal.proofs.Rows.{begins_below, code_here, past_need, rows_whole}
+use Rattle.bw_horizontal.proofs.pair.pair_from.Goals as goal
+
+pub loop-q-init : goal.loop-q-init
+loop-q-init g c =
+    let wanted = λ (j : ℕ). row_at c.args.need.now j && code_compares c.args.op (code_in c.args.width (g.A.Source.units c.args.a.now) j) (code_in c.args.width (g.B.Source.units c.args.b.now) j) in
+    record {
+      units = refl;
+      other_units = refl;
+      reads = rw sum_none (omega arith);
+      other_reads = rw sum_none (omega arith);
+      most = omega arith;
+      other_most = omega arith;
+      shape = (refl, refl);
+      rows = subst (λ at. AreGathered c.args.out.now at 0 wanted) (omega arith) (none_gathered c.args.out.now wanted);
+    }
+
+pub segment-found-requires-clause-there : goal.segment-found-requires-clause-there
+segment-found-requires-clause-there g c =
+    let count = c.div_ceil-segments.ensures ∙ ap (λ n. div_ceil n (segment_rows c.args.width)) c.len.ensures.rows in
+    rw (c.new-masks.ensures, c.loop-q.invariant.units, c.requires.units.count) (mul-le-mul_right (c.args.width + 1) (omega (arith, count, c.loop-q-test.true)))
+
+pub segment-found-requires-clause-other_there : goal.segment-found-requires-clause-other_there
+segment-found-requires-clause-other_there g c =
+    let count = c.div_ceil-segments.ensures ∙ ap (λ n. div_ceil n (segment_rows c.args.width)) c.len.ensures.rows in
+    rw (c.new-masks.ensures, c.loop-q.invariant.other_units, c.requires.other_units.count) (mul-le-mul_right (c.args.width + 1) (omega (arith, count, c.loop-q-test.true)))
+
+pub segment-found-requires-clause-few : goal.segment-found-requires-clause-few
+segment-found-requires-clause-few g c =
+    let below = begins_below c.len.result (segment_rows c.args.width) c.loop-q.q (rows_pos c.args.width c.requires.narrow) (omega (arith, c.div_ceil-segments.ensures, c.loop-q-test.true)) in
+    omega (arith, below, c.len.ensures.rows, c.requires.few, c.loop-q.invariant.most, c.requires.reads, c.new-masks.ensures, c.requires.narrow)
+
+pub segment-found-requires-clause-other_few : goal.segment-found-requires-clause-other_few
+segment-found-requires-clause-other_few g c =
+    let below = begins_below c.len.result (segment_rows c.args.width) c.loop-q.q (rows_pos c.args.width c.requires.narrow) (omega (arith, c.div_ceil-segments.ensures, c.loop-q-test.true)) in
+    omega (arith, below, c.len.ensures.rows, c.requires.few, c.loop-q.invariant.other_most, c.requires.other_reads, c.new-masks.ensures, c.requires.narrow)
+
+pub loop-q-preserved : goal.loop-q-preserved
+loop-q-preserved g c =
+    let k = c.args.width in
+    let q = c.loop-q.q in
+    let units = g.A.Source.units c.args.a.now in
+    let others = g.B.Source.units c.args.b.now in
+    let need = λ (j : ℕ). row_at c.args.need.now j in
+    let wanted = λ (j : ℕ). need j && code_compares c.args.op (code_in k units j) (code_in k others j) in
+    let here : (r : ℕ) → r < segment_rows k → on c.bits.result r ≡ need (segment_rows k * q + r) = λ r h. c.bits.ensures r ∙ rw (lt-ltb r (segment_rows k) h) (ap need (omega arith)) in
+    let cost = cost_same (by_words k) (on c.bits.result) (λ r. need (segment_rows k * q + r)) (λ r. 0) (λ r. 0) here (λ r h. refl) in
+    let most = words_most k (on c.bits.result) (λ r. 0) in
+    let more = sum_more q (λ p. cost_of (by_words k) (λ j. need (segment_rows k * p + j)) (λ j. 0)) in
+    let reads = rw c.new-masks.ensures at c.segment-found.ensures.reads in
+    let other_reads = rw c.new-masks.ensures at c.segment-found.ensures.other_reads in
+    let found = rw (c.new-masks.ensures, c.loop-q.invariant.units, c.loop-q.invariant.other_units) at c.segment-found.ensures.rows in
+    let rows = c.gather-rest.ensures.rows wanted c.loop-q.invariant.rows (λ r h.
+    found r h
+    ∙ ap (λ b. on c.bits.result r && b) (c.lane_op-lane.ensures (code_at k units q r) (code_at k others q r))
+    ∙ rw (c.bits.ensures r, lt-ltb r (segment_rows k) h, code_here k units q r h, code_here k others q r h) refl) in
+    record {
+      units = c.segment-found.ensures.units ∙ c.loop-q.invariant.units;
+      other_units = c.segment-found.ensures.other_units ∙ c.loop-q.invariant.other_units;
+      reads = omega (arith, reads, cost, c.loop-q.invariant.reads, more);
+      other_reads = omega (arith, other_reads, cost, c.loop-q.invariant.other_reads, more);
+      most = omega (arith, reads, c.loop-q.invariant.most, most, c.requires.narrow);
+      other_most = omega (arith, other_reads, c.loop-q.invariant.other_most, most, c.requires.narrow);
+      shape = (c.gather-rest.ensures.shape.0 ∙ c.loop-q.invariant.shape.0, c.gather-rest.ensures.shape.1 ∙ c.loop-q.invariant.shape.1);
+      rows = subst (λ at. AreGathered c.gather-rest.new.out at c.gather-rest.result wanted) (omega arith) rows;
+    }
+
+pub returns-clause-reads : goal.returns-clause-reads
+returns-clause-reads g c =
+    let count = c.div_ceil-segments.ensures ∙ ap (λ n. div_ceil n (segment_rows c.args.width)) c.len.ensures.rows in
+    let all : c.loop-q.q ≡ segments_of c.args.width (len c.args.need.now) = omega (arith, count, c.loop-q-test.false) in
+    rw all at c.loop-q.invariant.reads
+
+pub returns-clause-other_reads : goal.returns-clause-other_reads
+returns-clause-other_reads g c =
+    let count = c.div_ceil-segments.ensures ∙ ap (λ n. div_ceil n (segment_rows c.args.width)) c.len.ensures.rows in
+    let all : c.loop-q.q ≡ segments_of c.args.width (len c.args.need.now) = omega (arith, count, c.loop-q-test.false) in
+    rw all at c.loop-q.invariant.other_reads
+
+pub returns-clause-rows : goal.returns-clause-rows
+returns-clause-rows g c =
+    let k = c.args.width in
+    let need = c.args.need.now in
+    let compares = λ (j : ℕ). code_compares c.args.op (code_in k (g.A.Source.units c.args.a.now) j) (code_in k (g.B.Source.units c.args.b.now) j) in
+    let wanted = λ (j : ℕ). row_at need j && compares j in
+    let out_len : len c.loop-q.out ≡ len need = c.loop-q.invariant.shape.0 ∙ c.requires.out in
+    let all : segment_rows k * c.loop-q.q ≡ segment_rows k * c.div_ceil-segments.result = ap (λ q. segment_rows k * q) (omega (arith, c.loop-q-test.false)) in
+    let gathered = subst (λ at. AreGathered c.loop-q.out at c.loop-q.rest wanted) all c.loop-q.invariant.rows in
+    rows_whole (len need) (segment_rows k) c.div_ceil-segments.result c.finish.new.out wanted (past_need need compares) (rows_pos k c.requires.narrow)
+    (c.finish.ensures.shape.0 ∙ out_len) (omega (arith, c.div_ceil-segments.ensures, c.len.ensures.rows, ap (λ n. div_ceil n (segment_rows k)) c.len.ensures.rows))
+    (λ j h l. c.finish.ensures.rows wanted gathered j h (omega (arith, l, out_len)))

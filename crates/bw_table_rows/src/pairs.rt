@@ -1,0 +1,215 @@
+//! Two columns compared with each other: worked examples with the units that are read, and random pairs in all layouts and
+//! kinds beside a plain comparison of their values.
+
+use crate::columns::{ALL, Outcome, column_of, side_by_side};
+use crate::random::{LAYOUTS, Random};
+use bw_code::{CmpOp, Kind, Layout, Meter};
+use bw_column::Column;
+use bw_mask::Mask;
+use std::process::Abort;
+
+const KINDS: [Kind; 2] = [Kind::Offset, Kind::Dictionary];
+
+const OPERATORS: [CmpOp; 6] = [
+    CmpOp::Eq,
+    CmpOp::Ne,
+    CmpOp::Lt,
+    CmpOp::Le,
+    CmpOp::Gt,
+    CmpOp::Ge,
+];
+
+/// Where the values of one list are below those of another, of kind OFFSET in these layouts.
+fn below<R: Abort + AllocGlobal>(
+    rt: &R,
+    layout: Layout,
+    values: &[Option<i64>],
+    other_layout: Layout,
+    others: &[Option<i64>],
+) -> Outcome {
+    let left = column_of(rt, values, layout, Kind::Offset);
+    let right = column_of(rt, others, other_layout, Kind::Offset);
+    side_by_side(rt, &left, CmpOp::Lt, &right, ALL)
+}
+
+#[test]
+fn other_bases_are_added_plane_by_plane(rt: HostRuntime) {
+    let left = [Some(10), Some(12), Some(17)];
+    let right = [Some(11), Some(11), Some(20)];
+    let outcome = below(&rt, Layout::V, &left, Layout::V, &right);
+    assert_eq!(rt; outcome, (0b101, 0b010, 7));
+}
+
+#[test]
+fn equal_encodings_are_scanned_side_by_side(rt: HostRuntime) {
+    let left = [Some(0), Some(3)];
+    let right = [Some(3), Some(0)];
+    for (layout, other, units) in [
+        (Layout::V, Layout::V, 4),
+        (Layout::H, Layout::H, 6),
+        (Layout::S, Layout::S, 2),
+        (Layout::V, Layout::H, 4),
+        (Layout::P, Layout::P, 4),
+    ] {
+        let outcome = below(&rt, layout, &left, other, &right);
+        assert_eq!(rt; outcome, (0b01, 0b10, units));
+    }
+}
+
+#[test]
+fn no_row_no_unit(rt: HostRuntime) {
+    for layout in LAYOUTS {
+        let outcome = below(&rt, layout, &[None], Layout::V, &[Some(1)]);
+        assert_eq!(rt; outcome, (0, 0, 0));
+    }
+}
+
+/// 5, -3, null, 7 beside 5, 4, 1, null in these layouts and kinds.
+fn check_worked<R: Abort + AllocGlobal>(
+    rt: &R,
+    layouts: (Layout, Layout),
+    kinds: (Kind, Kind),
+) {
+    let left = [Some(5), Some(-3), None, Some(7)];
+    let right = [Some(5), Some(4), Some(1), None];
+    let a = column_of(rt, &left, layouts.0, kinds.0);
+    let b = column_of(rt, &right, layouts.1, kinds.1);
+    for (op, trues, falses) in [(CmpOp::Lt, 0b0010, 0b0001), (CmpOp::Eq, 0b0001, 0b0010)] {
+        let (found, missed, _) = side_by_side(rt, &a, op, &b, ALL);
+        assert_eq!(rt; (found, missed), (trues, falses));
+    }
+}
+
+#[test]
+fn a_worked_pair_in_all_layouts_and_kinds(rt: HostRuntime) {
+    for layout in LAYOUTS {
+        for other in LAYOUTS {
+            for kind in KINDS {
+                for other_kind in KINDS {
+                    check_worked(&rt, (layout, other), (kind, other_kind));
+                }
+            }
+        }
+    }
+}
+
+/// A value so far above a base, and no more than an INTEGER may be.
+fn value(base: i32, distance: u32) -> i64 {
+    (i64::from(base) + i64::from(distance)).min(2_147_483_647)
+}
+
+/// Where the values of a column begin, and the greatest distance from there.
+#[derive(Clone, Copy)]
+struct Span {
+    base: i32,
+    greatest: u32,
+}
+
+impl Span {
+    /// A distance of 1 to 32 bits, from near 0 or from far.
+    fn random(random: &mut Random) -> Span {
+        let word = random.next();
+        let base = ((word >> 32) as u32).cast_signed();
+        Span {
+            base: base >> (word % 32),
+            greatest: u32::MAX >> (word / 32 % 32),
+        }
+    }
+}
+
+/// Values of a span, its ends among them, and one in eight null.
+fn values_of<R: Abort + AllocGlobal>(
+    rt: &R,
+    random: &mut Random,
+    span: Span,
+) -> Vec<Option<i64>> {
+    let mut values = Vec::from_elem(rt.alloc(), None, 130).expect(rt, "memory");
+    for i in 0..values.len() {
+        let word = random.next();
+        if word % 8 != 0 {
+            values[i] = Some(value(span.base, (word >> 32) as u32 & span.greatest));
+        }
+    }
+    if values.len() > 2 {
+        values[1] = Some(value(span.base, 0));
+        values[2] = Some(value(span.base, span.greatest));
+    }
+    values
+}
+
+/// Whether two numbers compare so, in the words of the operators.
+fn holds(op: CmpOp, x: i64, y: i64) -> bool {
+    match op {
+        CmpOp::Eq => x == y,
+        CmpOp::Ne => x != y,
+        CmpOp::Lt => x < y,
+        CmpOp::Le => x <= y,
+        CmpOp::Gt => x > y,
+        CmpOp::Ge => x >= y,
+    }
+}
+
+/// The truth at a row, none where it is unknown or not asked for.
+fn wanted(op: CmpOp, x: Option<i64>, y: Option<i64>, needed: bool) -> Option<bool> {
+    match (x, y) {
+        (Some(x), Some(y)) if needed => Some(holds(op, x, y)),
+        _ => None,
+    }
+}
+
+/// Compares two columns at the rows that a word chooses again and again, and each truth with that of the plain values.
+fn check_pair<R: Abort + AllocGlobal>(
+    rt: &R,
+    left: &Column,
+    right: &Column,
+    op: CmpOp,
+    chosen: u64,
+) {
+    assert!(rt; left.len() == right.len() && left.len() <= 200);
+    let mut need = Mask::filled(rt.alloc(), left.len(), false).expect(rt, "memory");
+    for q in 0..left.len().div_ceil(64) {
+        need.put_bits(64 * q, 64, chosen);
+    }
+    assert!(rt; need.len() == left.len());
+    let mut meter = Meter::new();
+    let truth = left
+        .compare_column(rt.alloc(), op, right, &need, &mut meter)
+        .expect(rt, "memory");
+    for i in 0..left.len() {
+        let truth_at = wanted(op, left.get(i), right.get(i), need.bits(i, 1) == 1);
+        let found = (truth.trues().bits(i, 1) == 1, truth.falses().bits(i, 1) == 1);
+        assert_eq!(rt; found, (truth_at == Some(true), truth_at == Some(false)));
+    }
+}
+
+/// All pairs of layouts and kinds of one pair of lists.
+fn check_layouts<R: Abort + AllocGlobal>(
+    rt: &R,
+    random: &mut Random,
+    values: &[Option<i64>],
+    others: &[Option<i64>],
+) {
+    for i in 0..64 {
+        let left = column_of(rt, values, LAYOUTS[i / 16], KINDS[i / 8 % 2]);
+        let right = column_of(rt, others, LAYOUTS[i / 2 % 4], KINDS[i % 2]);
+        let op = OPERATORS[(random.next() >> 8) as usize % 6];
+        check_pair(rt, &left, &right, op, random.next() | random.next());
+    }
+}
+
+#[test]
+fn random_pairs_in_all_layouts_and_kinds(rt: HostRuntime) {
+    let mut random = Random::new();
+    for i in 0..200 {
+        let span = Span::random(&mut random);
+        // In one case of four both columns have one encoding.
+        let other = if i % 4 == 0 {
+            span
+        } else {
+            Span::random(&mut random)
+        };
+        let values = values_of(&rt, &mut random, span);
+        let others = values_of(&rt, &mut random, other);
+        check_layouts(&rt, &mut random, &values, &others);
+    }
+}
