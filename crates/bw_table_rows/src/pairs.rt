@@ -65,11 +65,7 @@ fn no_row_no_unit(rt: HostRuntime) {
 }
 
 /// 5, -3, null, 7 beside 5, 4, 1, null in these layouts and kinds.
-fn check_worked<R: Abort + AllocGlobal>(
-    rt: &R,
-    layouts: (Layout, Layout),
-    kinds: (Kind, Kind),
-) {
+fn check_worked<R: Abort + AllocGlobal>(rt: &R, layouts: (Layout, Layout), kinds: (Kind, Kind)) {
     let left = [Some(5), Some(-3), None, Some(7)];
     let right = [Some(5), Some(4), Some(1), None];
     let a = column_of(rt, &left, layouts.0, kinds.0);
@@ -118,11 +114,7 @@ impl Span {
 }
 
 /// Values of a span, its ends among them, and one in eight null.
-fn values_of<R: Abort + AllocGlobal>(
-    rt: &R,
-    random: &mut Random,
-    span: Span,
-) -> Vec<Option<i64>> {
+fn values_of<R: Abort + AllocGlobal>(rt: &R, random: &mut Random, span: Span) -> Vec<Option<i64>> {
     let mut values = Vec::from_elem(rt.alloc(), None, 130).expect(rt, "memory");
     for i in 0..values.len() {
         let word = random.next();
@@ -177,7 +169,10 @@ fn check_pair<R: Abort + AllocGlobal>(
         .expect(rt, "memory");
     for i in 0..left.len() {
         let truth_at = wanted(op, left.get(i), right.get(i), need.bits(i, 1) == 1);
-        let found = (truth.trues().bits(i, 1) == 1, truth.falses().bits(i, 1) == 1);
+        let found = (
+            truth.trues().bits(i, 1) == 1,
+            truth.falses().bits(i, 1) == 1,
+        );
         assert_eq!(rt; found, (truth_at == Some(true), truth_at == Some(false)));
     }
 }

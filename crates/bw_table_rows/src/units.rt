@@ -139,7 +139,10 @@ fn a_range_is_one_scan_and_else_two_comparisons(rt: HostRuntime) {
 #[test]
 fn two_columns_of_one_encoding_are_scanned_side_by_side(rt: HostRuntime) {
     let same = Predicate::Compare(column(), CompareOp::Eq, column());
-    assert_eq!(rt; units(&rt, &RowCondition::Test(same)), [2 * 32, 2 * 8, 2 * 9, 2]);
+    assert_eq!(rt;
+        units(&rt, &RowCondition::Test(same)),
+        [2 * 32, 2 * 8, 2 * 9, 2]
+    );
 }
 
 #[test]

@@ -33,7 +33,15 @@ fn other_bases(rt: HostRuntime) {
     let mut out = Mask::filled(rt.alloc(), 3, false).expect(&rt, "memory");
     let (mut planes, mut others) = (left.planes(), right.planes());
     let (offset, other) = (Offset { base: 10, width: 3 }, Offset { base: 11, width: 4 });
-    add_from(&mut planes, offset, &mut others, other, CmpOp::Lt, &need, &mut out);
+    add_from(
+        &mut planes,
+        offset,
+        &mut others,
+        other,
+        CmpOp::Lt,
+        &need,
+        &mut out,
+    );
     assert_eq!(rt; out.words(), [0b101].as_slice());
     assert_eq!(rt; (planes.reads(), others.reads()), (3, 4));
 }
