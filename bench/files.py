@@ -13,7 +13,8 @@ import sys
 from common import MEGABYTE, ROUNDS, built, data_file, processor_seconds, random_value, sqlite3
 
 TABLE = "CREATE TABLE t (a INT, b INT);\n"
-MILLISECOND = 1e-3
+# So often a table is saved or opened, less once: the time of one is too short beside that of the loads.
+MORE = 8
 DEFAULTS = 4, 1_048_576
 
 
@@ -34,17 +35,23 @@ def script_file(name, *statements):
     return path
 
 
+def opened(table, times):
+    """Statements that open the table so often, under another name each time."""
+    return "".join(f"OPEN u{number} FROM '{table}';\n" for number in range(times))
+
+
 def main():
     files, rows = (*map(int, sys.argv[1:3]), *DEFAULTS[len(sys.argv) - 1 :])
     paths = [csv_file(number, rows) for number in range(files)]
     table = data_file("saved.table")
     loads = "".join(f"LOAD t FROM '{path}';\n" for path in paths)
     scripts = {
-        "nothing": script_file("nothing.sql", TABLE),
         "one": script_file("load_one.sql", TABLE, f"LOAD t FROM '{paths[0]}';\n"),
         "loads": script_file("load.sql", TABLE, loads),
         "save": script_file("save.sql", TABLE, loads, f"SAVE t TO '{table}';\n"),
-        "open": script_file("open.sql", f"OPEN u FROM '{table}';\n"),
+        "saves": script_file("saves.sql", TABLE, loads, f"SAVE t TO '{table}';\n" * (1 + MORE)),
+        "open": script_file("open.sql", opened(table, 1)),
+        "opens": script_file("opens.sql", opened(table, 1 + MORE)),
     }
     runs = {name: ([built("bitcol"), "--stop"], source) for name, source in scripts.items()}
     if program := sqlite3():
@@ -61,8 +68,9 @@ def main():
     held = memory["one"] * MEGABYTE - paths[0].stat().st_size
     print(f"LOAD of one file: at most {held / (rows * 2):.0f} bytes a value at its peak, beside those of the file")
     size = table.stat().st_size / MEGABYTE
-    for what, took in ("SAVE", seconds["save"] - seconds["loads"]), ("OPEN", seconds["open"] - seconds["nothing"]):
-        print(f"{what}: {size / max(took, MILLISECOND):.0f} MB of file a second")
+    for what in "save", "open":
+        took = (seconds[f"{what}s"] - seconds[what]) / MORE
+        print(f"{what.upper()}: {size / took:.0f} MB of file a second, {took / values * 1e9:.1f} ns a value")
 
 
 if __name__ == "__main__":

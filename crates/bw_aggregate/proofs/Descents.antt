@@ -117,31 +117,6 @@ module _ (held : List ℕ) (i found : ℕ) (counted : (ℕ → Bool) → ℕ) (l
       ∙ count_same (λ c. (front (i + 1) c == found) && has_bit i bit c) (λ c. front i c == next found bit) held
       (λ c. turned (front (i + 1) c == found) (has_bit i bit c) ∙ sym (begins_next i found c bit))
 
-  -- where none goes on with a bit, all go on with the other
-  pub passed : (bit : Bool) → begin_count held i (next found bit) ≡ 0 → (p : ℕ → Bool) → counted p ≡ count_by (λ c. (front i c == next found (not bit)) && p c) held
-  passed bit none p =
-      let here = λ (c : ℕ). (front i c == next found bit) && p c in
-      let there = λ (c : ℕ). (front i c == next found (not bit)) && p c in
-      let fewer : count_by here held ≤ begin_count held i (next found bit) = count_fewer (λ c. front i c == next found bit) p held in
-      let split = count_split here there (λ c. (front (i + 1) c == found) && p c) held
-      (λ c. parts (front (i + 1) c == found) (bit_of c i) (p c) bit (begins_next i found c bit) (begins_next i found c (not bit))) in
-      omega (arith, left p, none, fewer, split)
-    where
-      parts : (a b p bit : Bool) {x y : Bool} → x ≡ ((if bit then b else not b) && a) → y ≡ ((if not bit then b else not b) && a)
-          → ◌≡◌ {A = ℕ} (cond (a && p) 1 0) (cond (x && p) 1 0 + cond (y && p) 1 0)
-      parts true true true true e f = rw (e, f) refl
-      parts true true true false e f = rw (e, f) refl
-      parts true true false true e f = rw (e, f) refl
-      parts true true false false e f = rw (e, f) refl
-      parts true false true true e f = rw (e, f) refl
-      parts true false true false e f = rw (e, f) refl
-      parts true false false true e f = rw (e, f) refl
-      parts true false false false e f = rw (e, f) refl
-      parts false true p true e f = rw (e, f) refl
-      parts false true p false e f = rw (e, f) refl
-      parts false false p true e f = rw (e, f) refl
-      parts false false p false e f = rw (e, f) refl
-
 -- above the top plane all codes begin with nothing
 module _ (k : ℕ) (held : List ℕ) (begins : BeginsAll k held) where
   pub all_begin : (p : ℕ → Bool) → count_by p held ≡ count_by (λ c. (front k c == 0) && p c) held
@@ -170,33 +145,6 @@ module _ (k : ℕ) (held : List ℕ) (begins : BeginsAll k held) where
 
   pub rest_start : (n : ℕ) → n < length held → IsRest held n k n 0
   rest_start n low = descent_start held n k begins.below low
-
-  pub end_start : (last : Bool) → 0 < length held → IsRest held (end_of last (length held)) k (end_of last (begin_count held k 0)) 0
-  end_start true some = rw begin_all (rest_start (length held - 1) (omega (arith, some)))
-  end_start false some = rest_start 0 some
-
--- the first of the codes, or the last, goes on with the bit that is wanted where one does, and with the other where none does
-module _ (held : List ℕ) (i found : ℕ) where
-  pub end_kept : (last : Bool) → 0 < begin_count held i (next found last) → IsRest held (end_of last (length held)) (i + 1) (end_of last (begin_count held (i + 1) found)) found
-      → IsRest held (end_of last (length held)) i (end_of last (begin_count held i (next found last))) (next found last)
-  end_kept true some d =
-      let parts = both held 0 i 0 found in
-      let rest : begin_count held (i + 1) found - 1 - begin_count held i (found * 2) ≡ begin_count held i (found * 2 + 1) - 1 = omega (arith, parts, some) in
-      subst (λ k. IsRest held (length held - 1) i k (found * 2 + 1)) rest
-      (go_one held (length held - 1) i (begin_count held (i + 1) found - 1) found d (omega (arith, parts, some)))
-  end_kept false some d = go_zero held 0 i 0 found d some
-
-  pub end_passed : (last : Bool) → begin_count held i (next found last) ≡ 0 → IsRest held (end_of last (length held)) (i + 1) (end_of last (begin_count held (i + 1) found)) found
-      → IsRest held (end_of last (length held)) i (end_of last (begin_count held i (next found (not last)))) (next found (not last))
-  end_passed true none d =
-      let parts = both held 0 i 0 found in
-      let there = d.there in
-      let rest : begin_count held (i + 1) found - 1 ≡ begin_count held i (found * 2) - 1 = omega (arith, parts, none) in
-      subst (λ k. IsRest held (length held - 1) i k (found * 2)) rest
-      (go_zero held (length held - 1) i (begin_count held (i + 1) found - 1) found d (omega (arith, parts, none, there)))
-  end_passed false none d =
-      let rest : 0 - begin_count held i (found * 2) ≡ 0 = omega (arith, none) in
-      subst (λ k. IsRest held 0 i k (found * 2 + 1)) rest (go_one held 0 i 0 found d (omega (arith, none)))
 
 -- a code that was found is small
 pub small_code : (found i : ℕ) → (found + 1) * 2 ^ i ≤ 2 ^ 64 → found < 2 ^ 64

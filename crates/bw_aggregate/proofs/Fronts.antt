@@ -11,7 +11,7 @@ use Rattle.bw_aggregate.specs.Descents.{front}
 use Rattle.bw_aggregate.proofs.Counting.{count_cons}
 use Rattle.bw_aggregate.proofs.Descents.{front-half}
 
-front-more : (i code : ℕ) → front i code ≡ 2 * front (i + 1) code + cond (bit_of code i) 1 0
+pub front-more : (i code : ℕ) → front i code ≡ 2 * front (i + 1) code + cond (bit_of code i) 1 0
 front-more i code =
     let bit : ◌≡◌ {A = ℕ} (cond (bit_of code i) 1 0) (bit_at code i) = grind (arith, bit_at-lt code i) in
     let half = front-half i code in

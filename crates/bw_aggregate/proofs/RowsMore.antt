@@ -1,15 +1,15 @@
 -- Sums of rows by runs: a row more, and a run of which no row is in.
-use Rattle.std.proofs.Common.{Bool, List, None, Option, [], ap, arith, drop, false, get_or, if◌then◌else◌, length, ltb, pos, refl, suc, sum, sym, take, true, w32, w64, zero, ℕ, ℤ, ◌&&◌, ◌*◌, ◌+◌, ◌+ℤ◌, ◌<◌, ◌^◌, ◌≡◌, ◌≤◌, ◌∙◌, ◌∷◌}
+use Rattle.std.proofs.Common.{Bool, List, None, Option, [], ap, arith, drop, false, get_or, if◌then◌else◌, length, length-drop, ltb, pos, refl, suc, sum, sym, take, true, w32, w64, zero, ℕ, ℤ, ◌&&◌, ◌*◌, ◌+◌, ◌+ℤ◌, ◌-◌, ◌<◌, ◌^◌, ◌≡◌, ◌≤◌, ◌∙◌, ◌∷◌}
 use Rattle.std.proofs.lemmas.Int.{ints}
 use Rattle.std.proofs.lemmas.Bool.Decides.{nat_tests}
 use Rattle.std.proofs.lemmas.List.{get_or-drop, get_or-take}
-use Rattle.std.proofs.lemmas.List.Sums.{sum_by-cons}
+use Rattle.std.proofs.lemmas.List.Sums.{sum_by-cons, sum_by_more}
 use Rattle.std.specs.Int.{w128}
 use Rattle.std.specs.List.{items_where_true}
 use Rattle.std.specs.Prelude.{FitsSigned, unsigned_abs, unwrap_or}
 use mir.Val.{of_z, to_z}
 use Rattle.bw_mask.specs.Masks.{bit_of}
-use Rattle.bw_mask.proofs.Bits.{bit_of_zero}
+use Rattle.bw_mask.proofs.Bits.{bit_of_ones, bit_of_zero}
 use Rattle.bw_column.specs.Values.{value_at}
 use Rattle.bw_aggregate.specs.Chosen.{value_in}
 use Rattle.bw_aggregate.specs.Runs.{IsRun, code_sum, value_total}
@@ -85,6 +85,22 @@ module _ (rows : List Bool) (at : ℕ) where
       let out : get_or rows (at + n) false ≡ false = run.bits n (omega arith) ∙ bit_of_zero n in
       let none : value_in rows all (at + n) ≡ pos 0 = rw out refl in
       ap (value_total rows all) place ∙ omega (arith, ints, more, none, total_none all n same shorter)
+
+-- a run of which all rows are in
+pub sum_whole : (rows : List Bool) (all : List ℕ) (at n : ℕ) → n ≤ 64 → length rows ≡ length all → IsRun rows at n (2 ^ 64 - 1) → code_sum rows all (at + n) ≡ code_sum rows all at + sum (take n (drop at all))
+sum_whole rows all at zero few same run = let e : at + zero ≡ at = omega arith in ap (code_sum rows all) e ∙ omega arith
+sum_whole rows all at (suc n) few same run =
+    let shorter : IsRun rows at n (2 ^ 64 - 1) = record { inside = omega (arith, run.inside); bits = λ i h. run.bits i (omega (arith, h)) } in
+    let place : at + suc n ≡ suc (at + n) = omega arith in
+    let more = sum_more rows all (at + n) (omega (arith, run.inside)) (omega (arith, run.inside, same)) in
+    let set : bit_of (2 ^ 64 - 1) n ≡ true = let ones = bit_of_ones 64 n (omega arith) in let low : ltb n 64 ≡ true = grind (arith, nat_tests, few) in ones ∙ low in
+    let is_in : get_or rows (at + n) false ≡ true = run.bits n (omega arith) ∙ set in
+    let code : code_in rows all (at + n) ≡ get_or all (at + n) 0 = rw is_in refl in
+    let d : suc n ≡ n + 1 = omega arith in
+    let item = sum_by_more (λ (c : ℕ). c) (drop at all) n 0 (omega (arith, length-drop at all, run.inside, same)) in
+    let read = get_or-drop at all n 0 in
+    let last : sum (take (suc n) (drop at all)) ≡ sum (take n (drop at all)) + get_or all (at + n) 0 = ap (λ m. sum (take m (drop at all))) d ∙ omega (arith, item, read) in
+    ap (code_sum rows all) place ∙ omega (arith, more, code, last, sum_whole rows all at n (omega (arith, few)) same shorter)
 
 pub few_in : (b : Bool) (code : ℕ) → code < 2 ^ 32 → (if b then code else 0) ≤ 2 ^ 32
 few_in true code h = omega (arith, h)

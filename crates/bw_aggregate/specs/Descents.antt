@@ -1,6 +1,8 @@
 -- The descent to entry n of some sorted codes, from the top plane down (O'Neil and Quass, SIGMOD 1997).
-use Rattle.std.specs.Prelude.{Bool, List, All, count_by, if◌then◌else◌, nat_le, nat_lt, sum, ℕ, ◌&&◌, ◌*◌, ◌+◌, ◌-◌, ◌/◌, ◌<◌, ◌==◌, ◌^◌, ◌≡◌, ◌≤◌}
+use Rattle.std.specs.Prelude.{Bool, List, All, count_by, if◌then◌else◌, nat_le, nat_lt, ℕ, ◌&&◌, ◌*◌, ◌+◌, ◌-◌, ◌/◌, ◌<◌, ◌==◌, ◌^◌, ◌≡◌, ◌≤◌}
 use Rattle.bw_aggregate.specs.Left.{left_count}
+use Rattle.bw_aggregate.specs.declared.end.End.{End}
+use Rattle.bw_aggregate.specs.declared.end.End.TheVariants.{Greatest, Least}
 use Rattle.bw_aggregate.specs.declared.segments.Left.{Left}
 
 -- the code without its lowest i bits
@@ -20,9 +22,6 @@ pub record BeginsAll (k : ℕ) (held : List ℕ) : Type 0 where
   pub below : All (λ code. code < 2 ^ k) held
   pub narrow : k ≤ 64
 
-abbrev pub IsSmall : List ℕ → Type 0
-IsSmall held = sum held < 2 ^ 89
-
 -- how many codes begin with the bits found so far, above the lowest i bits
 abbrev pub begin_count : List ℕ → ℕ → ℕ → ℕ
 begin_count held i found = count_by (λ c. front i c == found) held
@@ -40,8 +39,9 @@ pub record LeadsTo (codes held : List ℕ) (n i : ℕ) (rows : Left) (nth found 
   pub rest : IsRest held n i nth found
 
 -- the first entry of so many, or the last
-abbrev pub end_of : Bool → ℕ → ℕ
-end_of last count = if last then count - 1 else 0
+abbrev pub end_of : End → ℕ → ℕ
+end_of Least count = 0
+end_of Greatest count = count - 1
 
 -- n codes at most are below, more than n are not above, and it is one of them
 pub record IsNthCode (codes : List ℕ) (n code : ℕ) : Type 0 where

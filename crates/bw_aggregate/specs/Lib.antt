@@ -1,8 +1,10 @@
 pub mod Chosen
+pub mod Descending
 pub mod Descents
+pub mod Ends
 pub mod Left
 pub mod Marks
+pub mod PlaneSums
 pub mod Planes
 pub mod Runs
 pub mod Summaries
-pub mod Walks

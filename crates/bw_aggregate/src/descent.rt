@@ -30,7 +30,7 @@ pub(crate) fn with_bit(code: u64, bit: bool) -> u64
 }
 
 impl Descent {
-    ghost use Rattle.bw_aggregate.specs.Walks.{IsDescent};
+    ghost use Rattle.bw_aggregate.specs.Descending.{IsDescent};
 
     /// Above the top plane, where all the rows are left.
     pub(crate) fn from_top(left: Left, count: usize, nth: usize) -> Descent

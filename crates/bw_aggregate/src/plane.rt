@@ -1,10 +1,26 @@
 //! Where a plane is read from: in place, or from a copy.
 
-ghost use Rattle.std.specs.Prelude.{[], slice_index_or, ℕ, ◌*◌, ◌+◌, ◌<◌, ◌≡◌};
-ghost use Rattle.bw_mask.specs.Masks.{row_in};
+ghost use Rattle.std.specs.Prelude.{[], slice_index_or, ℕ, ◌*◌, ◌+◌, ◌-◌, ◌<◌, ◌^◌, ◌≡◌, ◌≤◌};
+ghost use Rattle.bw_mask.specs.Masks.{bit_of, row_in};
+ghost use Rattle.bw_code.specs.Columns.{code_at, count};
+ghost use Rattle.bw_vertical.specs.Planes.{segments_of};
 ghost use Rattle.bw_aggregate.specs.Planes.{is_in};
 
 use crate::rows::rows_at;
+use bw_code::CodeColumn;
+use bw_vertical::VerticalColumn;
+
+/// Plane i of segment q.
+pub(crate) fn plane_at(codes: &VerticalColumn, q: usize, i: usize) -> &[u64; 4]
+    requires there { q < segments_of (count codes.now) }
+    requires within { i < codes.now.width }
+    requires few { count codes.now ≤ 2 ^ 24 }
+    requires narrow { codes.now.width ≤ 32 }
+    ensures { (j : ℕ) → j < 256 → row_in result.now j ≡ bit_of (code_at codes.now (256 * q + j)) (codes.now.width - 1 - i) }
+{
+    let count = (codes.width() as usize - i / 4 * 4).min(4);
+    &codes.group(i / 4)[q * count + i % 4]
+}
 
 /// A plane among those of its group: of each segment, the one at place `at` of `count`.
 #[derive(Clone, Copy)]

@@ -1,6 +1,6 @@
 //! 256 rows as four words of 64.
 
-ghost use Rattle.std.specs.Prelude.{if◌then◌else◌, length, nat_lt, not, slice_index, ℕ, ◌&&◌, ◌*◌, ◌+◌, ◌<◌, ◌≡◌, ◌≤◌};
+ghost use Rattle.std.specs.Prelude.{if◌then◌else◌, length, nat_lt, not, slice_index, true, ℕ, ◌&&◌, ◌*◌, ◌+◌, ◌<◌, ◌≡◌, ◌≤◌};
 ghost use Rattle.bw_mask.specs.Masks.{row_in};
 ghost use Rattle.bw_aggregate.specs.Marks.{marked};
 
@@ -70,4 +70,12 @@ pub(crate) fn has_row(rows: &[u64]) -> bool
     ensures { result ≡ nat_lt 0 (marked 256 (row_in rows.now)) }
 {
     rows[0] | rows[1] | rows[2] | rows[3] != 0
+}
+
+/// Whether all 256 rows are there.
+pub(crate) fn has_all(rows: &[u64]) -> bool
+    requires { length rows.now ≡ 4 }
+    ensures { result ≡ true → (j : ℕ) → j < 256 → row_in rows.now j ≡ true }
+{
+    rows[0] & rows[1] & rows[2] & rows[3] == u64::MAX
 }

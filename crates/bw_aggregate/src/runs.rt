@@ -1,24 +1,25 @@
 //! Sums over runs of 64 rows, for layouts and kinds whose planes don't tell them, or cost more.
 
-ghost use Rattle.std.specs.Prelude.{All, Bool, FitsSigned, List, Option, drop, if◌then◌else◌, length, pos, slice_index, take, unsigned_abs, unwrap_or, ℕ, ℤ, ◌*◌, ◌+◌, ◌+ℤ◌, ◌<◌, ◌^◌, ◌≡◌, ◌≤◌};
+ghost use Rattle.std.specs.Prelude.{All, Bool, FitsSigned, List, Option, drop, if◌then◌else◌, length, pos, slice_index, sum, take, unsigned_abs, unwrap_or, ℕ, ℤ, ◌*◌, ◌+◌, ◌+ℤ◌, ◌<◌, ◌^◌, ◌≡◌, ◌≤◌};
 ghost use Rattle.std.specs.Int.{w32};
 ghost use Rattle.std.specs.List.{items_where_true};
 ghost use Rattle.bw_mask.specs.Masks.{bit_of, len};
-ghost use Rattle.bw_code.specs.Columns.{count};
+ghost use Rattle.bw_code.specs.Columns.{Fit, count};
+ghost use Rattle.bw_code.specs.Encodings.{width};
 ghost use Rattle.bw_column.specs.Codes.{codes_for};
 ghost use Rattle.bw_column.specs.Values.{IsNullOrInteger, value_at};
 ghost use Rattle.bw_model.specs.SetFunctions.{total};
 ghost use Rattle.bw_aggregate.specs.Chosen.{chosen};
-ghost use Rattle.bw_aggregate.specs.Runs.{IsRun, code_sum, value_total};
-ghost use Rattle.bw_aggregate.specs.Walks.{IsCodeSum};
+ghost use Rattle.bw_aggregate.specs.Runs.{IsCodeSum, IsRun, code_sum, value_total};
 
+use crate::plane_sums::sum_by_planes;
 use bw_code::CodeColumn;
 use bw_column::{Column, Storage};
 use bw_mask::Mask;
 
 /// Whether row i of a run is in.
 #[tactic(auto, using(bw_mask::proofs::Bits::bit_test))]
-fn is_in(rows: u64, i: usize) -> bool
+pub(crate) fn is_in(rows: u64, i: usize) -> bool
     requires { i < 64 }
     ensures { result ≡ bit_of rows i }
 {
@@ -49,6 +50,20 @@ fn sum_in(codes: &[u64], rows: u64) -> u64
     sum
 }
 
+/// The sum of all codes of a run.
+fn sum_all(codes: &[u64]) -> u64
+    requires few { length codes.now ≤ 64 }
+    requires narrow { All (λ code. code < 2 ^ 32) codes.now }
+    ensures is { result ≡ sum codes.now }
+    ensures small { result ≤ 64 * 2 ^ 32 }
+{
+    let mut sum = 0;
+    'codes: for i in 0..codes.len() {
+        sum += codes[i];
+    }
+    sum
+}
+
 /// The sum of the codes of those of n rows from `at` on that are in. Where none is, no code is looked at.
 fn sum_at<C: CodeColumn>(column: &C, at: usize, n: usize, rows: u64) -> u64
     requires narrow { (C.seen column.now).width ≤ 32 }
@@ -64,7 +79,11 @@ fn sum_at<C: CodeColumn>(column: &C, at: usize, n: usize, rows: u64) -> u64
     let mut run = [0; 64];
     let codes = &mut run[..n];
     column.read(at, codes);
-    sum_in(codes, rows)
+    if rows == u64::MAX {
+        sum_all(codes)
+    } else {
+        sum_in(codes, rows)
+    }
 }
 
 /// The sum of the codes of the rows, read in runs.
@@ -82,14 +101,15 @@ fn sum_of_codes<C: CodeColumn>(column: &C, rows: &Mask) -> u128
     sum
 }
 
-/// The sum of the codes of the rows, a null's being 0.
+/// The sum of the codes of the rows, a null's being 0. Planes tell it by counts.
 pub(crate) fn code_sum(column: &Column, rows: &Mask) -> u128
-    requires { len rows.now ≡ length column.now.values }
+    requires len { len rows.now ≡ length column.now.values }
+    requires fit { Fit (width column.now.encoding) (codes_for column.now.encoding column.now.values) }
     ensures { IsCodeSum (items_where_true rows.now.rows (codes_for column.now.encoding column.now.values)) result }
 {
     match column.storage() {
         Storage::P(codes) => sum_of_codes(codes, rows),
-        Storage::V(codes) => sum_of_codes(codes, rows),
+        Storage::V(codes) => sum_by_planes(codes, rows),
         Storage::H(codes) => sum_of_codes(codes, rows),
         Storage::S(codes) => sum_of_codes(codes, rows),
     }

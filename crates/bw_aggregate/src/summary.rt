@@ -1,20 +1,19 @@
 //! What set functions say of a column's values in some rows.
 
-ghost use Rattle.std.specs.Prelude.{IfOk, IfSome, Some, length, option_map, true, ◌<◌, ◌^◌, ◌||◌, ◌≡◌, ◌≤◌};
-ghost use Rattle.std.specs.List.{items_where_true};
-ghost use Rattle.bw_code.specs.Encodings.{IsCode, value_of};
-ghost use Rattle.bw_column.specs.Codes.{codes_for};
+ghost use Rattle.std.specs.Prelude.{IfOk, Some, length, slice_get, true, ◌<◌, ◌||◌, ◌≡◌, ◌≤◌, ◌^◌};
 ghost use Rattle.bw_mask.specs.Masks.{len};
-ghost use Rattle.bw_model.specs.SetFunctions.{sum};
-ghost use Rattle.bw_aggregate.specs.Chosen.{chosen};
+ghost use Rattle.bw_model.specs.SetFunctions.{median, sorted, sum};
+ghost use Rattle.bw_aggregate.specs.Chosen.{AreKnownRows, chosen};
+ghost use Rattle.bw_aggregate.specs.Descents.{end_of};
 ghost use Rattle.bw_aggregate.specs.Summaries.{IsSummary};
-ghost use Rattle.bw_aggregate.specs.Walks.{IsCodeSum};
 
-use crate::known::known_rows;
-use crate::planes::{found_by_planes, segments_of};
+use crate::end::End;
+use crate::ends::end_of_values;
+use crate::known::{known_count, known_rows};
+use crate::middle::median_of;
 use crate::runs::{code_sum, sum_of_values};
 use crate::totals::based_total;
-use bw_code::{Encoding, Layout};
+use bw_code::Encoding;
 use bw_column::Column;
 use bw_mask::Mask;
 use std::alloc::{AllocError, Global};
@@ -37,11 +36,11 @@ impl Asked {
         median: false,
     };
 
-    /// Whether anything but the number is asked for.
-    pub(crate) fn asks(&self) -> bool
-        ensures { result ≡ (((self.now.sum || self.now.least) || self.now.greatest) || self.now.median) }
+    /// Whether an entry of the sorted values is asked for.
+    fn asks_for_entries(&self) -> bool
+        ensures { result ≡ ((self.now.least || self.now.greatest) || self.now.median) }
     {
-        self.sum || self.least || self.greatest || self.median
+        self.least || self.greatest || self.median
     }
 }
 
@@ -78,97 +77,90 @@ pub fn summarize(
     requires { len rows.now ≡ length column.now.values }
     ensures { IfOk result (IsSummary asked (chosen column.now rows.now)) }
 {
-    let known = known_rows(column, rows)?;
-    let walked = Asked {
-        sum: asked.sum && adds_by_planes(column),
-        ..asked
-    };
-    let count = known.count();
+    let count = known_count(column, rows);
     if count == 0 {
         return Ok(Summary::OF_NONE);
     }
-    let encoding = column.encoding();
-    let segments = segments_of(column.len());
-    let found = found_by_planes(alloc, column, &known, segments, walked)?;
-    match found {
-        Some(found) => Ok(Summary {
+    let sum = sum_told(column, rows, count, asked.sum);
+    if !asked.asks_for_entries() {
+        return Ok(Summary {
             count,
-            sum: sum_told(column, &known, count, asked.sum, found.sum),
-            least: value_told(encoding, found.least),
-            greatest: value_told(encoding, found.greatest),
-            median: value_told(encoding, found.median),
-        }),
-        None => Ok(Summary::OF_NONE),
+            sum,
+            ..Summary::OF_NONE
+        });
     }
-}
-
-/// Whether the sum is told by counts of planes. A dictionary's codes don't tell it, and codes that lie otherwise are added
-/// up for less than copies of their planes cost.
-fn adds_by_planes(column: &Column) -> bool {
-    match column.encoding() {
-        Encoding::Offset(_) => column.layout() == Layout::V,
-        Encoding::Dictionary(_) => false,
-    }
+    let known = known_rows(column, rows)?;
+    let median = median_told(alloc, column, &known, count, asked.median)?;
+    Ok(Summary {
+        count,
+        sum,
+        least: end_told(column, &known, End::Least, asked.least),
+        greatest: end_told(column, &known, End::Greatest, asked.greatest),
+        median,
+    })
 }
 
 /// The sum of the values of the rows, where it is asked for.
-fn sum_told(
-    column: &Column,
-    rows: &Mask,
-    count: usize,
-    asked: bool,
-    codes: Option<u128>,
-) -> Option<i128>
+fn sum_told(column: &Column, rows: &Mask, count: usize, asked: bool) -> Option<i128>
     requires len { len rows.now ≡ length column.now.values }
     requires few { count ≤ 2 ^ 24 }
     requires count { count ≡ length (chosen column.now rows.now) }
     requires some { 0 < count }
-    requires codes { IfSome codes (IsCodeSum (items_where_true rows.now.rows (codes_for column.now.encoding column.now.values))) }
     ensures { asked ≡ true → result ≡ sum (chosen column.now rows.now) }
 {
     if asked {
-        Some(sum_from(column, rows, count, codes))
+        Some(sum_from(column, rows, count))
     } else {
         None
     }
 }
 
-/// The sum of the values of the rows, of which there is one at least. That of their codes may be known.
-fn sum_from(column: &Column, rows: &Mask, count: usize, codes: Option<u128>) -> i128
+/// The sum of the values of the rows, of which there is one at least. A NULL's code is 0, so that the sum of the codes is that of
+/// the values without their bases; a dictionary's codes don't tell it.
+fn sum_from(column: &Column, rows: &Mask, count: usize) -> i128
     requires len { len rows.now ≡ length column.now.values }
     requires few { count ≤ 2 ^ 24 }
     requires count { count ≡ length (chosen column.now rows.now) }
     requires some { 0 < count }
-    requires codes { IfSome codes (IsCodeSum (items_where_true rows.now.rows (codes_for column.now.encoding column.now.values))) }
     ensures { Some result ≡ sum (chosen column.now rows.now) }
 {
     match column.encoding() {
-        Encoding::Offset(offset) => {
-            based_total(offset.base, count, known_or_read(column, rows, codes))
-        }
+        Encoding::Offset(offset) => based_total(offset.base, count, code_sum(column, rows)),
         Encoding::Dictionary(_) => sum_of_values(column, rows),
     }
 }
 
-/// The sum of the codes of the rows, if it isn't known yet.
-fn known_or_read(column: &Column, rows: &Mask, codes: Option<u128>) -> u128
-    requires len { len rows.now ≡ length column.now.values }
-    requires codes { IfSome codes (IsCodeSum (items_where_true rows.now.rows (codes_for column.now.encoding column.now.values))) }
-    ensures { IsCodeSum (items_where_true rows.now.rows (codes_for column.now.encoding column.now.values)) result }
+/// The least value of the rows, or the greatest, where it is asked for.
+fn end_told(column: &Column, known: &Mask, end: End, asked: bool) -> Option<i64>
+    requires known { AreKnownRows column.now known.now known.now }
+    requires len { len known.now ≡ length column.now.values }
+    requires some { 0 < length (chosen column.now known.now) }
+    ensures { asked ≡ true → result ≡ slice_get (sorted (chosen column.now known.now)) (end_of end (length (chosen column.now known.now))) }
 {
-    match codes {
-        Some(codes) => codes,
-        None => code_sum(column, rows),
+    if asked {
+        Some(end_of_values(column, known, end))
+    } else {
+        None
     }
 }
 
-/// The value of a code that was found.
-fn value_told(encoding: &Encoding, code: Option<u64>) -> Option<i64>
-    requires { IfSome code (IsCode encoding.now) }
-    ensures { result ≡ option_map (value_of encoding.now) code }
+/// The lower median of the values of the rows, where it is asked for.
+fn median_told(
+    alloc: Global,
+    column: &Column,
+    known: &Mask,
+    count: usize,
+    asked: bool,
+) -> Result<Option<i64>, AllocError>
+    requires known { AreKnownRows column.now known.now known.now }
+    requires len { len known.now ≡ length column.now.values }
+    requires count { count ≡ length (chosen column.now known.now) }
+    requires some { 0 < count }
+    ensures { IfOk result (λ value. asked ≡ true → value ≡ median (chosen column.now known.now)) }
 {
-    match code {
-        Some(code) => Some(encoding.decode(code)),
-        None => None,
+    if asked {
+        Ok(Some(median_of(alloc, column, known, count)?))
+    } else {
+        Ok(None)
     }
 }

@@ -1,0 +1,144 @@
+-- The nearest of some codes, by the nearest of parts.
+use Rattle.std.proofs.Common.{Bool, List, ap, arith, cond, count_by, false, get_or, if◌then◌else◌, inl, inr, length, min, nat_le, nat_lt, refl, subst, sym, true, ℕ, ◌&&◌, ◌+◌, ◌-◌, ◌<◌, ◌==◌, ◌≡◌, ◌≤◌, ◌∙◌}
+use Rattle.std.proofs.lemmas.Bool.{cases_lt, true≢false}
+use Rattle.std.proofs.lemmas.Bool.Decides.{nat_tests}
+use Rattle.std.proofs.lemmas.List.{take_all}
+use Rattle.std.proofs.lemmas.List.Sums.{count_by-le-length}
+use Rattle.std.specs.List.{items_where_true}
+use Rattle.std.specs.Prelude.{All}
+use Rattle.bw_aggregate.specs.Descents.{IsNthCode, end_of}
+use Rattle.bw_aggregate.specs.Ends.{IsNearest, distance}
+use Rattle.bw_aggregate.specs.Marks.{marked}
+use Rattle.bw_aggregate.specs.declared.end.End.{End}
+use Rattle.bw_aggregate.specs.declared.end.End.TheVariants.{Greatest, Least}
+use Rattle.bw_aggregate.proofs.Counting.{count_all, count_split}
+use Rattle.bw_aggregate.proofs.LeftRows.{marked_codes}
+use Rattle.bw_aggregate.proofs.Marks.{marked_add, marked_more, marked_none, marked_same, marked_zero}
+use Rattle.bw_aggregate.proofs.Parts.{upto_split}
+
+pub nearest_start : (f : ℕ → Bool) (code : ℕ → ℕ) (end : End) (top best : ℕ) → IsNearest 0 f code end top best best
+nearest_start f code end top best = record { upto = omega arith; none = λ j h. absurd (omega (arith, h)); there = λ h. absurd (omega (arith, h)) }
+
+-- of m rows, and then of n more
+pub nearest_more : (m n : ℕ) (f g : ℕ → Bool) (code more : ℕ → ℕ) (end : End) (top start a b : ℕ) → ((j : ℕ) → j < n → g j ≡ f (m + j)) → ((j : ℕ) → j < n → more j ≡ code (m + j))
+    → IsNearest m f code end top start a → IsNearest n g more end top a b → IsNearest (m + n) f code end top start b
+nearest_more m n f g code more end top start a b rows codes first then = record {
+  upto = omega (arith, first.upto, then.upto);
+  none = λ j h is_in.
+      elim (cases_lt j m) [
+        | inl under ↦ omega (arith, first.none j under is_in, then.upto)
+        | inr over ↦
+            let place : m + (j - m) ≡ j = omega (arith, over) in
+            let within : j - m < n = omega (arith, h, over) in
+            let here : g (j - m) ≡ true = rows (j - m) within ∙ ap f place ∙ is_in in
+            let same : more (j - m) ≡ code j = codes (j - m) within ∙ ap code place in
+            subst (λ c. b ≤ distance end top c) same (then.none (j - m) within here)
+      ];
+  there = λ h.
+      let hit = λ (x r : ℕ). f r && (distance end top (code r) == x) in
+      elim (cases_lt b a) [
+        | inl less ↦
+            let part : marked n (λ j. g j && (distance end top (more j) == b)) ≡ marked n (λ j. hit b (m + j)) =
+            marked_same n (λ j. g j && (distance end top (more j) == b)) (λ j. hit b (m + j)) (λ j k. rw (rows j k, codes j k) refl) in
+            omega (arith, marked_add m n (hit b), part, then.there less)
+        | inr same ↦
+            let e : a ≡ b = omega (arith, same, then.upto) in
+            let earlier : 0 < marked m (hit a) = first.there (omega (arith, h, e)) in
+            let moved : marked m (hit a) ≡ marked m (hit b) = ap (λ x. marked m (hit x)) e in
+            omega (arith, marked_add m n (hit b), earlier, moved)
+      ];
+}
+
+-- of one row more
+pub nearest_one : (n : ℕ) (f : ℕ → Bool) (code : ℕ → ℕ) (end : End) (top start a b : ℕ) → b ≡ (if f n then min a (distance end top (code n)) else a)
+    → IsNearest n f code end top start a → IsNearest (n + 1) f code end top start b
+nearest_one n f code end top start a b is first =
+    nearest_more n 1 f (λ j. f n) code (λ j. code n) end top start a b
+    (λ j h. let e : n ≡ n + j = omega (arith, h) in ap f e) (λ j h. let e : n ≡ n + j = omega (arith, h) in ap code e) first (one (f n) refl is)
+  where
+    one : (m : Bool) → f n ≡ m → b ≡ (if m then min a (distance end top (code n)) else a) → IsNearest 1 (λ j. f n) (λ j. code n) end top a b
+    one true at is = record {
+      upto = omega (arith, is);
+      none = λ j h t. omega (arith, is);
+      there = λ h.
+          let hit : ((distance end top (code n)) == b) ≡ true = grind (arith, nat_tests, is, h) in
+          let here : (f n && (distance end top (code n) == b)) ≡ true = rw (at, hit) refl in
+          let more = marked_more 0 (λ j. f n && (distance end top (code n) == b)) in
+          let counted : ◌≡◌ {A = ℕ} (cond (f n && (distance end top (code n) == b)) 1 0) 1 = ap (λ x. cond {A = ℕ} x 1 0) here in
+          omega (arith, more, counted);
+    }
+    one false at is = record {
+      upto = omega (arith, is);
+      none = λ j h t. absurd (true≢false (sym t ∙ at));
+      there = λ h. absurd (omega (arith, h, is));
+    }
+
+-- where no row from n on is in
+pub nearest_cut : (m n : ℕ) (f : ℕ → Bool) (code : ℕ → ℕ) (end : End) (top start a : ℕ) → n ≤ m → ((j : ℕ) → n ≤ j → f j ≡ false) → IsNearest m f code end top start a → IsNearest n f code end top start a
+nearest_cut m n f code end top start a fewer out nearest = record {
+  upto = nearest.upto;
+  none = λ j h. nearest.none j (omega (arith, h, fewer));
+  there = λ h.
+      let hit = λ (r : ℕ). f r && (distance end top (code r) == a) in
+      let e : n + (m - n) ≡ m = omega (arith, fewer) in
+      let parts : marked m hit ≡ marked n hit + marked (m - n) (λ j. hit (n + j)) = ap (λ k. marked k hit) (sym e) ∙ marked_add n (m - n) hit in
+      let rest : marked (m - n) (λ j. hit (n + j)) ≡ 0 = marked_none (m - n) (λ j. hit (n + j)) (λ j k. rw (out (n + j) (omega arith)) refl) in
+      omega (arith, parts, rest, nearest.there h);
+}
+
+-- so is the code at the end
+module _ (rows : List Bool) (codes : List ℕ) (same : length rows ≡ length codes) (top : ℕ) (low : All (λ c. c ≤ top) codes) where
+  abbrev held : List ℕ
+  held = items_where_true rows codes
+
+  counted : (p : ℕ → Bool) → marked (length codes) (λ r. get_or rows r false && p (get_or codes r 0)) ≡ count_by p held
+  counted p = marked_codes (length codes) rows codes p same ∙ rw (take_all (length codes) rows (omega (arith, same)), take_all (length codes) codes (omega arith)) refl
+
+  -- tests that say the same of the codes of rows that are in
+  alike : (p q : ℕ → Bool) → ((r : ℕ) → r < length codes → get_or rows r false ≡ true → p (get_or codes r 0) ≡ q (get_or codes r 0)) → count_by p held ≡ count_by q held
+  alike p q each =
+      sym (counted p) ∙ marked_same (length codes) (λ r. get_or rows r false && p (get_or codes r 0)) (λ r. get_or rows r false && q (get_or codes r 0)) (λ r h. both (get_or rows r false) (λ t. each r h t)) ∙ counted q
+    where
+      both : (b : Bool) {x y : Bool} → (b ≡ true → x ≡ y) → (b && x) ≡ (b && y)
+      both true e = e refl
+      both false e = refl
+
+  no_codes : (p : ℕ → Bool) → ((r : ℕ) → r < length codes → get_or rows r false ≡ true → p (get_or codes r 0) ≡ false) → count_by p held ≡ 0
+  no_codes p each = alike p (λ c. false) each ∙ none held
+    where
+      none : (xs : List ℕ) → count_by (λ c. false) xs ≡ 0
+      none xs = omega (arith, count_split (λ c. false) (λ c. true) (λ c. true) xs (λ c. refl))
+
+  low_at : (r : ℕ) → r < length codes → get_or codes r 0 ≤ top
+  low_at r h = low r 0 h
+
+  module _ (end : End) (nearest : ℕ) (is : IsNearest (length codes) (λ r. get_or rows r false) (λ r. get_or codes r 0) end top (top + 1) nearest) (some : 0 < length held) where
+    is_there : nearest < top + 1
+    is_there =
+        elim (cases_lt nearest (top + 1)) [
+          | inl less ↦ less
+          | inr far ↦
+              let none : count_by (λ c. true) held ≡ 0 = no_codes (λ c. true) (λ r h t. absurd (omega (arith, is.none r h t, far, near end (get_or codes r 0) (low_at r h)))) in
+              absurd (omega (arith, some, none, count_all held))
+        ]
+      where
+        near : (e : End) (c : ℕ) → c ≤ top → distance e top c ≤ top
+        near Least c h = h
+        near Greatest c h = omega arith
+
+    near_there : 0 < count_by (λ c. distance end top c == nearest) held
+    near_there = omega (arith, is.there is_there, counted (λ c. distance end top c == nearest))
+
+  pub nearest_code : (end : End) (nearest : ℕ) → IsNearest (length codes) (λ r. get_or rows r false) (λ r. get_or codes r 0) end top (top + 1) nearest → 0 < length held
+      → IsNthCode held (end_of end (length held)) (distance end top nearest)
+  nearest_code Least nearest is some =
+      let there = near_there Least nearest is some in
+      let none = no_codes (λ c. nat_lt c nearest) (λ r h t. let order = is.none r h t in grind (arith, nat_tests, order)) in
+      record { below = omega (arith, none); upto = omega (arith, upto_split nearest held, there); there = there }
+  nearest_code Greatest nearest is some =
+      let code = top - nearest in
+      let within = is_there Greatest nearest is some in
+      let turned = alike (λ c. (top - c) == nearest) (λ c. c == code) (λ r h t. let small = low_at r h in grind (arith, nat_tests, small, within)) in
+      let there : 0 < count_by (λ c. c == code) held = omega (arith, turned, near_there Greatest nearest is some) in
+      let all = alike (λ c. nat_le c code) (λ c. true) (λ r h t. let order = is.none r h t in let small = low_at r h in grind (arith, nat_tests, order, small)) in
+      record { below = omega (arith, upto_split code held, all, count_all held, there); upto = omega (arith, all, count_all held, some); there = there }

@@ -1,0 +1,47 @@
+-- What is told of values by their codes.
+use Rattle.std.proofs.Common.{Bool, List, None, Option, [], ap, arith, false, get_or, is_some, length, map, refl, subst, sym, true, ℕ, ℤ, ◌&&◌, ◌<◌, ◌^◌, ◌≡◌, ◌≤◌, ◌∙◌, ◌∷◌}
+use Rattle.std.specs.List.{items_where_true}
+use Rattle.std.specs.Prelude.{All}
+use Rattle.bw_code.specs.Encodings.{IsEncoding, width}
+use Rattle.bw_code.specs.declared.encoding.Encoding.{Encoding}
+use Rattle.bw_column.specs.Codes.{IsCoded, code_for}
+use Rattle.bw_column.specs.Values.{value_at}
+use Rattle.bw_model.specs.SetFunctions.{known}
+use Rattle.bw_aggregate.specs.Descents.{BeginsAll}
+use Rattle.bw_aggregate.specs.Summaries.{IsSummary}
+use Rattle.bw_aggregate.specs.declared.summary.Asked.{Asked}
+use Rattle.bw_aggregate.proofs.Descents.{all_chosen}
+use Rattle.bw_aggregate.proofs.KnownValues.{AreKnown, coded_all, codes_low, count_known, known_is}
+use Rattle.bw_aggregate.proofs.SortedValues.{codes_len}
+
+-- the codes of some rows, all of so many bits
+pub begins_all : (k : ℕ) (rows : List Bool) (codes : List ℕ) → All (λ c. c < 2 ^ k) codes → k ≤ 64 → BeginsAll k (items_where_true rows codes)
+begins_all k rows codes below narrow = record { below = all_chosen k rows codes below; narrow = narrow }
+
+-- of no values nothing is told
+pub nothing_told : (asked : Asked) (values : List ℤ) (count : ℕ) → count ≡ length values → count ≡ 0 → IsSummary asked values (record { count = count; sum = None; least = None; greatest = None; median = None })
+nothing_told asked [] count is none = record { count = is; sum = λ a. refl; least = λ a. refl; greatest = λ a. refl; median = λ a. refl }
+nothing_told asked (x ∷ xs) count is none = absurd (omega (arith, is, none))
+
+-- rows without the nulls, and these without the nulls
+pub known_again : (keep rows : List Bool) (values : List (Option ℤ)) → AreKnown keep rows values → AreKnown keep keep values
+known_again keep rows values each r =
+    each r ∙ again (get_or rows r false) (is_some (value_at values r)) ∙ sym (ap (λ b. b && is_some (value_at values r)) (each r))
+  where
+    again : (a b : Bool) → (a && b) ≡ ((a && b) && b)
+    again true true = refl
+    again true false = refl
+    again false b = refl
+
+module _ (e : Encoding) (sound : IsEncoding e) (keep rows : List Bool) (values : List (Option ℤ)) (a : length keep ≡ length values) (b : length rows ≡ length values) (each : AreKnown keep rows values) (all : All (IsCoded e) values) where
+  pub same_values : known (items_where_true keep values) ≡ known (items_where_true rows values)
+  same_values =
+      known_is e sound keep keep values a a (known_again keep rows values each) (coded_all e sound values all)
+      ∙ sym (known_is e sound keep rows values a b each (coded_all e sound values all))
+
+  pub many_codes : length (items_where_true keep (map (code_for e) values)) ≡ length (known (items_where_true rows values))
+  many_codes = codes_len e sound keep rows values a b each all ∙ count_known keep rows values a b each
+
+-- the codes of a column fit its width
+pub fit_by : (e : Encoding) → IsEncoding e → (values : List (Option ℤ)) → All (IsCoded e) values → (bits : ℕ) → bits ≡ width e → All (λ code. code < 2 ^ bits) (map (code_for e) values)
+fit_by e sound values all bits is = subst (λ k. All (λ code. code < 2 ^ k) (map (code_for e) values)) (sym is) (codes_low e sound values all)

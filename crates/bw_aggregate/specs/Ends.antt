@@ -1,0 +1,22 @@
+-- The least or the greatest of some codes, by how far each is from the end that is looked for.
+use Rattle.std.specs.Prelude.{Bool, not, true, ℕ, ◌&&◌, ◌-◌, ◌<◌, ◌==◌, ◌≡◌, ◌≤◌}
+use Rattle.bw_aggregate.specs.Marks.{marked}
+use Rattle.bw_aggregate.specs.declared.end.End.{End}
+use Rattle.bw_aggregate.specs.declared.end.End.TheVariants.{Greatest, Least}
+
+-- from 0, or from the greatest code that there may be
+abbrev pub distance : End → ℕ → ℕ → ℕ
+distance Least top code = code
+distance Greatest top code = top - code
+
+-- whether a bit of a code is none of its distance
+abbrev pub is_near : End → Bool → Bool
+is_near Least bit = not bit
+is_near Greatest bit = bit
+
+-- of the first n rows, none that is in is nearer than `nearest`, which is no farther than `before`; and if it is nearer than that,
+-- one of them is as near
+pub record IsNearest (n : ℕ) (is_in : ℕ → Bool) (code : ℕ → ℕ) (end : End) (top before nearest : ℕ) : Type 0 where
+  pub upto : nearest ≤ before
+  pub none : (j : ℕ) → j < n → is_in j ≡ true → nearest ≤ distance end top (code j)
+  pub there : nearest < before → 0 < marked n (λ j. is_in j && (distance end top (code j) == nearest))

@@ -1,0 +1,84 @@
+//! The sum of codes by counts of their planes (O'Neil and Quass, SIGMOD 1997).
+
+ghost use Rattle.std.specs.Prelude.{All, Bool, List, length, sum, true, ℕ, ◌&&◌, ◌*◌, ◌+◌, ◌<◌, ◌^◌, ◌≡◌, ◌≤◌};
+ghost use Rattle.std.specs.List.{items_where_true};
+ghost use Rattle.bw_mask.specs.Masks.{len, row_in};
+ghost use Rattle.bw_code.specs.Columns.{Fit, count};
+ghost use Rattle.bw_vertical.specs.Planes.{segments_of};
+ghost use Rattle.bw_aggregate.specs.Left.{codes_between};
+ghost use Rattle.bw_aggregate.specs.Marks.{marked};
+ghost use Rattle.bw_aggregate.specs.PlaneSums.{AreBits, AreRows, IsSumTo};
+ghost use Rattle.bw_aggregate.specs.Runs.{IsCodeSum};
+
+use crate::plane::plane_at;
+use crate::rows::{count_both, count_rows, has_all, has_row, rows_at};
+use bw_code::CodeColumn;
+use bw_mask::Mask;
+use bw_vertical::VerticalColumn;
+
+/// How many of the rows are in the plane. Where all rows of the segment are in, those of the plane are counted as they are,
+/// for half the instructions.
+fn ones_in(rows: &[u64; 4], all: bool, plane: &[u64; 4]) -> usize
+    requires { all ≡ true → (j : ℕ) → j < 256 → row_in rows.now j ≡ true }
+    ensures is { result ≡ marked 256 (λ j. row_in rows.now j && row_in plane.now j) }
+    ensures few { result ≤ 256 }
+{
+    if all {
+        count_rows(plane)
+    } else {
+        count_both(rows, plane)
+    }
+}
+
+/// The sum with the bits of one plane more.
+fn with_plane(sum: u64, rows: &[u64; 4], all: bool, plane: &[u64; 4]) -> u64
+    requires { all ≡ true → (j : ℕ) → j < 256 → row_in rows.now j ≡ true }
+    ensures { (need : List Bool) (codes : List ℕ) (k q i : ℕ) → k ≤ 32 → All (λ code. code < 2 ^ k) codes → length need ≡ length codes → AreRows need q rows.now → AreBits codes q i plane.now
+        → IsSumTo need codes q (i + 1) sum → IsSumTo need codes q i result }
+{
+    sum.wrapping_mul(2)
+        .wrapping_add(ones_in(rows, all, plane) as u64)
+}
+
+/// The sum of the codes of those rows of segment q that are in.
+fn segment_sum(codes: &VerticalColumn, q: usize, rows: &[u64; 4]) -> u64
+    requires there { q < segments_of (count codes.now) }
+    requires few { count codes.now ≤ 2 ^ 24 }
+    requires narrow { codes.now.width ≤ 32 }
+    requires fit { Fit codes.now.width codes.now.codes }
+    ensures { (need : List Bool) → length need ≡ count codes.now → AreRows need q rows.now → result ≡ sum (codes_between need codes.now.codes (256 * q) (256 * q + 256)) }
+{
+    if !has_row(rows) {
+        return 0;
+    }
+    let all = has_all(rows);
+    let k = codes.width() as usize;
+    let mut sum = 0;
+    'groups: for g in 0..k / 4 {
+        let first = with_plane(sum, rows, all, plane_at(codes, q, 4 * g));
+        let second = with_plane(first, rows, all, plane_at(codes, q, 4 * g + 1));
+        let third = with_plane(second, rows, all, plane_at(codes, q, 4 * g + 2));
+        sum = with_plane(third, rows, all, plane_at(codes, q, 4 * g + 3));
+    }
+    'rest: for i in k / 4 * 4..k {
+        sum = with_plane(sum, rows, all, plane_at(codes, q, i));
+    }
+    sum
+}
+
+/// The sum of the codes of the rows.
+pub(crate) fn sum_by_planes(codes: &VerticalColumn, rows: &Mask) -> u128
+    requires len { len rows.now ≡ count codes.now }
+    requires few { count codes.now ≤ 2 ^ 24 }
+    requires narrow { codes.now.width ≤ 32 }
+    requires fit { Fit codes.now.width codes.now.codes }
+    ensures { IsCodeSum (items_where_true rows.now.rows codes.now.codes) result }
+{
+    let words = rows.words();
+    let mut sum = 0;
+    'segments: for q in 0..codes.len().div_ceil(256) {
+        let rows = rows_at(words, q as u32);
+        sum += u128::from(segment_sum(codes, q, &rows));
+    }
+    sum
+}
