@@ -1,12 +1,14 @@
 //! What a field of a file says.
 
-ghost use Rattle.std.specs.Prelude.{◌≡◌};
+ghost use Rattle.std.specs.Prelude.{◌<◌, ◌≡◌};
 ghost use Rattle.std.specs.Char.{is_ascii_digit};
 ghost use Rattle.std.specs.List.{list_all};
-ghost use Rattle.bw_csvload.specs.Sizes.{size_of};
+ghost use Rattle.bw_csvload.specs.Sizes.{size_after, size_of};
 ghost use Rattle.bw_csvload.specs.Fields.{cell_of, is_minus, is_null, without_sign};
 
 use crate::fault::FieldFault;
+use crate::lanes::{LANES, number_written};
+use std::simd::prelude::*;
 
 /// The first size that no INTEGER has, with either sign.
 const TOO_LARGE: u64 = 2_147_483_649;
@@ -65,7 +67,20 @@ fn without_sign(text: &[u8]) -> &[u8]
 fn size_of(text: &[u8]) -> Option<u64>
     ensures { result ≡ size_of text.now }
 {
-    let mut size = 0;
+    if text.len() < LANES {
+        return size_after(0, text);
+    }
+    let front = number_written(u8x8::from_slice(text))?;
+    size_after(front, &text[LANES..])
+}
+
+/// The number that the text writes after the digits of `front`, or `TOO_LARGE` where it is greater;
+/// `None` where not each byte is a digit.
+fn size_after(front: u64, text: &[u8]) -> Option<u64>
+    requires { front < TOO_LARGE }
+    ensures { result ≡ size_after front text.now }
+{
+    let mut size = front;
     for i in 0..text.len() {
         if !text[i].is_ascii_digit() {
             return None;

@@ -4,6 +4,7 @@
 mod csv_rows;
 mod fault;
 mod field;
+mod lanes;
 mod laws;
 mod load;
 mod records;
