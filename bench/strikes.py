@@ -75,6 +75,16 @@ def of_addition(name, thing):
     return Clause("bw_vertical/src/addition.rt", "add_from", name, thing)
 
 
+def of_planes():
+    """What the planes of a column in V hold."""
+    return Clause("bw_vertical/src/column.rt", "group", "rows", "result")
+
+
+def of_segments():
+    """What a plane of a segment holds, for sums and ends."""
+    return Clause("bw_aggregate/src/plane.rt", "plane_at", "", "result")
+
+
 def of_column(function, file="compare.rt", name="truth", thing="truth.new"):
     return Clause(f"bw_column/src/{file}", function, name, thing)
 
@@ -121,7 +131,11 @@ STRIKES = [
     Strike("bw_column::column::Column::get", (of_column("get", "storage.rt", "code", "result"),)),
     Strike("bw_column::storage::Codes::plane", (of_every_column("plane", "rows", "out.new"),)),
     Strike("bw_column::column::Column::plane", (of_column("plane", "storage.rt", "rows", "out.new"),)),
-    Strike("bw_aggregate::summary::walk_down", (of_column("plane", "column.rt", "rows", "out.new"),)),
+    Strike("bw_aggregate::middle::descend_in_copies", (of_column("plane", "column.rt", "rows", "out.new"),)),
+    Strike("bw_aggregate::middle::descend_in_place", (of_planes(),)),
+    Strike("bw_aggregate::plane::plane_at", (of_planes(),)),
+    Strike("bw_aggregate::plane_sums::segment_sum", (of_segments(),)),
+    Strike("bw_aggregate::nearest_planes::nearest_of", (of_segments(),)),
     Strike("bw_table::table::Table::fetch", (of_column("get", "column.rt", "is", "result"),)),
     Strike("bw_engine::shown::fetch_row", (Clause("bw_table/src/table.rt", "fetch", "", "result"),)),
 ]

@@ -1,9 +1,9 @@
 -- The codes that begin with the bits found so far, one plane further.
-use Rattle.std.proofs.Common.{Bool, pow_pos, List, [], add-one, ap, arith, cond, count_by, false, if◌then◌else◌, length, nat_le, nat_lt, not, refl, subst, sym, true, ℕ, ◌%◌, ◌&&◌, ◌*◌, ◌+◌, ◌-◌, ◌/◌, ◌<◌, ◌==◌, ◌^◌, ◌≡◌, ◌≤◌, ◌∙◌, ◌∷◌}
+use Rattle.std.proofs.Common.{Bool, pow_pos, List, [], add-one, ap, arith, cond, count_by, false, length, nat_le, nat_lt, not, refl, sym, true, ℕ, ◌%◌, ◌&&◌, ◌*◌, ◌+◌, ◌-◌, ◌/◌, ◌<◌, ◌==◌, ◌^◌, ◌≡◌, ◌≤◌, ◌∙◌, ◌∷◌}
 use Rattle.std.proofs.Math.Nat.{div-div-eq-div-mul, div-eq_of_lt, div-one, mul-le-mul_left, pow-le-pow_right, pow-suc}
 use Rattle.std.proofs.lemmas.Bool.Decides.{nat_tests}
 use Rattle.bw_mask.specs.Masks.{bit_of}
-use Rattle.bw_aggregate.specs.Descents.{BeginsAll, IsNthCode, IsRest, begin_count, end_of, front, next}
+use Rattle.bw_aggregate.specs.Descents.{BeginsAll, IsNthCode, IsRest, begin_count, front, next}
 use Rattle.bw_aggregate.specs.Planes.{has_bit}
 use Rattle.bw_aggregate.proofs.Counting.{count_all, count_cons, count_no, count_same, count_split, count_yes}
 use Rattle.std.proofs.lemmas.List.Elements.{All-cons, All-head, All-nil, All-tail}

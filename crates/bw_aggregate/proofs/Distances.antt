@@ -1,6 +1,6 @@
 -- Distances of codes, without their lowest bits.
-use Rattle.std.proofs.Common.{Bool, ap, arith, cond, false, inl, inr, pow_pos, refl, suc, sym, true, zero, ℕ, ◌*◌, ◌+◌, ◌-◌, ◌/◌, ◌<◌, ◌^◌, ◌≡◌, ◌≤◌, ◌∙◌}
-use Rattle.std.proofs.Math.Nat.{div-eq_of_lt, div-one, pow-suc}
+use Rattle.std.proofs.Common.{Bool, ap, arith, cond, false, inl, inr, refl, suc, sym, true, zero, ℕ, ◌*◌, ◌+◌, ◌-◌, ◌/◌, ◌<◌, ◌^◌, ◌≡◌, ◌≤◌, ◌∙◌}
+use Rattle.std.proofs.Math.Nat.{div-one, pow-suc}
 use Rattle.std.proofs.lemmas.Bool.{cases_lt}
 use Rattle.bw_mask.specs.Masks.{bit_of}
 use Rattle.bw_aggregate.specs.Descents.{front}

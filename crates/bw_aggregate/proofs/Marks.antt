@@ -38,6 +38,21 @@ marked_same (suc n) f g same =
     let last : ◌≡◌ {A = ℕ} (cond (f n) 1 0) (cond (g n) 1 0) = ap (λ b. cond {A = ℕ} b 1 0) (same n (omega arith)) in
     ap (λ k. marked k f) d ∙ omega (arith, marked_more n f, marked_more n g, before, last) ∙ sym (ap (λ k. marked k g) d)
 
+-- places of which more are marked
+pub marked_within : (n : ℕ) (f g : ℕ → Bool) → ((j : ℕ) → j < n → f j ≡ true → g j ≡ true) → marked n f ≤ marked n g
+marked_within zero f g more = omega (arith, marked_zero f)
+marked_within (suc n) f g more =
+    let d : suc n ≡ n + 1 = omega arith in
+    let before = marked_within n f g (λ j h. more j (omega arith)) in
+    let last = one (f n) (g n) (more n (omega arith)) in
+    let first : marked (suc n) f ≡ marked n f + cond (f n) 1 0 = ap (λ k. marked k f) d ∙ marked_more n f in
+    let second : marked (suc n) g ≡ marked n g + cond (g n) 1 0 = ap (λ k. marked k g) d ∙ marked_more n g in
+    omega (arith, first, second, before, last)
+  where
+    one : (a b : Bool) → (a ≡ true → b ≡ true) → cond {A = ℕ} a 1 0 ≤ cond b 1 0
+    one true b h = let e = h refl in rw e (omega arith)
+    one false b h = omega arith
+
 pub marked_none : (n : ℕ) (f : ℕ → Bool) → ((j : ℕ) → j < n → f j ≡ false) → marked n f ≡ 0
 marked_none zero f none = marked_zero f
 marked_none (suc n) f none =
@@ -62,6 +77,28 @@ none_marked (suc n) f none j h =
     is_false : (b : Bool) → ◌≡◌ {A = ℕ} (cond b 1 0) 0 → b ≡ false
     is_false true e = absurd (omega (arith, e))
     is_false false e = refl
+
+-- where as many are marked as there are places, each is
+pub all_marked : (n : ℕ) (f : ℕ → Bool) → marked n f ≡ n → (j : ℕ) → j < n → f j ≡ true
+all_marked zero f all j h = absurd (omega (arith, h))
+all_marked (suc n) f all j h =
+    let d : suc n ≡ n + 1 = omega arith in
+    let whole : marked (n + 1) f ≡ suc n = sym (ap (λ k. marked k f) d) ∙ all in
+    let more = marked_more n f in
+    let few = marked_few n f in
+    let last : ◌≡◌ {A = ℕ} (cond (f n) 1 0) 1 = is_one (f n) (omega (arith, more, whole, few)) in
+    elim (cases_eq j n) [
+      | inl e ↦ rw e (is_true (f n) last)
+      | inr d ↦ all_marked n f (omega (arith, more, whole, last)) j (omega (arith, h, d))
+    ]
+  where
+    is_one : (b : Bool) → 1 ≤ cond {A = ℕ} b 1 0 → ◌≡◌ {A = ℕ} (cond b 1 0) 1
+    is_one true e = refl
+    is_one false e = absurd (omega (arith, e))
+
+    is_true : (b : Bool) → ◌≡◌ {A = ℕ} (cond b 1 0) 1 → b ≡ true
+    is_true true e = refl
+    is_true false e = absurd (omega (arith, e))
 
 -- the first a, and then b more
 pub marked_add : (a b : ℕ) (f : ℕ → Bool) → marked (a + b) f ≡ marked a f + marked b (λ j. f (a + j))

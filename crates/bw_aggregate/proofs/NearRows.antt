@@ -1,10 +1,18 @@
 -- Rows of a segment whose distance begins with the bits found so far, one plane further.
-use Rattle.std.proofs.Common.{Bool, ap, arith, cond, false, inl, inr, nat_lt, not, refl, sym, true, ℕ, ◌&&◌, ◌*◌, ◌+◌, ◌<◌, ◌==◌, ◌≡◌, ◌≤◌, ◌∙◌}
-use Rattle.std.proofs.lemmas.Bool.{cases_eq, true≢false}
+use Rattle.std.proofs.Common.{Bool, List, ap, arith, cond, false, get_or, if◌then◌else◌, inl, inr, length, nat_lt, not, pow_pos, refl, sym, true, ℕ, ◌&&◌, ◌*◌, ◌+◌, ◌<◌, ◌==◌, ◌^◌, ◌≡◌, ◌≤◌, ◌∙◌}
+use Rattle.std.proofs.Math.Nat.{div-eq_of_lt, div-one}
+use Rattle.std.proofs.lemmas.Bool.{cases_eq, cases_lt, true≢false}
 use Rattle.std.proofs.lemmas.Bool.Decides.{nat_tests}
+use Rattle.std.proofs.lemmas.List.{get_or_past}
+use Rattle.std.specs.Prelude.{All}
+use Rattle.bw_mask.specs.Masks.{row_in}
 use Rattle.bw_aggregate.specs.Descents.{front, next}
+use Rattle.bw_aggregate.specs.Ends.{IsNearest, distance}
 use Rattle.bw_aggregate.specs.Marks.{marked}
-use Rattle.bw_aggregate.proofs.Marks.{none_marked}
+use Rattle.bw_aggregate.specs.declared.end.End.{End}
+use Rattle.bw_aggregate.proofs.Distances.{farther}
+use Rattle.bw_aggregate.proofs.LeftRows.{is_some, none_of}
+use Rattle.bw_aggregate.proofs.Marks.{marked_same, none_marked}
 
 -- with m planes to go, those that are left begin with the bits found so far, and no row is nearer
 pub record AreLeft (rows left : ℕ → Bool) (far : ℕ → ℕ) (m found : ℕ) : Type 0 where
@@ -39,14 +47,72 @@ module _ (rows left : ℕ → Bool) (far : ℕ → ℕ) (m found : ℕ) (old : A
       has_bit j h = ap (λ b. b && near j) (sym (old.each j h)) ∙ sym (each j h) ∙ none_marked 256 nearer none j h
 
       by : (r n : Bool) (x y : ℕ) → x ≡ 2 * y + cond n 0 1 → ((r && (y == found)) && n) ≡ false → (r && (y == found)) ≡ (r && (x == found * 2 + 1))
-      by true true x y e no = grind (arith, nat_tests, e, no)
-      by true false x y e no = grind (arith, nat_tests, e)
-      by false n x y e no = refl
+      by true true x y e d = grind (arith, nat_tests, e, d)
+      by true false x y e d = grind (arith, nat_tests, e)
+      by false n x y e d = refl
 
       least_by : (n : Bool) (x y : ℕ) → found ≤ y → x ≡ 2 * y + cond n 0 1 → ((true && (y == found)) && n) ≡ false → found * 2 + 1 ≤ x
-      least_by false x y order e no = omega (arith, order, e)
-      least_by true x y order e no =
+      least_by false x y order e d = omega (arith, order, e)
+      least_by true x y order e d =
           elim (cases_eq y found) [
-            | inl same ↦ let hit : ((true && (y == found)) && true) ≡ true = grind (arith, nat_tests, same) in absurd (true≢false (sym hit ∙ no))
+            | inl same ↦ let hit : ((true && (y == found)) && true) ≡ true = grind (arith, nat_tests, same) in absurd (true≢false (sym hit ∙ d))
             | inr apart ↦ omega (arith, order, e, apart)
           ]
+
+-- either way
+pub one_down : (rows : ℕ → Bool) (left nearer now : List ℕ) (far : ℕ → ℕ) (m found : ℕ) (near : ℕ → Bool) (some : Bool) → AreLeft rows (row_in left) far (m + 1) found
+    → ((j : ℕ) → j < 256 → front m (far j) ≡ 2 * front (m + 1) (far j) + cond (near j) 0 1) → ((j : ℕ) → j < 256 → row_in nearer j ≡ (row_in left j && near j))
+    → some ≡ nat_lt 0 (marked 256 (row_in nearer)) → now ≡ (if some then nearer else left) → AreLeft rows (row_in now) far m (next found (not some))
+one_down rows left nearer now far m found near true old bits each some is =
+    rw is (go_near rows (row_in left) far m found old near bits (row_in nearer) each (is_some _ (sym some)))
+one_down rows left nearer now far m found near false old bits each some is =
+    rw is (go_far rows (row_in left) far m found old near bits (row_in nearer) each (none_of _ (sym some)))
+
+-- above the top plane all are left
+pub left_start : (rows : ℕ → Bool) (far : ℕ → ℕ) (k : ℕ) → ((j : ℕ) → far j < 2 ^ k) → 0 < marked 256 rows → AreLeft rows rows far k 0
+left_start rows far k small some = record {
+  each = λ j h. let none : front k (far j) ≡ 0 = div-eq_of_lt (small j) in rw none (by (rows j));
+  some = some;
+  least = λ j h t. omega arith;
+}
+  where
+    by : (r : Bool) → r ≡ (r && (0 == 0))
+    by true = refl
+    by false = refl
+
+-- below the last plane the nearest is found
+pub found_nearest : (rows left : ℕ → Bool) (code : ℕ → ℕ) (end : End) (top best found : ℕ) → AreLeft rows left (λ j. distance end top (code j)) 0 found → found ≤ best → IsNearest 256 rows code end top best found
+found_nearest rows left code end top best found is order = record {
+  upto = order;
+  none = λ j h t. omega (arith, is.least j h t, div-one (distance end top (code j)));
+  there = λ h.
+      let same = marked_same 256 left (λ j. rows j && (distance end top (code j) == found))
+      (λ j k. is.each j k ∙ ap (λ x. rows j && (x == found)) (div-one (distance end top (code j)))) in
+      omega (arith, same, is.some);
+}
+
+-- and before that, where all are farther than what was nearest
+pub none_nearer : (rows left : ℕ → Bool) (code : ℕ → ℕ) (end : End) (top best m found : ℕ) → AreLeft rows left (λ j. distance end top (code j)) m found → front m best < found → IsNearest 256 rows code end top best best
+none_nearer rows left code end top best m found is less = record {
+  upto = omega arith;
+  none = λ j h t. farther m best (distance end top (code j)) (omega (arith, less, is.least j h t));
+  there = λ h. absurd (omega (arith, h));
+}
+
+-- codes of k bits, and 0 past the last
+pub code_small : (k : ℕ) (codes : List ℕ) → All (λ c. c < 2 ^ k) codes → (r : ℕ) → get_or codes r 0 < 2 ^ k
+code_small k codes all r =
+    elim (cases_lt r (length codes)) [
+      | inl there ↦ all r 0 there
+      | inr past ↦ let none = get_or_past codes r 0 past in omega (arith, none, pow_pos k)
+    ]
+
+-- a row that is left was left before, and one that isn't was left out before or is far by its bit
+pub still_left : (left near : Bool) → (left && near) ≡ true → left ≡ true
+still_left true near e = refl
+still_left false near e = absurd (true≢false (sym e))
+
+pub left_out : (left near : Bool) (best far : ℕ) → (left ≡ false → best ≤ far) → (near ≡ false → best ≤ far) → (left && near) ≡ false → best ≤ far
+left_out true true best far before here e = absurd (true≢false e)
+left_out true false best far before here e = here refl
+left_out false near best far before here e = before refl

@@ -3,7 +3,6 @@ use Rattle.std.proofs.Common.{Bool, List, ap, arith, cond, count_by, false, get_
 use Rattle.std.proofs.lemmas.Bool.{cases_lt, true≢false}
 use Rattle.std.proofs.lemmas.Bool.Decides.{nat_tests}
 use Rattle.std.proofs.lemmas.List.{take_all}
-use Rattle.std.proofs.lemmas.List.Sums.{count_by-le-length}
 use Rattle.std.specs.List.{items_where_true}
 use Rattle.std.specs.Prelude.{All}
 use Rattle.bw_aggregate.specs.Descents.{IsNthCode, end_of}
@@ -13,26 +12,40 @@ use Rattle.bw_aggregate.specs.declared.end.End.{End}
 use Rattle.bw_aggregate.specs.declared.end.End.TheVariants.{Greatest, Least}
 use Rattle.bw_aggregate.proofs.Counting.{count_all, count_split}
 use Rattle.bw_aggregate.proofs.LeftRows.{marked_codes}
-use Rattle.bw_aggregate.proofs.Marks.{marked_add, marked_more, marked_none, marked_same, marked_zero}
+use Rattle.bw_aggregate.proofs.Marks.{marked_add, marked_more, marked_none, marked_same, marked_within}
 use Rattle.bw_aggregate.proofs.Parts.{upto_split}
 
 pub nearest_start : (f : ℕ → Bool) (code : ℕ → ℕ) (end : End) (top best : ℕ) → IsNearest 0 f code end top best best
 nearest_start f code end top best = record { upto = omega arith; none = λ j h. absurd (omega (arith, h)); there = λ h. absurd (omega (arith, h)) }
 
+-- where no row is in
+pub nearest_none : (n : ℕ) (f : ℕ → Bool) (code : ℕ → ℕ) (end : End) (top best : ℕ) → ((j : ℕ) → j < n → f j ≡ false) → IsNearest n f code end top best best
+nearest_none n f code end top best out = record { upto = omega arith; none = λ j h t. absurd (true≢false (sym t ∙ out j h)); there = λ h. absurd (omega (arith, h)) }
+
+-- of the same codes
+pub nearest_same : (n : ℕ) (f : ℕ → Bool) (code other : ℕ → ℕ) (end : End) (top best a : ℕ) → ((j : ℕ) → j < n → code j ≡ other j) → IsNearest n f code end top best a → IsNearest n f other end top best a
+nearest_same n f code other end top best a same nearest = record {
+  upto = nearest.upto;
+  none = λ j h t. subst (λ c. a ≤ distance end top c) (same j h) (nearest.none j h t);
+  there = λ h.
+      let alike = marked_same n (λ j. f j && (distance end top (code j) == a)) (λ j. f j && (distance end top (other j) == a)) (λ j k. rw (same j k) refl) in
+      omega (arith, alike, nearest.there h);
+}
+
 -- of m rows, and then of n more
 pub nearest_more : (m n : ℕ) (f g : ℕ → Bool) (code more : ℕ → ℕ) (end : End) (top start a b : ℕ) → ((j : ℕ) → j < n → g j ≡ f (m + j)) → ((j : ℕ) → j < n → more j ≡ code (m + j))
     → IsNearest m f code end top start a → IsNearest n g more end top a b → IsNearest (m + n) f code end top start b
-nearest_more m n f g code more end top start a b rows codes first then = record {
-  upto = omega (arith, first.upto, then.upto);
+nearest_more m n f g code more end top start a b rows codes first rest = record {
+  upto = omega (arith, first.upto, rest.upto);
   none = λ j h is_in.
       elim (cases_lt j m) [
-        | inl under ↦ omega (arith, first.none j under is_in, then.upto)
+        | inl under ↦ omega (arith, first.none j under is_in, rest.upto)
         | inr over ↦
             let place : m + (j - m) ≡ j = omega (arith, over) in
             let within : j - m < n = omega (arith, h, over) in
             let here : g (j - m) ≡ true = rows (j - m) within ∙ ap f place ∙ is_in in
             let same : more (j - m) ≡ code j = codes (j - m) within ∙ ap code place in
-            subst (λ c. b ≤ distance end top c) same (then.none (j - m) within here)
+            subst (λ c. b ≤ distance end top c) same (rest.none (j - m) within here)
       ];
   there = λ h.
       let hit = λ (x r : ℕ). f r && (distance end top (code r) == x) in
@@ -40,9 +53,9 @@ nearest_more m n f g code more end top start a b rows codes first then = record 
         | inl less ↦
             let part : marked n (λ j. g j && (distance end top (more j) == b)) ≡ marked n (λ j. hit b (m + j)) =
             marked_same n (λ j. g j && (distance end top (more j) == b)) (λ j. hit b (m + j)) (λ j k. rw (rows j k, codes j k) refl) in
-            omega (arith, marked_add m n (hit b), part, then.there less)
+            omega (arith, marked_add m n (hit b), part, rest.there less)
         | inr same ↦
-            let e : a ≡ b = omega (arith, same, then.upto) in
+            let e : a ≡ b = omega (arith, same, rest.upto) in
             let earlier : 0 < marked m (hit a) = first.there (omega (arith, h, e)) in
             let moved : marked m (hit a) ≡ marked m (hit b) = ap (λ x. marked m (hit x)) e in
             omega (arith, marked_add m n (hit b), earlier, moved)
@@ -82,9 +95,28 @@ nearest_cut m n f code end top start a fewer out nearest = record {
       let hit = λ (r : ℕ). f r && (distance end top (code r) == a) in
       let e : n + (m - n) ≡ m = omega (arith, fewer) in
       let parts : marked m hit ≡ marked n hit + marked (m - n) (λ j. hit (n + j)) = ap (λ k. marked k hit) (sym e) ∙ marked_add n (m - n) hit in
-      let rest : marked (m - n) (λ j. hit (n + j)) ≡ 0 = marked_none (m - n) (λ j. hit (n + j)) (λ j k. rw (out (n + j) (omega arith)) refl) in
-      omega (arith, parts, rest, nearest.there h);
+      let other : marked (m - n) (λ j. hit (n + j)) ≡ 0 = marked_none (m - n) (λ j. hit (n + j)) (λ j k. rw (out (n + j) (omega arith)) refl) in
+      omega (arith, parts, other, nearest.there h);
 }
+
+-- of all rows, where those that are left out are no nearer
+pub nearest_of_all : (n : ℕ) (f left : ℕ → Bool) (code : ℕ → ℕ) (end : End) (top best a : ℕ) → ((j : ℕ) → j < n → left j ≡ true → f j ≡ true)
+    → ((j : ℕ) → j < n → f j ≡ true → left j ≡ false → best ≤ distance end top (code j)) → IsNearest n left code end top best a → IsNearest n f code end top best a
+nearest_of_all n f left code end top best a within out nearest = record {
+  upto = nearest.upto;
+  none = λ j h t. by (left j) j refl h t;
+  there = λ h.
+      let more = marked_within n (λ j. left j && (distance end top (code j) == a)) (λ j. f j && (distance end top (code j) == a)) (λ j k t. both (left j) (f j) _ (within j k) t) in
+      omega (arith, more, nearest.there h);
+}
+  where
+    by : (b : Bool) → (j : ℕ) → left j ≡ b → j < n → f j ≡ true → a ≤ distance end top (code j)
+    by true j is h t = nearest.none j h is
+    by false j is h t = omega (arith, out j h t is, nearest.upto)
+
+    both : (l g x : Bool) → (l ≡ true → g ≡ true) → (l && x) ≡ true → (g && x) ≡ true
+    both true g x h e = rw (h refl) e
+    both false g x h e = absurd (true≢false (sym e))
 
 -- so is the code at the end
 module _ (rows : List Bool) (codes : List ℕ) (same : length rows ≡ length codes) (top : ℕ) (low : All (λ c. c ≤ top) codes) where
@@ -113,7 +145,7 @@ module _ (rows : List Bool) (codes : List ℕ) (same : length rows ≡ length co
   low_at r h = low r 0 h
 
   module _ (end : End) (nearest : ℕ) (is : IsNearest (length codes) (λ r. get_or rows r false) (λ r. get_or codes r 0) end top (top + 1) nearest) (some : 0 < length held) where
-    is_there : nearest < top + 1
+    pub is_there : nearest < top + 1
     is_there =
         elim (cases_lt nearest (top + 1)) [
           | inl less ↦ less

@@ -1,13 +1,11 @@
 -- What is found of two parts of some codes.
-use Rattle.std.proofs.Common.{Bool, List, [], ap, arith, cond, count_by, drop, false, inl, inr, length, length-append, max, min, nat_le, nat_lt, refl, subst, suc, sym, take, true, zero, ℕ, ◌+◌, ◌++◌, ◌-◌, ◌<◌, ◌==◌, ◌≡◌, ◌≤◌, ◌∙◌, ◌∷◌}
-use Rattle.std.proofs.lemmas.Bool.{cases_lt, true≢false}
+use Rattle.std.proofs.Common.{Bool, List, [], ap, arith, cond, count_by, drop, false, length, nat_le, nat_lt, refl, suc, sym, take, true, zero, ℕ, ◌+◌, ◌++◌, ◌-◌, ◌==◌, ◌≡◌, ◌≤◌, ◌∙◌, ◌∷◌}
 use Rattle.std.proofs.lemmas.Bool.Decides.{nat_tests}
 use Rattle.std.proofs.lemmas.List.{take_all}
-use Rattle.std.proofs.lemmas.List.Sums.{count_by-le-length, sum_by-append}
+use Rattle.std.proofs.lemmas.List.Sums.{sum_by-append}
 use Rattle.std.specs.List.{items_where_true}
-use Rattle.bw_aggregate.specs.Descents.{IsNthCode}
 use Rattle.bw_aggregate.specs.Left.{codes_between}
-use Rattle.bw_aggregate.proofs.Counting.{count_cons, count_split}
+use Rattle.bw_aggregate.proofs.Counting.{count_split}
 
 count_append : (p : ℕ → Bool) (xs ys : List ℕ) → count_by p (xs ++ ys) ≡ count_by p xs + count_by p ys
 count_append p xs ys = sum_by-append (λ c. cond (p c) 1 0) xs ys

@@ -1,7 +1,6 @@
 -- The sum of the codes of a segment's rows, one plane more.
 use Rattle.std.proofs.Common.{Bool, List, [], ap, arith, count_by, drop, false, get_or, length, refl, sum, sum_by, sym, take, true, ℕ, ◌&&◌, ◌*◌, ◌+◌, ◌-◌, ◌<◌, ◌^◌, ◌≡◌, ◌≤◌, ◌∙◌, ◌∷◌}
 use Rattle.std.proofs.Math.Nat.{mul-le-mul, pow-le-pow_right}
-use Rattle.std.proofs.lemmas.List.{length-take}
 use Rattle.std.proofs.lemmas.List.Elements.{All-drop, All-take}
 use Rattle.std.specs.Prelude.{All}
 use Rattle.bw_mask.specs.Masks.{bit_of, row_in}

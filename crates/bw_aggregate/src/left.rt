@@ -1,12 +1,12 @@
 //! What becomes of rows that are left, plane by plane.
 
-ghost use Rattle.std.specs.Prelude.{Bool, IfOk, List, count_by, length, nat_lt, true, ℕ, ◌&&◌, ◌*◌, ◌^◌, ◌≡◌, ◌≤◌};
+ghost use Rattle.std.specs.Prelude.{Bool, IfOk, List, count_by, length, ℕ, ◌&&◌, ◌*◌, ◌^◌, ◌≡◌, ◌≤◌};
 ghost use Rattle.bw_mask.specs.Masks.{bit_of, len};
 ghost use Rattle.bw_aggregate.specs.Left.{codes_between, left_count};
 ghost use Rattle.bw_aggregate.specs.Planes.{IsPlane, has_bit};
 
 use crate::plane::Plane;
-use crate::rows::{count_both, count_rows, has_row, rows_at, rows_with};
+use crate::rows::{count_both, has_row, rows_at, rows_with};
 use crate::segments::{Left, Segment};
 use bw_mask::Mask;
 use std::alloc::{AllocError, Global};
@@ -30,27 +30,6 @@ impl Left {
         Ok(Left { segments })
     }
 
-    /// The same rows.
-    pub(crate) fn try_clone(&self) -> Result<Left, AllocError>
-        ensures { IfOk result (λ left. (codes : List ℕ) (p : ℕ → Bool) → left_count codes p left ≡ left_count codes p self.now) }
-    {
-        Ok(Left {
-            segments: Vec::from_slice(*self.segments.allocator(), &self.segments)?,
-        })
-    }
-
-    /// How many rows are left.
-    pub(crate) fn count(&self) -> usize
-        ensures is { (codes : List ℕ) → result ≡ left_count codes (λ code. true) self.now }
-        ensures few { result ≤ 2 ^ 24 }
-    {
-        let mut count = 0;
-        'segments: for k in 0..self.segments.len() {
-            count += count_rows(&self.segments[k].rows);
-        }
-        count
-    }
-
     /// How many of them are in the plane.
     pub(crate) fn count_in(&self, plane: &Plane) -> usize
         ensures is { (codes : List ℕ) (i : ℕ) → IsPlane codes i plane.now → result ≡ left_count codes (λ code. bit_of code i) self.now }
@@ -62,20 +41,6 @@ impl Left {
             count += count_both(&segment.rows, &plane.rows(segment.number));
         }
         count
-    }
-
-    /// Whether one of them is in the plane, or is not.
-    pub(crate) fn any_with(&self, plane: &Plane, bit: bool) -> bool
-        ensures { (codes : List ℕ) (i : ℕ) → IsPlane codes i plane.now → result ≡ nat_lt 0 (left_count codes (has_bit i bit) self.now) }
-    {
-        'segments: for k in 0..self.segments.len() {
-            let segment = &self.segments[k];
-            let rows = rows_with(&segment.rows, &plane.rows(segment.number), bit);
-            if has_row(&rows) {
-                return true;
-            }
-        }
-        false
     }
 
     /// Keeps those that are in the plane, or those that are not.

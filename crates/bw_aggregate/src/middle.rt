@@ -1,10 +1,12 @@
 //! The lower median, down the planes of the codes: where they lie, or in copies.
 
-ghost use Rattle.std.specs.Prelude.{IfOk, List, Some, length, ℕ, ◌-◌, ◌/◌, ◌<◌, ◌≡◌, ◌≤◌};
+ghost use Rattle.std.specs.Prelude.{All, IfOk, List, Some, length, ℕ, ◌+◌, ◌-◌, ◌/◌, ◌<◌, ◌^◌, ◌≡◌, ◌≤◌};
 ghost use Rattle.std.specs.List.{items_where_true};
 ghost use Rattle.bw_mask.specs.Masks.{len};
+ghost use Rattle.bw_code.specs.Columns.{Fit};
 ghost use Rattle.bw_code.specs.Encodings.{width};
 ghost use Rattle.bw_column.specs.Codes.{codes_for};
+ghost use Rattle.bw_column.specs.Values.{IsNullOrInteger};
 ghost use Rattle.bw_model.specs.SetFunctions.{median};
 ghost use Rattle.bw_aggregate.specs.Chosen.{AreKnownRows, chosen};
 ghost use Rattle.bw_aggregate.specs.Descending.{IsDescent};
@@ -47,29 +49,50 @@ fn descend_in_copies(column: &Column, bits: u32, descent: &mut Descent, copy: &m
     }
 }
 
-/// The code of the lower median of the rows, of which there are so many, and one at least.
+/// Takes the descent down all planes.
+fn descended(
+    alloc: Global,
+    column: &Column,
+    bits: u32,
+    mut descent: Descent,
+) -> Result<Descent, AllocError>
+    requires { bits ≡ width column.now.encoding }
+    ensures { IfOk result (λ end. (held : List ℕ) (n : ℕ) → IsDescent (codes_for column.now.encoding column.now.values) held n bits descent
+        → IsDescent (codes_for column.now.encoding column.now.values) held n 0 end) }
+{
+    match column.storage() {
+        Storage::V(codes) => {
+            descend_in_place(codes, &mut descent);
+            Ok(descent)
+        }
+        _ => {
+            let mut copy = Mask::filled(alloc, column.len(), false)?;
+            descend_in_copies(column, bits, &mut descent, &mut copy);
+            Ok(descent)
+        }
+    }
+}
+
+/// The code of the lower median of the rows, of which there are so many, and one at least. They make so many segments.
 fn median_code(
     alloc: Global,
     column: &Column,
     rows: &Mask,
+    segments: u32,
     count: usize,
 ) -> Result<u64, AllocError>
     requires len { len rows.now ≡ length column.now.values }
     requires count { count ≡ length (items_where_true rows.now.rows (codes_for column.now.encoding column.now.values)) }
     requires some { 0 < count }
+    requires few { length column.now.values ≤ 2 ^ 24 }
+    requires segments { segments ≡ (length column.now.values + 255) / 256 }
+    requires fit { Fit (width column.now.encoding) (codes_for column.now.encoding column.now.values) }
     ensures { IfOk result (IsNthCode (items_where_true rows.now.rows (codes_for column.now.encoding column.now.values)) ((count - 1) / 2)) }
 {
-    let segments = column.len().div_ceil(256) as u32;
+    let bits = column.encoding().width();
     let left = Left::of(alloc, rows, 0, segments)?;
-    let mut descent = Descent::from_top(left, count, (count - 1) / 2);
-    match column.storage() {
-        Storage::V(codes) => descend_in_place(codes, &mut descent),
-        _ => {
-            let mut copy = Mask::filled(alloc, column.len(), false)?;
-            descend_in_copies(column, column.encoding().width(), &mut descent, &mut copy);
-        }
-    }
-    Ok(descent.code())
+    let descent = Descent::from_top(left, count, (count - 1) / 2);
+    Ok(descended(alloc, column, bits, descent)?.code())
 }
 
 /// The lower median of the values of the rows, of which there are so many, and one at least. None of them is NULL.
@@ -77,14 +100,19 @@ pub(crate) fn median_of(
     alloc: Global,
     column: &Column,
     known: &Mask,
+    segments: u32,
     count: usize,
 ) -> Result<i64, AllocError>
     requires known { AreKnownRows column.now known.now known.now }
     requires len { len known.now ≡ length column.now.values }
     requires count { count ≡ length (chosen column.now known.now) }
     requires some { 0 < count }
+    requires few { length column.now.values ≤ 2 ^ 24 }
+    requires integers { All IsNullOrInteger column.now.values }
+    requires segments { segments ≡ (length column.now.values + 255) / 256 }
     ensures { IfOk result (λ value. Some value ≡ median (chosen column.now known.now)) }
 {
-    let code = median_code(alloc, column, known, count)?;
-    Ok(column.encoding().decode(code))
+    let encoding = column.encoding();
+    let code = median_code(alloc, column, known, segments, count)?;
+    Ok(encoding.decode(code))
 }

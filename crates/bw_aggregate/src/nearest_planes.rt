@@ -1,6 +1,6 @@
 //! The least and the greatest of codes by their planes.
 
-ghost use Rattle.std.specs.Prelude.{false, nat_lt, true, ℕ, ◌&&◌, ◌*◌, ◌+◌, ◌-◌, ◌<◌, ◌^◌, ◌≡◌, ◌≤◌};
+ghost use Rattle.std.specs.Prelude.{false, if◌then◌else◌, nat_lt, true, ℕ, ◌&&◌, ◌*◌, ◌+◌, ◌-◌, ◌<◌, ◌^◌, ◌≡◌, ◌≤◌};
 ghost use Rattle.bw_mask.specs.Masks.{len, row_at, row_in};
 ghost use Rattle.bw_code.specs.Columns.{Fit, code_at, count};
 ghost use Rattle.bw_vertical.specs.Planes.{segments_of};
@@ -54,6 +54,13 @@ fn rows_that_may_be_nearer(
     left
 }
 
+/// The nearer rows where there are some, and else all.
+fn nearer_or_all(some: bool, nearer: [u64; 4], all: [u64; 4]) -> [u64; 4]
+    ensures { result ≡ (if some then nearer else all) }
+{
+    if some { nearer } else { all }
+}
+
 /// The least distance of the rows, of which there is one, or `best` where none is nearer: a plane a step, from the top, as far
 /// as a row may still be nearer.
 fn nearest_of(codes: &VerticalColumn, q: usize, rows: &[u64; 4], end: End, best: u64) -> u64
@@ -71,9 +78,7 @@ fn nearest_of(codes: &VerticalColumn, q: usize, rows: &[u64; 4], end: End, best:
     'planes: for i in 0..k {
         let nearer = nearer_rows(&left, plane_at(codes, q, i), end);
         let some = has_row(&nearer);
-        if some {
-            left = nearer;
-        }
+        left = nearer_or_all(some, nearer, left);
         found = with_bit(found, !some);
         if found > best >> (k - 1 - i) {
             return best;
@@ -83,13 +88,7 @@ fn nearest_of(codes: &VerticalColumn, q: usize, rows: &[u64; 4], end: End, best:
 }
 
 /// The least distance of the rows of segment q, or `best` where none is nearer.
-fn nearest_in_segment(
-    codes: &VerticalColumn,
-    q: usize,
-    rows: &[u64; 4],
-    end: End,
-    best: u64,
-) -> u64
+fn nearest_in_segment(codes: &VerticalColumn, q: usize, rows: &[u64; 4], end: End, best: u64) -> u64
     requires there { q < segments_of (count codes.now) }
     requires few { count codes.now ≤ 2 ^ 24 }
     requires narrow { codes.now.width ≤ 32 }
@@ -108,7 +107,6 @@ fn nearest_in_segment(
 /// The least distance of the rows, or `far` where none is nearer.
 pub(crate) fn nearest_by_planes(codes: &VerticalColumn, rows: &Mask, end: End, far: u64) -> u64
     requires len { len rows.now ≡ count codes.now }
-    requires few { count codes.now ≤ 2 ^ 24 }
     requires narrow { codes.now.width ≤ 32 }
     requires fit { Fit codes.now.width codes.now.codes }
     requires small { far ≤ 2 ^ 32 }

@@ -69,7 +69,6 @@ fn segment_sum(codes: &VerticalColumn, q: usize, rows: &[u64; 4]) -> u64
 /// The sum of the codes of the rows.
 pub(crate) fn sum_by_planes(codes: &VerticalColumn, rows: &Mask) -> u128
     requires len { len rows.now ≡ count codes.now }
-    requires few { count codes.now ≤ 2 ^ 24 }
     requires narrow { codes.now.width ≤ 32 }
     requires fit { Fit codes.now.width codes.now.codes }
     ensures { IsCodeSum (items_where_true rows.now.rows codes.now.codes) result }

@@ -77,5 +77,5 @@ pub(crate) fn has_all(rows: &[u64]) -> bool
     requires { length rows.now ≡ 4 }
     ensures { result ≡ true → (j : ℕ) → j < 256 → row_in rows.now j ≡ true }
 {
-    rows[0] & rows[1] & rows[2] & rows[3] == u64::MAX
+    count_rows(rows) == 256
 }

@@ -1,7 +1,8 @@
 //! What set functions say of a column's values in some rows.
 
-ghost use Rattle.std.specs.Prelude.{IfOk, Some, length, slice_get, true, ◌<◌, ◌||◌, ◌≡◌, ◌≤◌, ◌^◌};
+ghost use Rattle.std.specs.Prelude.{All, IfOk, Some, length, slice_get, true, ◌+◌, ◌/◌, ◌<◌, ◌||◌, ◌≡◌, ◌≤◌, ◌^◌};
 ghost use Rattle.bw_mask.specs.Masks.{len};
+ghost use Rattle.bw_column.specs.Values.{IsNullOrInteger};
 ghost use Rattle.bw_model.specs.SetFunctions.{median, sorted, sum};
 ghost use Rattle.bw_aggregate.specs.Chosen.{AreKnownRows, chosen};
 ghost use Rattle.bw_aggregate.specs.Descents.{end_of};
@@ -90,7 +91,8 @@ pub fn summarize(
         });
     }
     let known = known_rows(column, rows)?;
-    let median = median_told(alloc, column, &known, count, asked.median)?;
+    let segments = column.len().div_ceil(256) as u32;
+    let median = median_told(alloc, column, &known, segments, count, asked.median)?;
     Ok(Summary {
         count,
         sum,
@@ -134,6 +136,7 @@ fn sum_from(column: &Column, rows: &Mask, count: usize) -> i128
 fn end_told(column: &Column, known: &Mask, end: End, asked: bool) -> Option<i64>
     requires known { AreKnownRows column.now known.now known.now }
     requires len { len known.now ≡ length column.now.values }
+    requires integers { All IsNullOrInteger column.now.values }
     requires some { 0 < length (chosen column.now known.now) }
     ensures { asked ≡ true → result ≡ slice_get (sorted (chosen column.now known.now)) (end_of end (length (chosen column.now known.now))) }
 {
@@ -149,6 +152,7 @@ fn median_told(
     alloc: Global,
     column: &Column,
     known: &Mask,
+    segments: u32,
     count: usize,
     asked: bool,
 ) -> Result<Option<i64>, AllocError>
@@ -156,10 +160,13 @@ fn median_told(
     requires len { len known.now ≡ length column.now.values }
     requires count { count ≡ length (chosen column.now known.now) }
     requires some { 0 < count }
+    requires few { length column.now.values ≤ 2 ^ 24 }
+    requires integers { All IsNullOrInteger column.now.values }
+    requires segments { segments ≡ (length column.now.values + 255) / 256 }
     ensures { IfOk result (λ value. asked ≡ true → value ≡ median (chosen column.now known.now)) }
 {
     if asked {
-        Ok(Some(median_of(alloc, column, known, count)?))
+        Ok(Some(median_of(alloc, column, known, segments, count)?))
     } else {
         Ok(None)
     }

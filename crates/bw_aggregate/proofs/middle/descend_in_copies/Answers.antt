@@ -20,3 +20,9 @@ planes-preserved c =
           (λ r. c.words.ensures.rows r ∙ c.plane.ensures.rows r ∙ ap (λ x. bit_of x i) (sym (code_of_row column.encoding column.values r)))
           (subst (λ k. IsDescent codes held n k c.planes.descent) next (inv.leads held n on));
     }
+
+pub returns : goal.returns
+returns c held n on =
+    let column = c.args.column.now in
+    let none : c.planes.i ≡ 0 = omega (arith, c.planes-test.false) in
+    subst (λ k. IsDescent (codes_for column.encoding column.values) held n k c.planes.descent) none (c.planes.invariant.leads held n on)

@@ -22,3 +22,9 @@ planes-preserved c held n on =
     ∙ ap (λ x. bit_of (get_or codes.codes x 0) (width - 1 - (4 * (i / 4) + i % 4))) place
     ∙ ap (bit_of (get_or codes.codes r 0)) bit)
     (subst (λ k. IsDescent codes.codes held n k c.planes.descent) next (c.planes.invariant held n on))
+
+pub returns : goal.returns
+returns c held n on =
+    let codes = c.args.codes.now in
+    let none : codes.width - c.planes.i ≡ 0 = omega (arith, c.planes-test.false, c.width-width.ensures.width) in
+    subst (λ k. IsDescent codes.codes held n k c.planes.descent) none (c.planes.invariant held n on)

@@ -1,7 +1,6 @@
 use Rattle.std.proofs.Common.{false, true, ℕ, ◌*◌, ◌+◌, ◌-◌, ◌<◌, ◌^◌, ◌≡◌, ◌≤◌}
 use Rattle.bw_mask.specs.Masks.{row_in}
 use Rattle.bw_code.specs.Columns.{code_at}
-use Rattle.bw_aggregate.specs.Descents.{front}
 use Rattle.bw_aggregate.specs.Ends.{distance}
 use Rattle.bw_aggregate.proofs.nearest_planes.rows_that_may_be_nearer.Given as goal
 

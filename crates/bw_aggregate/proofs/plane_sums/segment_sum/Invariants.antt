@@ -1,4 +1,4 @@
-use Rattle.std.proofs.Common.{Bool, List, length, ◌*◌, ◌-◌, ◌≡◌, ◌≤◌}
+use Rattle.std.proofs.Common.{Bool, List, length, ◌*◌, ◌-◌, ◌≡◌}
 use Rattle.bw_code.specs.Columns.{count}
 use Rattle.bw_aggregate.specs.PlaneSums.{AreRows, IsSumTo}
 use Rattle.bw_aggregate.proofs.plane_sums.segment_sum.Given as goal
