@@ -127,6 +127,7 @@ STRIKES = [
     Strike("bw_column::column::Column::compare_known", (of_column("compare_codes", "pair_codes.rt", "rows", "out.new"),)),
     Strike("bw_column::column::Column::compare_known", (of_column("compare_sums", "pair_codes.rt", "rows", "out.new"),)),
     Strike("bw_column::column::Column::split_by_column", (of_column("compare_known", "pairs.rt", "rows", "out.new"),)),
+    Strike("bw_column::column::Column::compare_column_in", (of_column("split_by_column", "pairs.rt", "trues", "trues.new"),)),
     Strike("bw_column::storage::Codes::get", (of_every_column("get", "code", "result"),)),
     Strike("bw_column::column::Column::get", (of_column("get", "storage.rt", "code", "result"),)),
     Strike("bw_column::storage::Codes::plane", (of_every_column("plane", "rows", "out.new"),)),
