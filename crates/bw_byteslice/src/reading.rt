@@ -22,35 +22,75 @@ pub(crate) fn code_at(slices: &[Vec<u8>], width: u32, j: usize) -> u64
     number >> shift_of(width)
 }
 
-fn clear(numbers: &mut [u64])
-    ensures len { length numbers.new ≡ length numbers.old }
-    ensures none { (r : ℕ) → r < length numbers.old → slice_index numbers.new r ≡ 0 }
+/// Fills `out` with the bytes of a slice from row `at` on, without their lowest bits.
+fn read_one(first: &[u8], at: usize, spare: u32, out: &mut [u64])
+    requires spare { spare < 8 }
+    requires first { at + length out.old ≤ length first.now }
+    ensures len { length out.new ≡ length out.old }
+    ensures codes { (r : ℕ) → r < length out.old → slice_index out.new r ≡ slice_index first.now (at + r) / 2 ^ spare }
 {
-    for r in 0..numbers.len() {
-        numbers[r] = 0;
+    for r in 0..out.len() {
+        let number = u32::from(first[at + r]);
+        out[r] = u64::from(number >> spare);
     }
 }
 
-/// The bytes of a slice from row `at` on become the lowest bytes of the numbers.
-fn take_bytes(slice: &[u8], at: usize, numbers: &mut [u64])
-    requires there { at + length numbers.old ≤ length slice.now }
-    requires few { (r : ℕ) → r < length numbers.old → slice_index numbers.old r < 2 ^ 32 }
-    ensures len { length numbers.new ≡ length numbers.old }
-    ensures numbers { (r : ℕ) → r < length numbers.old → slice_index numbers.new r ≡ slice_index numbers.old r * 256 + slice_index slice.now (at + r) }
+/// Fills `out` with the numbers that the bytes of two slices make from row `at` on, without their lowest bits.
+fn read_two(first: &[u8], second: &[u8], at: usize, spare: u32, out: &mut [u64])
+    requires spare { spare < 8 }
+    requires first { at + length out.old ≤ length first.now }
+    requires second { at + length out.old ≤ length second.now }
+    ensures len { length out.new ≡ length out.old }
+    ensures codes { (r : ℕ) → r < length out.old → slice_index out.new r ≡ (slice_index first.now (at + r) * 256 + slice_index second.now (at + r)) / 2 ^ spare }
 {
-    for r in 0..numbers.len() {
-        numbers[r] = numbers[r] * 256 + u64::from(slice[at + r]);
+    for r in 0..out.len() {
+        let number = u32::from(first[at + r]);
+        let number = number * 256 + u32::from(second[at + r]);
+        out[r] = u64::from(number >> spare);
     }
 }
 
-/// The numbers without their lowest bits.
-fn lower(numbers: &mut [u64], places: u32)
-    requires { places < 64 }
-    ensures len { length numbers.new ≡ length numbers.old }
-    ensures numbers { (r : ℕ) → r < length numbers.old → slice_index numbers.new r ≡ slice_index numbers.old r / 2 ^ places }
+/// Fills `out` with the numbers that the bytes of three slices make from row `at` on, without their lowest bits.
+fn read_three(first: &[u8], second: &[u8], third: &[u8], at: usize, spare: u32, out: &mut [u64])
+    requires spare { spare < 8 }
+    requires first { at + length out.old ≤ length first.now }
+    requires second { at + length out.old ≤ length second.now }
+    requires third { at + length out.old ≤ length third.now }
+    ensures len { length out.new ≡ length out.old }
+    ensures codes { (r : ℕ) → r < length out.old → slice_index out.new r ≡ ((slice_index first.now (at + r) * 256 + slice_index second.now (at + r)) * 256 + slice_index third.now (at + r)) / 2 ^ spare }
 {
-    for r in 0..numbers.len() {
-        numbers[r] >>= places;
+    for r in 0..out.len() {
+        let number = u32::from(first[at + r]);
+        let number = number * 256 + u32::from(second[at + r]);
+        let number = number * 256 + u32::from(third[at + r]);
+        out[r] = u64::from(number >> spare);
+    }
+}
+
+/// Fills `out` with the numbers that the bytes of four slices make from row `at` on, without their lowest bits.
+fn read_four(
+    first: &[u8],
+    second: &[u8],
+    third: &[u8],
+    fourth: &[u8],
+    at: usize,
+    spare: u32,
+    out: &mut [u64],
+)
+    requires spare { spare < 8 }
+    requires first { at + length out.old ≤ length first.now }
+    requires second { at + length out.old ≤ length second.now }
+    requires third { at + length out.old ≤ length third.now }
+    requires fourth { at + length out.old ≤ length fourth.now }
+    ensures len { length out.new ≡ length out.old }
+    ensures codes { (r : ℕ) → r < length out.old → slice_index out.new r ≡ (((slice_index first.now (at + r) * 256 + slice_index second.now (at + r)) * 256 + slice_index third.now (at + r)) * 256 + slice_index fourth.now (at + r)) / 2 ^ spare }
+{
+    for r in 0..out.len() {
+        let number = u32::from(first[at + r]);
+        let number = number * 256 + u32::from(second[at + r]);
+        let number = number * 256 + u32::from(third[at + r]);
+        let number = number * 256 + u32::from(fourth[at + r]);
+        out[r] = u64::from(number >> spare);
     }
 }
 
@@ -63,9 +103,13 @@ pub(crate) fn read(slices: &[Vec<u8>], width: u32, at: usize, out: &mut [u64])
     ensures len { length out.new ≡ length out.old }
     ensures codes { (r : ℕ) → r < length out.old → slice_index out.new r ≡ code_of width (bytes_of slices.now) (at + r) }
 {
-    clear(out);
-    for i in 0..slices.len() {
-        take_bytes(&slices[i], at, out);
+    let spare = shift_of(width);
+    match slices {
+        [] => out.fill(0),
+        [first] => read_one(first, at, spare, out),
+        [first, second] => read_two(first, second, at, spare, out),
+        [first, second, third] => read_three(first, second, third, at, spare, out),
+        [first, second, third, fourth] => read_four(first, second, third, fourth, at, spare, out),
+        _ => unreachable!(),
     }
-    lower(out, shift_of(width));
 }

@@ -1,4 +1,4 @@
-//! Words of a column: room for rows, and codes put and read row after row.
+//! Words of a column: room for rows, and codes put row after row and read run after run.
 
 ghost use Rattle.std.specs.Prelude.{All, length, slice_index, vec_capacity, vec_len, ℕ, ◌*◌, ◌+◌, ◌<◌, ◌^◌, ◌≡◌, ◌≤◌};
 ghost use Rattle.bw_lane.specs.Sections.{IsStored};
@@ -46,7 +46,7 @@ pub(crate) fn put_codes(words: &mut [u64], width: u32, at: usize, codes: &[u64])
     let mut place = Place::of(width, at);
     for code in codes {
         place.put(words, *code);
-        place = place.next();
+        place = place.after(1);
     }
 }
 
@@ -58,8 +58,11 @@ pub(crate) fn read_codes(words: &[u64], width: u32, at: usize, out: &mut [u64])
     ensures { (i : ℕ) → i < length out.old → slice_index out.new i ≡ code_in width words.now (at + i) }
 {
     let mut place = Place::of(width, at);
-    for code in out.iter_mut() {
-        *code = place.code(words);
-        place = place.next();
+    let mut done = 0;
+    'runs: while done < out.len() {
+        let n = place.run().min(out.len() - done);
+        place.codes(words, &mut out[done..done + n]);
+        place = place.after(n);
+        done += n;
     }
 }
