@@ -6,6 +6,9 @@ ghost use Rattle.bw_byteslice.specs.Storing.{byte_of, bytes_of, code_of};
 
 use crate::shift::shift_of;
 
+/// How many codes are read at a time.
+const RUN: usize = 64;
+
 /// The code of row j.
 pub(crate) fn code_at(slices: &[Vec<u8>], width: u32, j: usize) -> u64
     requires narrow { width ≤ 32 }
@@ -23,7 +26,7 @@ pub(crate) fn code_at(slices: &[Vec<u8>], width: u32, j: usize) -> u64
 }
 
 /// Fills `out` with the bytes of a slice from row `at` on, without their lowest bits.
-fn read_one(first: &[u8], at: usize, spare: u32, out: &mut [u64])
+fn read_one(first: &[u8], at: usize, spare: u32, out: &mut [u32])
     requires spare { spare < 8 }
     requires first { at + length out.old ≤ length first.now }
     ensures len { length out.new ≡ length out.old }
@@ -31,12 +34,12 @@ fn read_one(first: &[u8], at: usize, spare: u32, out: &mut [u64])
 {
     for r in 0..out.len() {
         let number = u32::from(first[at + r]);
-        out[r] = u64::from(number >> spare);
+        out[r] = number >> spare;
     }
 }
 
 /// Fills `out` with the numbers that the bytes of two slices make from row `at` on, without their lowest bits.
-fn read_two(first: &[u8], second: &[u8], at: usize, spare: u32, out: &mut [u64])
+fn read_two(first: &[u8], second: &[u8], at: usize, spare: u32, out: &mut [u32])
     requires spare { spare < 8 }
     requires first { at + length out.old ≤ length first.now }
     requires second { at + length out.old ≤ length second.now }
@@ -46,12 +49,12 @@ fn read_two(first: &[u8], second: &[u8], at: usize, spare: u32, out: &mut [u64])
     for r in 0..out.len() {
         let number = u32::from(first[at + r]);
         let number = number * 256 + u32::from(second[at + r]);
-        out[r] = u64::from(number >> spare);
+        out[r] = number >> spare;
     }
 }
 
 /// Fills `out` with the numbers that the bytes of three slices make from row `at` on, without their lowest bits.
-fn read_three(first: &[u8], second: &[u8], third: &[u8], at: usize, spare: u32, out: &mut [u64])
+fn read_three(first: &[u8], second: &[u8], third: &[u8], at: usize, spare: u32, out: &mut [u32])
     requires spare { spare < 8 }
     requires first { at + length out.old ≤ length first.now }
     requires second { at + length out.old ≤ length second.now }
@@ -63,7 +66,7 @@ fn read_three(first: &[u8], second: &[u8], third: &[u8], at: usize, spare: u32, 
         let number = u32::from(first[at + r]);
         let number = number * 256 + u32::from(second[at + r]);
         let number = number * 256 + u32::from(third[at + r]);
-        out[r] = u64::from(number >> spare);
+        out[r] = number >> spare;
     }
 }
 
@@ -75,7 +78,7 @@ fn read_four(
     fourth: &[u8],
     at: usize,
     spare: u32,
-    out: &mut [u64],
+    out: &mut [u32],
 )
     requires spare { spare < 8 }
     requires first { at + length out.old ≤ length first.now }
@@ -90,12 +93,12 @@ fn read_four(
         let number = number * 256 + u32::from(second[at + r]);
         let number = number * 256 + u32::from(third[at + r]);
         let number = number * 256 + u32::from(fourth[at + r]);
-        out[r] = u64::from(number >> spare);
+        out[r] = number >> spare;
     }
 }
 
-/// Fills `out` with the codes from row `at` on.
-pub(crate) fn read(slices: &[Vec<u8>], width: u32, at: usize, out: &mut [u64])
+/// Fills `out` with the codes from row `at` on. A register takes twice as many numbers of 32 bits as of 64.
+fn read_narrow(slices: &[Vec<u8>], width: u32, at: usize, out: &mut [u32])
     requires narrow { width ≤ 32 }
     requires count { length slices.now ≡ slices_of width }
     requires bytes { (i j : ℕ) → byte_of (bytes_of slices.now) j i < 256 }
@@ -111,5 +114,50 @@ pub(crate) fn read(slices: &[Vec<u8>], width: u32, at: usize, out: &mut [u64])
         [first, second, third] => read_three(first, second, third, at, spare, out),
         [first, second, third, fourth] => read_four(first, second, third, fourth, at, spare, out),
         _ => unreachable!(),
+    }
+}
+
+/// Fills `out` with the numbers.
+fn widen(numbers: &[u32], out: &mut [u64])
+    requires { length out.old ≡ length numbers.now }
+    ensures len { length out.new ≡ length out.old }
+    ensures same { (r : ℕ) → r < length out.old → slice_index out.new r ≡ slice_index numbers.now r }
+{
+    for r in 0..out.len() {
+        out[r] = u64::from(numbers[r]);
+    }
+}
+
+/// Fills `out` with the codes from row `at` on, of which there are few.
+fn read_run(slices: &[Vec<u8>], width: u32, at: usize, out: &mut [u64])
+    requires narrow { width ≤ 32 }
+    requires count { length slices.now ≡ slices_of width }
+    requires bytes { (i j : ℕ) → byte_of (bytes_of slices.now) j i < 256 }
+    requires few { length out.old ≤ 64 }
+    requires there { (i : ℕ) → i < slices_of width → at + length out.old ≤ length (slice_index_or (bytes_of slices.now) i []) }
+    ensures len { length out.new ≡ length out.old }
+    ensures codes { (r : ℕ) → r < length out.old → slice_index out.new r ≡ code_of width (bytes_of slices.now) (at + r) }
+{
+    let mut run = [0; RUN];
+    let codes = &mut run[..out.len()];
+    read_narrow(slices, width, at, codes);
+    widen(codes, out);
+}
+
+/// Fills `out` with the codes from row `at` on.
+pub(crate) fn read(slices: &[Vec<u8>], width: u32, at: usize, out: &mut [u64])
+    requires narrow { width ≤ 32 }
+    requires count { length slices.now ≡ slices_of width }
+    requires few { at + length out.old ≤ 2 ^ 24 }
+    requires bytes { (i j : ℕ) → byte_of (bytes_of slices.now) j i < 256 }
+    requires there { (i : ℕ) → i < slices_of width → at + length out.old ≤ length (slice_index_or (bytes_of slices.now) i []) }
+    ensures len { length out.new ≡ length out.old }
+    ensures codes { (r : ℕ) → r < length out.old → slice_index out.new r ≡ code_of width (bytes_of slices.now) (at + r) }
+{
+    let mut done = 0;
+    'runs: while done < out.len() {
+        let n = (out.len() - done).min(RUN);
+        read_run(slices, width, at + done, &mut out[done..done + n]);
+        done += n;
     }
 }

@@ -72,7 +72,8 @@ impl Place {
                 section: self.section,
             };
         }
-        if (self.section as usize + 1) < 64 / words {
+        // Without a division, since this is asked at the end of each run.
+        if (self.section as usize + 2) * words <= 64 {
             return Place {
                 masks,
                 row,

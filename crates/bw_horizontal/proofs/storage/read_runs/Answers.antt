@@ -2,7 +2,7 @@ use Rattle.std.proofs.Common.{ap, arith, drop, inl, inr, length, length-drop, le
 use Rattle.std.proofs.lemmas.Bool.{cases_lt}
 use Rattle.bw_code.proofs.Parts.{before_part, in_part, part_length}
 use Rattle.bw_horizontal.specs.Words.{code_in}
-use Rattle.bw_horizontal.proofs.storage.read_codes.Goals as goal
+use Rattle.bw_horizontal.proofs.storage.read_runs.Goals as goal
 
 pub runs-preserved : goal.runs-preserved
 runs-preserved c =
