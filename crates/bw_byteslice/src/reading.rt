@@ -6,6 +6,9 @@ ghost use Rattle.bw_byteslice.specs.Storing.{byte_of, bytes_of, code_of};
 
 use crate::shift::shift_of;
 
+/// How many codes are read at a time.
+const RUN: usize = 64;
+
 /// The code of row j.
 pub(crate) fn code_at(slices: &[Vec<u8>], width: u32, j: usize) -> u64
     requires narrow { width ≤ 32 }
@@ -22,40 +25,80 @@ pub(crate) fn code_at(slices: &[Vec<u8>], width: u32, j: usize) -> u64
     number >> shift_of(width)
 }
 
-fn clear(numbers: &mut [u64])
-    ensures len { length numbers.new ≡ length numbers.old }
-    ensures none { (r : ℕ) → r < length numbers.old → slice_index numbers.new r ≡ 0 }
+/// Fills `out` with the bytes of a slice from row `at` on, without their lowest bits.
+fn read_one(first: &[u8], at: usize, spare: u32, out: &mut [u32])
+    requires spare { spare < 8 }
+    requires first { at + length out.old ≤ length first.now }
+    ensures len { length out.new ≡ length out.old }
+    ensures codes { (r : ℕ) → r < length out.old → slice_index out.new r ≡ slice_index first.now (at + r) / 2 ^ spare }
 {
-    for r in 0..numbers.len() {
-        numbers[r] = 0;
+    for r in 0..out.len() {
+        let number = u32::from(first[at + r]);
+        out[r] = number >> spare;
     }
 }
 
-/// The bytes of a slice from row `at` on become the lowest bytes of the numbers.
-fn take_bytes(slice: &[u8], at: usize, numbers: &mut [u64])
-    requires there { at + length numbers.old ≤ length slice.now }
-    requires few { (r : ℕ) → r < length numbers.old → slice_index numbers.old r < 2 ^ 32 }
-    ensures len { length numbers.new ≡ length numbers.old }
-    ensures numbers { (r : ℕ) → r < length numbers.old → slice_index numbers.new r ≡ slice_index numbers.old r * 256 + slice_index slice.now (at + r) }
+/// Fills `out` with the numbers that the bytes of two slices make from row `at` on, without their lowest bits.
+fn read_two(first: &[u8], second: &[u8], at: usize, spare: u32, out: &mut [u32])
+    requires spare { spare < 8 }
+    requires first { at + length out.old ≤ length first.now }
+    requires second { at + length out.old ≤ length second.now }
+    ensures len { length out.new ≡ length out.old }
+    ensures codes { (r : ℕ) → r < length out.old → slice_index out.new r ≡ (slice_index first.now (at + r) * 256 + slice_index second.now (at + r)) / 2 ^ spare }
 {
-    for r in 0..numbers.len() {
-        numbers[r] = numbers[r] * 256 + u64::from(slice[at + r]);
+    for r in 0..out.len() {
+        let number = u32::from(first[at + r]);
+        let number = number * 256 + u32::from(second[at + r]);
+        out[r] = number >> spare;
     }
 }
 
-/// The numbers without their lowest bits.
-fn lower(numbers: &mut [u64], places: u32)
-    requires { places < 64 }
-    ensures len { length numbers.new ≡ length numbers.old }
-    ensures numbers { (r : ℕ) → r < length numbers.old → slice_index numbers.new r ≡ slice_index numbers.old r / 2 ^ places }
+/// Fills `out` with the numbers that the bytes of three slices make from row `at` on, without their lowest bits.
+fn read_three(first: &[u8], second: &[u8], third: &[u8], at: usize, spare: u32, out: &mut [u32])
+    requires spare { spare < 8 }
+    requires first { at + length out.old ≤ length first.now }
+    requires second { at + length out.old ≤ length second.now }
+    requires third { at + length out.old ≤ length third.now }
+    ensures len { length out.new ≡ length out.old }
+    ensures codes { (r : ℕ) → r < length out.old → slice_index out.new r ≡ ((slice_index first.now (at + r) * 256 + slice_index second.now (at + r)) * 256 + slice_index third.now (at + r)) / 2 ^ spare }
 {
-    for r in 0..numbers.len() {
-        numbers[r] >>= places;
+    for r in 0..out.len() {
+        let number = u32::from(first[at + r]);
+        let number = number * 256 + u32::from(second[at + r]);
+        let number = number * 256 + u32::from(third[at + r]);
+        out[r] = number >> spare;
     }
 }
 
-/// Fills `out` with the codes from row `at` on.
-pub(crate) fn read(slices: &[Vec<u8>], width: u32, at: usize, out: &mut [u64])
+/// Fills `out` with the numbers that the bytes of four slices make from row `at` on, without their lowest bits.
+fn read_four(
+    first: &[u8],
+    second: &[u8],
+    third: &[u8],
+    fourth: &[u8],
+    at: usize,
+    spare: u32,
+    out: &mut [u32],
+)
+    requires spare { spare < 8 }
+    requires first { at + length out.old ≤ length first.now }
+    requires second { at + length out.old ≤ length second.now }
+    requires third { at + length out.old ≤ length third.now }
+    requires fourth { at + length out.old ≤ length fourth.now }
+    ensures len { length out.new ≡ length out.old }
+    ensures codes { (r : ℕ) → r < length out.old → slice_index out.new r ≡ (((slice_index first.now (at + r) * 256 + slice_index second.now (at + r)) * 256 + slice_index third.now (at + r)) * 256 + slice_index fourth.now (at + r)) / 2 ^ spare }
+{
+    for r in 0..out.len() {
+        let number = u32::from(first[at + r]);
+        let number = number * 256 + u32::from(second[at + r]);
+        let number = number * 256 + u32::from(third[at + r]);
+        let number = number * 256 + u32::from(fourth[at + r]);
+        out[r] = number >> spare;
+    }
+}
+
+/// Fills `out` with the codes from row `at` on. A register takes twice as many numbers of 32 bits as of 64.
+fn read_narrow(slices: &[Vec<u8>], width: u32, at: usize, out: &mut [u32])
     requires narrow { width ≤ 32 }
     requires count { length slices.now ≡ slices_of width }
     requires bytes { (i j : ℕ) → byte_of (bytes_of slices.now) j i < 256 }
@@ -63,9 +106,58 @@ pub(crate) fn read(slices: &[Vec<u8>], width: u32, at: usize, out: &mut [u64])
     ensures len { length out.new ≡ length out.old }
     ensures codes { (r : ℕ) → r < length out.old → slice_index out.new r ≡ code_of width (bytes_of slices.now) (at + r) }
 {
-    clear(out);
-    for i in 0..slices.len() {
-        take_bytes(&slices[i], at, out);
+    let spare = shift_of(width);
+    match slices {
+        [] => out.fill(0),
+        [first] => read_one(first, at, spare, out),
+        [first, second] => read_two(first, second, at, spare, out),
+        [first, second, third] => read_three(first, second, third, at, spare, out),
+        [first, second, third, fourth] => read_four(first, second, third, fourth, at, spare, out),
+        _ => unreachable!(),
     }
-    lower(out, shift_of(width));
+}
+
+/// Fills `out` with the numbers.
+fn widen(numbers: &[u32], out: &mut [u64])
+    requires { length out.old ≡ length numbers.now }
+    ensures len { length out.new ≡ length out.old }
+    ensures same { (r : ℕ) → r < length out.old → slice_index out.new r ≡ slice_index numbers.now r }
+{
+    for r in 0..out.len() {
+        out[r] = u64::from(numbers[r]);
+    }
+}
+
+/// Fills `out` with the codes from row `at` on, of which there are few.
+fn read_run(slices: &[Vec<u8>], width: u32, at: usize, out: &mut [u64])
+    requires narrow { width ≤ 32 }
+    requires count { length slices.now ≡ slices_of width }
+    requires bytes { (i j : ℕ) → byte_of (bytes_of slices.now) j i < 256 }
+    requires few { length out.old ≤ 64 }
+    requires there { (i : ℕ) → i < slices_of width → at + length out.old ≤ length (slice_index_or (bytes_of slices.now) i []) }
+    ensures len { length out.new ≡ length out.old }
+    ensures codes { (r : ℕ) → r < length out.old → slice_index out.new r ≡ code_of width (bytes_of slices.now) (at + r) }
+{
+    let mut run = [0; RUN];
+    let codes = &mut run[..out.len()];
+    read_narrow(slices, width, at, codes);
+    widen(codes, out);
+}
+
+/// Fills `out` with the codes from row `at` on.
+pub(crate) fn read(slices: &[Vec<u8>], width: u32, at: usize, out: &mut [u64])
+    requires narrow { width ≤ 32 }
+    requires count { length slices.now ≡ slices_of width }
+    requires few { at + length out.old ≤ 2 ^ 24 }
+    requires bytes { (i j : ℕ) → byte_of (bytes_of slices.now) j i < 256 }
+    requires there { (i : ℕ) → i < slices_of width → at + length out.old ≤ length (slice_index_or (bytes_of slices.now) i []) }
+    ensures len { length out.new ≡ length out.old }
+    ensures codes { (r : ℕ) → r < length out.old → slice_index out.new r ≡ code_of width (bytes_of slices.now) (at + r) }
+{
+    let mut done = 0;
+    'runs: while done < out.len() {
+        let n = (out.len() - done).min(RUN);
+        read_run(slices, width, at + done, &mut out[done..done + n]);
+        done += n;
+    }
 }

@@ -63,11 +63,11 @@ same_layout S V = false
 same_layout S H = false
 same_layout S P = false
 
--- two columns whose codes compare as their values do, and lie in the same way
+-- two columns of the same encoding, whose codes so compare as their values do, in the same layout
 abbrev pub are_alike : ColumnView → ColumnView → Bool
 are_alike column other = same_layout column.layout other.layout && same_encoding column.encoding other.encoding
 
--- two columns of distances from bases, in layouts that have planes at hand
+-- two columns of distances from bases, in layouts of which planes can be read
 abbrev pub have_sums : ColumnView → ColumnView → Bool
 have_sums column other = (is_offset column.encoding && is_offset other.encoding) && not (is_plain column.layout || is_plain other.layout)
 

@@ -75,8 +75,10 @@ impl Column {
     }
 
     /// `truth` becomes, at each needed row, whether the values of both columns compare so. What it was before is of no
-    /// account. It is unknown where either is null and at every row that is not needed. Two units for each needed row
-    /// where neither is null are added to the meter. Takes no memory.
+    /// account. It is unknown where either is null and at every row that is not needed. Takes no memory. The meter is
+    /// raised by what is read of both at the needed rows where neither is null (`units_of_columns`): a scan of both side by side
+    /// where their layout and encoding are the same, the planes of both where only their bases or widths differ, and else
+    /// two fetches for each row.
     pub fn compare_column_in(
         &self,
         op: CmpOp,

@@ -24,5 +24,5 @@ pub use change::Prepared;
 pub use column::Column;
 pub use storage::Storage;
 
-/// Columns of kind OFFSET compared over sources of planes, where their bases differ.
+/// Columns of kind OFFSET compared over sources of planes, whatever their bases.
 pub use bw_vertical::add_from;

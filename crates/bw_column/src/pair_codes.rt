@@ -16,7 +16,7 @@ use bw_mask::Mask;
 use bw_vertical::add_from;
 
 impl Column {
-    /// Whether the codes of both compare as their values do, and lie in the same way.
+    /// Whether both have the same encoding, so that their codes compare as their values do, and lie in the same way.
     pub(crate) fn is_alike(&self, other: &Column) -> bool
         ensures { result ≡ are_alike self.now other.now }
     {
@@ -46,7 +46,7 @@ impl Column {
         self.codes.scan_pair(&other.codes, op, known, out, meter);
     }
 
-    /// Whether both hold distances from bases, in layouts that have planes at hand.
+    /// Whether both hold distances from bases, in layouts of which planes can be read.
     pub(crate) fn has_sums_with(&self, other: &Column) -> bool
         ensures { result ≡ have_sums self.now other.now }
     {

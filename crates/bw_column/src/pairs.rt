@@ -1,4 +1,4 @@
-//! Two columns compared row by row.
+//! Two columns compared at the needed rows.
 
 ghost use Rattle.std.specs.Prelude.{is_some, length, not, true, ℕ, ◌&&◌, ◌+◌, ◌<◌, ◌^◌, ◌≡◌, ◌≤◌};
 ghost use Rattle.bw_mask.specs.Masks.{SameShape, bit_of, len, row_at};
@@ -91,7 +91,8 @@ impl Column {
         }
     }
 
-    /// `out` becomes the known rows whose values compare so, by the cheapest way that the two columns allow.
+    /// `out` becomes the known rows whose values compare so, by the first way that the two columns allow: a scan of
+    /// both, an addition of planes, or their values.
     fn compare_known(
         &self,
         op: CmpOp,

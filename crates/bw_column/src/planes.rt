@@ -76,7 +76,8 @@ fn segment_planes<C: CodeColumn>(column: &C, q: usize) -> [[u64; 4]; 32]
 
 /// The planes of a column of codes of at most 32 bits, read one at a time: unit q * width + i is plane i of segment q, a
 /// segment is 256 rows, and plane i holds bit width - 1 - i of each code. Rows past the last are not set. The codes of a
-/// segment are turned into planes at once, when one of these is read, and no memory is taken.
+/// segment are turned into planes at once, those of the first at the start and those of another when one of its planes is read.
+/// No memory is taken.
 #[derive(Drop)]
 pub(crate) struct CodePlanes<'a, C: CodeColumn> {
     column: &'a C,

@@ -53,8 +53,8 @@ apart k a b narrow same also =
     let i : a % segment_rows k % (k + 1) ≡ b % segment_rows k % (k + 1) = sym (mod-mul-add (a / segment_rows k) (k + 1) _ x) ∙ ap (λ n. n % (k + 1)) same ∙ mod-mul-add (b / segment_rows k) (k + 1) _ y in
     sym (row_is k a narrow) ∙ rw (q, i, also) (row_is k b narrow)
 
--- the place of the next row
-module _ (k j : ℕ) (narrow : k ≤ 32) where
+-- the place of the row n rows on, which is of the run of row j or the first behind it
+module _ (k j n : ℕ) (narrow : k ≤ 32) where
   abbrev q : ℕ
   q = j / segment_rows k
 
@@ -64,28 +64,33 @@ module _ (k j : ℕ) (narrow : k ≤ 32) where
   abbrev i : ℕ
   i = j % segment_rows k % (k + 1)
 
-  pub next_word : i + 1 < k + 1 → ((j + 1) / segment_rows k ≡ q) × ((j + 1) % segment_rows k % (k + 1) ≡ i + 1) × (section_in k (j + 1) ≡ t)
+  pub next_word : i + n < k + 1 → ((j + n) / segment_rows k ≡ q) × ((j + n) % segment_rows k % (k + 1) ≡ i + n) × (section_in k (j + n) ≡ t)
   next_word h =
-      let at : segment_rows k * q + (t * (k + 1) + (i + 1)) ≡ j + 1 = omega (arith, row_is k j narrow) in
+      let at : segment_rows k * q + (t * (k + 1) + (i + n)) ≡ j + n = omega (arith, row_is k j narrow) in
       let there = section_low k j narrow in
-      (subst (λ n. n / segment_rows k ≡ q) at (row_segment k q t (i + 1) h there), subst (λ n. n % segment_rows k % (k + 1) ≡ i + 1) at (row_word k q t (i + 1) h there), subst (λ n. section_in k n ≡ t) at (row_section k q t (i + 1) h there))
+      (subst (λ m. m / segment_rows k ≡ q) at (row_segment k q t (i + n) h there), subst (λ m. m % segment_rows k % (k + 1) ≡ i + n) at (row_word k q t (i + n) h there), subst (λ m. section_in k m ≡ t) at (row_section k q t (i + n) h there))
 
-  pub next_section : k + 1 ≤ i + 1 → t + 1 < sections_in k → ((j + 1) / segment_rows k ≡ q) × ((j + 1) % segment_rows k % (k + 1) ≡ 0) × (section_in k (j + 1) ≡ t + 1)
-  next_section last h =
-      let end : i + 1 ≡ k + 1 = omega arith in
-      let at : segment_rows k * q + ((t + 1) * (k + 1) + 0) ≡ j + 1 = omega (arith, row_is k j narrow, end) in
+  pub next_section : i + n ≡ k + 1 → t + 1 < sections_in k → ((j + n) / segment_rows k ≡ q) × ((j + n) % segment_rows k % (k + 1) ≡ 0) × (section_in k (j + n) ≡ t + 1)
+  next_section end h =
+      let at : segment_rows k * q + ((t + 1) * (k + 1) + 0) ≡ j + n = omega (arith, row_is k j narrow, end) in
       let low : 0 < k + 1 = omega arith in
-      (subst (λ n. n / segment_rows k ≡ q) at (row_segment k q (t + 1) 0 low h), subst (λ n. n % segment_rows k % (k + 1) ≡ 0) at (row_word k q (t + 1) 0 low h), subst (λ n. section_in k n ≡ t + 1) at (row_section k q (t + 1) 0 low h))
+      (subst (λ m. m / segment_rows k ≡ q) at (row_segment k q (t + 1) 0 low h), subst (λ m. m % segment_rows k % (k + 1) ≡ 0) at (row_word k q (t + 1) 0 low h), subst (λ m. section_in k m ≡ t + 1) at (row_section k q (t + 1) 0 low h))
 
-  pub next_segment : k + 1 ≤ i + 1 → sections_in k ≤ t + 1 → ((j + 1) / segment_rows k ≡ q + 1) × ((j + 1) % segment_rows k % (k + 1) ≡ 0) × (section_in k (j + 1) ≡ 0)
-  next_segment last h =
-      let end : i + 1 ≡ k + 1 = omega arith in
+  pub next_segment : i + n ≡ k + 1 → sections_in k ≤ t + 1 → ((j + n) / segment_rows k ≡ q + 1) × ((j + n) % segment_rows k % (k + 1) ≡ 0) × (section_in k (j + n) ≡ 0)
+  next_segment end h =
       let full : t + 1 ≡ sections_in k = omega (arith, section_low k j narrow) in
-      let all : (t + 1) * (k + 1) ≡ sections_in k * (k + 1) = ap (λ n. n * (k + 1)) full in
-      let at : segment_rows k * (q + 1) + (0 * (k + 1) + 0) ≡ j + 1 = omega (arith, row_is k j narrow, end, all) in
+      let all : (t + 1) * (k + 1) ≡ sections_in k * (k + 1) = ap (λ m. m * (k + 1)) full in
+      let at : segment_rows k * (q + 1) + (0 * (k + 1) + 0) ≡ j + n = omega (arith, row_is k j narrow, end, all) in
       let low : 0 < k + 1 = omega arith in
       let there : 0 < sections_in k = omega (arith, full) in
-      (subst (λ n. n / segment_rows k ≡ q + 1) at (row_segment k (q + 1) 0 0 low there), subst (λ n. n % segment_rows k % (k + 1) ≡ 0) at (row_word k (q + 1) 0 0 low there), subst (λ n. section_in k n ≡ 0) at (row_section k (q + 1) 0 0 low there))
+      (subst (λ m. m / segment_rows k ≡ q + 1) at (row_segment k (q + 1) 0 0 low there), subst (λ m. m % segment_rows k % (k + 1) ≡ 0) at (row_word k (q + 1) 0 0 low there), subst (λ m. section_in k m ≡ 0) at (row_section k (q + 1) 0 0 low there))
+
+  -- the words of a run lie one behind the other
+  pub word_on : i + n < k + 1 → word_of k (j + n) ≡ word_of k j + n
+  word_on h = let on = next_word h in rw (on.0, on.1) (omega arith)
+
+  pub code_on : i + n < k + 1 → (words : List ℕ) → code_in k words (j + n) ≡ section_of k t (get_or words (word_of k j + n) 0)
+  code_on h words = let on = next_word h in ap (λ s. section_of k s (get_or words (word_of k (j + n)) 0)) on.2 ∙ ap (λ w. section_of k t (get_or words w 0)) (word_on h)
 
 -- the codes after the section of one row is replaced
 pub code_put : (k row code word : ℕ) (words : List ℕ) → k ≤ 32 → word_of k row < length words

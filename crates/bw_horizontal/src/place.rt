@@ -1,13 +1,13 @@
 //! Where the code of a row lies in words of sections.
 
-ghost use Rattle.std.specs.Prelude.{if◌then◌else◌, length, ℕ, ◌%◌, ◌*◌, ◌+◌, ◌/◌, ◌<◌, ◌==◌, ◌^◌, ◌≡◌, ◌≤◌};
+ghost use Rattle.std.specs.Prelude.{if◌then◌else◌, length, slice_index, ℕ, ◌%◌, ◌*◌, ◌+◌, ◌/◌, ◌<◌, ◌==◌, ◌^◌, ◌≡◌, ◌≤◌};
 ghost use Rattle.std.specs.List.{All};
 ghost use Rattle.bw_lane.specs.Sections.{IsStored};
 ghost use Rattle.bw_horizontal.specs.Words.{code_in, section_in, segment_rows, word_of};
 
 use bw_lane::SectionMasks;
 
-/// The place of a row's code. The next row's is found without a division.
+/// The place of a row's code. Those of rows behind it are found without a division.
 #[derive(Clone, Copy)]
 pub(crate) struct Place {
     masks: SectionMasks,
@@ -45,25 +45,35 @@ impl Place {
         }
     }
 
-    /// The place of the next row.
-    pub(crate) fn next(self) -> Place
-        requires { self.row ≤ 2 ^ 32 }
+    /// How many rows there are from this one on in its section, each in the word behind that of the one before.
+    pub(crate) fn run(self) -> usize
+        ensures some { 1 ≤ result }
+        ensures end { result + self.row % segment_rows self.masks.width % (self.masks.width + 1) ≡ self.masks.width + 1 }
+    {
+        self.masks.width as usize + 1 - self.word
+    }
+
+    /// The place of the row so many rows on, at most the first behind the run.
+    pub(crate) fn after(self, rows: usize) -> Place
+        requires small { self.row ≤ 2 ^ 32 }
+        requires run { rows + self.row % segment_rows self.masks.width % (self.masks.width + 1) ≤ self.masks.width + 1 }
         ensures width { result.masks.width ≡ self.masks.width }
-        ensures row { result.row ≡ self.row + 1 }
+        ensures row { result.row ≡ self.row + rows }
     {
         let masks = self.masks;
         let words = masks.width as usize + 1;
-        let row = self.row + 1;
-        if self.word + 1 < words {
+        let row = self.row + rows;
+        if self.word + rows < words {
             return Place {
                 masks,
                 row,
                 start: self.start,
-                word: self.word + 1,
+                word: self.word + rows,
                 section: self.section,
             };
         }
-        if (self.section as usize + 1) < 64 / words {
+        // Without a division, since this is asked at the end of each run.
+        if (self.section as usize + 2) * words <= 64 {
             return Place {
                 masks,
                 row,
@@ -87,6 +97,19 @@ impl Place {
         ensures { result ≡ code_in self.masks.width words.now self.row }
     {
         self.masks.code(words[self.start + self.word], self.section)
+    }
+
+    /// Fills `out` with the codes of the rows from this one on, which are of the run.
+    pub(crate) fn codes(self, words: &[u64], out: &mut [u64])
+        requires run { length out.old + self.row % segment_rows self.masks.width % (self.masks.width + 1) ≤ self.masks.width + 1 }
+        requires there { (i : ℕ) → i < length out.old → word_of self.masks.width (self.row + i) < length words.now }
+        ensures len { length out.new ≡ length out.old }
+        ensures codes { (i : ℕ) → i < length out.old → slice_index out.new i ≡ code_in self.masks.width words.now (self.row + i) }
+    {
+        let first = self.start + self.word;
+        for i in 0..out.len() {
+            out[i] = self.masks.code(words[first + i], self.section);
+        }
     }
 
     /// The row's code becomes this one.

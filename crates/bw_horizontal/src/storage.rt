@@ -1,4 +1,4 @@
-//! Words of a column: room for rows, and codes put and read row after row.
+//! Words of a column: room for rows, and codes put and read.
 
 ghost use Rattle.std.specs.Prelude.{All, length, slice_index, vec_capacity, vec_len, ℕ, ◌*◌, ◌+◌, ◌<◌, ◌^◌, ◌≡◌, ◌≤◌};
 ghost use Rattle.bw_lane.specs.Sections.{IsStored};
@@ -6,6 +6,9 @@ ghost use Rattle.bw_code.specs.Columns.{Fit};
 ghost use Rattle.bw_horizontal.specs.Words.{code_in, segments_of, word_of};
 
 use crate::place::Place;
+
+/// How wide codes are at least that are read run after run.
+const LEAST_IN_RUNS: u32 = 6;
 
 /// How many words so many rows take.
 pub(crate) fn words_for(width: u32, rows: usize) -> usize
@@ -46,12 +49,12 @@ pub(crate) fn put_codes(words: &mut [u64], width: u32, at: usize, codes: &[u64])
     let mut place = Place::of(width, at);
     for code in codes {
         place.put(words, *code);
-        place = place.next();
+        place = place.after(1);
     }
 }
 
-/// Fills `out` with the codes of the rows from `at` on.
-pub(crate) fn read_codes(words: &[u64], width: u32, at: usize, out: &mut [u64])
+/// Fills `out` with the codes of the rows from `at` on, row after row.
+fn read_rows(words: &[u64], width: u32, at: usize, out: &mut [u64])
     requires narrow { width ≤ 32 }
     requires few { at + length out.old ≤ 2 ^ 24 }
     requires there { (j : ℕ) → j < at + length out.old → word_of width j < length words.now }
@@ -60,6 +63,37 @@ pub(crate) fn read_codes(words: &[u64], width: u32, at: usize, out: &mut [u64])
     let mut place = Place::of(width, at);
     for code in out.iter_mut() {
         *code = place.code(words);
-        place = place.next();
+        place = place.after(1);
+    }
+}
+
+/// Fills `out` with the codes of the rows from `at` on, run after run.
+fn read_runs(words: &[u64], width: u32, at: usize, out: &mut [u64])
+    requires narrow { width ≤ 32 }
+    requires few { at + length out.old ≤ 2 ^ 24 }
+    requires there { (j : ℕ) → j < at + length out.old → word_of width j < length words.now }
+    ensures { (i : ℕ) → i < length out.old → slice_index out.new i ≡ code_in width words.now (at + i) }
+{
+    let mut place = Place::of(width, at);
+    let mut done = 0;
+    'runs: while done < out.len() {
+        let n = place.run().min(out.len() - done);
+        place.codes(words, &mut out[done..done + n]);
+        place = place.after(n);
+        done += n;
+    }
+}
+
+/// Fills `out` with the codes of the rows from `at` on. Narrow codes have short runs, which do not pay.
+pub(crate) fn read_codes(words: &[u64], width: u32, at: usize, out: &mut [u64])
+    requires narrow { width ≤ 32 }
+    requires few { at + length out.old ≤ 2 ^ 24 }
+    requires there { (j : ℕ) → j < at + length out.old → word_of width j < length words.now }
+    ensures { (i : ℕ) → i < length out.old → slice_index out.new i ≡ code_in width words.now (at + i) }
+{
+    if width < LEAST_IN_RUNS {
+        read_rows(words, width, at, out);
+    } else {
+        read_runs(words, width, at, out);
     }
 }

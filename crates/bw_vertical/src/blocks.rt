@@ -79,7 +79,8 @@ fn narrowed(codes: &[u64]) -> [u32; 64]
     block
 }
 
-/// The words of the planes of k bits: bit r of word b is bit b of code r, and not set where there is no such code.
+/// The words of the planes of k bits: bit r of word b is bit b of code r, and not set where there is no such code. What the words
+/// from k on hold is of no account.
 pub fn plane_words(codes: &[u64], k: usize) -> [u64; 32]
     requires few { length codes.now ≤ 64 }
     requires narrow { k ≤ 32 }

@@ -1,34 +1,32 @@
-use Rattle.std.proofs.Common.{[], ap, arith, get_or, length, sym, ◌+◌, ◌<◌, ◌≡◌, ◌∙◌}
-use Rattle.bw_byteslice.specs.Slices.{slices_of}
-use Rattle.bw_byteslice.specs.Storing.{byte_of, bytes_of}
-use Rattle.bw_byteslice.proofs.Numbers.{number_more, number_none, number_small}
-use Rattle.bw_byteslice.proofs.Replacing.{read_is}
+use Rattle.std.proofs.Common.{ap, arith, drop, inl, inr, length, length-drop, length-take, take, ◌+◌, ◌-◌, ◌≡◌, ◌≤◌, ◌∙◌}
+use Rattle.std.proofs.lemmas.Bool.{cases_lt}
+use Rattle.bw_code.proofs.Parts.{before_part, in_part, part_length}
+use Rattle.bw_byteslice.specs.Storing.{bytes_of, code_of}
 use Rattle.bw_byteslice.proofs.reading.read.Goals as goal
 
-pub loop-i-init : goal.loop-i-init
-loop-i-init c = record {
-  len = c.clear.ensures.len;
-  numbers = λ r h. c.clear.ensures.none r (omega (arith, h, c.clear.ensures.len)) ∙ sym (number_none (byte_of (bytes_of c.args.slices.now) (c.args.at + r)));
-}
-
-pub take_bytes-requires-clause-there : goal.take_bytes-requires-clause-there
-take_bytes-requires-clause-there c =
-    let was = read_is (λ v. v.items) [] c.args.slices.now c.loop-i.i (omega arith) c.index-slices-i.result c.index-slices-i.is in
-    let within : c.loop-i.i < slices_of c.args.width = omega arith in
-    omega (arith, ap length was, ap length c.deref.ensures.value, c.requires.there c.loop-i.i within, c.loop-i.invariant.len)
-
-pub take_bytes-requires-clause-few : goal.take_bytes-requires-clause-few
-take_bytes-requires-clause-few c r h =
-    let small = number_small (byte_of (bytes_of c.args.slices.now) (c.args.at + r)) (λ i. c.requires.bytes i (c.args.at + r)) c.loop-i.i (omega arith) in
-    omega (arith, c.loop-i.invariant.numbers r h, small)
-
-pub loop-i-preserved : goal.loop-i-preserved
-loop-i-preserved c =
-    let was = read_is (λ v. v.items) [] c.args.slices.now c.loop-i.i (omega arith) c.index-slices-i.result c.index-slices-i.is in
+pub runs-preserved : goal.runs-preserved
+runs-preserved c =
+    let at = c.args.at in
+    let done = c.runs.done in
+    let out = c.runs.out in
+    let n = c.min-n.result in
+    let size = done + n - done in
+    let part = c.read_run.new.out in
+    let fits : done + n ≤ length out = omega (arith, c.min-n.ensures, c.runs.invariant.some) in
+    let within : done + size ≤ length out = omega (arith, fits) in
+    let whole : length (take size (drop done out)) ≡ size = omega (arith, length-take size (drop done out), length-drop done out, within) in
+    let long : length part ≡ size = c.read_run.ensures.len ∙ whole in
+    let same = part_length done size out part 0 within long in
     record {
-      len = c.take_bytes.ensures.len ∙ c.loop-i.invariant.len;
-      numbers = λ r h.
-          let here : r < length c.loop-i.out = omega (arith, h, c.take_bytes.ensures.len) in
-          let byte : get_or c.deref.result.now (c.args.at + r) 0 ≡ byte_of (bytes_of c.args.slices.now) (c.args.at + r) c.loop-i.i = ap (λ xs. get_or xs (c.args.at + r) 0) (c.deref.ensures.value ∙ sym was) in
-          c.take_bytes.ensures.numbers r here ∙ rw (c.loop-i.invariant.numbers r here, byte) (sym (number_more c.loop-i.i (byte_of (bytes_of c.args.slices.now) (c.args.at + r))));
+      some = omega (arith, fits, same);
+      len = same ∙ c.runs.invariant.len;
+      codes = λ r h.
+          elim (cases_lt r done) [
+            | inl l ↦ before_part done size out part 0 within long r l ∙ c.runs.invariant.codes r l
+            | inr up ↦
+                let row : at + done + (r - done) ≡ at + r = omega (arith, up) in
+                in_part done size out part 0 within long r up (omega (arith, up, h))
+                ∙ c.read_run.ensures.codes (r - done) (omega (arith, whole, up, h))
+                ∙ ap (λ j. code_of c.args.width (bytes_of c.args.slices.now) j) row
+          ];
     }

@@ -8,6 +8,11 @@ read-requires-clause-there c i low =
     let count = count_is c.self.inside.width c.self.inside.len c.self.inside.slices.items c.args.self.now c.self.invariant c.self.view_is in
     rw c.deref.ensures.value (omega (arith, c.self.invariant.long i low, count, c.requires))
 
+pub read-requires-clause-few : goal.read-requires-clause-few
+read-requires-clause-few c =
+    let count = count_is c.self.inside.width c.self.inside.len c.self.inside.slices.items c.args.self.now c.self.invariant c.self.view_is in
+    omega (arith, c.self.invariant.few, count, c.requires)
+
 pub returns-clause-codes : goal.returns-clause-codes
 returns-clause-codes c =
     let each : (r : ℕ) → r < length c.read.new.out → get_or c.read.new.out r 0 ≡ code_of c.self.inside.width (bytes_of c.self.inside.slices.items) (c.args.at + r) = λ r h.

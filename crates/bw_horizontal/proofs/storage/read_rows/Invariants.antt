@@ -1,6 +1,6 @@
 use Rattle.std.proofs.Common.{get_or, ℕ, ◌+◌, ◌<◌, ◌≡◌}
 use Rattle.bw_horizontal.specs.Words.{code_in}
-use Rattle.bw_horizontal.proofs.storage.read_codes.Given as goal
+use Rattle.bw_horizontal.proofs.storage.read_rows.Given as goal
 
 -- the codes so far
 abbrev pub invariant-loop-code : goal.invariant-loop-code
