@@ -1,8 +1,10 @@
 -- Sums compared bit by bit from the lowest up.
-use Rattle.std.proofs.Common.{Bool, List, [], ap, arith, false, get_or, if◌then◌else◌, length, min, nat_lt, not, pow_pos, refl, suc, sym, true, zero, ℕ, ◌%◌, ◌&&◌, ◌*◌, ◌+◌, ◌-◌, ◌/◌, ◌<◌, ◌==◌, ◌^◌, ◌||◌, ◌≡◌, ◌≤◌, ◌∙◌}
+use Rattle.std.proofs.Common.{Bool, List, [], ap, arith, false, get_or, inl, inr, if◌then◌else◌, length, min, nat_le, nat_lt, not, pow_pos, refl, suc, sym, true, zero, ℕ, ◌%◌, ◌&&◌, ◌*◌, ◌+◌, ◌-◌, ◌/◌, ◌<◌, ◌==◌, ◌^◌, ◌||◌, ◌≡◌, ◌≤◌, ◌∙◌}
 use Rattle.std.specs.Int.{bit_at}
 use Rattle.std.specs.List.{list_any}
-use Rattle.std.proofs.Math.Nat.{div-lt_iff_lt-mul}
+use native.Mathlib.Nat.{mod-eq_of_lt}
+use Rattle.std.proofs.Math.Nat.{add-mul-div_left, div-lt_iff_lt-mul}
+use Rattle.std.proofs.lemmas.Bool.{cases_lt}
 use Rattle.std.proofs.lemmas.Bool.Decides.{nat_tests}
 use Rattle.std.proofs.lemmas.List.{get_or_default}
 use Rattle.std.proofs.lemmas.List.Folds.{list_any_none}
@@ -15,7 +17,7 @@ use Rattle.bw_code.specs.Units.{some_below}
 use Rattle.bw_code.specs.declared.compare.CmpOp.{CmpOp}
 use Rattle.bw_code.specs.declared.compare.CmpOp.TheVariants.{Eq, Ne, Lt, Le, Gt, Ge}
 use Rattle.bw_vertical.specs.Planes.{code_in, in_plane}
-use Rattle.bw_vertical.specs.Carries.{carried}
+use Rattle.bw_vertical.specs.Carries.{AreCompared, carried}
 use Rattle.bw_vertical.proofs.Adding.{carry_more, low, sum_bit}
 use Rattle.bw_vertical.proofs.Numbers.{number_bit}
 use Rattle.bw_vertical.proofs.Planes.{code_lt}
@@ -109,6 +111,69 @@ sum_row p b c x y n e f g = rw (e, f, g, sum_bit x y n) (sum_cases (bit_at x n) 
 pub carry_row : (p b c : Bool) (x y n : ℕ) → p ≡ bit_of x n → b ≡ bit_of y n → c ≡ (carried x y n == 1)
     → (if b then (p || c) else (p && c)) ≡ (carried x y (n + 1) == 1)
 carry_row p b c x y n e f g = rw (e, f, g, carry_more x y n) (carry_cases (bit_at x n) (bit_at y n) (carried x y n) (bit_at-lt x n) (bit_at-lt y n) (carried_lt x y n))
+
+-- a sum and a number are compared by one bit more
+pub compared_more : (p b q c lt d : Bool) (x lift y n : ℕ) → p ≡ bit_of x n → b ≡ bit_of lift n → q ≡ bit_of y n → AreCompared x lift y n c lt d
+    → AreCompared x lift y (n + 1) (if b then (p || c) else (p && c))
+    (if (if p then (if b then c else not c) else (if b then not c else c)) then (q && lt) else (q || lt))
+    (d || not (alike (if p then (if b then c else not c) else (if b then not c else c)) q))
+compared_more p b q c lt d x lift y n e f g before =
+    let sum = sum_row p b c x lift n e f before.carry_is in
+    record {
+      carry_is = carry_row p b c x lift n e f before.carry_is;
+      less = rw (sum, g, before.less) (sym (lt_more (x + lift) y n));
+      differs = rw (sum, g, before.differs) (sym (differ_more (x + lift) y n));
+    }
+
+lift_low : (lift n : ℕ) → lift / 2 ^ n ≡ 0 → lift < 2 ^ n
+lift_low lift n none = omega (arith, (div-lt_iff_lt-mul {k = 2 ^ n} {x = lift} {y = 1} (pow_pos n)).0 (omega (arith, none)))
+
+-- a number of n bits and one that is no longer carry over where their sum is longer
+pub past_carry : (x lift n : ℕ) → x < 2 ^ n → lift / 2 ^ n ≡ 0 → (carried x lift n == 1) ≡ nat_le (2 ^ n) (x + lift)
+past_carry x lift n h none =
+    let low = lift_low lift n none in
+    let p = 2 ^ n in
+    let whole : carried x lift n ≡ (x + lift) / p = rw (mod-eq_of_lt h, mod-eq_of_lt low) refl in
+    elim (cases_lt (x + lift) p) [
+      | inl l ↦
+          let none_over : (x + lift) / p < 1 = (div-lt_iff_lt-mul {k = p} {x = x + lift} {y = 1} (pow_pos n)).1 (omega (arith, l)) in
+          grind (arith, nat_tests, whole, none_over, l)
+      | inr l ↦
+          let parts : x + lift ≡ (x + lift - p) + p * 1 = omega (arith, l) in
+          let none_over : (x + lift - p) / p < 1 = (div-lt_iff_lt-mul {k = p} {x = x + lift - p} {y = 1} (pow_pos n)).1 (omega (arith, h, low)) in
+          let one : (x + lift) / p ≡ (x + lift - p) / p + 1 = ap (λ z. z / p) parts ∙ add-mul-div_left (x + lift - p) 1 {y = p} (pow_pos n) in
+          grind (arith, nat_tests, whole, one, none_over, l)
+    ]
+
+-- what is added is longer
+pub past_lift : (x lift n : ℕ) → (lift / 2 ^ n ≡ 0 → ⊥) → nat_le (2 ^ n) (x + lift) ≡ true
+past_lift x lift n some =
+    elim (cases_lt lift (2 ^ n)) [
+      | inl l ↦ let low = (div-lt_iff_lt-mul {k = 2 ^ n} {x = lift} {y = 1} (pow_pos n)).1 (omega (arith, l)) in absurd (some (omega (arith, low)))
+      | inr l ↦ grind (arith, nat_tests, l)
+    ]
+
+-- sums by the bits of the other numbers, and by whether they are longer
+pub whole_less : (x lift y n : ℕ) (c lt d past : Bool) → y < 2 ^ n → AreCompared x lift y n c lt d → past ≡ nat_le (2 ^ n) (x + lift) → (lt && not past) ≡ nat_lt (x + lift) y
+whole_less x lift y n c lt d past k before e =
+    elim (cases_lt (x + lift) (2 ^ n)) [
+      | inl l ↦ rw (e, before.less, mod-eq_of_lt l, mod-eq_of_lt k) (grind (arith, nat_tests, l))
+      | inr l ↦ rw e (grind (arith, nat_tests, l, k))
+    ]
+
+pub whole_differs : (x lift y n : ℕ) (c lt d past : Bool) → y < 2 ^ n → AreCompared x lift y n c lt d → past ≡ nat_le (2 ^ n) (x + lift) → (d || past) ≡ not (x + lift == y)
+whole_differs x lift y n c lt d past k before e =
+    elim (cases_lt (x + lift) (2 ^ n)) [
+      | inl l ↦ rw (e, before.differs, mod-eq_of_lt l, mod-eq_of_lt k) (grind (arith, nat_tests, l))
+      | inr l ↦ rw e (grind (arith, nat_tests, l, k))
+    ]
+
+-- the sides exchanged, where nothing is added to the first
+pub exchanged_less : (x y lift : ℕ) → (not (y + lift == x) && not (nat_lt (y + lift) x)) ≡ nat_lt (x + 0) (y + lift)
+exchanged_less x y lift = grind (arith, nat_tests)
+
+pub exchanged_differs : (x y lift : ℕ) → not (y + lift == x) ≡ not (x + 0 == y + lift)
+exchanged_differs x y lift = grind (arith, nat_tests)
 
 -- the needed rows that compare so, by those that are below and those that differ
 pub by_sums : (op : CmpOp) (need : Bool) (x y : ℕ) → by_masks op need (need && nat_lt x y) (need && not (not (x == y))) ≡ (need && code_compares op x y)

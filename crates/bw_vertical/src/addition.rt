@@ -1,13 +1,13 @@
-//! Columns of kind OFFSET with different bases, compared without fetching a value: what a base is above the other is added to
-//! the codes, and the sums are compared, plane by plane from the lowest up.
+//! Columns of kind OFFSET with different bases, compared without fetching a value: what the higher base is above the other is
+//! added to its codes, and the sums are compared with the codes of the other, plane by plane from the lowest up.
 
-ghost use Rattle.std.specs.Prelude.{if◌then◌else◌, length, nat_lt, not, pos, ℕ, ◌&&◌, ◌*◌, ◌+◌, ◌+ℤ◌, ◌<◌, ◌==◌, ◌^◌, ◌≡◌, ◌≤◌};
+ghost use Rattle.std.specs.Prelude.{if◌then◌else◌, length, nat_le, nat_lt, not, pos, ℕ, ◌&&◌, ◌*◌, ◌+◌, ◌+ℤ◌, ◌<◌, ◌==◌, ◌^◌, ◌≡◌, ◌≤◌, ◌⊎◌};
 ghost use Rattle.bw_mask.specs.Masks.{SameShape, bit_of, len, row_at, row_in};
 ghost use Rattle.bw_code.specs.Choosing.{by_masks};
 ghost use Rattle.bw_code.specs.Tests.{code_compares, int_compares};
 ghost use Rattle.bw_code.specs.Units.{some_below};
 ghost use Rattle.bw_code.specs.declared.compare.CmpOp.{CmpOp as Op};
-ghost use Rattle.bw_vertical.specs.Carries.{carried};
+ghost use Rattle.bw_vertical.specs.Carries.{AreCompared};
 ghost use Rattle.bw_vertical.specs.Planes.{code_in, segments_of};
 
 use crate::rows::{both, differing, either, lanes_at, put_lanes, without};
@@ -26,7 +26,8 @@ struct Lifts {
 
 impl Lifts {
     fn of(left: i64, right: i64) -> Lifts
-        ensures { (op : Op) (x y : ℕ) → int_compares op (left +ℤ pos x) (right +ℤ pos y) ≡ code_compares op (x + result.left) (y + result.right) }
+        ensures order { (op : Op) (x y : ℕ) → int_compares op (left +ℤ pos x) (right +ℤ pos y) ≡ code_compares op (x + result.left) (y + result.right) }
+        ensures lower { (result.left ≡ 0) ⊎ (result.right ≡ 0) }
     {
         let lower = left.min(right);
         Lifts {
@@ -34,69 +35,108 @@ impl Lifts {
             right: right.abs_diff(lower),
         }
     }
-
-    /// How many bits hold every sum with codes of these widths.
-    fn planes(self, width: u32, other: u32) -> usize
-        requires narrow { width ≤ 32 }
-        requires other_narrow { other ≤ 32 }
-        ensures left { 2 ^ width + self.left ≤ 2 ^ result }
-        ensures right { 2 ^ other + self.right ≤ 2 ^ result }
-        ensures wide { width ≤ result }
-        ensures other_wide { other ≤ result }
-        ensures few { result ≤ 65 }
-    {
-        let lift = 64 - self.left.max(self.right).leading_zeros();
-        1 + lift.max(width).max(other) as usize
-    }
 }
 
 /// Whether a number has bit n.
 fn has_bit(number: u64, n: usize) -> bool
+    requires { n < 64 }
     ensures { result ≡ bit_of number n }
 {
-    n < 64 && number >> n & 1 == 1
+    number >> n & 1 == 1
 }
 
-/// Plane n, counted from the lowest, of the codes of segment q with `lift` added. `carry` is what the planes below carried
-/// over, and becomes what this one does.
+/// How sums compare with other numbers in 256 rows by their lowest bits alone.
+#[derive(Clone, Copy)]
+struct LowBits {
+    /// Where the bits that were added carry over.
+    carry: [u64; 4],
+    /// Where the sum is below the other number.
+    lt: [u64; 4],
+    /// Where the two differ.
+    differ: [u64; 4],
+}
+
+impl LowBits {
+    /// By no bit, by which all are equal.
+    fn none() -> LowBits
+        ensures { (j x lift y : ℕ) → j < 256 → AreCompared x lift y 0 (row_in result.carry j) (row_in result.lt j) (row_in result.differ j) }
+    {
+        LowBits {
+            carry: [0; 4],
+            lt: [0; 4],
+            differ: [0; 4],
+        }
+    }
+
+    /// By bit n, too: `a` and `b` are its planes, and `bit` is that of what is added to the numbers of `a`.
+    // A call left in place would keep the three masks in memory.
+    #[inline(always)]
+    fn and_plane(self, a: &[u64; 4], bit: bool, b: &[u64; 4]) -> LowBits
+        ensures { (j x lift y n : ℕ) → j < 256 → row_in a.now j ≡ bit_of x n → bit ≡ bit_of lift n → row_in b.now j ≡ bit_of y n
+            → AreCompared x lift y n (row_in self.carry j) (row_in self.lt j) (row_in self.differ j)
+            → AreCompared x lift y (n + 1) (row_in result.carry j) (row_in result.lt j) (row_in result.differ j) }
+    {
+        let (mut sum, mut carry, mut lt) = (*a, self.carry, self.lt);
+        add_const_step(&mut sum, &mut carry, bit);
+        low_first_step(&mut lt, &sum, b);
+        let differ = either(&self.differ, &differing(&sum, b));
+        LowBits { carry, lt, differ }
+    }
+
+    /// Where a sum of a number of n bits has a bit above those, by which it is compared.
+    fn past(self, lift: u64, n: usize) -> [u64; 4]
+        requires few { n < 64 }
+        ensures { (j x y : ℕ) → j < 256 → x < 2 ^ n → AreCompared x lift y n (row_in self.carry j) (row_in self.lt j) (row_in self.differ j)
+            → row_in result j ≡ nat_le (2 ^ n) (x + lift) }
+    {
+        if lift >> n == 0 {
+            self.carry
+        } else {
+            [u64::MAX; 4]
+        }
+    }
+
+    /// Where the whole sums are below the other numbers, and where the two differ. The numbers are of n bits, by which they are
+    /// compared.
+    fn whole(self, lift: u64, n: usize) -> ([u64; 4], [u64; 4])
+        requires few { n < 64 }
+        ensures less { (j x y : ℕ) → j < 256 → x < 2 ^ n → y < 2 ^ n → AreCompared x lift y n (row_in self.carry j) (row_in self.lt j) (row_in self.differ j)
+            → row_in result.0 j ≡ nat_lt (x + lift) y }
+        ensures differ { (j x y : ℕ) → j < 256 → x < 2 ^ n → y < 2 ^ n → AreCompared x lift y n (row_in self.carry j) (row_in self.lt j) (row_in self.differ j)
+            → row_in result.1 j ≡ not (x + lift == y) }
+    {
+        let past = self.past(lift, n);
+        (without(&self.lt, &past), either(&self.differ, &past))
+    }
+}
+
+/// Plane n, counted from the lowest, of the codes of segment q. No row has a bit for which the codes are too narrow, and nothing is
+/// read for it.
 #[inline(always)]
-fn lifted_plane<S: Source<[u64; 4]>>(
-    source: &mut S,
-    k: usize,
-    q: usize,
-    n: usize,
-    lift: u64,
-    carry: &mut [u64; 4],
-) -> [u64; 4]
+fn low_plane<S: Source<[u64; 4]>>(source: &mut S, k: usize, q: usize, n: usize) -> [u64; 4]
     requires narrow { k ≤ 32 }
     requires small { q < 2 ^ 32 }
     requires there { (q + 1) * k ≤ length (S.units source.old) }
     requires few { S.reads source.old + (if nat_lt n k then 1 else 0) ≤ 2 ^ 63 }
-    requires carry { (j : ℕ) → j < 256 → row_in carry.old j ≡ (carried (code_in k (S.units source.old) (256 * q + j)) lift n == 1) }
     ensures units { S.units source.new ≡ S.units source.old }
     ensures reads { S.reads source.new ≡ S.reads source.old + (if nat_lt n k then 1 else 0) }
-    ensures sum { (j : ℕ) → j < 256 → row_in result j ≡ bit_of (code_in k (S.units source.old) (256 * q + j) + lift) n }
-    ensures carry { (j : ℕ) → j < 256 → row_in carry.new j ≡ (carried (code_in k (S.units source.old) (256 * q + j)) lift (n + 1) == 1) }
+    ensures rows { (j : ℕ) → j < 256 → row_in result j ≡ bit_of (code_in k (S.units source.old) (256 * q + j)) n }
 {
-    let mut plane = if n < k {
+    if n < k {
         source.read(q * k + (k - 1 - n))
     } else {
         [0; 4]
-    };
-    add_const_step(&mut plane, carry, has_bit(lift, n));
-    plane
+    }
 }
 
-/// The rows of segment q whose first sum is below the second one, and those where the sums differ.
-#[inline(always)]
-fn compare_sums<A: Source<[u64; 4]>, B: Source<[u64; 4]>>(
+/// The rows of segment q whose code in `a` with `lift` added is below the code in `b`, and those where the two differ.
+fn compare_lifted<A: Source<[u64; 4]>, B: Source<[u64; 4]>>(
     a: &mut A,
     width: usize,
+    lift: u64,
     b: &mut B,
     other: usize,
     q: usize,
-    lifts: Lifts,
-    planes: usize,
 ) -> ([u64; 4], [u64; 4])
     requires narrow { width ≤ 32 }
     requires other_narrow { other ≤ 32 }
@@ -105,10 +145,43 @@ fn compare_sums<A: Source<[u64; 4]>, B: Source<[u64; 4]>>(
     requires other_there { (q + 1) * other ≤ length (B.units b.old) }
     requires few { A.reads a.old + width ≤ 2 ^ 63 }
     requires other_few { B.reads b.old + other ≤ 2 ^ 63 }
-    requires wide { width ≤ planes }
-    requires other_wide { other ≤ planes }
-    requires fit { 2 ^ width + lifts.left ≤ 2 ^ planes }
-    requires other_fit { 2 ^ other + lifts.right ≤ 2 ^ planes }
+    ensures units { A.units a.new ≡ A.units a.old }
+    ensures other_units { B.units b.new ≡ B.units b.old }
+    ensures reads { A.reads a.new ≡ A.reads a.old + width }
+    ensures other_reads { B.reads b.new ≡ B.reads b.old + other }
+    ensures less { (j : ℕ) → j < 256 → row_in result.0 j
+        ≡ nat_lt (code_in width (A.units a.old) (256 * q + j) + lift) (code_in other (B.units b.old) (256 * q + j)) }
+    ensures differ { (j : ℕ) → j < 256 → row_in result.1 j
+        ≡ not (code_in width (A.units a.old) (256 * q + j) + lift == code_in other (B.units b.old) (256 * q + j)) }
+{
+    let planes = width.max(other);
+    let mut low = LowBits::none();
+    for n in 0..planes {
+        let x = low_plane(a, width, q, n);
+        let y = low_plane(b, other, q, n);
+        low = low.and_plane(&x, has_bit(lift, n), &y);
+    }
+    low.whole(lift, planes)
+}
+
+/// The rows of segment q whose first sum is below the second one, and those where the sums differ. To one of the two columns
+/// nothing is added, so that its planes are compared as they are.
+fn compare_sums<A: Source<[u64; 4]>, B: Source<[u64; 4]>>(
+    a: &mut A,
+    width: usize,
+    b: &mut B,
+    other: usize,
+    q: usize,
+    lifts: Lifts,
+) -> ([u64; 4], [u64; 4])
+    requires narrow { width ≤ 32 }
+    requires other_narrow { other ≤ 32 }
+    requires lower { (lifts.left ≡ 0) ⊎ (lifts.right ≡ 0) }
+    requires small { q < 2 ^ 32 }
+    requires there { (q + 1) * width ≤ length (A.units a.old) }
+    requires other_there { (q + 1) * other ≤ length (B.units b.old) }
+    requires few { A.reads a.old + width ≤ 2 ^ 63 }
+    requires other_few { B.reads b.old + other ≤ 2 ^ 63 }
     ensures units { A.units a.new ≡ A.units a.old }
     ensures other_units { B.units b.new ≡ B.units b.old }
     ensures reads { A.reads a.new ≡ A.reads a.old + width }
@@ -118,15 +191,12 @@ fn compare_sums<A: Source<[u64; 4]>, B: Source<[u64; 4]>>(
     ensures differ { (j : ℕ) → j < 256 → row_in result.1 j
         ≡ not (code_in width (A.units a.old) (256 * q + j) + lifts.left == code_in other (B.units b.old) (256 * q + j) + lifts.right) }
 {
-    let (mut lt, mut differ) = ([0; 4], [0; 4]);
-    let (mut carry, mut other_carry) = ([0; 4], [0; 4]);
-    for n in 0..planes {
-        let x = lifted_plane(a, width, q, n, lifts.left, &mut carry);
-        let y = lifted_plane(b, other, q, n, lifts.right, &mut other_carry);
-        low_first_step(&mut lt, &x, &y);
-        differ = either(&differ, &differing(&x, &y));
+    if lifts.left == 0 {
+        let (gt, differ) = compare_lifted(b, other, lifts.right, a, width, q);
+        (without(&differ, &gt), differ)
+    } else {
+        compare_lifted(a, width, lifts.left, b, other, q)
     }
-    (lt, differ)
 }
 
 /// The needed rows that compare so, by those whose first sum is below the second one, and those where the sums differ.
@@ -170,10 +240,9 @@ pub fn add_from<A: Source<[u64; 4]>, B: Source<[u64; 4]>>(
     }
     let (width, other) = (left.width as usize, right.width as usize);
     let lifts = Lifts::of(left.base, right.base);
-    let planes = lifts.planes(left.width, right.width);
     let words = need.words();
     for q in 0..need.len().div_ceil(256) {
-        let (lt, differ) = compare_sums(a, width, b, other, q, lifts, planes);
+        let (lt, differ) = compare_sums(a, width, b, other, q, lifts);
         put_lanes(
             out,
             q,

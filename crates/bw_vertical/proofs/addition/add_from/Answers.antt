@@ -35,7 +35,7 @@ loop-q-preserved g c =
     let other_fits : FitsSigned w64 c.args.right.base = search rules in
     let base : to_z w64 (of_z w64 c.args.left.base) ≡ c.args.left.base = to_z-of_z w64 c.args.left.base fits in
     let other_base : to_z w64 (of_z w64 c.args.right.base) ≡ c.args.right.base = to_z-of_z w64 c.args.right.base other_fits in
-    let in_order : (j : ℕ) → compares j ≡ code_compares op (code j + left) (other j + right) = λ j. rw (base, other_base) at (c.of-lifts.ensures op (code j) (other j)) in
+    let in_order : (j : ℕ) → compares j ≡ code_compares op (code j + left) (other j + right) = λ j. rw (base, other_base) at (c.of-lifts.ensures.order op (code j) (other j)) in
     let less : (j : ℕ) → j < 256 → row_in c.compare_sums.result.0 j ≡ nat_lt (code (256 * q + j) + left) (other (256 * q + j) + right) = λ j h.
     c.compare_sums.ensures.less j h ∙ ap (λ us. nat_lt (code_in c.args.left.width us (256 * q + j) + left) (code_in c.args.right.width (g.B.Source.units c.loop-q.b) (256 * q + j) + right)) inv.units
     ∙ ap (λ us. nat_lt (code (256 * q + j) + left) (code_in c.args.right.width us (256 * q + j) + right)) inv.other_units in
