@@ -1,6 +1,7 @@
-//! A worked comparison of two columns with different bases, over their planes.
+//! Two columns with different bases, compared over their planes, beside a plain comparison of their values.
 
-ghost use Rattle.std.specs.Prelude.{length, ◌≡◌, ◌≤◌};
+ghost use Rattle.std.specs.Prelude.{length, vec_len, ◌<◌, ◌^◌, ◌≡◌, ◌≤◌};
+ghost use Rattle.bw_mask.specs.Masks.{len};
 ghost use Rattle.bw_code.specs.Columns.{Fit};
 
 use super::add_from;
@@ -9,17 +10,29 @@ use bw_code::{CmpOp, CodeColumn, Offset, Source};
 use bw_mask::Mask;
 use std::process::Abort;
 
-/// A column of three codes.
-fn column_of<R: Abort + AllocGlobal>(rt: &R, width: u32, codes: [u64; 3]) -> VerticalColumn
+const OPS: [CmpOp; 6] = [
+    CmpOp::Eq,
+    CmpOp::Ne,
+    CmpOp::Lt,
+    CmpOp::Le,
+    CmpOp::Gt,
+    CmpOp::Ge,
+];
+
+// More than one segment.
+const ROWS: usize = 300;
+
+fn column_of<R: Abort + AllocGlobal>(rt: &R, width: u32, codes: &[u64]) -> VerticalColumn
     requires some { 1 ≤ width }
     requires narrow { width ≤ 32 }
-    requires fit { Fit width codes }
+    requires fit { Fit width codes.now }
+    requires few { length codes.now ≤ 1000 }
     ensures width { result.width ≡ width }
-    ensures count { length result.codes ≡ 3 }
+    ensures count { length result.codes ≡ length codes.now }
 {
     let mut column = VerticalColumn::with_width(rt.alloc(), width).expect(rt, "memory");
-    column.reserve(3).expect(rt, "memory");
-    column.extend(&codes);
+    column.reserve(codes.len()).expect(rt, "memory");
+    column.extend(codes);
     column
 }
 
@@ -27,8 +40,8 @@ fn column_of<R: Abort + AllocGlobal>(rt: &R, width: u32, codes: [u64; 3]) -> Ver
 /// and 2, and each plane is read once.
 #[test]
 fn other_bases(rt: HostRuntime) {
-    let left = column_of(&rt, 3, [0, 2, 7]);
-    let right = column_of(&rt, 4, [0, 0, 9]);
+    let left = column_of(&rt, 3, &[0, 2, 7]);
+    let right = column_of(&rt, 4, &[0, 0, 9]);
     let need = Mask::filled(rt.alloc(), 3, true).expect(&rt, "memory");
     let mut out = Mask::filled(rt.alloc(), 3, false).expect(&rt, "memory");
     let (mut planes, mut others) = (left.planes(), right.planes());
@@ -44,4 +57,137 @@ fn other_bases(rt: HostRuntime) {
     );
     assert_eq!(rt; out.words(), [0b101].as_slice());
     assert_eq!(rt; (planes.reads(), others.reads()), (3, 4));
+}
+
+/// A code of so many bits for a row.
+fn code_for(width: u32, row: usize) -> u64
+    requires { width ≤ 32 }
+    ensures { result < 2 ^ width }
+{
+    ((row as u64).wrapping_mul(0x9e37_79b9_7f4a_7c15) >> 13) % (1 << width)
+}
+
+/// Codes of so many bits, others for each step.
+fn codes_of<R: Abort + AllocGlobal>(rt: &R, width: u32, step: usize) -> Vec<u64>
+    requires some { 1 ≤ width }
+    requires narrow { width ≤ 32 }
+    ensures count { vec_len result ≡ 300 }
+    ensures fit { Fit width result.items }
+{
+    let mut codes = Vec::new(rt.alloc());
+    for row in 0..ROWS {
+        let code = code_for(width, row.wrapping_mul(step));
+        codes.push(code).expect(rt, "memory");
+    }
+    codes
+}
+
+/// Whether two numbers compare so, in the words of the operators.
+fn holds(op: CmpOp, x: i64, y: i64) -> bool {
+    match op {
+        CmpOp::Eq => x == y,
+        CmpOp::Ne => x != y,
+        CmpOp::Lt => x < y,
+        CmpOp::Le => x <= y,
+        CmpOp::Gt => x > y,
+        CmpOp::Ge => x >= y,
+    }
+}
+
+/// Codes of values.
+#[derive(Clone, Copy)]
+struct Side<'a> {
+    offset: Offset,
+    codes: &'a [u64],
+}
+
+impl<'a> Side<'a> {
+    fn value(&self, row: usize) -> i64
+        requires { row < length self.now.codes.now }
+    {
+        self.offset.base.wrapping_add(self.codes[row].cast_signed())
+    }
+}
+
+/// The needed rows that were found are those whose values compare so.
+fn check_found<R: Abort>(
+    rt: &R,
+    op: CmpOp,
+    left: &Side<'_>,
+    right: &Side<'_>,
+    need: &Mask,
+    found: &Mask,
+)
+    requires codes { length left.now.codes.now ≡ 300 }
+    requires others { length right.now.codes.now ≡ 300 }
+    requires need { len need.now ≡ 300 }
+    requires found { len found.now ≡ 300 }
+{
+    for row in 0..ROWS {
+        let compares = holds(op, left.value(row), right.value(row));
+        assert_eq!(rt; found.get(row), need.get(row) && compares, "row {row}");
+    }
+}
+
+/// Compares values of two offsets over several segments, and each plane is read once for it.
+fn check_addition<R: Abort + AllocGlobal>(rt: &R, left: Offset, right: Offset)
+    requires narrow { left.width ≤ 32 }
+    requires other_narrow { right.width ≤ 32 }
+{
+    let codes = codes_of(rt, left.width, 1);
+    let others = codes_of(rt, right.width, 3);
+    let column = column_of(rt, left.width, &codes);
+    let other = column_of(rt, right.width, &others);
+    let (first, second) = (
+        Side {
+            offset: left,
+            codes: &codes,
+        },
+        Side {
+            offset: right,
+            codes: &others,
+        },
+    );
+    let mut need = Mask::filled(rt.alloc(), ROWS, true).expect(rt, "memory");
+    need.put_bits(64, 64, 0x0123_4567_89ab_cdef);
+    for op in OPS {
+        let mut found = Mask::filled(rt.alloc(), ROWS, true).expect(rt, "memory");
+        let (mut planes, mut beside) = (column.planes(), other.planes());
+        add_from(&mut planes, left, &mut beside, right, op, &need, &mut found);
+        check_found(rt, op, &first, &second, &need, &found);
+        assert_eq!(rt; planes.reads(), 2 * u64::from(left.width));
+        assert_eq!(rt; beside.reads(), 2 * u64::from(right.width));
+    }
+}
+
+fn check_both_ways<R: Abort + AllocGlobal>(rt: &R, left: Offset, right: Offset)
+    requires narrow { left.width ≤ 32 }
+    requires other_narrow { right.width ≤ 32 }
+{
+    check_addition(rt, left, right);
+    check_addition(rt, right, left);
+}
+
+/// Bases that are near, that are apart by as much as the codes reach or more, and that are the same.
+#[test]
+fn sums_beside_values(rt: HostRuntime) {
+    let narrow = Offset { base: -3, width: 3 };
+    check_both_ways(&rt, narrow, Offset { base: -1, width: 4 });
+    check_both_ways(&rt, narrow, Offset { base: -3, width: 5 });
+    check_both_ways(&rt, narrow, Offset { base: 5, width: 3 });
+    check_both_ways(&rt, narrow, Offset { base: 3, width: 1 });
+    let wide = Offset {
+        base: -2_147_483_648,
+        width: 32,
+    };
+    check_both_ways(&rt, wide, narrow);
+    check_both_ways(&rt, wide, Offset { base: 0, width: 32 });
+    check_both_ways(
+        &rt,
+        wide,
+        Offset {
+            base: 0x7fff_ffff_ffff,
+            width: 13,
+        },
+    );
 }
