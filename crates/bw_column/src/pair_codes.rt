@@ -11,9 +11,9 @@ ghost use Rattle.bw_column.specs.Costs.{are_alike, have_sums};
 ghost use Rattle.bw_column.specs.Values.{value_at};
 
 use crate::column::Column;
+use crate::column_planes::add_planes;
 use bw_code::{CmpOp, Encoding, Layout, Meter, Source};
 use bw_mask::Mask;
-use bw_vertical::add_from;
 
 impl Column {
     /// Whether both have the same encoding, so that their codes compare as their values do, and lie in the same way.
@@ -84,7 +84,7 @@ impl Column {
         else {
             unreachable!()
         };
-        add_from(&mut planes, *left, &mut others, *right, op, known, out);
+        add_planes(&mut planes, *left, &mut others, *right, op, known, out);
         meter.add(planes.reads());
         meter.add(others.reads());
     }

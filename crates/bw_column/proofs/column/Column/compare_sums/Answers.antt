@@ -13,15 +13,15 @@ use Rattle.bw_column.specs.Storing.{list_of}
 use Rattle.bw_column.proofs.PairRows.{added_units, code_held, known_both, on_known, sums_met}
 use Rattle.bw_column.proofs.column.Column.compare_sums.Goals as goal
 
-pub add_from-requires-clause-units : goal.add_from-requires-clause-units
-add_from-requires-clause-units c =
+pub add_planes-requires-clause-units : goal.add_planes-requires-clause-units
+add_planes-requires-clause-units c =
     let codes = list_of c.self.inside.codes in
     let rows : len c.args.known.now ≡ count codes = (rw (← c.self.view_is) at c.requires.known) ∙ made_len (count codes) (λ i. value_from c.self.inside.encoding (code_at codes i) (row_at c.self.inside.nonnull i)) in
     let width_is : codes.width ≡ c.in-Offset-Offset.left.width = c.self.invariant.width ∙ ap width c.in-Offset-Offset.is-0 in
     c.in-Some-Some.ensures.planes.units ∙ ap (λ n. segments_of n * codes.width) (sym rows) ∙ ap (λ k. segments_of (len c.args.known.now) * k) width_is
 
-pub add_from-requires-clause-other_units : goal.add_from-requires-clause-other_units
-add_from-requires-clause-other_units c =
+pub add_planes-requires-clause-other_units : goal.add_planes-requires-clause-other_units
+add_planes-requires-clause-other_units c =
     let codes = list_of c.other.inside.codes in
     let rows : len c.args.known.now ≡ count codes = (rw (← c.other.view_is) at (c.requires.known ∙ sym c.requires.other)) ∙ made_len (count codes) (λ i. value_from c.other.inside.encoding (code_at codes i) (row_at c.other.inside.nonnull i)) in
     let width_is : codes.width ≡ c.in-Offset-Offset.right.width = c.other.invariant.width ∙ ap width c.in-Offset-Offset.is-1 in
@@ -50,7 +50,7 @@ returns-clause-rows c i =
     let second : code_in right.width other_units i ≡ code_at others i = ap (λ k. code_in k other_units i) (sym other_width_is) ∙ code_held d others nonnull_others c.other.invariant c.in-Some-Some.others c.in-Some-Some.ensures'.planes i inside.1 in
     ap (λ x. int_compares op (left.base +ℤ pos x) (right.base +ℤ pos (code_in right.width other_units i))) first ∙ ap (λ y. int_compares op (left.base +ℤ pos (code_at codes i)) (right.base +ℤ pos y)) second in
     rw (← c.self.view_is, ← c.other.view_is) (
-    c.add_from.ensures.rows i
+    c.add_planes.ensures.rows i
     ∙ on_known known (int_compares op (left.base +ℤ pos (code_in left.width units i)) (right.base +ℤ pos (code_in right.width other_units i))) (int_compares op (left.base +ℤ pos (code_at codes i)) (right.base +ℤ pos (code_at others i))) held
     ∙ sums_met op e d codes others nonnull nonnull_others c.self.invariant c.other.invariant i left right c.in-Offset-Offset.is-0 c.in-Offset-Offset.is-1 known there)
 
@@ -61,8 +61,8 @@ returns-clause-units c =
     let n = len c.args.known.now in
     let known = row_at c.args.known.now in
     let old = c.args.meter.now in
-    let first : c.reads.result ≡ (if some_below n known then segments_of n * c.in-Offset-Offset.left.width else 0) = omega (arith, c.reads.ensures, c.add_from.ensures.reads, c.in-Some-Some.ensures.planes.unread) in
-    let second : c.reads-2.result ≡ (if some_below n known then segments_of n * c.in-Offset-Offset.right.width else 0) = omega (arith, c.reads-2.ensures, c.add_from.ensures.other_reads, c.in-Some-Some.ensures'.planes.unread) in
+    let first : c.reads.result ≡ (if some_below n known then segments_of n * c.in-Offset-Offset.left.width else 0) = omega (arith, c.reads.ensures, c.add_planes.ensures.reads, c.in-Some-Some.ensures.planes.unread) in
+    let second : c.reads-2.result ≡ (if some_below n known then segments_of n * c.in-Offset-Offset.right.width else 0) = omega (arith, c.reads-2.ensures, c.add_planes.ensures.other_reads, c.in-Some-Some.ensures'.planes.unread) in
     let width_is : c.in-Offset-Offset.left.width ≡ width e = sym (ap width c.in-Offset-Offset.is-0) in
     let other_width_is : c.in-Offset-Offset.right.width ≡ width d = sym (ap width c.in-Offset-Offset.is-1) in
     let rows = rw (← c.self.view_is) at c.requires.known in
