@@ -16,9 +16,6 @@ use Rattle.bw_aggregate.proofs.LeftRows.{marked_codes}
 use Rattle.bw_aggregate.proofs.Marks.{marked_add, marked_more, marked_none, marked_same, marked_within}
 use Rattle.bw_aggregate.proofs.Parts.{upto_split}
 
-pub nearest_start : (f : ℕ → Bool) (code : ℕ → ℕ) (end : End) (top best : ℕ) → IsNearest 0 f code end top best best
-nearest_start f code end top best = record { upto = omega arith; none = λ j h. absurd (omega (arith, h)); there = λ h. absurd (omega (arith, h)) }
-
 -- where no row is in
 pub nearest_none : (n : ℕ) (f : ℕ → Bool) (code : ℕ → ℕ) (end : End) (top best : ℕ) → ((j : ℕ) → j < n → f j ≡ false) → IsNearest n f code end top best best
 nearest_none n f code end top best out = record { upto = omega arith; none = λ j h t. absurd (true≢false (sym t ∙ out j h)); there = λ h. absurd (omega (arith, h)) }
@@ -196,12 +193,6 @@ ends_none n f code top best out = record { least = nearest_none n f code Least t
 
 pub ends_zero : (n : ℕ) (f : ℕ → Bool) (code : ℕ → ℕ) (top : ℕ) (best : Distances) → best.least ≡ 0 → best.greatest ≡ 0 → AreNearest n f code top best best
 ends_zero n f code top best low high = record { least = nearest_zero n f code Least top best.least low; greatest = nearest_zero n f code Greatest top best.greatest high }
-
-pub ends_in : (n : ℕ) (f g : ℕ → Bool) (code : ℕ → ℕ) (top : ℕ) (best a : Distances) → ((j : ℕ) → f j ≡ g j) → AreNearest n f code top best a → AreNearest n g code top best a
-ends_in n f g code top best a same nearest = record {
-  least = nearest_in n f g code Least top best.least a.least same nearest.least;
-  greatest = nearest_in n f g code Greatest top best.greatest a.greatest same nearest.greatest;
-}
 
 pub ends_same : (n : ℕ) (f : ℕ → Bool) (code other : ℕ → ℕ) (top : ℕ) (best a : Distances) → ((j : ℕ) → j < n → code j ≡ other j) → AreNearest n f code top best a → AreNearest n f other top best a
 ends_same n f code other top best a same nearest = record {

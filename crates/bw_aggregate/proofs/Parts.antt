@@ -7,9 +7,6 @@ use Rattle.std.specs.List.{items_where_true}
 use Rattle.bw_aggregate.specs.Left.{codes_between}
 use Rattle.bw_aggregate.proofs.Counting.{count_split}
 
-count_append : (p : ℕ → Bool) (xs ys : List ℕ) → count_by p (xs ++ ys) ≡ count_by p xs + count_by p ys
-count_append p xs ys = sum_by-append (λ c. cond (p c) 1 0) xs ys
-
 pub upto_split : (code : ℕ) (xs : List ℕ) → count_by (λ c. nat_le c code) xs ≡ count_by (λ c. nat_lt c code) xs + count_by (λ c. c == code) xs
 upto_split code xs = count_split (λ c. nat_lt c code) (λ c. c == code) (λ c. nat_le c code) xs (λ c. grind (arith, nat_tests))
 

@@ -18,21 +18,6 @@ use Rattle.bw_aggregate.proofs.SortedValues.{codes_len}
 pub begins_all : (k : ℕ) (rows : List Bool) (codes : List ℕ) → All (λ c. c < 2 ^ k) codes → k ≤ 64 → BeginsAll k (items_where_true rows codes)
 begins_all k rows codes below narrow = record { below = all_chosen k rows codes below; narrow = narrow }
 
--- of no values nothing is told
-pub nothing_told : (asked : Asked) (values : List ℤ) (count : ℕ) → count ≡ length values → count ≡ 0 → IsSummary asked values (record { count = count; sum = None; least = None; greatest = None; median = None })
-nothing_told asked [] count is none = record { count = is; sum = λ a. refl; least = λ a. refl; greatest = λ a. refl; median = λ a. refl }
-nothing_told asked (x ∷ xs) count is none = absurd (omega (arith, is, none))
-
--- rows without the nulls, and these without the nulls
-pub known_again : (keep rows : List Bool) (values : List (Option ℤ)) → AreKnown keep rows values → AreKnown keep keep values
-known_again keep rows values each r =
-    each r ∙ again (get_or rows r false) (is_some (value_at values r)) ∙ sym (ap (λ b. b && is_some (value_at values r)) (each r))
-  where
-    again : (a b : Bool) → (a && b) ≡ ((a && b) && b)
-    again true true = refl
-    again true false = refl
-    again false b = refl
-
 -- without the nulls both have the same values
 pub same_values : (keep rows : List Bool) (values : List (Option ℤ)) → length keep ≡ length values → length rows ≡ length values → AreKnown keep rows values
     → known (items_where_true keep values) ≡ known (items_where_true rows values)

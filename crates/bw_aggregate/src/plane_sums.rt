@@ -1,14 +1,12 @@
 //! The sum of codes by counts of their planes (O'Neil and Quass, SIGMOD 1997).
 
 ghost use Rattle.std.specs.Prelude.{All, Bool, List, length, sum, true, ℕ, ◌&&◌, ◌*◌, ◌+◌, ◌<◌, ◌^◌, ◌≡◌, ◌≤◌};
-ghost use Rattle.std.specs.List.{items_where_true};
-ghost use Rattle.bw_mask.specs.Masks.{len, row_in};
+ghost use Rattle.bw_mask.specs.Masks.{row_in};
 ghost use Rattle.bw_code.specs.Columns.{Fit, count};
 ghost use Rattle.bw_vertical.specs.Planes.{segments_of};
 ghost use Rattle.bw_aggregate.specs.Left.{codes_between};
 ghost use Rattle.bw_aggregate.specs.Marks.{marked};
 ghost use Rattle.bw_aggregate.specs.PlaneSums.{AreBits, AreRows, IsSumTo};
-ghost use Rattle.bw_aggregate.specs.Runs.{IsCodeSum};
 
 use crate::plane::plane_at;
 use crate::rows::{count_both, count_rows, has_all, has_row, rows_at};

@@ -1,7 +1,7 @@
 //! The sum of codes and both their ends by their planes, in one pass over the segments: what each tells while its planes are at
 //! hand.
 
-ghost use Rattle.std.specs.Prelude.{Bool, List, length, sum, true, ℕ, ◌&&◌, ◌*◌, ◌+◌, ◌-◌, ◌<◌, ◌^◌, ◌≡◌, ◌≤◌};
+ghost use Rattle.std.specs.Prelude.{Bool, List, length, sum, true, ◌&&◌, ◌*◌, ◌+◌, ◌-◌, ◌<◌, ◌^◌, ◌≡◌, ◌≤◌};
 ghost use Rattle.bw_mask.specs.Masks.{len, row_at};
 ghost use Rattle.bw_code.specs.Columns.{Fit, count};
 ghost use Rattle.bw_vertical.specs.Planes.{segments_of};

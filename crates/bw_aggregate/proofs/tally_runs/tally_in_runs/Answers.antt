@@ -1,4 +1,4 @@
-use Rattle.std.proofs.Common.{Bool, ap, arith, length, ltb, min, refl, subst, sym, true, ℕ, ◌&&◌, ◌*◌, ◌+◌, ◌-◌, ◌<◌, ◌^◌, ◌≡◌, ◌≤◌, ◌∙◌}
+use Rattle.std.proofs.Common.{ap, arith, bit_and, ltb, min, refl, subst, sym, true, ℕ, ◌&&◌, ◌*◌, ◌+◌, ◌-◌, ◌<◌, ◌^◌, ◌≡◌, ◌≤◌, ◌∙◌}
 use Rattle.std.proofs.lemmas.Bool.Decides.{nat_tests}
 use Rattle.std.proofs.lemmas.List.{take_all}
 use Rattle.bw_mask.specs.Masks.{bit_of, row_at}
@@ -27,7 +27,7 @@ runs-preserved g c =
     let run = run_of_bits rows (64 * q) n c.bits-rows.result (omega (arith, many, below, c.requires.len)) (omega (arith, many)) c.bits-rows.ensures in
     let known = λ (r : ℕ). row_at c.args.rows.now r && row_at c.args.nonnull.now r in
     let low = λ (i : ℕ) (h : i < n). let it : ltb i 64 ≡ true = grind (arith, nat_tests, h, many) in it in
-    let in_both = λ (i : ℕ) (h : i < n). bit_of_and c.bits-rows.result c.bits.result i
+    let in_both : (i : ℕ) → i < n → bit_of (bit_and c.bits-rows.result c.bits.result) i ≡ known (64 * q + i) = λ i h. bit_of_and c.bits-rows.result c.bits.result i
     ∙ rw (c.bits-rows.ensures i ∙ ap (λ b. b && row_at c.args.rows.now (64 * q + i)) (low i h), c.bits.ensures i ∙ ap (λ b. b && row_at c.args.nonnull.now (64 * q + i)) (low i h)) refl in
     record {
       total = λ asked.
@@ -37,7 +37,7 @@ runs-preserved g c =
           omega (arith, more, before, after, c.from-total.ensures);
       small = omega (arith, c.runs.invariant.small, c.run_tally-more.ensures.small, c.from-total.ensures);
       nearest = subst (λ k. AreNearest k known (code_at column) c.greatest_code-top.result c.args.far c.run_tally-more.result.nearest) next
-          (ends_more (64 * q) n known (bit_of _) (code_at column) (λ (i : ℕ). code_at column (64 * q + i)) c.greatest_code-top.result c.args.far c.runs.best c.run_tally-more.result.nearest
+          (ends_more (64 * q) n known (bit_of (bit_and c.bits-rows.result c.bits.result)) (code_at column) (λ (i : ℕ). code_at column (64 * q + i)) c.greatest_code-top.result c.args.far c.runs.best c.run_tally-more.result.nearest
           in_both (λ i h. refl)
           (subst (λ k. AreNearest k known (code_at column) c.greatest_code-top.result c.args.far c.runs.best) here c.runs.invariant.nearest) c.run_tally-more.ensures.nearest);
     }
