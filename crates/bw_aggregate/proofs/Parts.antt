@@ -1,8 +1,7 @@
 -- What is found of two parts of some codes.
-use Rattle.std.proofs.Common.{Bool, List, [], ap, arith, cond, count_by, drop, false, length, nat_le, nat_lt, refl, suc, sym, take, true, zero, ℕ, ◌+◌, ◌++◌, ◌-◌, ◌==◌, ◌≡◌, ◌≤◌, ◌∙◌, ◌∷◌}
+use Rattle.std.proofs.Common.{Bool, List, [], ap, arith, count_by, drop, false, length, nat_le, nat_lt, refl, suc, sym, take, true, zero, ℕ, ◌+◌, ◌++◌, ◌-◌, ◌==◌, ◌≡◌, ◌≤◌, ◌∙◌, ◌∷◌}
 use Rattle.std.proofs.lemmas.Bool.Decides.{nat_tests}
 use Rattle.std.proofs.lemmas.List.{take_all}
-use Rattle.std.proofs.lemmas.List.Sums.{sum_by-append}
 use Rattle.std.specs.List.{items_where_true}
 use Rattle.bw_aggregate.specs.Left.{codes_between}
 use Rattle.bw_aggregate.proofs.Counting.{count_split}

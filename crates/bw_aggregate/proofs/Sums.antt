@@ -1,7 +1,7 @@
 -- The sum of codes, one plane more.
-use Rattle.std.proofs.Common.{None, Option, Some, map, pos, suc, take, subst, sym, w32, w64, zero, zero-add, ℤ, ◌+ℤ◌, ◌*ℤ◌, Bool, List, [], ap, arith, false, length, refl, sum, true, ℕ, ◌*◌, ◌+◌, ◌<◌, ◌^◌, ◌≡◌, ◌≤◌, ◌∙◌, ◌∷◌}
+use Rattle.std.proofs.Common.{None, Option, Some, map, pos, suc, take, subst, sym, w64, zero, zero-add, ℤ, ◌+ℤ◌, ◌*ℤ◌, Bool, List, [], ap, arith, false, length, refl, sum, true, ℕ, ◌*◌, ◌<◌, ◌^◌, ◌≡◌, ◌≤◌, ◌∙◌, ◌∷◌}
 use Rattle.std.proofs.Math.Nat.{mul-le-mul}
-use Rattle.std.proofs.lemmas.List.Sums.{count_by-le-length, sum_by-cons}
+use Rattle.std.proofs.lemmas.List.Sums.{sum_by-cons}
 use Rattle.std.specs.Int.{w128}
 use Rattle.std.specs.List.{items_where_true}
 use Rattle.std.proofs.lemmas.Int.{fits_signed_from_abs, ints, to_z-of_z, unsigned_abs-mul}
@@ -18,7 +18,6 @@ use Rattle.bw_model.specs.SetFunctions
 use Rattle.bw_model.specs.SetFunctions.{known, total}
 use Rattle.bw_aggregate.proofs.KnownValues.{AreCoded, coded_all}
 use Rattle.bw_aggregate.specs.Chosen.{value_in}
-use Rattle.bw_aggregate.proofs.Counting.{length_chosen}
 
 -- none of the sums wraps
 pub based-sum : (base : ℤ) (n codes : ℕ) → FitsSigned w64 base → n ≤ 2 ^ 24 → codes < 2 ^ 89

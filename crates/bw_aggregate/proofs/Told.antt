@@ -1,15 +1,12 @@
 -- What is told of values by their codes.
-use Rattle.std.proofs.Common.{Bool, List, None, Option, Some, [], ap, arith, false, get_or, is_some, length, map, refl, subst, suc, sym, true, ℕ, ℤ, ◌&&◌, ◌<◌, ◌^◌, ◌≡◌, ◌≤◌, ◌∙◌, ◌∷◌}
+use Rattle.std.proofs.Common.{Bool, List, None, Option, Some, [], ap, arith, false, length, map, refl, subst, suc, sym, true, ℕ, ℤ, ◌<◌, ◌^◌, ◌≡◌, ◌≤◌, ◌∙◌, ◌∷◌}
 use Rattle.std.specs.List.{items_where_true}
 use Rattle.std.specs.Prelude.{All}
 use Rattle.bw_code.specs.Encodings.{IsEncoding, width}
 use Rattle.bw_code.specs.declared.encoding.Encoding.{Encoding}
 use Rattle.bw_column.specs.Codes.{IsCoded, code_for}
-use Rattle.bw_column.specs.Values.{value_at}
 use Rattle.bw_model.specs.SetFunctions.{known}
 use Rattle.bw_aggregate.specs.Descents.{BeginsAll}
-use Rattle.bw_aggregate.specs.Summaries.{IsSummary}
-use Rattle.bw_aggregate.specs.declared.summary.Asked.{Asked}
 use Rattle.bw_aggregate.proofs.Descents.{all_chosen}
 use Rattle.bw_aggregate.proofs.KnownValues.{AreKnown, codes_low, count_known}
 use Rattle.bw_aggregate.proofs.SortedValues.{codes_len}

@@ -1,7 +1,6 @@
-use Rattle.std.proofs.Common.{ap, arith, sym, w64, ℕ, ◌-◌, ◌^◌, ◌≡◌, ◌≤◌, ◌∙◌}
+use Rattle.std.proofs.Common.{ap, arith, sym, w64, ◌-◌, ◌^◌, ◌≡◌, ◌∙◌}
 use Rattle.std.proofs.lemmas.Int.{ints, to_z-of_z}
-use Rattle.bw_code.specs.Encodings.{IsCode, value_of, width}
-use Rattle.bw_aggregate.specs.Ends.{distance}
+use Rattle.bw_code.specs.Encodings.{width}
 use Rattle.bw_aggregate.proofs.KnownEnds.{end_is, end_is_code, is_within}
 use Rattle.bw_aggregate.proofs.ends.end_value.Goals as goal
 use mir.Val.{of_z, to_z}

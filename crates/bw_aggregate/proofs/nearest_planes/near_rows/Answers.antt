@@ -1,7 +1,7 @@
-use Rattle.std.proofs.Common.{ap, arith, subst, ℕ, ◌*◌, ◌+◌, ◌-◌, ◌<◌, ◌^◌, ◌≡◌}
+use Rattle.std.proofs.Common.{ap, arith, ℕ, ◌*◌, ◌+◌, ◌-◌, ◌<◌, ◌^◌}
 use Rattle.bw_mask.specs.Masks.{row_in}
 use Rattle.bw_code.specs.Columns.{code_at}
-use Rattle.bw_aggregate.specs.Ends.{MayBeNearer, is_near}
+use Rattle.bw_aggregate.specs.Ends.{is_near}
 use Rattle.bw_aggregate.specs.declared.end.End.TheVariants.{Greatest, Least}
 use Rattle.bw_aggregate.proofs.NearRows.{all_near, code_small, nearer_left}
 use Rattle.bw_aggregate.proofs.nearest_planes.near_rows.Goals as goal

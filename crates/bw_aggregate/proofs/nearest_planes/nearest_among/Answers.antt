@@ -1,4 +1,4 @@
-use Rattle.std.proofs.Common.{arith, sym, ℕ, ◌*◌, ◌+◌, ◌-◌, ◌^◌, ◌≡◌, ◌∙◌}
+use Rattle.std.proofs.Common.{sym, ℕ, ◌*◌, ◌+◌, ◌-◌, ◌^◌, ◌≡◌, ◌∙◌}
 use Rattle.bw_mask.specs.Masks.{row_in}
 use Rattle.bw_code.specs.Columns.{code_at}
 use Rattle.bw_aggregate.specs.Descents.{front}

@@ -1,4 +1,4 @@
-use Rattle.std.proofs.Common.{arith, length, ◌*◌, ◌+◌, ◌≡◌, ◌≤◌}
+use Rattle.std.proofs.Common.{arith, ◌*◌, ◌+◌, ◌≡◌, ◌≤◌}
 use Rattle.std.proofs.Math.Nat.{mul-le-mul_right}
 use Rattle.bw_code.specs.Columns.{count}
 use Rattle.bw_vertical.specs.Planes.{segments_of}

@@ -1,4 +1,4 @@
-use Rattle.std.proofs.Common.{ap, length, subst, sum, sym, ◌+◌, ◌≡◌, ◌∙◌}
+use Rattle.std.proofs.Common.{ap, length, subst, sum, sym, ◌+◌, ◌∙◌}
 use Rattle.bw_aggregate.specs.Runs.{IsRun, code_sum}
 use Rattle.bw_aggregate.proofs.RowsMore.{sum_whole}
 use Rattle.bw_aggregate.proofs.runs.run_sum.Goals as goal

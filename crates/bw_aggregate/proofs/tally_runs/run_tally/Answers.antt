@@ -1,6 +1,5 @@
-use Rattle.std.proofs.Common.{Bool, ap, arith, drop, false, get_or, length, refl, rules, subst, sym, take, true, ℕ, ◌+◌, ◌-◌, ◌<◌, ◌^◌, ◌≡◌, ◌≤◌, ◌∙◌}
+use Rattle.std.proofs.Common.{Bool, drop, false, get_or, length, refl, rules, subst, sym, take, true, ◌+◌, ◌≡◌, ◌∙◌}
 use Rattle.std.proofs.lemmas.Bool.{true≢false}
-use Rattle.std.specs.Prelude.{All}
 use Rattle.bw_mask.specs.Masks.{bit_of}
 use Rattle.bw_mask.proofs.Bits.{bit_of_zero}
 use Rattle.bw_aggregate.specs.Ends.{AreNearest}

@@ -1,4 +1,4 @@
-use Rattle.std.proofs.Common.{Some, arith, refl, sym, w64, ◌≡◌, ◌∙◌}
+use Rattle.std.proofs.Common.{arith, refl, sym, w64, ◌≡◌, ◌∙◌}
 use Rattle.std.proofs.lemmas.Int.{ints, to_z-of_z}
 use Rattle.std.specs.Int.{w128}
 use Rattle.bw_code.specs.Encodings.{width}
