@@ -2,7 +2,7 @@
 
 ghost use Rattle.std.specs.Prelude.{All, if◌then◌else◌, length, min, slice_index, ◌≡◌, ◌≤◌};
 ghost use Rattle.bw_mask.specs.Masks.{bit_of};
-ghost use Rattle.bw_aggregate.specs.Ends.{AreNearest, IsNearest};
+ghost use Rattle.bw_aggregate.specs.Ends.{AreNearest};
 
 use crate::end::{Distances, End, distance};
 use crate::runs::is_in;
@@ -15,30 +15,24 @@ fn nearer(best: u64, is_in: bool, distance: u64) -> u64
     best.min(if is_in { distance } else { u64::MAX })
 }
 
-/// The least distance of a run's rows that are in, or `best` where none is nearer.
-fn run_nearest(codes: &[u64], rows: u64, end: End, top: u64, best: u64) -> u64
-    requires few { length codes.now ≤ 64 }
-    requires fit { All (λ code. code ≤ top) codes.now }
-    ensures { IsNearest (length codes.now) (bit_of rows) (slice_index codes.now) end top best result }
-{
-    if best == 0 {
-        return best;
-    }
-    let mut nearest = best;
-    'codes: for i in 0..codes.len() {
-        nearest = nearer(nearest, is_in(rows, i), distance(end, top, codes[i]));
-    }
-    nearest
-}
-
-/// The least distances of a run's rows that are in from both ends, or `best` where none is nearer.
+/// The least distances of a run's rows that are in from both ends, or `best` where none is nearer. No code is looked at where no
+/// end is looked for.
 pub(crate) fn run_nearest_to_ends(codes: &[u64], rows: u64, top: u64, best: Distances) -> Distances
     requires few { length codes.now ≤ 64 }
     requires fit { All (λ code. code ≤ top) codes.now }
     ensures { AreNearest (length codes.now) (bit_of rows) (slice_index codes.now) top best result }
 {
-    Distances {
-        least: run_nearest(codes, rows, End::Least, top, best.least),
-        greatest: run_nearest(codes, rows, End::Greatest, top, best.greatest),
+    if best.are_none() {
+        return best;
     }
+    let Distances {
+        mut least,
+        mut greatest,
+    } = best;
+    'codes: for i in 0..codes.len() {
+        let is_in = is_in(rows, i);
+        least = nearer(least, is_in, distance(End::Least, top, codes[i]));
+        greatest = nearer(greatest, is_in, distance(End::Greatest, top, codes[i]));
+    }
+    Distances { least, greatest }
 }

@@ -1,4 +1,4 @@
-use Rattle.std.proofs.Common.{ap, arith, bit_and, ltb, min, refl, subst, sym, true, ℕ, ◌&&◌, ◌*◌, ◌+◌, ◌-◌, ◌<◌, ◌^◌, ◌≡◌, ◌∙◌}
+use Rattle.std.proofs.Common.{ap, arith, bit_and, ltb, min, refl, subst, sum, sym, true, ℕ, ◌&&◌, ◌*◌, ◌+◌, ◌-◌, ◌<◌, ◌^◌, ◌≡◌, ◌∙◌}
 use Rattle.std.proofs.lemmas.Bool.Decides.{nat_tests}
 use Rattle.std.proofs.lemmas.List.{take_all}
 use Rattle.bw_mask.specs.Masks.{bit_of, row_at}
@@ -48,10 +48,11 @@ returns g c =
     let rows = c.args.rows.now.rows in
     let known = λ (r : ℕ). row_at c.args.rows.now r && row_at c.args.nonnull.now r in
     let all : min (64 * c.runs.q) (count column) ≡ count column = omega (arith, c.runs-test.false, c.div_ceil-q-end.ensures, c.len.ensures.count) in
+    let whole : code_sum rows column.codes (count column) ≡ sum (items_where_true rows column.codes) = rw (take_all (count column) rows (omega (arith, c.requires.len)), take_all (count column) column.codes (omega arith)) refl in
     let top : c.greatest_code-top.result ≡ 2 ^ column.width - 1 = c.greatest_code-top.ensures.is ∙ ap (λ w. 2 ^ w - 1) c.width.ensures.width in
     record {
       small = omega (arith, c.runs.invariant.small, c.div_ceil-q-end.ensures, c.len.ensures.count, c.len.ensures.few);
-      sum = λ asked. c.runs.invariant.total asked ∙ ap (code_sum rows column.codes) all ∙ rw (take_all (count column) rows (omega (arith, c.requires.len)), take_all (count column) column.codes (omega arith)) refl;
+      sum = λ asked. c.runs.invariant.total asked ∙ ap (code_sum rows column.codes) all ∙ whole;
       nearest = subst (λ k. AreNearest k known (code_at column) (2 ^ column.width - 1) c.args.far c.runs.best) all
           (subst (λ t. AreNearest (min (64 * c.runs.q) (count column)) known (code_at column) t c.args.far c.runs.best) top c.runs.invariant.nearest);
     }
