@@ -1,6 +1,7 @@
 use Rattle.std.proofs.Common.{ap, arith, bit_and, ltb, min, refl, subst, sum, sym, true, ℕ, ◌&&◌, ◌*◌, ◌+◌, ◌-◌, ◌<◌, ◌^◌, ◌≡◌, ◌∙◌}
 use Rattle.std.proofs.lemmas.Bool.Decides.{nat_tests}
 use Rattle.std.proofs.lemmas.List.{take_all}
+use Rattle.std.specs.List.{items_where_true}
 use Rattle.bw_mask.specs.Masks.{bit_of, row_at}
 use Rattle.bw_mask.proofs.Bits.{bit_of_and}
 use Rattle.bw_code.specs.Columns.{code_at, count}
