@@ -146,12 +146,6 @@ module _ (k : ℕ) (held : List ℕ) (begins : BeginsAll k held) where
   pub rest_start : (n : ℕ) → n < length held → IsRest held n k n 0
   rest_start n low = descent_start held n k begins.below low
 
--- a code that was found is small
-pub small_code : (found i : ℕ) → (found + 1) * 2 ^ i ≤ 2 ^ 64 → found < 2 ^ 64
-small_code found i h =
-    let one : (found + 1) * 1 ≤ (found + 1) * 2 ^ i = mul-le-mul_left (found + 1) (pow_pos i) in
-    omega arith
-
 pub small_room : (found i : ℕ) → (found + 1) * 2 ^ (i + 1) ≤ 2 ^ 64 → found < 2 ^ 63
 small_room found i h =
     let g = rw (add-one i, pow-suc 2 i) at h in

@@ -62,10 +62,6 @@ pub one_at_most : (b : Bool) → bool_byte b ≤ 1
 one_at_most true = omega arith
 one_at_most false = omega arith
 
--- more than none, and so is what is no less
-pub some_of : (n m : ℕ) → n ≤ m → ltb 0 n ≡ true → true ≡ ltb 0 m
-some_of n m less some = grind (arith, nat_tests, less, some)
-
 pub is_some : (n : ℕ) → ltb 0 n ≡ true → 0 < n
 is_some n some = grind (arith, nat_tests, some)
 
@@ -79,10 +75,6 @@ and_true false = refl
 grouped : (a b c : Bool) → ((a && b) && c) ≡ (a && (b && c))
 grouped true b c = refl
 grouped false b c = refl
-
--- all rows of a segment that are left
-pub segment_all : (codes : List ℕ) (segment : Segment) → marked 256 (row_in segment.rows) ≡ segment_count codes (λ code. true) segment
-segment_all codes segment = marked_same 256 (row_in segment.rows) (λ j. row_in segment.rows j && true) (λ j h. sym (and_true (row_in segment.rows j)))
 
 -- none counts where none is in
 pub segment_none : (codes : List ℕ) (p : ℕ → Bool) (segment : Segment) → marked 256 (row_in segment.rows) ≡ 0 → segment_count codes p segment ≡ 0
@@ -104,9 +96,6 @@ module _ (codes : List ℕ) (i : ℕ) (plane : Plane) (is : IsPlane codes i plan
     (each : (j : ℕ) → j < 256 → row_in rows j ≡ (row_in segment.rows j && (if bit then row_in part j else not (row_in part j)))) where
   row_with : (j : ℕ) → j < 256 → row_in rows j ≡ (row_in segment.rows j && has_bit i bit (get_or codes (256 * segment.number + j) 0))
   row_with j h = each j h ∙ ap (λ b. row_in segment.rows j && (if bit then b else not b)) (of_plane j h ∙ is (256 * segment.number + j))
-
-  pub segment_bit : marked 256 (row_in rows) ≡ segment_count codes (has_bit i bit) segment
-  segment_bit = marked_same 256 (row_in rows) (λ j. row_in segment.rows j && has_bit i bit (get_or codes (256 * segment.number + j) 0)) row_with
 
   pub segment_with : (p : ℕ → Bool) → segment_count codes p (record { number = segment.number; rows = rows }) ≡ segment_count codes (λ code. has_bit i bit code && p code) segment
   segment_with p =

@@ -1,16 +1,17 @@
 -- Rows of a segment whose distance begins with the bits found so far, one plane further.
-use Rattle.std.proofs.Common.{Bool, List, ap, arith, cond, false, get_or, if◌then◌else◌, inl, inr, length, nat_lt, not, pow_pos, refl, sym, true, ℕ, ◌&&◌, ◌*◌, ◌+◌, ◌<◌, ◌==◌, ◌^◌, ◌≡◌, ◌≤◌, ◌∙◌}
-use Rattle.std.proofs.Math.Nat.{div-eq_of_lt, div-one}
+use Rattle.std.proofs.Common.{Bool, List, ap, arith, cond, false, get_or, if◌then◌else◌, inl, inr, length, nat_lt, not, pow_pos, refl, subst, sym, true, ℕ, ◌&&◌, ◌*◌, ◌+◌, ◌-◌, ◌<◌, ◌==◌, ◌^◌, ◌≡◌, ◌≤◌, ◌∙◌}
+use Rattle.std.proofs.Math.Nat.{div-eq_of_lt, div-one, pow-le-pow_right}
+use Rattle.std.proofs.lemmas.Nat.{le-div}
 use Rattle.std.proofs.lemmas.Bool.{cases_eq, cases_lt, true≢false}
 use Rattle.std.proofs.lemmas.Bool.Decides.{nat_tests}
 use Rattle.std.proofs.lemmas.List.{get_or_past}
 use Rattle.std.specs.Prelude.{All}
-use Rattle.bw_mask.specs.Masks.{row_in}
+use Rattle.bw_mask.specs.Masks.{bit_of, row_in}
 use Rattle.bw_aggregate.specs.Descents.{front, next}
-use Rattle.bw_aggregate.specs.Ends.{IsNearest, distance}
+use Rattle.bw_aggregate.specs.Ends.{IsNearest, MayBeNearer, distance, is_near}
 use Rattle.bw_aggregate.specs.Marks.{marked}
 use Rattle.bw_aggregate.specs.declared.end.End.{End}
-use Rattle.bw_aggregate.proofs.Distances.{farther}
+use Rattle.bw_aggregate.proofs.Distances.{distance-more, farther}
 use Rattle.bw_aggregate.proofs.LeftRows.{is_some, none_of}
 use Rattle.bw_aggregate.proofs.Marks.{marked_same, none_marked}
 
@@ -116,3 +117,52 @@ pub left_out : (left near : Bool) (best far : ℕ) → (left ≡ false → best 
 left_out true true best far before here e = absurd (true≢false e)
 left_out true false best far before here e = here refl
 left_out false near best far before here e = before refl
+
+-- a number whose highest bits are none is small, and one with a bit is not
+below_first : (m x : ℕ) → front m x ≡ 0 → x < 2 ^ m
+below_first m x none =
+    elim (cases_lt x (2 ^ m)) [
+      | inl under ↦ under
+      | inr over ↦ let some : 1 ≤ front m x = le-div 1 x (2 ^ m) (pow_pos m) (omega (arith, over)) in absurd (omega (arith, some, none))
+    ]
+
+from_first : (m x : ℕ) → 0 < front m x → 2 ^ m ≤ x
+from_first m x some =
+    elim (cases_lt x (2 ^ m)) [
+      | inl under ↦ let none : front m x ≡ 0 = div-eq_of_lt under in absurd (omega (arith, some, none))
+      | inr over ↦ over
+    ]
+
+-- all rows may be near to an end
+pub all_near : (k : ℕ) (rows : ℕ → Bool) (code : ℕ → ℕ) (end : End) (top : ℕ) → MayBeNearer rows rows code end top (2 ^ (k - 0))
+all_near k rows code end top = record { within = λ j h t. t; out = λ j h r t. absurd (true≢false (sym r ∙ t)) }
+
+-- one plane more leaves those that have no bit of their distance in it
+pub nearer_left : (k i : ℕ) (rows left now near : ℕ → Bool) (code : ℕ → ℕ) (end : End) → i < k → ((j : ℕ) → code j < 2 ^ k)
+    → ((j : ℕ) → j < 256 → near j ≡ is_near end (bit_of (code j) (k - 1 - i))) → ((j : ℕ) → j < 256 → now j ≡ (left j && near j))
+    → MayBeNearer rows left code end (2 ^ k - 1) (2 ^ (k - i)) → MayBeNearer rows now code end (2 ^ k - 1) (2 ^ (k - (i + 1)))
+nearer_left k i rows left now near code end within small bits each old = record {
+  within = λ j h t. old.within j h (still_left (left j) (near j) (sym (each j h) ∙ t));
+  out = λ j h r t.
+      left_out (left j) (near j) (2 ^ (k - (i + 1))) (distance end (2 ^ k - 1) (code j)) (λ gone. before j (old.out j h r gone)) (λ no_bit. here j h no_bit) (sym (each j h) ∙ t);
+}
+  where
+    before : (j : ℕ) → 2 ^ (k - i) ≤ distance end (2 ^ k - 1) (code j) → 2 ^ (k - (i + 1)) ≤ distance end (2 ^ k - 1) (code j)
+    before j far =
+        let less : 2 ^ (k - (i + 1)) ≤ 2 ^ (k - i) = pow-le-pow_right {n = 2} (omega arith) {i = k - (i + 1)} {j = k - i} (omega arith) in
+        omega (arith, less, far)
+
+    here : (j : ℕ) → j < 256 → near j ≡ false → 2 ^ (k - (i + 1)) ≤ distance end (2 ^ k - 1) (code j)
+    here j h no_bit =
+        let p = k - 1 - i in
+        let place : p ≡ k - (i + 1) = omega arith in
+        let more = distance-more end k p (code j) (omega (arith, within)) (small j) in
+        let one : ◌≡◌ {A = ℕ} (cond (is_near end (bit_of (code j) p)) 0 1) 1 = ap (λ b. cond {A = ℕ} b 0 1) (sym (bits j h) ∙ no_bit) in
+        subst (λ n. 2 ^ n ≤ distance end (2 ^ k - 1) (code j)) place (from_first p (distance end (2 ^ k - 1) (code j)) (omega (arith, more, one)))
+
+-- those that are not left are no nearer than what has no bit so high
+pub left_near : (m : ℕ) (rows left : ℕ → Bool) (code : ℕ → ℕ) (end : End) (top best : ℕ) → MayBeNearer rows left code end top (2 ^ m) → front m best ≡ 0 → MayBeNearer rows left code end top best
+left_near m rows left code end top best near none = record {
+  within = near.within;
+  out = λ j h r t. omega (arith, below_first m best none, near.out j h r t);
+}

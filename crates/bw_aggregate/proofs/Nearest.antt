@@ -6,8 +6,9 @@ use Rattle.std.proofs.lemmas.List.{take_all}
 use Rattle.std.specs.List.{items_where_true}
 use Rattle.std.specs.Prelude.{All}
 use Rattle.bw_aggregate.specs.Descents.{IsNthCode, end_of}
-use Rattle.bw_aggregate.specs.Ends.{IsNearest, distance}
+use Rattle.bw_aggregate.specs.Ends.{AreNearest, IsNearest, distance}
 use Rattle.bw_aggregate.specs.Marks.{marked}
+use Rattle.bw_aggregate.specs.declared.end.Distances.{Distances}
 use Rattle.bw_aggregate.specs.declared.end.End.{End}
 use Rattle.bw_aggregate.specs.declared.end.End.TheVariants.{Greatest, Least}
 use Rattle.bw_aggregate.proofs.Counting.{count_all, count_split}
@@ -15,12 +16,23 @@ use Rattle.bw_aggregate.proofs.LeftRows.{marked_codes}
 use Rattle.bw_aggregate.proofs.Marks.{marked_add, marked_more, marked_none, marked_same, marked_within}
 use Rattle.bw_aggregate.proofs.Parts.{upto_split}
 
-pub nearest_start : (f : ℕ → Bool) (code : ℕ → ℕ) (end : End) (top best : ℕ) → IsNearest 0 f code end top best best
-nearest_start f code end top best = record { upto = omega arith; none = λ j h. absurd (omega (arith, h)); there = λ h. absurd (omega (arith, h)) }
-
 -- where no row is in
 pub nearest_none : (n : ℕ) (f : ℕ → Bool) (code : ℕ → ℕ) (end : End) (top best : ℕ) → ((j : ℕ) → j < n → f j ≡ false) → IsNearest n f code end top best best
 nearest_none n f code end top best out = record { upto = omega arith; none = λ j h t. absurd (true≢false (sym t ∙ out j h)); there = λ h. absurd (omega (arith, h)) }
+
+-- nearer than a distance of 0 none is
+pub nearest_zero : (n : ℕ) (f : ℕ → Bool) (code : ℕ → ℕ) (end : End) (top best : ℕ) → best ≡ 0 → IsNearest n f code end top best best
+nearest_zero n f code end top best none = record { upto = omega arith; none = λ j h t. omega (arith, none); there = λ h. absurd (omega (arith, h)) }
+
+-- of the same rows
+pub nearest_in : (n : ℕ) (f g : ℕ → Bool) (code : ℕ → ℕ) (end : End) (top best a : ℕ) → ((j : ℕ) → f j ≡ g j) → IsNearest n f code end top best a → IsNearest n g code end top best a
+nearest_in n f g code end top best a same nearest = record {
+  upto = nearest.upto;
+  none = λ j h t. nearest.none j h (same j ∙ t);
+  there = λ h.
+      let alike = marked_same n (λ j. f j && (distance end top (code j) == a)) (λ j. g j && (distance end top (code j) == a)) (λ j k. rw (same j) refl) in
+      omega (arith, alike, nearest.there h);
+}
 
 -- of the same codes
 pub nearest_same : (n : ℕ) (f : ℕ → Bool) (code other : ℕ → ℕ) (end : End) (top best a : ℕ) → ((j : ℕ) → j < n → code j ≡ other j) → IsNearest n f code end top best a → IsNearest n f other end top best a
@@ -144,11 +156,11 @@ module _ (rows : List Bool) (codes : List ℕ) (same : length rows ≡ length co
   low_at : (r : ℕ) → r < length codes → get_or codes r 0 ≤ top
   low_at r h = low r 0 h
 
-  module _ (end : End) (nearest : ℕ) (is : IsNearest (length codes) (λ r. get_or rows r false) (λ r. get_or codes r 0) end top (top + 1) nearest) (some : 0 < length held) where
-    pub is_there : nearest < top + 1
+  module _ (end : End) (start nearest : ℕ) (beyond : top < start) (is : IsNearest (length codes) (λ r. get_or rows r false) (λ r. get_or codes r 0) end top start nearest) (some : 0 < length held) where
+    pub is_there : nearest ≤ top
     is_there =
         elim (cases_lt nearest (top + 1)) [
-          | inl less ↦ less
+          | inl less ↦ omega (arith, less)
           | inr far ↦
               let none : count_by (λ c. true) held ≡ 0 = no_codes (λ c. true) (λ r h t. absurd (omega (arith, is.none r h t, far, near end (get_or codes r 0) (low_at r h)))) in
               absurd (omega (arith, some, none, count_all held))
@@ -159,18 +171,44 @@ module _ (rows : List Bool) (codes : List ℕ) (same : length rows ≡ length co
         near Greatest c h = omega arith
 
     near_there : 0 < count_by (λ c. distance end top c == nearest) held
-    near_there = omega (arith, is.there is_there, counted (λ c. distance end top c == nearest))
+    near_there = omega (arith, is.there (omega (arith, is_there, beyond)), counted (λ c. distance end top c == nearest))
 
-  pub nearest_code : (end : End) (nearest : ℕ) → IsNearest (length codes) (λ r. get_or rows r false) (λ r. get_or codes r 0) end top (top + 1) nearest → 0 < length held
+  pub nearest_code : (end : End) (start nearest : ℕ) → top < start → IsNearest (length codes) (λ r. get_or rows r false) (λ r. get_or codes r 0) end top start nearest → 0 < length held
       → IsNthCode held (end_of end (length held)) (distance end top nearest)
-  nearest_code Least nearest is some =
-      let there = near_there Least nearest is some in
+  nearest_code Least start nearest beyond is some =
+      let there = near_there Least start nearest beyond is some in
       let none = no_codes (λ c. nat_lt c nearest) (λ r h t. let order = is.none r h t in grind (arith, nat_tests, order)) in
       record { below = omega (arith, none); upto = omega (arith, upto_split nearest held, there); there = there }
-  nearest_code Greatest nearest is some =
+  nearest_code Greatest start nearest beyond is some =
       let code = top - nearest in
-      let within = is_there Greatest nearest is some in
+      let within = is_there Greatest start nearest beyond is some in
       let turned = alike (λ c. (top - c) == nearest) (λ c. c == code) (λ r h t. let small = low_at r h in grind (arith, nat_tests, small, within)) in
-      let there : 0 < count_by (λ c. c == code) held = omega (arith, turned, near_there Greatest nearest is some) in
+      let there : 0 < count_by (λ c. c == code) held = omega (arith, turned, near_there Greatest start nearest beyond is some) in
       let all = alike (λ c. nat_le c code) (λ c. true) (λ r h t. let order = is.none r h t in let small = low_at r h in grind (arith, nat_tests, order, small)) in
       record { below = omega (arith, upto_split code held, all, count_all held, there); upto = omega (arith, all, count_all held, some); there = there }
+
+-- so for both ends
+pub ends_none : (n : ℕ) (f : ℕ → Bool) (code : ℕ → ℕ) (top : ℕ) (best : Distances) → ((j : ℕ) → j < n → f j ≡ false) → AreNearest n f code top best best
+ends_none n f code top best out = record { least = nearest_none n f code Least top best.least out; greatest = nearest_none n f code Greatest top best.greatest out }
+
+pub ends_zero : (n : ℕ) (f : ℕ → Bool) (code : ℕ → ℕ) (top : ℕ) (best : Distances) → best.least ≡ 0 → best.greatest ≡ 0 → AreNearest n f code top best best
+ends_zero n f code top best low high = record { least = nearest_zero n f code Least top best.least low; greatest = nearest_zero n f code Greatest top best.greatest high }
+
+pub ends_same : (n : ℕ) (f : ℕ → Bool) (code other : ℕ → ℕ) (top : ℕ) (best a : Distances) → ((j : ℕ) → j < n → code j ≡ other j) → AreNearest n f code top best a → AreNearest n f other top best a
+ends_same n f code other top best a same nearest = record {
+  least = nearest_same n f code other Least top best.least a.least same nearest.least;
+  greatest = nearest_same n f code other Greatest top best.greatest a.greatest same nearest.greatest;
+}
+
+pub ends_more : (m n : ℕ) (f g : ℕ → Bool) (code more : ℕ → ℕ) (top : ℕ) (start a b : Distances) → ((j : ℕ) → j < n → g j ≡ f (m + j)) → ((j : ℕ) → j < n → more j ≡ code (m + j))
+    → AreNearest m f code top start a → AreNearest n g more top a b → AreNearest (m + n) f code top start b
+ends_more m n f g code more top start a b rows codes first rest = record {
+  least = nearest_more m n f g code more Least top start.least a.least b.least rows codes first.least rest.least;
+  greatest = nearest_more m n f g code more Greatest top start.greatest a.greatest b.greatest rows codes first.greatest rest.greatest;
+}
+
+pub ends_cut : (m n : ℕ) (f : ℕ → Bool) (code : ℕ → ℕ) (top : ℕ) (start a : Distances) → n ≤ m → ((j : ℕ) → n ≤ j → f j ≡ false) → AreNearest m f code top start a → AreNearest n f code top start a
+ends_cut m n f code top start a fewer out nearest = record {
+  least = nearest_cut m n f code Least top start.least a.least fewer out nearest.least;
+  greatest = nearest_cut m n f code Greatest top start.greatest a.greatest fewer out nearest.greatest;
+}

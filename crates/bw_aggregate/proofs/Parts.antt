@@ -1,14 +1,10 @@
 -- What is found of two parts of some codes.
-use Rattle.std.proofs.Common.{Bool, List, [], ap, arith, cond, count_by, drop, false, length, nat_le, nat_lt, refl, suc, sym, take, true, zero, ℕ, ◌+◌, ◌++◌, ◌-◌, ◌==◌, ◌≡◌, ◌≤◌, ◌∙◌, ◌∷◌}
+use Rattle.std.proofs.Common.{Bool, List, [], ap, arith, count_by, drop, false, length, nat_le, nat_lt, refl, suc, sym, take, true, zero, ℕ, ◌+◌, ◌++◌, ◌-◌, ◌==◌, ◌≡◌, ◌≤◌, ◌∙◌, ◌∷◌}
 use Rattle.std.proofs.lemmas.Bool.Decides.{nat_tests}
 use Rattle.std.proofs.lemmas.List.{take_all}
-use Rattle.std.proofs.lemmas.List.Sums.{sum_by-append}
 use Rattle.std.specs.List.{items_where_true}
 use Rattle.bw_aggregate.specs.Left.{codes_between}
 use Rattle.bw_aggregate.proofs.Counting.{count_split}
-
-count_append : (p : ℕ → Bool) (xs ys : List ℕ) → count_by p (xs ++ ys) ≡ count_by p xs + count_by p ys
-count_append p xs ys = sum_by-append (λ c. cond (p c) 1 0) xs ys
 
 pub upto_split : (code : ℕ) (xs : List ℕ) → count_by (λ c. nat_le c code) xs ≡ count_by (λ c. nat_lt c code) xs + count_by (λ c. c == code) xs
 upto_split code xs = count_split (λ c. nat_lt c code) (λ c. c == code) (λ c. nat_le c code) xs (λ c. grind (arith, nat_tests))

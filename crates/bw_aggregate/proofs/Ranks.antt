@@ -120,7 +120,3 @@ past : (xs : List ℤ) (n : ℕ) → length xs ≤ n → slice_get xs n ≡ None
 past [] n h = refl
 past (x ∷ xs) zero h = absurd (omega (arith, h))
 past (x ∷ xs) (suc n) h = past xs n (omega (arith, h))
-
--- past the last there is none
-pub sorted-past : (xs : List ℤ) (n : ℕ) → length xs ≤ n → slice_get (sorted xs) n ≡ None
-sorted-past xs n h = past (sorted xs) n (omega (arith, h, length-sorted xs))

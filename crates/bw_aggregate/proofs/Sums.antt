@@ -1,7 +1,7 @@
 -- The sum of codes, one plane more.
-use Rattle.std.proofs.Common.{None, Option, Some, map, pos, suc, take, subst, sym, w32, w64, zero, zero-add, ℤ, ◌+ℤ◌, ◌*ℤ◌, Bool, List, [], ap, arith, false, length, refl, sum, true, ℕ, ◌*◌, ◌+◌, ◌<◌, ◌^◌, ◌≡◌, ◌≤◌, ◌∙◌, ◌∷◌}
+use Rattle.std.proofs.Common.{None, Option, Some, map, pos, suc, take, subst, sym, w64, zero, zero-add, ℤ, ◌+ℤ◌, ◌*ℤ◌, Bool, List, [], ap, arith, false, length, refl, sum, true, ℕ, ◌*◌, ◌<◌, ◌^◌, ◌≡◌, ◌≤◌, ◌∙◌, ◌∷◌}
 use Rattle.std.proofs.Math.Nat.{mul-le-mul}
-use Rattle.std.proofs.lemmas.List.Sums.{count_by-le-length, sum_by-cons}
+use Rattle.std.proofs.lemmas.List.Sums.{sum_by-cons}
 use Rattle.std.specs.Int.{w128}
 use Rattle.std.specs.List.{items_where_true}
 use Rattle.std.proofs.lemmas.Int.{fits_signed_from_abs, ints, to_z-of_z, unsigned_abs-mul}
@@ -18,10 +18,6 @@ use Rattle.bw_model.specs.SetFunctions
 use Rattle.bw_model.specs.SetFunctions.{known, total}
 use Rattle.bw_aggregate.proofs.KnownValues.{AreCoded, coded_all}
 use Rattle.bw_aggregate.specs.Chosen.{value_in}
-use Rattle.bw_aggregate.proofs.Counting.{length_chosen}
-
-pub few_chosen : (rows : List Bool) (codes : List ℕ) → length rows ≡ length codes → length (items_where_true rows codes) ≤ length codes
-few_chosen rows codes e = omega (arith, length_chosen rows codes e, count_by-le-length (λ (b : Bool). b) rows)
 
 -- none of the sums wraps
 pub based-sum : (base : ℤ) (n codes : ℕ) → FitsSigned w64 base → n ≤ 2 ^ 24 → codes < 2 ^ 89
@@ -71,16 +67,6 @@ total_more (true ∷ rows) (Some x ∷ values) (suc r) a b =
     ap (λ t. x +ℤ t) rest ∙ omega (arith, ints)
 total_more (true ∷ rows) (None ∷ values) (suc r) a b = total_more rows values r (omega (arith, a)) (omega (arith, b))
 total_more (false ∷ rows) (v ∷ values) (suc r) a b = total_more rows values r (omega (arith, a)) (omega (arith, b))
-
--- one value of 32 bits more does not wrap
-pub added : (sum value : ℤ) (r : ℕ) → unsigned_abs sum ≤ r * 2 ^ 31 → r < 2 ^ 24 → FitsSigned w32 value
-    → (to_z w128 (of_z w128 (sum +ℤ to_z w128 (of_z w128 (to_z w64 (of_z w64 value))))) ≡ sum +ℤ value) × (unsigned_abs (sum +ℤ value) ≤ (r + 1) * 2 ^ 31)
-added sum value r small few fits =
-    let first : to_z w64 (of_z w64 value) ≡ value = omega (arith, ints, fits) in
-    let second : to_z w128 (of_z w128 value) ≡ value = omega (arith, ints, fits) in
-    let most : unsigned_abs value ≤ 2 ^ 31 = omega (arith, ints, fits) in
-    let whole : unsigned_abs sum ≤ 2 ^ 55 = omega (arith, small, few) in
-    (rw (first, second) (omega (arith, ints, most, whole)), omega (arith, ints, most, small))
 
 -- the sum of values that have codes by an offset
 pub sum_offset : (e : Encoding) (o : Offset) → by.Offset o ≡ e → (rows : List Bool) (values : List (Option ℤ)) → All (IsCoded e) values → (count codes : ℕ)

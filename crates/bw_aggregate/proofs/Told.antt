@@ -1,15 +1,12 @@
 -- What is told of values by their codes.
-use Rattle.std.proofs.Common.{Bool, List, None, Option, Some, [], ap, arith, false, get_or, is_some, length, map, refl, subst, suc, sym, true, ℕ, ℤ, ◌&&◌, ◌<◌, ◌^◌, ◌≡◌, ◌≤◌, ◌∙◌, ◌∷◌}
+use Rattle.std.proofs.Common.{Bool, List, None, Option, Some, [], ap, arith, false, length, map, refl, subst, suc, sym, true, ℕ, ℤ, ◌<◌, ◌^◌, ◌≡◌, ◌≤◌, ◌∙◌, ◌∷◌}
 use Rattle.std.specs.List.{items_where_true}
 use Rattle.std.specs.Prelude.{All}
 use Rattle.bw_code.specs.Encodings.{IsEncoding, width}
 use Rattle.bw_code.specs.declared.encoding.Encoding.{Encoding}
 use Rattle.bw_column.specs.Codes.{IsCoded, code_for}
-use Rattle.bw_column.specs.Values.{value_at}
 use Rattle.bw_model.specs.SetFunctions.{known}
 use Rattle.bw_aggregate.specs.Descents.{BeginsAll}
-use Rattle.bw_aggregate.specs.Summaries.{IsSummary}
-use Rattle.bw_aggregate.specs.declared.summary.Asked.{Asked}
 use Rattle.bw_aggregate.proofs.Descents.{all_chosen}
 use Rattle.bw_aggregate.proofs.KnownValues.{AreKnown, codes_low, count_known}
 use Rattle.bw_aggregate.proofs.SortedValues.{codes_len}
@@ -17,21 +14,6 @@ use Rattle.bw_aggregate.proofs.SortedValues.{codes_len}
 -- the codes of some rows, all of so many bits
 pub begins_all : (k : ℕ) (rows : List Bool) (codes : List ℕ) → All (λ c. c < 2 ^ k) codes → k ≤ 64 → BeginsAll k (items_where_true rows codes)
 begins_all k rows codes below narrow = record { below = all_chosen k rows codes below; narrow = narrow }
-
--- of no values nothing is told
-pub nothing_told : (asked : Asked) (values : List ℤ) (count : ℕ) → count ≡ length values → count ≡ 0 → IsSummary asked values (record { count = count; sum = None; least = None; greatest = None; median = None })
-nothing_told asked [] count is none = record { count = is; sum = λ a. refl; least = λ a. refl; greatest = λ a. refl; median = λ a. refl }
-nothing_told asked (x ∷ xs) count is none = absurd (omega (arith, is, none))
-
--- rows without the nulls, and these without the nulls
-pub known_again : (keep rows : List Bool) (values : List (Option ℤ)) → AreKnown keep rows values → AreKnown keep keep values
-known_again keep rows values each r =
-    each r ∙ again (get_or rows r false) (is_some (value_at values r)) ∙ sym (ap (λ b. b && is_some (value_at values r)) (each r))
-  where
-    again : (a b : Bool) → (a && b) ≡ ((a && b) && b)
-    again true true = refl
-    again true false = refl
-    again false b = refl
 
 -- without the nulls both have the same values
 pub same_values : (keep rows : List Bool) (values : List (Option ℤ)) → length keep ≡ length values → length rows ≡ length values → AreKnown keep rows values

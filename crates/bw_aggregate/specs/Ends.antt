@@ -1,6 +1,7 @@
 -- The least or the greatest of some codes, by how far each is from the end that is looked for.
-use Rattle.std.specs.Prelude.{Bool, not, true, ℕ, ◌&&◌, ◌-◌, ◌<◌, ◌==◌, ◌≡◌, ◌≤◌}
+use Rattle.std.specs.Prelude.{Bool, false, not, true, ℕ, ◌&&◌, ◌-◌, ◌<◌, ◌==◌, ◌≡◌, ◌≤◌}
 use Rattle.bw_aggregate.specs.Marks.{marked}
+use Rattle.bw_aggregate.specs.declared.end.Distances.{Distances}
 use Rattle.bw_aggregate.specs.declared.end.End.{End}
 use Rattle.bw_aggregate.specs.declared.end.End.TheVariants.{Greatest, Least}
 
@@ -20,3 +21,13 @@ pub record IsNearest (n : ℕ) (is_in : ℕ → Bool) (code : ℕ → ℕ) (end 
   pub upto : nearest ≤ before
   pub none : (j : ℕ) → j < n → is_in j ≡ true → nearest ≤ distance end top (code j)
   pub there : nearest < before → 0 < marked n (λ j. is_in j && (distance end top (code j) == nearest))
+
+-- so for each end
+pub record AreNearest (n : ℕ) (is_in : ℕ → Bool) (code : ℕ → ℕ) (top : ℕ) (before nearest : Distances) : Type 0 where
+  pub least : IsNearest n is_in code Least top before.least nearest.least
+  pub greatest : IsNearest n is_in code Greatest top before.greatest nearest.greatest
+
+-- of the 256 rows of a segment those that are near may be nearer than a bound, and the others are not
+pub record MayBeNearer (rows near : ℕ → Bool) (code : ℕ → ℕ) (end : End) (top bound : ℕ) : Type 0 where
+  pub within : (j : ℕ) → j < 256 → near j ≡ true → rows j ≡ true
+  pub out : (j : ℕ) → j < 256 → rows j ≡ true → near j ≡ false → bound ≤ distance end top (code j)

@@ -8,3 +8,4 @@ pub mod PlaneSums
 pub mod Planes
 pub mod Runs
 pub mod Summaries
+pub mod Tallies

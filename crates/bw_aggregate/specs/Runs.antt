@@ -1,5 +1,5 @@
 -- Sums of the codes and of the values of the rows in front of a place, and runs of rows behind it.
-use Rattle.std.specs.Prelude.{Bool, List, Option, false, length, slice_index_or, sum, take, ℕ, ℤ, ◌+◌, ◌<◌, ◌^◌, ◌≡◌, ◌≤◌}
+use Rattle.std.specs.Prelude.{Bool, List, Option, false, length, slice_index_or, sum, take, ℕ, ℤ, ◌+◌, ◌<◌, ◌≡◌, ◌≤◌}
 use Rattle.std.specs.List.{items_where_true}
 use Rattle.bw_mask.specs.Masks.{bit_of}
 use Rattle.bw_model.specs.SetFunctions.{known, total}
@@ -16,8 +16,3 @@ value_total rows values n = total (known (items_where_true (take n rows) (take n
 pub record IsRun (rows : List Bool) (at n word : ℕ) : Type 0 where
   pub inside : at + n ≤ length rows
   pub bits : (i : ℕ) → i < n → slice_index_or rows (at + i) false ≡ bit_of word i
-
--- the sum of some codes
-pub record IsCodeSum (codes : List ℕ) (total : ℕ) : Type 0 where
-  pub small : total < 2 ^ 89
-  pub is : total ≡ sum codes

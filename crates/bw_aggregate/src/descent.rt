@@ -1,9 +1,7 @@
 //! The descent to one entry of some sorted codes, a plane a step.
 
-ghost use Rattle.std.specs.Prelude.{Bool, List, if◌then◌else◌, length, true, ℕ, ◌*◌, ◌+◌, ◌<◌, ◌^◌, ◌≡◌, ◌≤◌};
-ghost use Rattle.std.specs.List.{All};
+ghost use Rattle.std.specs.Prelude.{List, length, true, ℕ, ◌+◌, ◌<◌, ◌^◌, ◌≡◌};
 ghost use Rattle.bw_aggregate.specs.Descents.{BeginsAll, Holds, next};
-ghost use Rattle.bw_aggregate.specs.Left.{left_count};
 ghost use Rattle.bw_aggregate.specs.Planes.{IsPlane};
 
 use crate::plane::Plane;

@@ -1,8 +1,10 @@
 //! What becomes of rows that are left, plane by plane.
 
-ghost use Rattle.std.specs.Prelude.{Bool, IfOk, List, count_by, length, ℕ, ◌&&◌, ◌*◌, ◌^◌, ◌≡◌, ◌≤◌};
+ghost use Rattle.std.specs.Prelude.{Bool, IfOk, List, length, ℕ, ◌&&◌, ◌*◌, ◌^◌, ◌≡◌, ◌≤◌};
+ghost use Rattle.std.specs.List.{items_where_true};
 ghost use Rattle.bw_mask.specs.Masks.{bit_of, len};
-ghost use Rattle.bw_aggregate.specs.Left.{codes_between, left_count};
+ghost use Rattle.bw_aggregate.specs.Descents.{Holds};
+ghost use Rattle.bw_aggregate.specs.Left.{left_count};
 ghost use Rattle.bw_aggregate.specs.Planes.{IsPlane, has_bit};
 
 use crate::plane::Plane;
@@ -12,16 +14,16 @@ use bw_mask::Mask;
 use std::alloc::{AllocError, Global};
 
 impl Left {
-    /// The rows of a mask in segments `from` to `to - 1`.
-    pub(crate) fn of(alloc: Global, rows: &Mask, from: u32, to: u32) -> Result<Left, AllocError>
-        requires order { from ≤ to }
-        requires few { to ≤ 2 ^ 16 }
-        ensures { IfOk result (λ left. (codes : List ℕ) (p : ℕ → Bool) → length codes ≡ len rows.now → left_count codes p left ≡ count_by p (codes_between rows.now.rows codes (256 * from) (256 * to))) }
+    /// The rows of a mask, which lie in so many segments.
+    pub(crate) fn of(alloc: Global, rows: &Mask, count: u32) -> Result<Left, AllocError>
+        requires few { count ≤ 2 ^ 16 }
+        requires all { len rows.now ≤ 256 * count }
+        ensures { IfOk result (λ left. (codes : List ℕ) → length codes ≡ len rows.now → Holds codes (items_where_true rows.now.rows codes) left) }
     {
         let words = rows.words();
-        let mut segments = Vec::from_elem(alloc, Segment::NONE, (to - from) as usize)?;
+        let mut segments = Vec::from_elem(alloc, Segment::NONE, count as usize)?;
         let mut kept = 0;
-        'segments: for number in from..to {
+        'segments: for number in 0..count {
             let rows = rows_at(words, number);
             segments[kept] = Segment { number, rows };
             kept += usize::from(has_row(&rows));

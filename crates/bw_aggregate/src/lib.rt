@@ -16,6 +16,10 @@ mod runs;
 mod segments;
 mod set_functions;
 mod summary;
+mod tally;
+mod tally_planes;
+mod tally_runs;
+mod telling;
 mod totals;
 
 pub use set_functions::{count, max, median, min, sum};

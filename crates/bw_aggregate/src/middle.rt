@@ -28,11 +28,7 @@ fn descend_in_place(codes: &VerticalColumn, descent: &mut Descent)
 {
     let width = codes.width();
     'planes: for i in 0..width {
-        let plane = GroupPlane {
-            group: codes.group(i as usize / 4),
-            count: (width - i / 4 * 4).min(4),
-            at: i % 4,
-        };
+        let plane = GroupPlane::of(codes, i as usize);
         descent.step(&Plane::InPlace(plane));
     }
 }
@@ -90,7 +86,7 @@ fn median_code(
     ensures { IfOk result (IsNthCode (items_where_true rows.now.rows (codes_for column.now.encoding column.now.values)) ((count - 1) / 2)) }
 {
     let bits = column.encoding().width();
-    let left = Left::of(alloc, rows, 0, segments)?;
+    let left = Left::of(alloc, rows, segments)?;
     let descent = Descent::from_top(left, count, (count - 1) / 2);
     Ok(descended(alloc, column, bits, descent)?.code())
 }

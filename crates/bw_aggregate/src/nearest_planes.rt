@@ -1,18 +1,18 @@
 //! The least and the greatest of codes by their planes.
 
 ghost use Rattle.std.specs.Prelude.{false, if◌then◌else◌, nat_lt, true, ℕ, ◌&&◌, ◌*◌, ◌+◌, ◌-◌, ◌<◌, ◌^◌, ◌≡◌, ◌≤◌};
-ghost use Rattle.bw_mask.specs.Masks.{len, row_at, row_in};
+ghost use Rattle.bw_mask.specs.Masks.{row_in};
 ghost use Rattle.bw_code.specs.Columns.{Fit, code_at, count};
 ghost use Rattle.bw_vertical.specs.Planes.{segments_of};
-ghost use Rattle.bw_aggregate.specs.Ends.{IsNearest, distance, is_near};
+ghost use Rattle.bw_aggregate.specs.Ends.{AreNearest, IsNearest, MayBeNearer, distance, is_near};
 ghost use Rattle.bw_aggregate.specs.Marks.{marked};
+ghost use Rattle.bw_aggregate.specs.declared.end.End.TheVariants.{Greatest, Least};
 
 use crate::descent::with_bit;
-use crate::end::End;
+use crate::end::{Distances, End};
 use crate::plane::plane_at;
 use crate::rows::{has_row, rows_at, rows_with};
 use bw_code::CodeColumn;
-use bw_mask::Mask;
 use bw_vertical::VerticalColumn;
 
 /// The rows that have no bit of the distance in the plane.
@@ -88,6 +88,7 @@ fn nearest_of(codes: &VerticalColumn, q: usize, rows: &[u64; 4], end: End, best:
 }
 
 /// The least distance of the rows of segment q, or `best` where none is nearer.
+#[inline(never)]
 fn nearest_in_segment(codes: &VerticalColumn, q: usize, rows: &[u64; 4], end: End, best: u64) -> u64
     requires there { q < segments_of (count codes.now) }
     requires few { count codes.now ≤ 2 ^ 24 }
@@ -104,18 +105,113 @@ fn nearest_in_segment(codes: &VerticalColumn, q: usize, rows: &[u64; 4], end: En
     }
 }
 
-/// The least distance of the rows, or `far` where none is nearer.
-pub(crate) fn nearest_by_planes(codes: &VerticalColumn, rows: &Mask, end: End, far: u64) -> u64
-    requires len { len rows.now ≡ count codes.now }
+/// How many groups of four planes are looked at in a segment before it is asked whether a row is left: the planes of few rows'
+/// codes have no bit in so many, and where a row is left after each group is not foreseen.
+const FIRST_GROUPS: usize = 3;
+
+/// As many of the first groups as there are, of codes of so many bits.
+fn first_groups(width: u32) -> usize
+    requires { width ≤ 32 }
+    ensures { 4 * result ≤ width }
+{
+    (width as usize / 4).min(FIRST_GROUPS)
+}
+
+/// Rows of a segment that may be near to each end.
+#[derive(Clone, Copy)]
+struct NearRows {
+    least: [u64; 4],
+    greatest: [u64; 4],
+}
+
+/// The rows whose distance from an end has no bit in the planes of the first groups.
+fn near_rows(codes: &VerticalColumn, q: usize, rows: &[u64; 4], groups: usize) -> NearRows
+    requires there { q < segments_of (count codes.now) }
+    requires few { count codes.now ≤ 2 ^ 24 }
     requires narrow { codes.now.width ≤ 32 }
     requires fit { Fit codes.now.width codes.now.codes }
-    requires small { far ≤ 2 ^ 32 }
-    ensures { IsNearest (count codes.now) (row_at rows.now) (code_at codes.now) end (2 ^ codes.now.width - 1) far result }
+    requires within { 4 * groups ≤ codes.now.width }
+    ensures least { MayBeNearer (row_in rows.now) (row_in result.least) (λ j. code_at codes.now (256 * q + j)) Least (2 ^ codes.now.width - 1) (2 ^ (codes.now.width - 4 * groups)) }
+    ensures greatest { MayBeNearer (row_in rows.now) (row_in result.greatest) (λ j. code_at codes.now (256 * q + j)) Greatest (2 ^ codes.now.width - 1) (2 ^ (codes.now.width - 4 * groups)) }
 {
-    let words = rows.words();
-    let mut best = far;
-    'segments: for q in 0..codes.len().div_ceil(256) {
-        best = nearest_in_segment(codes, q, &rows_at(words, q as u32), end, best);
+    let (mut least, mut greatest) = (*rows, *rows);
+    'groups: for g in 0..groups {
+        'planes: for i in 4 * g..4 * g + 4 {
+            let plane = plane_at(codes, q, i);
+            least = nearer_rows(&least, plane, End::Least);
+            greatest = nearer_rows(&greatest, plane, End::Greatest);
+        }
     }
-    best
+    NearRows { least, greatest }
+}
+
+/// The least distance of the rows of segment q, or `best` where none is nearer. Of the rows, `near` has those that may be nearer
+/// than the first bit below the planes of the first groups.
+fn nearest_among(
+    codes: &VerticalColumn,
+    q: usize,
+    rows: &[u64; 4],
+    near: &[u64; 4],
+    groups: usize,
+    end: End,
+    best: u64,
+) -> u64
+    requires there { q < segments_of (count codes.now) }
+    requires few { count codes.now ≤ 2 ^ 24 }
+    requires narrow { codes.now.width ≤ 32 }
+    requires fit { Fit codes.now.width codes.now.codes }
+    requires within { 4 * groups ≤ codes.now.width }
+    requires near { MayBeNearer (row_in rows.now) (row_in near.now) (λ j. code_at codes.now (256 * q + j)) end (2 ^ codes.now.width - 1) (2 ^ (codes.now.width - 4 * groups)) }
+    requires small { best ≤ 2 ^ 32 }
+    ensures { IsNearest 256 (row_in rows.now) (λ j. code_at codes.now (256 * q + j)) end (2 ^ codes.now.width - 1) best result }
+{
+    if best == 0 {
+        return best;
+    }
+    if best >> (codes.width() as usize - 4 * groups) != 0 {
+        return nearest_in_segment(codes, q, rows, end, best);
+    }
+    if has_row(near) {
+        nearest_in_segment(codes, q, near, end, best)
+    } else {
+        best
+    }
+}
+
+/// The least distances of the rows of segment q from both ends, or `best` where none is nearer. No plane is read where no end is
+/// looked for, and where there is no row.
+pub(crate) fn nearest_to_ends(
+    codes: &VerticalColumn,
+    q: usize,
+    rows: &[u64; 4],
+    best: Distances,
+) -> Distances
+    requires there { q < segments_of (count codes.now) }
+    requires few { count codes.now ≤ 2 ^ 24 }
+    requires narrow { codes.now.width ≤ 32 }
+    requires fit { Fit codes.now.width codes.now.codes }
+    requires least { best.least ≤ 2 ^ 32 }
+    requires greatest { best.greatest ≤ 2 ^ 32 }
+    ensures { AreNearest 256 (row_in rows.now) (λ j. code_at codes.now (256 * q + j)) (2 ^ codes.now.width - 1) best result }
+{
+    if best.are_none() {
+        return best;
+    }
+    if !has_row(rows) {
+        return best;
+    }
+    let groups = first_groups(codes.width());
+    let NearRows { least, greatest } = near_rows(codes, q, rows, groups);
+    Distances {
+        least: nearest_among(codes, q, rows, &least, groups, End::Least, best.least),
+        greatest: nearest_among(
+            codes,
+            q,
+            rows,
+            &greatest,
+            groups,
+            End::Greatest,
+            best.greatest,
+        ),
+    }
 }

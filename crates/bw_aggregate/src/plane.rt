@@ -4,30 +4,18 @@ ghost use Rattle.std.specs.Prelude.{[], slice_index_or, ℕ, ◌*◌, ◌+◌, �
 ghost use Rattle.bw_mask.specs.Masks.{bit_of, row_in};
 ghost use Rattle.bw_code.specs.Columns.{code_at, count};
 ghost use Rattle.bw_vertical.specs.Planes.{segments_of};
-ghost use Rattle.bw_aggregate.specs.Planes.{is_in};
+ghost use Rattle.bw_aggregate.specs.Planes.{IsGroupPlane, is_in};
 
 use crate::rows::rows_at;
 use bw_code::CodeColumn;
 use bw_vertical::VerticalColumn;
 
-/// Plane i of segment q.
-pub(crate) fn plane_at(codes: &VerticalColumn, q: usize, i: usize) -> &[u64; 4]
-    requires there { q < segments_of (count codes.now) }
-    requires within { i < codes.now.width }
-    requires few { count codes.now ≤ 2 ^ 24 }
-    requires narrow { codes.now.width ≤ 32 }
-    ensures { (j : ℕ) → j < 256 → row_in result.now j ≡ bit_of (code_at codes.now (256 * q + j)) (codes.now.width - 1 - i) }
-{
-    let count = (codes.width() as usize - i / 4 * 4).min(4);
-    &codes.group(i / 4)[q * count + i % 4]
-}
-
 /// A plane among those of its group: of each segment, the one at place `at` of `count`.
 #[derive(Clone, Copy)]
 pub(crate) struct GroupPlane<'a> {
-    pub(crate) group: &'a [[u64; 4]],
-    pub(crate) count: u32,
-    pub(crate) at: u32,
+    group: &'a [[u64; 4]],
+    count: u32,
+    at: u32,
 }
 
 /// One bit of each row's code.
@@ -39,6 +27,20 @@ pub(crate) enum Plane<'a> {
 }
 
 impl<'a> GroupPlane<'a> {
+    /// Plane i of a column, counted from the highest.
+    pub(crate) fn of(codes: &'a VerticalColumn, i: usize) -> GroupPlane<'a>
+        requires within { i < codes.now.width }
+        requires narrow { codes.now.width ≤ 32 }
+        ensures { IsGroupPlane codes.now i result }
+    {
+        let i = i as u32;
+        GroupPlane {
+            group: codes.group(i as usize / 4),
+            count: (codes.width() - i / 4 * 4).min(4),
+            at: i % 4,
+        }
+    }
+
     /// Its rows in segment q, none past the last segment.
     fn rows(&self, q: u32) -> [u64; 4]
         ensures { (j : ℕ) → j < 256 → row_in result j ≡ row_in (slice_index_or self.now.group.now (q * self.now.count + self.now.at) []) j }
@@ -62,4 +64,16 @@ impl<'a> Plane<'a> {
             Plane::Copied(words) => rows_at(words, q),
         }
     }
+}
+
+/// Plane i of segment q.
+pub(crate) fn plane_at(codes: &VerticalColumn, q: usize, i: usize) -> &[u64; 4]
+    requires there { q < segments_of (count codes.now) }
+    requires within { i < codes.now.width }
+    requires few { count codes.now ≤ 2 ^ 24 }
+    requires narrow { codes.now.width ≤ 32 }
+    ensures { (j : ℕ) → j < 256 → row_in result.now j ≡ bit_of (code_at codes.now (256 * q + j)) (codes.now.width - 1 - i) }
+{
+    let GroupPlane { group, count, at } = GroupPlane::of(codes, i);
+    &group[q * count as usize + at as usize]
 }

@@ -1,14 +1,12 @@
 //! The sum of codes by counts of their planes (O'Neil and Quass, SIGMOD 1997).
 
 ghost use Rattle.std.specs.Prelude.{All, Bool, List, length, sum, true, ℕ, ◌&&◌, ◌*◌, ◌+◌, ◌<◌, ◌^◌, ◌≡◌, ◌≤◌};
-ghost use Rattle.std.specs.List.{items_where_true};
-ghost use Rattle.bw_mask.specs.Masks.{len, row_in};
+ghost use Rattle.bw_mask.specs.Masks.{row_in};
 ghost use Rattle.bw_code.specs.Columns.{Fit, count};
 ghost use Rattle.bw_vertical.specs.Planes.{segments_of};
 ghost use Rattle.bw_aggregate.specs.Left.{codes_between};
 ghost use Rattle.bw_aggregate.specs.Marks.{marked};
 ghost use Rattle.bw_aggregate.specs.PlaneSums.{AreBits, AreRows, IsSumTo};
-ghost use Rattle.bw_aggregate.specs.Runs.{IsCodeSum};
 
 use crate::plane::plane_at;
 use crate::rows::{count_both, count_rows, has_all, has_row, rows_at};
@@ -41,7 +39,7 @@ fn with_plane(sum: u64, rows: &[u64; 4], all: bool, plane: &[u64; 4]) -> u64
 }
 
 /// The sum of the codes of those rows of segment q that are in.
-fn segment_sum(codes: &VerticalColumn, q: usize, rows: &[u64; 4]) -> u64
+pub(crate) fn segment_sum(codes: &VerticalColumn, q: usize, rows: &[u64; 4]) -> u64
     requires there { q < segments_of (count codes.now) }
     requires few { count codes.now ≤ 2 ^ 24 }
     requires narrow { codes.now.width ≤ 32 }
@@ -62,22 +60,6 @@ fn segment_sum(codes: &VerticalColumn, q: usize, rows: &[u64; 4]) -> u64
     }
     'rest: for i in k / 4 * 4..k {
         sum = with_plane(sum, rows, all, plane_at(codes, q, i));
-    }
-    sum
-}
-
-/// The sum of the codes of the rows.
-pub(crate) fn sum_by_planes(codes: &VerticalColumn, rows: &Mask) -> u128
-    requires len { len rows.now ≡ count codes.now }
-    requires narrow { codes.now.width ≤ 32 }
-    requires fit { Fit codes.now.width codes.now.codes }
-    ensures { IsCodeSum (items_where_true rows.now.rows codes.now.codes) result }
-{
-    let words = rows.words();
-    let mut sum = 0;
-    'segments: for q in 0..codes.len().div_ceil(256) {
-        let rows = rows_at(words, q as u32);
-        sum += u128::from(segment_sum(codes, q, &rows));
     }
     sum
 }

@@ -1,20 +1,14 @@
-//! Sums over runs of 64 rows, for layouts and kinds whose planes don't tell them, or cost more.
+//! Sums of codes and of values over runs of 64 rows.
 
 ghost use Rattle.std.specs.Prelude.{All, Bool, FitsSigned, List, Option, drop, if◌then◌else◌, length, pos, slice_index, sum, take, unsigned_abs, unwrap_or, ℕ, ℤ, ◌*◌, ◌+◌, ◌+ℤ◌, ◌<◌, ◌^◌, ◌≡◌, ◌≤◌};
 ghost use Rattle.std.specs.Int.{w32};
-ghost use Rattle.std.specs.List.{items_where_true};
 ghost use Rattle.bw_mask.specs.Masks.{bit_of, len};
-ghost use Rattle.bw_code.specs.Columns.{Fit, count};
-ghost use Rattle.bw_code.specs.Encodings.{width};
-ghost use Rattle.bw_column.specs.Codes.{codes_for};
 ghost use Rattle.bw_column.specs.Values.{IsNullOrInteger, value_at};
 ghost use Rattle.bw_model.specs.SetFunctions.{total};
 ghost use Rattle.bw_aggregate.specs.Chosen.{chosen};
-ghost use Rattle.bw_aggregate.specs.Runs.{IsCodeSum, IsRun, code_sum, value_total};
+ghost use Rattle.bw_aggregate.specs.Runs.{IsRun, code_sum, value_total};
 
-use crate::plane_sums::sum_by_planes;
-use bw_code::CodeColumn;
-use bw_column::{Column, Storage};
+use bw_column::Column;
 use bw_mask::Mask;
 
 /// Whether row i of a run is in.
@@ -64,54 +58,18 @@ fn sum_all(codes: &[u64]) -> u64
     sum
 }
 
-/// The sum of the codes of those of n rows from `at` on that are in. Where none is, no code is looked at.
-fn sum_at<C: CodeColumn>(column: &C, at: usize, n: usize, rows: u64) -> u64
-    requires narrow { (C.seen column.now).width ≤ 32 }
-    requires few { n ≤ 64 }
-    requires inside { at + n ≤ count (C.seen column.now) }
-    ensures sum { (need : List Bool) → length need ≡ count (C.seen column.now) → IsRun need at n rows
-        → code_sum need (C.seen column.now).codes (at + n) ≡ code_sum need (C.seen column.now).codes at + result }
+/// The sum of the codes of a run's rows that are in. Where all are, no row is looked for.
+pub(crate) fn run_sum(codes: &[u64], rows: u64) -> u64
+    requires few { length codes.now ≤ 64 }
+    requires narrow { All (λ code. code < 2 ^ 32) codes.now }
+    ensures sum { (need : List Bool) (all : List ℕ) (at : ℕ) → length need ≡ length all → codes.now ≡ take (length codes.now) (drop at all) → IsRun need at (length codes.now) rows
+        → code_sum need all (at + length codes.now) ≡ code_sum need all at + result }
     ensures small { result ≤ 64 * 2 ^ 32 }
 {
-    if rows == 0 {
-        return 0;
-    }
-    let mut run = [0; 64];
-    let codes = &mut run[..n];
-    column.read(at, codes);
     if rows == u64::MAX {
         sum_all(codes)
     } else {
         sum_in(codes, rows)
-    }
-}
-
-/// The sum of the codes of the rows, read in runs.
-fn sum_of_codes<C: CodeColumn>(column: &C, rows: &Mask) -> u128
-    requires narrow { (C.seen column.now).width ≤ 32 }
-    requires len { len rows.now ≡ count (C.seen column.now) }
-    ensures { IsCodeSum (items_where_true rows.now.rows (C.seen column.now).codes) result }
-{
-    let mut sum = 0;
-    'runs: for q in 0..column.len().div_ceil(64) {
-        let at = 64 * q;
-        let n = (column.len() - at).min(64);
-        sum += u128::from(sum_at(column, at, n, rows.bits(at, 64)));
-    }
-    sum
-}
-
-/// The sum of the codes of the rows, a null's being 0. Planes tell it by counts.
-pub(crate) fn code_sum(column: &Column, rows: &Mask) -> u128
-    requires len { len rows.now ≡ length column.now.values }
-    requires fit { Fit (width column.now.encoding) (codes_for column.now.encoding column.now.values) }
-    ensures { IsCodeSum (items_where_true rows.now.rows (codes_for column.now.encoding column.now.values)) result }
-{
-    match column.storage() {
-        Storage::P(codes) => sum_of_codes(codes, rows),
-        Storage::V(codes) => sum_by_planes(codes, rows),
-        Storage::H(codes) => sum_of_codes(codes, rows),
-        Storage::S(codes) => sum_of_codes(codes, rows),
     }
 }
 

@@ -1,20 +1,17 @@
 //! What set functions say of a column's values in some rows.
 
-ghost use Rattle.std.specs.Prelude.{All, IfOk, Some, length, slice_get, true, ◌+◌, ◌/◌, ◌<◌, ◌||◌, ◌≡◌, ◌≤◌, ◌^◌};
+ghost use Rattle.std.specs.Prelude.{All, IfOk, if◌then◌else◌, length, true, ◌+◌, ◌/◌, ◌<◌, ◌≡◌, ◌≤◌, ◌^◌};
 ghost use Rattle.bw_mask.specs.Masks.{len};
 ghost use Rattle.bw_column.specs.Values.{IsNullOrInteger};
-ghost use Rattle.bw_model.specs.SetFunctions.{median, sorted, sum};
-ghost use Rattle.bw_aggregate.specs.Chosen.{AreKnownRows, chosen};
-ghost use Rattle.bw_aggregate.specs.Descents.{end_of};
+ghost use Rattle.bw_model.specs.SetFunctions.{median};
+ghost use Rattle.bw_aggregate.specs.Chosen.{chosen};
 ghost use Rattle.bw_aggregate.specs.Summaries.{IsSummary};
 
-use crate::end::End;
-use crate::ends::end_of_values;
+use crate::end::{Distances, End, FARTHEST};
+use crate::ends::end_told;
 use crate::known::{known_count, known_rows};
 use crate::middle::median_of;
-use crate::runs::{code_sum, sum_of_values};
-use crate::totals::based_total;
-use bw_code::Encoding;
+use crate::telling::{Told, tell};
 use bw_column::Column;
 use bw_mask::Mask;
 use std::alloc::{AllocError, Global};
@@ -37,11 +34,15 @@ impl Asked {
         median: false,
     };
 
-    /// Whether an entry of the sorted values is asked for.
-    fn asks_for_entries(&self) -> bool
-        ensures { result ≡ ((self.now.least || self.now.greatest) || self.now.median) }
+    /// The distances to begin with: at an end that is asked for farther than any code is.
+    fn farthest(&self) -> Distances
+        ensures least { result.least ≡ (if self.now.least then 2 ^ 32 else 0) }
+        ensures greatest { result.greatest ≡ (if self.now.greatest then 2 ^ 32 else 0) }
     {
-        self.least || self.greatest || self.median
+        Distances {
+            least: if self.least { FARTHEST } else { 0 },
+            greatest: if self.greatest { FARTHEST } else { 0 },
+        }
     }
 }
 
@@ -82,92 +83,44 @@ pub fn summarize(
     if count == 0 {
         return Ok(Summary::OF_NONE);
     }
-    let sum = sum_told(column, rows, count, asked.sum);
-    if !asked.asks_for_entries() {
-        return Ok(Summary {
-            count,
-            sum,
-            ..Summary::OF_NONE
-        });
-    }
-    let known = known_rows(column, rows)?;
     let segments = column.len().div_ceil(256) as u32;
-    let median = median_told(alloc, column, &known, segments, count, asked.median)?;
+    let median = median_told(alloc, column, rows, segments, count, asked.median)?;
+    let Told { sum, nearest } = tell(column, rows, count, asked.sum, asked.farthest());
     Ok(Summary {
         count,
         sum,
-        least: end_told(column, &known, End::Least, asked.least),
-        greatest: end_told(column, &known, End::Greatest, asked.greatest),
+        least: end_told(column, rows, End::Least, nearest.least, asked.least),
+        greatest: end_told(
+            column,
+            rows,
+            End::Greatest,
+            nearest.greatest,
+            asked.greatest,
+        ),
         median,
     })
 }
 
-/// The sum of the values of the rows, where it is asked for.
-fn sum_told(column: &Column, rows: &Mask, count: usize, asked: bool) -> Option<i128>
-    requires len { len rows.now ≡ length column.now.values }
-    requires few { count ≤ 2 ^ 24 }
-    requires count { count ≡ length (chosen column.now rows.now) }
-    requires some { 0 < count }
-    ensures { asked ≡ true → result ≡ sum (chosen column.now rows.now) }
-{
-    if asked {
-        Some(sum_from(column, rows, count))
-    } else {
-        None
-    }
-}
-
-/// The sum of the values of the rows, of which there is one at least. A NULL's code is 0, so that the sum of the codes is that of
-/// the values without their bases; a dictionary's codes don't tell it.
-fn sum_from(column: &Column, rows: &Mask, count: usize) -> i128
-    requires len { len rows.now ≡ length column.now.values }
-    requires few { count ≤ 2 ^ 24 }
-    requires count { count ≡ length (chosen column.now rows.now) }
-    requires some { 0 < count }
-    ensures { Some result ≡ sum (chosen column.now rows.now) }
-{
-    match column.encoding() {
-        Encoding::Offset(offset) => based_total(offset.base, count, code_sum(column, rows)),
-        Encoding::Dictionary(_) => sum_of_values(column, rows),
-    }
-}
-
-/// The least value of the rows, or the greatest, where it is asked for.
-fn end_told(column: &Column, known: &Mask, end: End, asked: bool) -> Option<i64>
-    requires known { AreKnownRows column.now known.now known.now }
-    requires len { len known.now ≡ length column.now.values }
-    requires integers { All IsNullOrInteger column.now.values }
-    requires some { 0 < length (chosen column.now known.now) }
-    ensures { asked ≡ true → result ≡ slice_get (sorted (chosen column.now known.now)) (end_of end (length (chosen column.now known.now))) }
-{
-    if asked {
-        Some(end_of_values(column, known, end))
-    } else {
-        None
-    }
-}
-
-/// The lower median of the values of the rows, where it is asked for.
+/// The lower median of the values of the rows, where it is asked for. So many of them are not null, and one at least.
 fn median_told(
     alloc: Global,
     column: &Column,
-    known: &Mask,
+    rows: &Mask,
     segments: u32,
     count: usize,
     asked: bool,
 ) -> Result<Option<i64>, AllocError>
-    requires known { AreKnownRows column.now known.now known.now }
-    requires len { len known.now ≡ length column.now.values }
-    requires count { count ≡ length (chosen column.now known.now) }
+    requires len { len rows.now ≡ length column.now.values }
+    requires count { count ≡ length (chosen column.now rows.now) }
     requires some { 0 < count }
     requires few { length column.now.values ≤ 2 ^ 24 }
     requires integers { All IsNullOrInteger column.now.values }
     requires segments { segments ≡ (length column.now.values + 255) / 256 }
-    ensures { IfOk result (λ value. asked ≡ true → value ≡ median (chosen column.now known.now)) }
+    ensures { IfOk result (λ value. asked ≡ true → value ≡ median (chosen column.now rows.now)) }
 {
-    if asked {
-        Ok(Some(median_of(alloc, column, known, segments, count)?))
-    } else {
-        Ok(None)
+    if !asked {
+        return Ok(None);
     }
+    let known = known_rows(column, rows)?;
+    Ok(Some(median_of(alloc, column, &known, segments, count)?))
 }

@@ -1,6 +1,5 @@
-use Rattle.std.proofs.Common.{[], ap, arith, get_or, subst, ◌%◌, ◌*◌, ◌+◌, ◌-◌, ◌/◌, ◌<◌, ◌≡◌, ◌∙◌}
-use Rattle.bw_mask.specs.Masks.{bit_of, row_in}
-use Rattle.bw_vertical.specs.Storage.{planes_in}
+use Rattle.std.proofs.Common.{ap, arith, get_or, subst, ◌%◌, ◌*◌, ◌+◌, ◌-◌, ◌/◌, ◌<◌, ◌≡◌, ◌∙◌}
+use Rattle.bw_mask.specs.Masks.{bit_of}
 use Rattle.bw_aggregate.specs.Descending.{IsDescent}
 use Rattle.bw_aggregate.proofs.middle.descend_in_place.Goals as goal
 
@@ -10,16 +9,13 @@ planes-preserved c held n on =
     let width = codes.width in
     let i = c.planes.i in
     let below : i < width = omega (arith, c.planes-test.true, c.width-width.ensures.width) in
-    let many : c.min.result ≡ planes_in width (i / 4) = omega (arith, c.min.ensures, c.width-width.ensures.width) in
-    let within : i % 4 < planes_in width (i / 4) = omega (arith, below) in
-    let bit : width - 1 - (4 * (i / 4) + i % 4) ≡ width - (i + 1) = omega arith in
+    let bit : width - 1 - i ≡ width - (i + 1) = omega arith in
     let next : width - i ≡ width - (i + 1) + 1 = omega (arith, below) in
     c.step.ensures codes.codes held n (width - (i + 1))
     (λ r.
     let place : 256 * (r / 256) + r % 256 ≡ r = omega arith in
-    ap (λ m. row_in (get_or c.group.result.now (r / 256 * m + i % 4) []) (r % 256)) many
-    ∙ c.group.ensures.rows (r / 256) (i % 4) (r % 256) within (omega arith)
-    ∙ ap (λ x. bit_of (get_or codes.codes x 0) (width - 1 - (4 * (i / 4) + i % 4))) place
+    c.of-plane.ensures.rows (r / 256) (r % 256) (omega arith)
+    ∙ ap (λ x. bit_of (get_or codes.codes x 0) (width - 1 - i)) place
     ∙ ap (bit_of (get_or codes.codes r 0)) bit)
     (subst (λ k. IsDescent codes.codes held n k c.planes.descent) next (c.planes.invariant held n on))
 

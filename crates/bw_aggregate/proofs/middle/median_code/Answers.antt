@@ -1,4 +1,4 @@
-use Rattle.std.proofs.Common.{ap, arith, count_by, length, subst, sym, ◌*◌, ◌-◌, ◌/◌, ◌≡◌, ◌<◌, ◌∙◌}
+use Rattle.std.proofs.Common.{ap, arith, length, subst, sym, ◌-◌, ◌/◌, ◌≡◌, ◌<◌, ◌∙◌}
 use Rattle.std.proofs.lemmas.List.{length-map}
 use Rattle.std.specs.List.{items_where_true}
 use Rattle.bw_code.specs.Columns.{Fit}
@@ -6,7 +6,6 @@ use Rattle.bw_code.specs.Encodings.{width}
 use Rattle.bw_column.specs.Codes.{code_for, codes_for}
 use Rattle.bw_aggregate.specs.Descents.{Holds}
 use Rattle.bw_aggregate.proofs.Descents.{descent_end}
-use Rattle.bw_aggregate.proofs.Parts.{between_all}
 use Rattle.bw_aggregate.proofs.Told.{begins_all}
 use Rattle.bw_aggregate.proofs.middle.median_code.Goals as goal
 
@@ -21,8 +20,7 @@ returns c =
     let held = items_where_true rows codes in
     let n = (c.args.count - 1) / 2 in
     let same : length rows ≡ length codes = c.requires.len ∙ sym (length-map column.values (code_for column.encoding)) in
-    let all = between_all rows codes (256 * c.args.segments) same (omega (arith, c.requires.len, c.requires.segments)) in
-    let holds : Holds codes held c.in_ok-left.left = λ p. c.in_ok-left.ensures codes p (sym same) ∙ ap (count_by p) all in
+    let holds : Holds codes held c.in_ok-left.left = c.in_ok-left.ensures codes (sym same) in
     let low : n < c.args.count = omega (arith, c.requires.some) in
     let begun = c.from_top-descent.ensures codes held k holds (begins_all k rows codes fit c.width-bits.ensures.few) c.requires.count low in
     let done = c.in_ok-descended.ensures held n begun in
