@@ -23,6 +23,8 @@ mod large;
 #[cfg(test)]
 mod limits;
 #[cfg(test)]
+mod pieces;
+#[cfg(test)]
 mod program_ends;
 #[cfg(test)]
 mod refusals;

@@ -4,7 +4,10 @@ pub mod Items
 pub mod Lines
 pub mod OneAnswer
 pub mod Outputs
+pub mod PieceByPiece
+pub mod Rests
 pub mod Saves
+pub mod Scripts
 pub mod Sessions
 pub mod Telling
 pub mod Texts

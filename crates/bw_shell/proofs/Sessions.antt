@@ -1,65 +1,96 @@
 -- A run so far.
-use Rattle.std.proofs.Common.{◌≡◌, ℕ, ◌+◌, ◌<◌, ◌≤◌, inl, inr, true, false, List, [], ◌∷◌, ◌++◌, drop, length, Option, refl, sym, ap, ◌∙◌, subst, append_assoc, append-nil, get_or, drop-cons, add-one}
-use Rattle.std.proofs.lemmas.List.{drop_all}
+use Rattle.std.proofs.Common.{◌≡◌, ℕ, inl, inr, true, false, List, [], ◌∷◌, ◌++◌, Option, None, Some, refl, sym, ap, ◌∙◌, subst, append_assoc, append-nil}
 use Rattle.std.specs.Io.KnownBytes.{Appends}
-use Rattle.bw_lex.specs.declared.script.Part.{Part}
+use Rattle.bw_split.specs.Splitting.{Told, as_told}
 use Rattle.bw_model.specs.ReplyText.{reply_text}
 use Rattle.bw_model.specs.declared.reply.Reply.{Reply}
-use Rattle.bw_shell.specs.Run.{HasRun, MayAnswer, Session, is_dropped, last_end, stops, text_of}
+use Rattle.bw_shell.specs.Answering.{HandsOver, HasEnded, Ran, Telling}
+use Rattle.bw_shell.specs.Run.{MayAnswer, SessionOver, drops, stops}
 use Rattle.bw_shell.specs.States.{State}
 use Rattle.bw_shell.specs.Writing.{AppendsFront}
 use Rattle.bw_shell.specs.declared.reading.ScriptEnd.{ScriptEnd}
+use Rattle.bw_shell.specs.declared.reading.ScriptEnd.TheVariants.{Fault, Reached}
 use Rattle.bw_shell.specs.declared.session.OnError.{OnError}
 use Rattle.bw_shell.specs.declared.session.RunEnd.{RunEnd}
 use Rattle.bw_shell.specs.declared.session.RunEnd.TheVariants as ends
 use Rattle.bw_shell.proofs.Texts.{appends_none, appends_twice}
 
-module _ (on_error : OnError) (read : ScriptEnd) (script : List ℕ) (all : List Part) (first : State) where
-  -- It has written these bytes, and whatever may follow from here may follow from the start.
-  pub record Ran (old now : Option (List ℕ)) (rest : List Part) (state : State) : Type 0 where
-    pub written : List ℕ
-    pub grown : Appends old now written
-    pub goes_on : (end : RunEnd) (bytes : List ℕ) (last : State) → Session on_error read script state rest end bytes last → Session on_error read script first all end (written ++ bytes) last
+-- a part that a cut closes is never dropped
+pub never_drops : (read : ScriptEnd) → drops read true ≡ false
+never_drops Reached = refl
+never_drops Fault = refl
 
-  pub starts : (old : Option (List ℕ)) → Ran old old all first
-  starts old = record { written = []; grown = appends_none old; goes_on = λ end bytes last s. s }
+module _ (on_error : OnError) where
+  pub starts : (first : State) (all : Telling) (old : Option (List ℕ)) → Ran on_error first all old old all first
+  starts first all old = record { written = []; grown = appends_none old; goes_on = λ read more end bytes last s. s }
 
-  pub ends_so : (old now new : Option (List ℕ)) (rest : List Part) (state : State) (end : RunEnd) (bytes : List ℕ) (last : State) → Ran old now rest state → Appends now new bytes → Session on_error read script state rest end bytes last → HasRun on_error read script all first old new end last
-  ends_so old now new rest state end bytes last ran grown session =
-      (ran.written ++ bytes, ran.goes_on end bytes last session, appends_twice old now new ran.written bytes ran.grown grown)
+  -- the parts may be told in another way
+  pub ran_retold : (first state : State) (all other rest : Telling) (old now : Option (List ℕ)) → ((more : List ℕ) → all more ≡ other more) → Ran on_error first all old now rest state → Ran on_error first other old now rest state
+  ran_retold first state all other rest old now same ran = record {
+    written = ran.written;
+    grown = ran.grown;
+    goes_on = λ read more end bytes last s. subst (λ parts. SessionOver on_error read first parts end (ran.written ++ bytes) last) (same more) (ran.goes_on read more end bytes last s);
+  }
 
-  -- no part is left
-  pub ends_last : (old now : Option (List ℕ)) (state : State) → Ran old now [] state → HasRun on_error read script all first old now (last_end read) state
-  ends_last old now state ran = ends_so old now now [] state (last_end read) [] state ran (appends_none now) (refl, refl, refl)
+  pub rest_retold : (first state : State) (all rest other : Telling) (old now : Option (List ℕ)) → ((more : List ℕ) → rest more ≡ other more) → Ran on_error first all old now rest state → Ran on_error first all old now other state
+  rest_retold first state all rest other old now same ran = record {
+    written = ran.written;
+    grown = ran.grown;
+    goes_on = λ read more end bytes last s. ran.goes_on read more end bytes last (subst (λ parts. SessionOver on_error read state parts end bytes last) (sym (same more)) s);
+  }
 
-  module _ (old now : Option (List ℕ)) (part : Part) (rest : List Part) (state : State) (ran : Ran old now (part ∷ rest) state) where
-    pub ends_dropped : is_dropped read part ≡ true → HasRun on_error read script all first old now (last_end read) state
-    ends_dropped dropped = ends_so old now now (part ∷ rest) state (last_end read) [] state ran (appends_none now) (rw dropped (refl, refl, refl))
+  pub ended_retold : (first last : State) (all other : Telling) (old new : Option (List ℕ)) (end : RunEnd) → ((more : List ℕ) → all more ≡ other more) → HasEnded on_error first all old new end last → HasEnded on_error first other old new end last
+  ended_retold first last all other old new end same ended = record {
+    written = ended.written;
+    grown = ended.grown;
+    session = λ read more. subst (λ parts. SessionOver on_error read first parts end ended.written last) (same more) (ended.session read more);
+  }
 
-    module _ (kept : is_dropped read part ≡ false) (reply : Reply) (after : State) (answers : MayAnswer state part.is_closed (text_of script part) reply after) (new : Option (List ℕ)) where
-      pub ends_failing : AppendsFront now new (reply_text reply) → HasRun on_error read script all first old new ends.WriteFault after
-      ends_failing f =
-          ends_so old now new (part ∷ rest) state ends.WriteFault f.front after ran f.grown (rw kept (reply, after, answers, inl (refl, (f.rest, f.split), refl)))
+  -- these bytes follow
+  pub ran_before : (piece : List ℕ) (first state : State) (all rest : Telling) (old now : Option (List ℕ)) → Ran on_error first all old now rest state → Ran on_error first (λ more. all (piece ++ more)) old now (λ more. rest (piece ++ more)) state
+  ran_before piece first state all rest old now ran = record {
+    written = ran.written;
+    grown = ran.grown;
+    goes_on = λ read more end bytes last s. ran.goes_on read (piece ++ more) end bytes last s;
+  }
 
-      pub ends_stopped : stops on_error reply ≡ true → Appends now new (reply_text reply) → HasRun on_error read script all first old new ends.Stopped after
-      ends_stopped stopped grown =
-          ends_so old now new (part ∷ rest) state ends.Stopped (reply_text reply) after ran grown
-          (rw kept (reply, after, answers, inr ([], sym (append-nil (reply_text reply)), rw stopped (refl, refl, refl))))
+  -- one after the other
+  pub ran_twice : (first mid state : State) (all between rest : Telling) (old now new : Option (List ℕ)) → Ran on_error first all old now between mid → Ran on_error mid between now new rest state → Ran on_error first all old new rest state
+  ran_twice first mid state all between rest old now new a b = record {
+    written = a.written ++ b.written;
+    grown = appends_twice old now new a.written b.written a.grown b.grown;
+    goes_on = λ read more end bytes last s.
+        subst (λ written. SessionOver on_error read first (all more) end written last) (sym (append_assoc a.written b.written bytes))
+        (a.goes_on read more end (b.written ++ bytes) last (b.goes_on read more end bytes last s));
+  }
 
-      pub goes_on : stops on_error reply ≡ false → Appends now new (reply_text reply) → Ran old new rest after
-      goes_on going grown = record {
-        written = ran.written ++ reply_text reply;
-        grown = appends_twice old now new ran.written (reply_text reply) ran.grown grown;
-        goes_on = λ end bytes last s.
-            subst (λ written. Session on_error read script first all end written last) (sym (append_assoc ran.written (reply_text reply) bytes))
-            (ran.goes_on end (reply_text reply ++ bytes) last (rw kept (reply, after, answers, inr (bytes, refl, rw going s))));
-      }
+  pub ran_to_end : (first mid last : State) (all between : Telling) (old now new : Option (List ℕ)) (end : RunEnd) → Ran on_error first all old now between mid → HasEnded on_error mid between now new end last → HasEnded on_error first all old new end last
+  ran_to_end first mid last all between old now new end a b = record {
+    written = a.written ++ b.written;
+    grown = appends_twice old now new a.written b.written a.grown b.grown;
+    session = λ read more. a.goes_on read more end b.written last (b.session read more);
+  }
 
-  -- the next part is the first of those that are left
-  pub at_part : (old now : Option (List ℕ)) (i : ℕ) (state : State) (d : Part) → i < length all → Ran old now (drop i all) state → Ran old now (get_or all i d ∷ drop (i + 1) all) state
-  at_part old now i state d h ran =
-      subst (λ rest. Ran old now rest state) (drop-cons all i d h ∙ ap (λ n. get_or all i d ∷ drop n all) (sym (add-one i))) ran
+  -- a part that a cut closes was answered, and the reply handed over
+  module _ (text : List ℕ) (rest : Telling) (state after : State) (reply : Reply) (old new : Option (List ℕ)) (answers : MayAnswer state true text reply after) where
+    abbrev all : Telling
+    all more = as_told text true ∷ rest more
 
-  -- at the end no part is left
-  pub at_end : (old now : Option (List ℕ)) (i : ℕ) (state : State) → length all ≤ i → Ran old now (drop i all) state → Ran old now [] state
-  at_end old now i state h ran = subst (λ rest. Ran old now rest state) (drop_all i all h) ran
+    pub ran_part : HandsOver on_error reply old new None → Ran on_error state all old new rest after
+    ran_part hands = record {
+      written = reply_text reply;
+      grown = hands.0;
+      goes_on = λ read more end bytes last s. rw (never_drops read) (reply, after, answers, inr (bytes, refl, rw hands.1 s));
+    }
+
+    pub ended_part : (end : RunEnd) → HandsOver on_error reply old new (Some end) → HasEnded on_error state all old new end after
+    ended_part end (inl failed) = record {
+      written = failed.1.front;
+      grown = failed.1.grown;
+      session = λ read more. rw (never_drops read) (reply, after, answers, inl (failed.0, (failed.1.rest, failed.1.split), refl));
+    }
+    ended_part end (inr stopped) = record {
+      written = reply_text reply;
+      grown = stopped.1;
+      session = λ read more. rw (never_drops read) (reply, after, answers, inr ([], sym (append-nil (reply_text reply)), rw stopped.2 (stopped.0, refl, refl)));
+    }

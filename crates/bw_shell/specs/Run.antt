@@ -1,9 +1,10 @@
 -- A run of a script (SQL-92: direct invocation of SQL): its parts are answered in order over one store, and the replies are written.
-use Rattle.std.specs.Prelude.{◌≡◌, ◌<◌, ◌≤◌, ◌⊎◌, ℕ, Bool, true, false, not, List, [], ◌∷◌, ◌++◌, length, slice_range, Option}
+use Rattle.std.specs.Prelude.{◌≡◌, ◌<◌, ◌≤◌, ◌⊎◌, ℕ, Bool, true, false, not, List, [], ◌∷◌, ◌++◌, length, map, slice_range, Option}
 use Rattle.std.specs.Io.KnownBytes.{Appends, Keeps}
 use Rattle.bw_lex.specs.Parts.{AreParts}
 use Rattle.bw_lex.specs.declared.fault.SqlFault.{SqlFault}
 use Rattle.bw_lex.specs.declared.script.Part.{Part}
+use Rattle.bw_split.specs.Splitting.{Told, told_of}
 use Rattle.bw_sql.specs.Statements.{IsStatementFault, Says, longest_statement}
 use Rattle.bw_sql.specs.Tree.{StatementTree}
 use Rattle.bw_model.specs.Refusals.{refusal_of_fault}
@@ -38,10 +39,13 @@ abbrev pub stops : OnError → Reply → Bool
 stops Stop (Refused refusal) = true
 stops _ _ = false
 
--- a rest that no `;` closes, where the reading of the script failed
+-- whether the reading of the script failed, so that a rest that no `;` closes is dropped
+abbrev pub drops : ScriptEnd → Bool → Bool
+drops Fault closed = not closed
+drops Reached closed = false
+
 abbrev pub is_dropped : ScriptEnd → Part → Bool
-is_dropped Fault part = not part.is_closed
-is_dropped Reached part = false
+is_dropped read part = drops read part.is_closed
 
 -- how a run ends that has no part left
 abbrev pub last_end : ScriptEnd → RunEnd
@@ -56,16 +60,20 @@ abbrev pub Either : Bool → Type 0 → Type 0 → Type 0
 Either true a b = a
 Either false a b = b
 
--- From this state, a run over the parts may end so, write these bytes and leave that state. Each reply is written whole, or a
+-- From this state, a run over parts with these bytes may end so, write these bytes and leave that state. Each reply is written whole, or a
 -- front of it where the writer fails (all of it, where only the flush behind it fails), and nothing comes after that.
-abbrev pub Session : OnError → ScriptEnd → List ℕ → State → List Part → RunEnd → List ℕ → State → Type 0
-Session on_error read script state [] end bytes last = IsOver (last_end read) end bytes state last
-Session on_error read script state (part ∷ parts) end bytes last =
-    Either (is_dropped read part) (IsOver (last_end read) end bytes state last)
-    ((reply : Reply) × (after : State) × MayAnswer state part.is_closed (text_of script part) reply after
+abbrev pub SessionOver : OnError → ScriptEnd → State → List Told → RunEnd → List ℕ → State → Type 0
+SessionOver on_error read state [] end bytes last = IsOver (last_end read) end bytes state last
+SessionOver on_error read state (part ∷ parts) end bytes last =
+    Either (drops read part.is_closed) (IsOver (last_end read) end bytes state last)
+    ((reply : Reply) × (after : State) × MayAnswer state part.is_closed part.text reply after
     × (((end ≡ ends.WriteFault) × IsFrontOf bytes (reply_text reply) × (last ≡ after))
     ⊎ ((rest : List ℕ) × (bytes ≡ reply_text reply ++ rest)
-    × Either (stops on_error reply) (IsOver ends.Stopped end rest after last) (Session on_error read script after parts end rest last))))
+    × Either (stops on_error reply) (IsOver ends.Stopped end rest after last) (SessionOver on_error read after parts end rest last))))
+
+-- the same over the parts of a script
+abbrev pub Session : OnError → ScriptEnd → List ℕ → State → List Part → RunEnd → List ℕ → State → Type 0
+Session on_error read script state parts end bytes last = SessionOver on_error read state (map (told_of script) parts) end bytes last
 
 -- from this state, the parts give a session that ends so in that state, and its bytes were written
 abbrev pub HasRun : OnError → ScriptEnd → List ℕ → List Part → State → Option (List ℕ) → Option (List ℕ) → RunEnd → State → Type 0
@@ -84,6 +92,6 @@ pub record IsRun (on_error : OnError) (given left old new : Option (List ℕ)) (
   pub store : Store
   pub has_run : HasRun on_error read script parts (with_store [] before) old new end (with_store store after)
 
--- where there is no memory to begin with, nothing is written and no file is touched
+-- where there is no memory to begin with, nothing is read or written and no file is touched
 abbrev pub RunsTo : OnError → (given left old new : Option (List ℕ)) → (before after : FolderState) → RunEnd → Type 0
-RunsTo on_error given left old new before after end = ((end ≡ ends.Memory) × Keeps old new × (after ≡ before)) ⊎ IsRun on_error given left old new before after end
+RunsTo on_error given left old new before after end = ((end ≡ ends.Memory) × Keeps given left × Keeps old new × (after ≡ before)) ⊎ IsRun on_error given left old new before after end

@@ -4,14 +4,10 @@ ghost use Rattle.std.specs.Prelude.{◌≡◌, ◌≤◌, ◌<◌, ◌^◌, ℕ,
 ghost use Rattle.bw_shell.specs.Folders.{IsWriteFault, failures_after};
 
 use crate::folders::{Folder, FolderFault};
-use crate::writing::put;
 use std::alloc::Global;
 use std::fs::{self, Files, OpenFile};
 use std::io::{Error, ErrorKind, Read, Write};
 use std::marker::Model;
-
-// How many bytes are asked for at a time.
-const PIECE: usize = 65_536;
 
 /// The host's files: a name is a path from the working directory. It tells nothing of them. A contract sees how often it
 /// failed.
@@ -82,7 +78,7 @@ fn read_file<H: Files>(
 ) -> Result<Vec<u8>, FolderFault>
     ensures { IfOk result (λ bytes. length bytes.items ≤ limit) }
 {
-    let mut file = match fs::open(host, name) {
+    let file = match fs::open(host, name) {
         Ok(file) => file,
         Err(error) => return Err(fault_of(&error)),
     };
@@ -94,29 +90,13 @@ fn read_file<H: Files>(
         return Err(FolderFault::TooLarge);
     }
     let mut bytes = Vec::with_capacity(alloc, length as usize)?;
-    read_rest(alloc, &mut file, limit, &mut bytes)?;
-    Ok(bytes)
-}
-
-// Puts what is left to read last. The file may have grown meanwhile.
-fn read_rest<R: Read>(
-    alloc: Global,
-    reader: &mut R,
-    limit: usize,
-    bytes: &mut Vec<u8>,
-) -> Result<(), FolderFault>
-    requires { length bytes.old.items ≤ limit }
-    ensures { IfOk result (λ _. length bytes.new.items ≤ limit) }
-{
-    let mut piece = vec![in alloc; 0u8; PIECE]?;
-    while bytes.len() <= limit {
-        match reader.read(&mut piece) {
-            Ok(0) => return Ok(()),
-            Ok(n) => bytes.extend_from_slice(&piece[..n])?,
-            Err(error) => return Err(fault_of(&error)),
-        }
+    // The file may have grown meanwhile, which a byte behind the limit tells.
+    let mut rest = file.take((limit as u64).saturating_add(1));
+    match rest.read_to_end(&mut bytes) {
+        Ok(_) if bytes.len() <= limit => Ok(bytes),
+        Ok(_) => Err(FolderFault::TooLarge),
+        Err(error) => Err(fault_of(&error)),
     }
-    Err(FolderFault::TooLarge)
 }
 
 // Makes a file anew with these bytes.
@@ -132,7 +112,7 @@ fn write_file<H: Files>(host: &H, name: &str, bytes: &[u8]) -> Result<(), Folder
 fn put_all<W: Write>(writer: &mut W, bytes: &[u8]) -> Result<(), FolderFault>
     ensures { IfErr result IsWriteFault }
 {
-    if put(writer, bytes).is_err() || writer.flush().is_err() {
+    if writer.write_all(bytes).is_err() || writer.flush().is_err() {
         return Err(FolderFault::Failed);
     }
     Ok(())

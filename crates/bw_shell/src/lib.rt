@@ -1,6 +1,7 @@
 //! A script of statements run over a reader, a writer and a folder, and the text of the replies.
 #![tactic(auto)]
 
+mod answering;
 mod backward;
 mod cells;
 mod executing;

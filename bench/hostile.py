@@ -1,0 +1,122 @@
+#!/usr/bin/env python3
+"""Runs scripts and files that are made to hurt, at three sizes, with a stack of 256 KiB, and prints the processor time for each byte.
+
+    python3 bench/hostile.py
+
+Each has to end as it should, and its time to grow as its bytes do. Build bitcol first, by `rt run` in crates/bitcol.
+"""
+
+import os
+import resource
+import subprocess
+import sys
+import tempfile
+from pathlib import Path
+
+from common import MEGABYTE, built
+
+STACK = 256 * 1024
+LONGEST_STATEMENT = 65_536
+SIZES = [25 * MEGABYTE, 50 * MEGABYTE, 100 * MEGABYTE]
+
+TABLE = "CREATE TABLE t (a INTEGER USING V, b INTEGER USING S DICTIONARY);\n"
+ROWS = "INSERT INTO t VALUES (1, 2), (NULL, 3), (3, NULL);\n"
+
+SYNTAX = "error 10: syntax error"
+TOO_DEEP = "error 12: nested too deeply"
+WRONG_COUNT = "error 42: record 1 has the wrong number of fields"
+
+
+def one_long(byte):
+    """One part without an end."""
+    return lambda size: (byte * size, {}, None)
+
+
+def statements(statement, reply):
+    """The same statement again and again, over a table of three rows."""
+
+    def case(size):
+        count = size // len(statement)
+        return TABLE + ROWS + statement * count, {}, ["ok", "ok 3"] + reply * count
+
+    return case
+
+
+def condition(test, joined):
+    """A statement whose condition is as long as a statement may be: a test, joined with itself."""
+    room = LONGEST_STATEMENT - len("SELECT a FROM t WHERE ")
+    count = (room + len(joined)) // (len(test) + len(joined))
+    return "SELECT a FROM t WHERE " + joined.join([test] * count) + ";\n"
+
+
+def loaded(record, reply):
+    """One LOAD of a file that is a record again and again."""
+
+    def case(size):
+        return TABLE + "LOAD t FROM 'f';\n", {"f": record * (size // len(record))}, ["ok", reply]
+
+    return case
+
+
+WHOLE = ["A", "1", "NULL", "3", "rows 3"]
+NO_ROWS = ["A", "rows 0"]
+
+CASES = {
+    "blanks": one_long(" "),
+    "hyphens": one_long("-"),
+    "cuts": one_long(";"),
+    "quotes": one_long("'"),
+    "one word": one_long("a"),
+    "one word's statements": statements("a" * 60_000 + ";\n", [SYNTAX]),
+    "digits": statements("9" * 60_000 + ";\n", [SYNTAX]),
+    "parentheses": statements("(" * 60_000 + ";\n", [TOO_DEEP]),
+    "texts": statements("'" * 60_000 + ";\n", [SYNTAX]),
+    "a long AND": statements(condition("1=1", " AND "), WHOLE),
+    "a long OR": statements(condition("1=2", " OR "), NO_ROWS),
+    "a long AND of columns": statements(condition("a=a", " AND "), ["A", "1", "3", "rows 2"]),
+    "deep comparisons": statements(condition("(" * 64 + "a=1" + ")" * 64, "OR"), ["A", "1", "rows 1"]),
+    "NOT in parentheses": statements(condition("(NOT " * 64 + "a=1" + ")" * 64, "OR"), ["A", "1", "rows 1"]),
+    "a record of one line": loaded("1,", WRONG_COUNT),
+    "empty records": loaded(",\n", None),
+    "quotes in a file": loaded('"', WRONG_COUNT),
+    "zeros in a file": loaded("\0", WRONG_COUNT),
+    "digits in a file": loaded("9", WRONG_COUNT),
+}
+
+
+def small_stack():
+    resource.setrlimit(resource.RLIMIT_STACK, (STACK, STACK))
+
+
+def seconds(program, script, files, replies):
+    with tempfile.TemporaryDirectory() as folder:
+        for name, text in files.items():
+            (Path(folder) / name).write_text(text)
+        source, answers = Path(folder) / "script", Path(folder) / "answers"
+        source.write_text(script)
+        with source.open("rb") as stdin, answers.open("wb") as stdout:
+            process = subprocess.Popen([program], stdin=stdin, stdout=stdout, cwd=folder, preexec_fn=small_stack)
+            _, status, usage = os.wait4(process.pid, 0)
+        process.returncode = os.waitstatus_to_exitcode(status)
+        if process.returncode != 0:
+            sys.exit(f"ended with status {process.returncode}")
+        lines = answers.read_text().splitlines()
+        if replies is not None and lines != replies:
+            sys.exit(f"answered {lines[:5]} .. ({len(lines)} lines) for {replies[:5]} .. ({len(replies)} lines)")
+        return usage.ru_utime + usage.ru_stime, usage.ru_maxrss * 1024 / MEGABYTE
+
+
+def main():
+    program = built("bitcol")
+    for name, case in CASES.items():
+        figures = []
+        for size in SIZES:
+            script, files, replies = case(size)
+            length = len(script) + sum(map(len, files.values()))
+            time, peak = seconds(program, script, files, replies)
+            figures.append(f"{time / length * 1e9:7.2f}")
+        print(f"{name:24} ns a byte at {', '.join(f'{size // MEGABYTE} MB' for size in SIZES)}: {' '.join(figures)}, {peak:7.1f} MB peak", flush=True)
+
+
+if __name__ == "__main__":
+    main()

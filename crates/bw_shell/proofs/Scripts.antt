@@ -1,0 +1,172 @@
+-- A script that is read and answered piece by piece.
+use Rattle.std.proofs.Common.{◌≡◌, ◌≢◌, ◌⊎◌, ℕ, ◌+◌, ◌-◌, ◌<◌, ◌≤◌, inl, inr, Bool, true, false, if◌then◌else◌, IfSome, List, [], ◌∷◌, ◌++◌, length, map, take, drop, Option, None, Some, refl, sym, ap, ◌∙◌, subst, append_assoc, append-nil, length-append, length-drop, arith}
+use Rattle.std.specs.Io.KnownBytes.{Appends, Consumes, Keeps}
+use Rattle.std.proofs.KnownBytes.{Consumes-kept, Consumes-nil, Consumes-trans}
+use Rattle.std.proofs.lemmas.Bool.{cases_lt}
+use Rattle.std.proofs.lemmas.List.{length-take-le, take-append-drop}
+use Rattle.bw_lex.specs.Parts.{AreParts}
+use Rattle.bw_lex.specs.declared.script.Part.{Part}
+use Rattle.bw_split.specs.Splitting.{as_told, is_blank_part, told, told_of}
+use Rattle.bw_split.proofs.HaveParts.{have_parts}
+use Rattle.bw_split.proofs.PartsTold.{parts_told}
+use Rattle.bw_model.specs.Store.{Store}
+use Rattle.bw_shell.specs.Answering.{AnswersRest, HasEnded, Ran}
+use Rattle.bw_shell.specs.Run.{IsRun, SessionOver}
+use Rattle.bw_shell.specs.Script.{GivesNext, IsBrokenOff, IsRead, longest_script}
+use Rattle.bw_shell.specs.States.{FolderState, State, with_store}
+use Rattle.bw_shell.specs.declared.reading.Next.TheVariants.{Piece, End}
+use Rattle.bw_shell.specs.declared.reading.ScriptEnd.{ScriptEnd}
+use Rattle.bw_shell.specs.declared.reading.ScriptEnd.TheVariants.{Reached, Fault}
+use Rattle.bw_shell.specs.declared.session.OnError.{OnError}
+use Rattle.bw_shell.specs.declared.session.RunEnd.{RunEnd}
+use Rattle.bw_shell.specs.declared.session.RunEnd.TheVariants as ends
+use Rattle.bw_shell.proofs.Sessions.{ended_retold, ran_before, ran_retold, ran_to_end, ran_twice, starts}
+use Rattle.bw_shell.proofs.Texts.{appends_none, appends_twice}
+
+-- A script that begins with these bytes, as far as the reader tells it.
+record Whole (given left : Option (List ℕ)) (front : List ℕ) : Type 0 where
+  pub script : List ℕ
+  pub more : List ℕ
+  pub read : ScriptEnd
+  pub split : script ≡ front ++ more
+  pub is_read : IsRead given left script read
+  pub fits : length script ≤ longest_script
+
+-- a script of which these bytes were read, and the reader has others
+cut_off : (left : Option (List ℕ)) (front rest : List ℕ) → length front ≤ longest_script → longest_script < length (front ++ rest) → Whole (Some (front ++ rest)) left front
+cut_off left front rest short long =
+    let n : ℕ = longest_script - length front in
+    let room : n < length rest = omega (arith, length-append front rest) in
+    let size : length (front ++ take n rest) ≡ longest_script = omega (arith, length-append front (take n rest), length-take-le n rest (omega arith)) in
+    record {
+      script = front ++ take n rest;
+      more = take n rest;
+      read = Fault;
+      split = refl;
+      is_read = inr (size, (drop n rest, (λ is. omega (arith, ap length is, length-drop n rest)), ap (λ l. front ++ l) (sym (take-append-drop n rest)) ∙ sym (append_assoc front (take n rest) (drop n rest))));
+      fits = omega (arith, size);
+    }
+
+whole_known : (bytes front rest : List ℕ) (left : Option (List ℕ)) → bytes ≡ front ++ rest → length front ≤ longest_script → Whole (Some bytes) left front
+whole_known bytes front rest left is short =
+    elim (cases_lt longest_script (length bytes)) [
+      | inl long ↦ subst (λ b. Whole (Some b) left front) (sym is) (cut_off left front rest short (subst (λ b. longest_script < length b) is long))
+      | inr fits ↦ record { script = bytes; more = rest; read = Reached; split = is; is_read = refl; fits = fits }
+    ]
+
+whole : (given left : Option (List ℕ)) (front : List ℕ) → Consumes given left front → length front ≤ longest_script → Whole given left front
+whole None left front c short = record { script = front; more = []; read = Reached; split = sym (append-nil front); is_read = tt; fits = short }
+whole (Some bytes) None front c short = absurd c
+whole (Some bytes) (Some rest) front c short = whole_known bytes front rest (Some rest) c short
+
+-- nothing is left of it
+read_whole : (given left : Option (List ℕ)) (script : List ℕ) → Consumes given left script → IfSome left (λ bytes. bytes ≡ []) → IfSome given (λ bytes. script ≡ bytes)
+read_whole None left script c e = tt
+read_whole (Some bytes) None script c e = absurd c
+read_whole (Some bytes) (Some rest) script c e = sym (c ∙ ap (λ l. script ++ l) e ∙ append-nil script)
+
+-- a byte is left of it
+has_more : (given left next : Option (List ℕ)) (script : List ℕ) (b : ℕ) → Consumes given left script → Consumes left next (b ∷ []) → IfSome given (λ bytes. (more : List ℕ) × (more ≢ []) × (bytes ≡ script ++ more))
+has_more None left next script b c d = tt
+has_more (Some bytes) None next script b c d = absurd c
+has_more (Some bytes) (Some rest) None script b c d = absurd d
+has_more (Some bytes) (Some rest) (Some left) script b c d = (rest, (λ is. cc), c)
+
+-- the rest of a script whose reading failed is dropped
+dropped : (on_error : OnError) (part : List ℕ) (state last : State) → last ≡ state → SessionOver on_error Fault state (told part []) ends.ReadFault [] last
+unfolding told
+dropped on_error part state last is = either (is_blank_part part) where
+  either : (blank : Bool) → SessionOver on_error Fault state (if blank then [] else as_told part false ∷ []) ends.ReadFault [] last
+  either true = (refl, refl, is)
+  either false = (refl, refl, is)
+
+module _ (on_error : OnError) (given : Option (List ℕ)) (old : Option (List ℕ)) (before : FolderState) where
+  abbrev first : State
+  first = with_store [] before
+
+  -- These bytes were read, the parts that they close were answered, and this part is begun behind them.
+  pub record SoFar (left now : Option (List ℕ)) (room : ℕ) (part : List ℕ) (state : State) : Type 0 where
+    pub read : List ℕ
+    pub consumed : Consumes given left read
+    pub counted : length read + room ≡ longest_script
+    pub ran : Ran on_error first (λ more. told [] (read ++ more)) old now (told part) state
+
+  pub at_start : SoFar given old longest_script [] first
+  at_start = record { read = []; consumed = Consumes-nil given; counted = refl; ran = starts on_error first (told []) old }
+
+  -- a run over the parts of a script
+  over : (left new : Option (List ℕ)) (end : RunEnd) (store : Store) (after : FolderState) (script : List ℕ) (read : ScriptEnd) → IsRead given left script read → length script ≤ longest_script
+      → (bytes : List ℕ) → SessionOver on_error read first (told [] script) end bytes (with_store store after) → Appends old new bytes → IsRun on_error given left old new before after end
+  over left new end store after script read is_read fits bytes session grown =
+      let has = have_parts script in
+      record {
+        script = script;
+        read = read;
+        is_read = is_read;
+        fits = fits;
+        parts = has.0;
+        are_parts = has.1;
+        store = store;
+        has_run = (bytes, subst (λ parts. SessionOver on_error read first parts end bytes (with_store store after)) (parts_told script has.0 has.1) session, grown);
+      }
+
+  module _ (left now : Option (List ℕ)) (room : ℕ) (part : List ℕ) (state : State) (s : SoFar left now room part state) where
+    -- a piece follows
+
+    module _ (next : Option (List ℕ)) (buffer : List ℕ) (n : ℕ) (gives : GivesNext left next room buffer (Piece n)) where
+      abbrev piece : List ℕ
+      piece = take n buffer
+
+      size : length piece ≡ n
+      size = length-take-le n buffer gives.2
+
+      consumed : Consumes given next (s.read ++ piece)
+      consumed = Consumes-trans given left next s.read piece s.consumed gives.3
+
+      counted : length (s.read ++ piece) + (room - n) ≡ longest_script
+      counted = omega (arith, length-append s.read piece, size, s.counted, gives.1)
+
+      -- what was told of it before
+      so_far : Ran on_error first (λ more. told [] ((s.read ++ piece) ++ more)) old now (λ more. told part (piece ++ more)) state
+      so_far =
+          ran_retold on_error first state (λ more. told [] (s.read ++ (piece ++ more))) (λ more. told [] ((s.read ++ piece) ++ more)) (λ more. told part (piece ++ more)) old now
+          (λ more. ap (told []) (sym (append_assoc s.read piece more)))
+          (ran_before on_error piece first state (λ more. told [] (s.read ++ more)) (told part) old now s.ran)
+
+      pub more_read : (new : Option (List ℕ)) (begun : List ℕ) (after : State) → Ran on_error state (λ more. told part (piece ++ more)) now new (told begun) after → SoFar next new (room - n) begun after
+      more_read new begun after ran = record {
+        read = s.read ++ piece;
+        consumed = consumed;
+        counted = counted;
+        ran = ran_twice on_error first state after (λ more. told [] ((s.read ++ piece) ++ more)) (λ more. told part (piece ++ more)) (told begun) old now new so_far ran;
+      }
+
+      pub ends_early : (new : Option (List ℕ)) (end : RunEnd) (store : Store) (after : FolderState) → HasEnded on_error state (λ more. told part (piece ++ more)) now new end (with_store store after) → IsRun on_error given next old new before after end
+      ends_early new end store after ended =
+          let w = whole given next (s.read ++ piece) consumed (omega (arith, counted)) in
+          let all = ran_to_end on_error first state (with_store store after) (λ more. told [] ((s.read ++ piece) ++ more)) (λ more. told part (piece ++ more)) old now new end so_far ended in
+          over next new end store after w.script w.read w.is_read w.fits all.written
+          (subst (λ script. SessionOver on_error w.read first (told [] script) end all.written (with_store store after)) (sym w.split) (all.session w.read w.more)) all.grown
+
+    -- the script ends here, read so
+
+    ends_here : (next new : Option (List ℕ)) (read : ScriptEnd) (end : RunEnd) (store : Store) (after : FolderState) → IsRead given next s.read read
+        → (bytes : List ℕ) → SessionOver on_error read state (told part []) end bytes (with_store store after) → Appends now new bytes → IsRun on_error given next old new before after end
+    ends_here next new read end store after is_read bytes session grown =
+        over next new end store after s.read read is_read (omega (arith, s.counted)) (s.ran.written ++ bytes)
+        (subst (λ script. SessionOver on_error read first (told [] script) end (s.ran.written ++ bytes) (with_store store after)) (append-nil s.read) (s.ran.goes_on read [] end bytes (with_store store after) session))
+        (appends_twice old now new s.ran.written bytes s.ran.grown grown)
+
+    all_read : (next : Option (List ℕ)) (buffer : List ℕ) → GivesNext left next room buffer (End Reached) → IsRead given next s.read Reached
+    all_read next buffer at_end = read_whole given left s.read s.consumed at_end
+
+    pub ends_reached : (next new : Option (List ℕ)) (buffer : List ℕ) (end : RunEnd) (store : Store) (after : FolderState) → GivesNext left next room buffer (End Reached) → AnswersRest on_error part state now new end (with_store store after) → IsRun on_error given next old new before after end
+    ends_reached next new buffer end store after at_end rest = ends_here next new Reached end store after (all_read next buffer at_end) rest.0 rest.1 rest.2
+
+    broken : (next : Option (List ℕ)) (buffer : List ℕ) → GivesNext left next room buffer (End Fault) → IsRead given next s.read Fault
+    broken next buffer (inl kept) = inl (Consumes-kept given left next s.read s.consumed kept)
+    broken next buffer (inr over) = inr (omega (arith, s.counted, over.0), has_more given left next s.read over.1.0 s.consumed over.1.1)
+
+    pub ends_broken : (next : Option (List ℕ)) (buffer : List ℕ) (store : Store) (after : FolderState) → with_store store after ≡ state → GivesNext left next room buffer (End Fault) → IsRun on_error given next old now before after ends.ReadFault
+    ends_broken next buffer store after is gives =
+        ends_here next now Fault ends.ReadFault store after (broken next buffer gives) [] (dropped on_error part state (with_store store after) is) (appends_none now)

@@ -1,0 +1,8 @@
+use Rattle.bw_split.proofs.Walking.{in_comment, not_blank, outside}
+use Rattle.bw_split.proofs.walk.stretch.Goals as goal
+
+pub returns-in-Comment : goal.returns-in-Comment
+returns-in-Comment c = in_comment _ _ c.args.bytes.now _ c.in-Comment.is c.len_before.ensures
+
+pub returns-in-Outside : goal.returns-in-Outside
+returns-in-Outside c = outside _ _ c.args.bytes.now _ c.in-Outside.is (not_blank _ c.if-not-progress.true) c.plain_len.ensures

@@ -1,0 +1,4 @@
+pub mod Kept
+pub mod Splitters
+pub mod Splitting
+pub mod Walks

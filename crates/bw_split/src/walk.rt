@@ -1,0 +1,77 @@
+//! Bytes up to the first cut.
+
+ghost use Rattle.std.specs.Prelude.{◌≡◌, drop};
+ghost use Rattle.std.specs.List.{prefix_len};
+ghost use Rattle.std.specs.Prelude.{◌==◌, not};
+ghost use Rattle.bw_split.specs.declared.progress.Place.TheVariants as place;
+ghost use Rattle.bw_split.specs.Walks.{IsWalk, StopsBefore};
+
+use crate::lanes::plain_len;
+use crate::progress::{Place, Progress};
+use memchr::memchr;
+
+/// Bytes without a cut: how many, and where they end.
+#[derive(Clone, Copy)]
+pub(crate) struct Walk {
+    pub(crate) len: usize,
+    pub(crate) progress: Progress,
+}
+
+// How many bytes come before the first that is this one.
+fn len_before(byte: u8, bytes: &[u8]) -> usize
+    ensures { result ≡ prefix_len (λ b. not (b == byte)) bytes.now }
+{
+    memchr(byte, bytes).unwrap_or(bytes.len())
+}
+
+fn in_text(progress: Progress, bytes: &[u8]) -> Walk
+    requires { progress.place ≡ place.Text }
+    ensures { IsWalk progress bytes.now result }
+{
+    let len = len_before(b'\'', bytes);
+    let is_blank = progress.is_blank && len == 0;
+    Walk {
+        len,
+        progress: Progress {
+            place: Place::Text,
+            is_blank,
+        },
+    }
+}
+
+// Many bytes at once, behind which the place is the same. There may be none.
+fn stretch(progress: Progress, bytes: &[u8]) -> Walk
+    ensures { IsWalk progress bytes.now result }
+{
+    match progress.place {
+        Place::Text => in_text(progress, bytes),
+        Place::Comment => Walk {
+            len: len_before(b'\n', bytes),
+            progress,
+        },
+        Place::Outside if !progress.is_blank => Walk {
+            len: plain_len(bytes),
+            progress,
+        },
+        _ => Walk { len: 0, progress },
+    }
+}
+
+/// The bytes before the first cut.
+pub(crate) fn up_to_cut(progress: Progress, bytes: &[u8]) -> Walk
+    ensures walk { IsWalk progress bytes.now result }
+    ensures stops { StopsBefore result.progress (drop result.len bytes.now) }
+{
+    let mut len = 0;
+    let mut progress = progress;
+    loop {
+        let more = stretch(progress, &bytes[len..]);
+        len += more.len;
+        progress = more.progress;
+        if len == bytes.len() || progress.is_cut(bytes[len]) {
+            return Walk { len, progress };
+        }
+        progress = progress.step(bytes[len]);
+        len += 1;
+    }
+}
