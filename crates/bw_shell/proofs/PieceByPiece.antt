@@ -1,5 +1,5 @@
 -- The parts that a piece of a script closes, answered one after the other.
-use Rattle.std.proofs.Common.{◌≡◌, ℕ, ◌-◌, ◌<◌, ◌≤◌, List, [], ◌∷◌, ◌++◌, length, take, drop, Option, None, Some, refl, sym, true, arith, length-drop}
+use Rattle.std.proofs.Common.{◌≡◌, ℕ, ◌-◌, ◌<◌, ◌≤◌, List, [], ◌∷◌, ◌++◌, length, take, drop, Option, None, Some, sym, true, arith, length-drop}
 use Rattle.std.proofs.lemmas.List.{take_all}
 use Rattle.bw_split.specs.Splitting.{as_told, closes, fed, goes_on, told}
 use Rattle.bw_split.proofs.Telling.{told_closed, told_on}

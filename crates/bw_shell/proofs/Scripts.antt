@@ -1,18 +1,16 @@
 -- A script that is read and answered piece by piece.
-use Rattle.std.proofs.Common.{◌≡◌, ◌≢◌, ◌⊎◌, ℕ, ◌+◌, ◌-◌, ◌<◌, ◌≤◌, inl, inr, Bool, true, false, if◌then◌else◌, IfSome, List, [], ◌∷◌, ◌++◌, length, map, take, drop, Option, None, Some, refl, sym, ap, ◌∙◌, subst, append_assoc, append-nil, length-append, length-drop, arith}
-use Rattle.std.specs.Io.KnownBytes.{Appends, Consumes, Keeps}
+use Rattle.std.proofs.Common.{◌≡◌, ◌≢◌, ℕ, ◌+◌, ◌-◌, ◌<◌, ◌≤◌, inl, inr, Bool, true, false, if◌then◌else◌, IfSome, List, [], ◌∷◌, ◌++◌, length, take, drop, Option, None, Some, refl, sym, ap, ◌∙◌, subst, append_assoc, append-nil, length-append, length-drop, arith}
+use Rattle.std.specs.Io.KnownBytes.{Appends, Consumes}
 use Rattle.std.proofs.KnownBytes.{Consumes-kept, Consumes-nil, Consumes-trans}
 use Rattle.std.proofs.lemmas.Bool.{cases_lt}
 use Rattle.std.proofs.lemmas.List.{length-take-le, take-append-drop}
-use Rattle.bw_lex.specs.Parts.{AreParts}
-use Rattle.bw_lex.specs.declared.script.Part.{Part}
-use Rattle.bw_split.specs.Splitting.{as_told, is_blank_part, told, told_of}
+use Rattle.bw_split.specs.Splitting.{as_told, is_blank_part, told}
 use Rattle.bw_split.proofs.HaveParts.{have_parts}
 use Rattle.bw_split.proofs.PartsTold.{parts_told}
 use Rattle.bw_model.specs.Store.{Store}
 use Rattle.bw_shell.specs.Answering.{AnswersRest, HasEnded, Ran}
 use Rattle.bw_shell.specs.Run.{IsRun, SessionOver}
-use Rattle.bw_shell.specs.Script.{GivesNext, IsBrokenOff, IsRead, longest_script}
+use Rattle.bw_shell.specs.Script.{GivesNext, IsRead, longest_script}
 use Rattle.bw_shell.specs.States.{FolderState, State, with_store}
 use Rattle.bw_shell.specs.declared.reading.Next.TheVariants.{Piece, End}
 use Rattle.bw_shell.specs.declared.reading.ScriptEnd.{ScriptEnd}
@@ -20,7 +18,7 @@ use Rattle.bw_shell.specs.declared.reading.ScriptEnd.TheVariants.{Reached, Fault
 use Rattle.bw_shell.specs.declared.session.OnError.{OnError}
 use Rattle.bw_shell.specs.declared.session.RunEnd.{RunEnd}
 use Rattle.bw_shell.specs.declared.session.RunEnd.TheVariants as ends
-use Rattle.bw_shell.proofs.Sessions.{ended_retold, ran_before, ran_retold, ran_to_end, ran_twice, starts}
+use Rattle.bw_shell.proofs.Sessions.{ran_before, ran_retold, ran_to_end, ran_twice, starts}
 use Rattle.bw_shell.proofs.Texts.{appends_none, appends_twice}
 
 -- A script that begins with these bytes, as far as the reader tells it.

@@ -1,13 +1,11 @@
 -- A run so far.
-use Rattle.std.proofs.Common.{◌≡◌, ℕ, inl, inr, true, false, List, [], ◌∷◌, ◌++◌, Option, None, Some, refl, sym, ap, ◌∙◌, subst, append_assoc, append-nil}
-use Rattle.std.specs.Io.KnownBytes.{Appends}
-use Rattle.bw_split.specs.Splitting.{Told, as_told}
+use Rattle.std.proofs.Common.{◌≡◌, ℕ, inl, inr, true, false, List, [], ◌∷◌, ◌++◌, Option, None, Some, refl, sym, subst, append_assoc, append-nil}
+use Rattle.bw_split.specs.Splitting.{as_told}
 use Rattle.bw_model.specs.ReplyText.{reply_text}
 use Rattle.bw_model.specs.declared.reply.Reply.{Reply}
 use Rattle.bw_shell.specs.Answering.{HandsOver, HasEnded, Ran, Telling}
-use Rattle.bw_shell.specs.Run.{MayAnswer, SessionOver, drops, stops}
+use Rattle.bw_shell.specs.Run.{MayAnswer, SessionOver, drops}
 use Rattle.bw_shell.specs.States.{State}
-use Rattle.bw_shell.specs.Writing.{AppendsFront}
 use Rattle.bw_shell.specs.declared.reading.ScriptEnd.{ScriptEnd}
 use Rattle.bw_shell.specs.declared.reading.ScriptEnd.TheVariants.{Fault, Reached}
 use Rattle.bw_shell.specs.declared.session.OnError.{OnError}

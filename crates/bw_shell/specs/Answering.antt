@@ -1,5 +1,5 @@
 -- What answering the parts of a script comes to while the script is still read (SQL-92: direct invocation of SQL).
-use Rattle.std.specs.Prelude.{◌≡◌, ◌⊎◌, ℕ, Bool, true, false, List, [], ◌∷◌, ◌++◌, Option, MatchOption}
+use Rattle.std.specs.Prelude.{◌≡◌, ◌⊎◌, ℕ, Bool, true, false, List, [], ◌++◌, Option, MatchOption}
 use Rattle.std.specs.Io.KnownBytes.{Appends}
 use Rattle.bw_split.specs.Splitters.{Begun, Splitting}
 use Rattle.bw_split.specs.Splitting.{Told, told}

@@ -1,4 +1,4 @@
-use Rattle.std.proofs.Common.{[], refl, sym, ◌∙◌, arith, subst}
+use Rattle.std.proofs.Common.{[], refl, ◌∙◌, arith}
 use Rattle.std.proofs.lemmas.List.{length-take-le}
 use Rattle.bw_engine.specs.Stores.{store_of}
 use Rattle.bw_shell.proofs.Scripts.{at_start, ends_broken, ends_early, ends_reached, more_read}

@@ -1,4 +1,4 @@
-use Rattle.std.proofs.Common.{◌≡◌, ◌<◌, ◌≤◌, ◌+◌, [], List, ℕ, length}
+use Rattle.std.proofs.Common.{◌≡◌, ◌<◌, ◌≤◌, ◌+◌, List, ℕ, length}
 use Rattle.bw_engine.specs.Stores.{store_of}
 use Rattle.bw_split.specs.Splitters.{Begun}
 use Rattle.bw_shell.specs.Script.{longest_script}
