@@ -1,7 +1,9 @@
 pub mod Feeding
 pub mod HaveParts
 pub mod Keeping
+pub mod Louds
 pub mod PartsTold
 pub mod Progresses
+pub mod QuietWalks
 pub mod Telling
 pub mod Walking

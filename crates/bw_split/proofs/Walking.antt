@@ -10,7 +10,6 @@ use Rattle.std.proofs.lemmas.List.Sums.{prefix_len-le-length, prefix_len_passes,
 use Rattle.std.specs.Option.{unwrap_or}
 use Rattle.memchr.specs.Find.{IsFirstByte, is_byte}
 use Rattle.bw_lex.proofs.Prefixes.{all_prefix}
-use Rattle.bw_lex.specs.Fronts.{is_plain, plain_len}
 use Rattle.bw_split.specs.declared.progress.Place.{Place}
 use Rattle.bw_split.specs.declared.progress.Place.TheVariants.{Outside, Comment, Text}
 use Rattle.bw_split.specs.declared.progress.Progress.{Progress}
@@ -109,20 +108,11 @@ in_comment place blank bytes n e same = rw (e, same) (run (at Comment blank) (λ
 
 -- outside both
 
-outside_cut : (b : ℕ) → is_plain b ≡ true → is_cut Outside b ≡ false
-outside_cut b h = not-true (b == 59) (and_parts (not (b == 39)) (not (b == 59)) (and_parts (not (b == 39) && not (b == 59)) (not (b == 45)) h).0).1
-
-outside_stays : (b : ℕ) → is_plain b ≡ true → step (at Outside false) b ≡ at Outside false
-outside_stays b h =
-    let both = and_parts (not (b == 39) && not (b == 59)) (not (b == 45)) h in
-    let quote = not-true (b == 39) (and_parts (not (b == 39)) (not (b == 59)) both.0).0 in
-    rw (quote, not-true (b == 45) both.1) refl
-
 pub not_blank : (blank : Bool) → not blank ≡ true → blank ≡ false
 not_blank = not-true
 
-pub outside : (place : Place) (blank : Bool) (bytes : List ℕ) (n : ℕ) → place ≡ Outside → blank ≡ false → n ≡ plain_len bytes → IsWalk (at place blank) bytes (record { len = n; progress = at place blank })
-outside place blank bytes n e says same = rw (e, says, same) (run (at Outside false) is_plain outside_cut outside_stays bytes)
+pub outside : (place : Place) (blank : Bool) (bytes : List ℕ) (walk : Walk) → place ≡ Outside → blank ≡ false → IsWalk (at Outside false) bytes walk → IsWalk (at place blank) bytes walk
+outside place blank bytes walk e says w = rw (e, says) w
 
 -- one walk, and then another
 pub join : (p q r : Progress) (bytes : List ℕ) (m n : ℕ) → IsWalk p bytes (record { len = m; progress = q }) → IsWalk q (drop m bytes) (record { len = n; progress = r }) → IsWalk p bytes (record { len = m + n; progress = r })

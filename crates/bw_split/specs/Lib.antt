@@ -1,4 +1,5 @@
 pub mod Kept
+pub mod Quiet
 pub mod Splitters
 pub mod Splitting
 pub mod Walks

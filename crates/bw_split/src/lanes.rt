@@ -1,20 +1,22 @@
 //! Runs of bytes that are looked at sixteen at a time.
 
-ghost use Rattle.std.specs.Prelude.{◌≡◌, map, not};
-ghost use Rattle.std.specs.Simd.Lanes.{mask_l};
+ghost use Rattle.std.specs.Prelude.{◌≡◌, ◌≤◌};
+ghost use Rattle.std.specs.Simd.Lanes.{mask_l, zip2};
 ghost use Rattle.bw_lex.specs.Fronts.{is_plain, plain_len};
+ghost use Rattle.bw_split.specs.Quiet.{begins_before, quiet_len};
 
 use std::simd::prelude::*;
 
 const LANES: usize = 16;
 
-// Bit i is 1 where byte i may begin a text, a cut or a comment.
-fn not_plain(bytes: u8x16) -> u64
-    ensures { result ≡ mask_l (map (λ b. not (is_plain b)) bytes) }
+// Bit i is 1 where byte i, before the byte `next[i]`, begins a text, a cut or a comment.
+fn loud(bytes: u8x16, next: u8x16) -> u64
+    ensures { result ≡ mask_l (zip2 (λ b n. begins_before n b) bytes next) }
 {
+    let dash = u8x16::splat(b'-');
     (bytes.simd_eq(u8x16::splat(b'\''))
         | bytes.simd_eq(u8x16::splat(b';'))
-        | bytes.simd_eq(u8x16::splat(b'-'))).to_bitmask()
+        | (bytes.simd_eq(dash) & next.simd_eq(dash))).to_bitmask()
 }
 
 fn is_plain(b: u8) -> bool
@@ -29,13 +31,17 @@ fn plain_one_by_one(bytes: &[u8]) -> usize
     bytes.iter().take_while(|b| is_plain(**b)).count()
 }
 
-/// How many bytes come before the first that may begin a text, a cut or a comment.
-pub(crate) fn plain_len(bytes: &[u8]) -> usize
-    ensures { result ≡ plain_len bytes.now }
+/// A number of bytes that begin no text, cut or comment: all before the first that does, but for a few
+/// at the end.
+pub(crate) fn quiet_len(bytes: &[u8]) -> usize
+    ensures { result ≤ quiet_len bytes.now }
 {
     let mut at = 0;
-    while bytes.len() - at >= LANES {
-        let found = not_plain(u8x16::from_slice(&bytes[at..]));
+    while bytes.len() - at > LANES {
+        let found = loud(
+            u8x16::from_slice(&bytes[at..]),
+            u8x16::from_slice(&bytes[at + 1..]),
+        );
         if found != 0 {
             return at + found.trailing_zeros() as usize;
         }

@@ -42,7 +42,8 @@ fn is_blank(b: u8) -> bool
     b == b'\t' || b == b'\n' || b == b'\r' || b == b' '
 }
 
-fn opened_by(b: u8) -> Place
+/// The place behind a byte outside texts and comments.
+pub(crate) fn opened_by(b: u8) -> Place
     ensures { result ≡ opened_by b }
 {
     match b {

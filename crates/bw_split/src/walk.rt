@@ -1,13 +1,12 @@
 //! Bytes up to the first cut.
 
-ghost use Rattle.std.specs.Prelude.{◌≡◌, drop};
+ghost use Rattle.std.specs.Prelude.{◌==◌, ◌≡◌, drop, false, not};
 ghost use Rattle.std.specs.List.{prefix_len};
-ghost use Rattle.std.specs.Prelude.{◌==◌, not};
 ghost use Rattle.bw_split.specs.declared.progress.Place.TheVariants as place;
 ghost use Rattle.bw_split.specs.Walks.{IsWalk, StopsBefore};
 
-use crate::lanes::plain_len;
-use crate::progress::{Place, Progress};
+use crate::lanes::quiet_len;
+use crate::progress::{Place, Progress, opened_by};
 use memchr::memchr;
 
 /// Bytes without a cut: how many, and where they end.
@@ -39,7 +38,26 @@ fn in_text(progress: Progress, bytes: &[u8]) -> Walk
     }
 }
 
-// Many bytes at once, behind which the place is the same. There may be none.
+// Outside texts and comments, where the part isn't blank.
+fn outside(bytes: &[u8]) -> Walk
+    ensures { IsWalk (record { place = place.Outside; is_blank = false }) bytes.now result }
+{
+    let len = quiet_len(bytes);
+    let place = if len == 0 {
+        Place::Outside
+    } else {
+        opened_by(bytes[len - 1])
+    };
+    Walk {
+        len,
+        progress: Progress {
+            place,
+            is_blank: false,
+        },
+    }
+}
+
+// Many bytes at once, of which none is a cut. There may be none.
 fn stretch(progress: Progress, bytes: &[u8]) -> Walk
     ensures { IsWalk progress bytes.now result }
 {
@@ -49,10 +67,7 @@ fn stretch(progress: Progress, bytes: &[u8]) -> Walk
             len: len_before(b'\n', bytes),
             progress,
         },
-        Place::Outside if !progress.is_blank => Walk {
-            len: plain_len(bytes),
-            progress,
-        },
+        Place::Outside if !progress.is_blank => outside(bytes),
         _ => Walk { len: 0, progress },
     }
 }

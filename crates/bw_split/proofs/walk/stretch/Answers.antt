@@ -5,4 +5,4 @@ pub returns-in-Comment : goal.returns-in-Comment
 returns-in-Comment c = in_comment _ _ c.args.bytes.now _ c.in-Comment.is c.len_before.ensures
 
 pub returns-in-Outside : goal.returns-in-Outside
-returns-in-Outside c = outside _ _ c.args.bytes.now _ c.in-Outside.is (not_blank _ c.if-not-progress.true) c.plain_len.ensures
+returns-in-Outside c = outside _ _ c.args.bytes.now _ c.in-Outside.is (not_blank _ c.if-not-progress.true) c.outside.ensures
