@@ -5,15 +5,17 @@
 
 The program runs with a small library in front of the C library's `malloc` and `realloc` that refuses the N-th call, N from 1 until a run
 makes none. Each run has to end in want of memory with nothing written, or with error 90 in place of one reply, and all others those to
-the script without that statement; with `--stop` it ends behind the error. Build bitcol first, by `rt run` in crates/bitcol; it needs a C compiler.
+the script without that statement; with `--stop` it ends behind the error. The files that are left have to be those of that script, too. Build bitcol
+first, by `rt run` in crates/bitcol; it needs a C compiler.
 """
 
 import itertools
 import os
+import resource
 import subprocess
 import sys
 import tempfile
-from dataclasses import dataclass
+from dataclasses import dataclass, replace
 from pathlib import Path
 
 from common import built
@@ -56,6 +58,8 @@ void *realloc(void *block, size_t size) {
     return is_refused() ? NULL : next(block, size);
 }
 """
+
+ADDRESS_SPACE = 64 * 2**20
 
 WANT = b"error 90: out of memory\n"
 NO_MEMORY = (2, b"", b"bitcol: out of memory\n")
@@ -111,7 +115,58 @@ SCRIPTS = {
     ],
 }
 
-FILES = {"rows.csv": b"a,b\r\n1,2\r\n,-3\r\n\"2\",\r\n", "faulty.csv": b"1,2\n3,x\n"}
+# The worked examples that `bw_rows` has as tests.
+ONE_COLUMN = ["CREATE TABLE t (a INTEGER);", "INSERT INTO t VALUES (3), (NULL), (-1);"]
+TWO_COLUMNS = "CREATE TABLE t (a INT, b INT);"
+HALVED = [TWO_COLUMNS, "INSERT INTO t VALUES " + ", ".join(f"({i}, {i % 2})" for i in range(1, 301)) + ";"]
+
+WORKED = {
+    "a first script": [*ONE_COLUMN, "SELECT a FROM t WHERE a < 3;"],
+    "unknown rows": [
+        "CREATE TABLE t (a INT);",
+        "INSERT INTO t VALUES (1), (2), (NULL);",
+        "SELECT a FROM t WHERE a NOT IN (1, NULL);",
+        "SELECT a FROM t WHERE NOT (a < 2);",
+        "SELECT a FROM t WHERE (a < 2) IS UNKNOWN;",
+    ],
+    "two columns exchanged": [TWO_COLUMNS, "INSERT INTO t VALUES (1, 2), (NULL, 5);", "UPDATE t SET a = b, b = a;", "SELECT * FROM t;"],
+    "a wider value": [
+        "CREATE TABLE t (a INT);",
+        "INSERT INTO t VALUES (1), (2), (3);",
+        "UPDATE t SET a = 1000000 WHERE a = 2;",
+        "SELECT a FROM t;",
+    ],
+    "half of the rows": [
+        *HALVED,
+        "DELETE FROM t WHERE b = 0;",
+        "SELECT COUNT(*) FROM t WHERE NOT a IS NULL;",
+        "REBUILD t (a USING H);",
+        "SELECT COUNT(*) FROM t WHERE NOT a IS NULL;",
+    ],
+    "rows of a file": [TWO_COLUMNS, "LOAD t FROM 'marked.csv';", "SELECT * FROM t;", "LOAD t FROM 'marked.csv' WITH HEADER;", "LOAD t FROM 'faulty.csv';"],
+    "a table and its file": [*ONE_COLUMN, "SAVE t TO 'f';", "OPEN u FROM 'f';", "SELECT a FROM u;", "TABLES;", "OPEN v FROM 'rows.csv';"],
+    "a column and another": [
+        "CREATE TABLE t (a INT USING V, b INT USING S DICTIONARY);",
+        "INSERT INTO t VALUES (5, 5), (-3, 4), (NULL, 1), (7, NULL);",
+        "SELECT * FROM t WHERE a < b;",
+        "SELECT * FROM t WHERE NOT a < b;",
+        "SELECT * FROM t WHERE b <> 2;",
+    ],
+    "a report": [
+        "CREATE TABLE t (a INT);",
+        "INSERT INTO t VALUES (4), (NULL), (1), (9), (2);",
+        "SELECT MEDIAN(a), SUM(a), COUNT(a), MIN(a), MAX(a) FROM t;",
+        "SELECT MIN(a), MEDIAN(a) FROM t WHERE a > 2;",
+    ],
+    "a cut in a name": ["CREATE TABLE t (a INTEGER);", "-- one; two\nSAVE t TO 'x;y';", "SELECT a FROM t;", "TABLES" + " " * 65_530 + ";", "TABLES" + " " * 65_531 + ";"],
+    "no such table": ["DROP TABLE t;", "TABLES;"],
+}
+
+FILES = {
+    "rows.csv": b"a,b\r\n1,2\r\n,-3\r\n\"2\",\r\n",
+    "faulty.csv": b"1,2\n3,x\n",
+    "marked.csv": b"\xef\xbb\xbf\"7\",\r\nnull,-2\r\n+5,08\r\n",
+}
 
 
 @dataclass
@@ -120,6 +175,11 @@ class Ended:
     error: bytes
     status: int
     was_refused: bool
+    files: dict
+
+    def left(self):
+        """What is written, to the standard output and to files."""
+        return self.output, tuple(sorted(self.files.items()))
 
 
 class Program:
@@ -134,7 +194,8 @@ class Program:
             surroundings = {**os.environ, "LD_PRELOAD": self.library, "REFUSED": str(refused), "REFUSED_NOTE": str(self.note)}
             command = [self.program, "--stop"] if stop else [self.program]
             ended = subprocess.run(command, input="\n".join(statements).encode(), cwd=folder, env=surroundings, capture_output=True, timeout=60)
-            return Ended(ended.stdout, ended.stderr, ended.returncode, self.note.exists())
+            files = {path.name: path.read_bytes() for path in Path(folder).iterdir()}
+            return Ended(ended.stdout, ended.stderr, ended.returncode, self.note.exists(), files)
 
     def replies(self, statements):
         """The reply to each statement: what the script up to it writes, less what it writes up to the one before."""
@@ -142,34 +203,56 @@ class Program:
         return [after[len(before) :] for before, after in itertools.pairwise(outputs)]
 
 
-def allowed_outputs(program, statements, stop):
-    """What a run may write in which one growth was refused."""
-    for place in range(len(statements)):
-        others = program.replies(statements[:place] + statements[place + 1 :])
-        replies = others[:place] + [WANT] + ([] if stop else others[place:])
+def allowed(program, statements, stop):
+    """What a run may leave in which one growth was refused: error 90 for a statement, and else what the others alone write."""
+    for place, others in enumerate(statements[:place] + statements[place + 1 :] for place in range(len(statements))):
+        replies = program.replies(others)
+        replies.insert(place, WANT)
         if stop:
             errors = [number for number, reply in enumerate(replies) if reply.startswith(b"error")]
             replies = replies[: errors[0] + 1]
-        yield b"".join(replies)
+            others = others[:place]
+        yield replace(program.run(others, stop=stop), output=b"".join(replies)).left()
 
 
 def check(program, name, statements, stop):
-    allowed = set(allowed_outputs(program, statements, stop))
+    may_be_left = set(allowed(program, statements, stop))
     usual = program.run(statements, stop=stop)
-    ends = nothing = usual_replies = 0
+    wants = nothing = usual_replies = 0
     for refused in itertools.count(1):
         ended = program.run(statements, refused, stop)
         if not ended.was_refused:
             break
-        if (ended.status, ended.output, ended.error) == NO_MEMORY:
+        if (ended.status, ended.output, ended.error, ended.files) == (*NO_MEMORY, FILES):
             nothing += 1
-        elif ended.status in STOPPED_OR_DONE and ended.output in allowed:
-            ends += 1
-        elif ended.status == usual.status and ended.output == usual.output:
+        elif ended.status in STOPPED_OR_DONE and ended.left() in may_be_left:
+            wants += 1
+        elif ended.status == usual.status and ended.left() == usual.left():
             usual_replies += 1
         else:
-            sys.exit(f"{name}, growth {refused} refused: status {ended.status}, {ended.output!r}, {ended.error!r}")
-    print(f"{name:20} {'with --stop' if stop else '':11} {ends:4} replies of want, {nothing:3} runs that wrote nothing, {usual_replies:3} as if it had been given")
+            sys.exit(f"{name}, growth {refused} refused: status {ended.status}, {ended.output!r}, {ended.error!r}, files {ended.files!r}")
+    print(f"{name:20} {'with --stop' if stop else '':11} {wants:4} replies of want, {nothing:3} runs that wrote nothing, {usual_replies:3} as if it had been given")
+
+
+def check_address_space():
+    """Fills a table under a limit on the address space: each INSERT adds its rows or wants memory, and what follows is answered over those added."""
+    fill = "INSERT INTO t VALUES " + ",".join(f"({i}, {-i})" for i in range(4_000)) + ";"
+    count = "SELECT COUNT(*), SUM(a), SUM(b) FROM t;"
+    create = "CREATE TABLE t (a INT USING P, b INT USING V);"
+    script = "\n".join([create, *[fill] * 2_000, count, "DROP TABLE t;", create, fill, count])
+    ended = subprocess.run(
+        [built("bitcol")], input=script.encode(), capture_output=True, timeout=600, preexec_fn=lambda: resource.setrlimit(resource.RLIMIT_AS, (ADDRESS_SPACE,) * 2)
+    )
+    replies = ended.stdout.splitlines(keepends=True)
+    fills, rest = replies[1:2_001], replies[2_001:]
+    added, wants = fills.count(b"ok 4000\n"), fills.count(WANT)
+    heading, one = b"COUNT(*),SUM(A),SUM(B)\n", 4_000 * 3_999 // 2
+    whole = b"%d,%d,%d\n" % (4_000 * added, added * one, -added * one)
+    alone = b"4000,%d,%d\n" % (one, -one)
+    wanted = [heading, whole, b"rows 1\n", b"ok\n", b"ok\n", b"ok 4000\n", heading, alone, b"rows 1\n"]
+    if ended.returncode != 0 or added + wants != 2_000 or wants == 0 or rest != wanted:
+        sys.exit(f"{ADDRESS_SPACE // 2**20} MB of address space: status {ended.returncode}, {added} added, {wants} wants, {rest!r}")
+    print(f"{ADDRESS_SPACE // 2**20} MB of address space: {added} statements added their rows, {wants} wanted memory")
 
 
 def main():
@@ -178,9 +261,10 @@ def main():
         source.write_text(LIBRARY)
         subprocess.run(["cc", "-shared", "-fPIC", "-O1", "-o", library, source, "-ldl"], check=True)
         program = Program(library, Path(folder) / "note")
-        for name, statements in SCRIPTS.items():
+        for name, statements in (SCRIPTS | WORKED).items():
             for stop in (False, True):
                 check(program, name, statements, stop)
+    check_address_space()
 
 
 if __name__ == "__main__":

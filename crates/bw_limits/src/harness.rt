@@ -1,7 +1,7 @@
 //! Runs a script that is told by its pieces.
 
 use crate::pieces::{Piece, Pieces, Wanted};
-use bw_shell::{MemoryFolder, OnError, RunEnd, run};
+use bw_shell::{Folder, MemoryFolder, OnError, RunEnd, run};
 use std::ops::Range;
 use std::process::Abort;
 
@@ -11,17 +11,40 @@ pub(crate) fn check_run<R: Abort + AllocGlobal>(
     script: &[Piece<'_>],
     replies: &[Piece<'_>],
 ) {
+    let mut folder = MemoryFolder::new(rt.alloc());
+    check_end(rt, &mut folder, script, replies, RunEnd::Done);
+}
+
+/// Checks that a script over a file f of these bytes gets these replies.
+pub(crate) fn check_over_file<R: Abort + AllocGlobal>(
+    rt: &R,
+    bytes: &[u8],
+    script: &[Piece<'_>],
+    replies: &[Piece<'_>],
+) {
+    let mut folder = MemoryFolder::new(rt.alloc());
+    folder.write("f", bytes).expect(rt, "memory");
+    check_end(rt, &mut folder, script, replies, RunEnd::Done);
+}
+
+/// Checks that a script gets these replies, both told by their pieces, and how the run ends.
+pub(crate) fn check_end<R: Abort + AllocGlobal>(
+    rt: &R,
+    folder: &mut MemoryFolder,
+    script: &[Piece<'_>],
+    replies: &[Piece<'_>],
+    wanted: RunEnd,
+) {
     let mut reader = Pieces::new(script);
     let mut writer = Wanted::new(replies);
-    let mut folder = MemoryFolder::new(rt.alloc());
     let end = run(
         rt.alloc(),
         &mut reader,
         &mut writer,
-        &mut folder,
+        folder,
         OnError::Continue,
     );
-    assert_eq!(rt; end, RunEnd::Done);
+    assert_eq!(rt; end, wanted);
     assert!(rt; writer.is_complete());
 }
 

@@ -1,6 +1,13 @@
 //! Long scripts.
 
-use crate::harness::{check_run, repeated};
+use crate::harness::{check_end, check_run, repeated};
+use crate::pieces::Piece;
+use bw_shell::{MemoryFolder, OnError, RunEnd, run};
+use std::io::{self, Read};
+use std::process::Abort;
+
+// Of lines of so many bytes, each a comment, 16,384 are a script of the most bytes, 2^30.
+const LINE_BYTES: usize = 65_536;
 
 #[test]
 fn statements_of_one_digit_values(rt: HostRuntime) {
@@ -77,4 +84,56 @@ fn comments_between_statements(rt: HostRuntime) {
         ],
         &[("ok\nA\nrows 0\n", 1)],
     );
+}
+
+// A script of the most bytes, and one of one more, whose last `;` is too late.
+#[test]
+fn a_script_of_all_its_bytes(rt: HostRuntime) {
+    let replies = [("TABLE,COLUMNS,ROWS\nrows 0\n", 1)];
+    check_longest(&rt, LINE_BYTES - 7, &replies, RunEnd::Done);
+    check_longest(&rt, LINE_BYTES - 6, &[], RunEnd::ReadFault);
+}
+
+// Runs 16,383 lines, these blanks and a statement of seven bytes.
+fn check_longest<R: Abort + AllocGlobal>(
+    rt: &R,
+    blanks: usize,
+    replies: &[Piece<'_>],
+    end: RunEnd,
+) {
+    let line = repeated(rt, "", "-", LINE_BYTES - 1, "\n");
+    let blanks = repeated(rt, "", " ", blanks, "");
+    let script = [
+        (line.as_str(), 16_383),
+        (blanks.as_str(), 1),
+        ("TABLES;", 1),
+    ];
+    let mut folder = MemoryFolder::new(rt.alloc());
+    check_end(rt, &mut folder, &script, replies, end);
+}
+
+// Gives blanks without end.
+#[derive(Drop)]
+struct Blanks;
+
+impl Read for Blanks {
+    fn read(&mut self, buf: &mut [u8]) -> io::Result<usize> {
+        buf.fill(b' ');
+        Ok(buf.len())
+    }
+}
+
+#[test]
+fn blanks_without_end(rt: HostRuntime) {
+    let mut folder = MemoryFolder::new(rt.alloc());
+    let mut output = Vec::new(rt.alloc());
+    let end = run(
+        rt.alloc(),
+        &mut Blanks,
+        &mut output,
+        &mut folder,
+        OnError::Continue,
+    );
+    assert_eq!(rt; end, RunEnd::ReadFault);
+    assert!(rt; output.is_empty());
 }

@@ -13,6 +13,10 @@ use Rattle.bw_plan.specs.declared.plan.RowCondition.{RowCondition}
 raised_twice : (m a b : ℕ) → raised (raised m a) b ≡ raised m (a + b)
 raised_twice m a b = omega arith
 
+-- a meter to which what another tells is added
+pub raised_by_read : (m a : ℕ) → raised m (raised 0 a) ≡ raised m a
+raised_by_read m a = omega arith
+
 -- a meter that was raised is within its greatest value
 pub raised_within : (new m a : ℕ) → new ≡ raised m a → new ≡ raised new 0
 raised_within new m a is = omega (arith, is)

@@ -1,6 +1,6 @@
 //! The truth of a condition at the needed slots of a table.
 
-ghost use Rattle.std.specs.Prelude.{IfOk, OnOk, length, map, ◌≡◌};
+ghost use Rattle.std.specs.Prelude.{IfOk, OnErr, OnOk, length, map, ◌≡◌};
 ghost use Rattle.bw_mask.specs.Masks.{len, row_at};
 ghost use Rattle.bw_code.specs.Meters.{raised};
 ghost use Rattle.bw_column.specs.Comparisons.{AreTruthsAt};
@@ -18,8 +18,9 @@ use std::alloc::{AllocError, Global};
 
 /// The truth of a condition at each needed slot, and unknown at the others. In a run of AND the next part is looked
 /// at only in the slots that are not yet false, in a run of OR only in those that are not yet true. The units of what
-/// is read are added to the meter; where memory is wanting, those of a part of it may have been added. Each run takes
-/// three masks of all slots while it lasts.
+/// is read are added to the meter at the end, and none where memory is wanting. Each run takes three masks of all slots
+/// while it lasts.
+#[tactic(auto, using(crate::proofs::Spending::raised_by_read))]
 pub fn evaluate(
     alloc: Global,
     condition: &RowCondition,
@@ -30,9 +31,12 @@ pub fn evaluate(
     requires { len need.now ≡ length slots.now.slots }
     ensures truths { IfOk result (AreTruthsAt need.now (truth_in (plan_of condition.now) slots.now.slots)) }
     ensures units { OnOk result (meter.new ≡ raised meter.old (units_by (plan_of condition.now) slots.now (row_at need.now))) }
+    ensures unread { OnErr result (meter.new ≡ meter.old) }
 {
     let mut truth = Truth::filled(alloc, slots.len(), TruthValue::Unknown)?;
-    set_truth(alloc, condition, slots, need, &mut truth, meter)?;
+    let mut read = Meter::new();
+    set_truth(alloc, condition, slots, need, &mut truth, &mut read)?;
+    meter.add(read.units());
     Ok(truth)
 }
 
