@@ -56,7 +56,12 @@ impl SliceColumn {
         ensures len { length result.now ≡ 32 * segments_of (count self.now) }
         ensures bytes { (r : ℕ) → slice_index result.now r ≡ digit 256 (slices_of self.now.width) (code_at self.now r * 2 ^ shift_of self.now.width) j }
     {
-        &self.slices[j]
+        let SliceColumn {
+            width: _,
+            len: _,
+            slices,
+        } = self;
+        &slices[j]
     }
 
     /// The planes of the codes, straight off the slices and none of them read yet. With k bits, unit q * k + i is plane i of
@@ -152,8 +157,3 @@ impl CodeColumn for SliceColumn {
         meter.add(right.reads());
     }
 }
-
-#[cfg(test)]
-mod pair_tests;
-#[cfg(test)]
-mod tests;

@@ -138,6 +138,3 @@ impl<'a, C: CodeColumn> Source<[u64; 4]> for CodePlanes<'a, C> {
         self.reads
     }
 }
-
-#[cfg(test)]
-mod tests;

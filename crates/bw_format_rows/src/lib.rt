@@ -1,7 +1,9 @@
-//! Worked examples as tests of the formats in which tables come and go.
+//! Worked examples as tests of the formats in which tables and scripts come and go.
 #![tactic(auto)]
 
 #[cfg(test)]
 mod csv_rows;
+#[cfg(test)]
+mod pieces;
 #[cfg(test)]
 mod table_files;

@@ -47,7 +47,12 @@ impl HorizontalColumn {
         ensures count { length result.now ≡ segments_of self.now.width (count self.now) * (self.now.width + 1) }
         ensures bits { (w p : ℕ) → bit_of (slice_index result.now w) p ≡ (nat_lt p (sections_in self.now.width * (self.now.width + 1)) && bit_of (code_at self.now (row_of_bit self.now.width w p)) (p % (self.now.width + 1))) }
     {
-        &self.words
+        let HorizontalColumn {
+            width: _,
+            len: _,
+            words,
+        } = self;
+        words
     }
 }
 
@@ -138,8 +143,3 @@ impl CodeColumn for HorizontalColumn {
         meter.add(others.reads());
     }
 }
-
-#[cfg(test)]
-mod pair_tests;
-#[cfg(test)]
-mod tests;

@@ -1,15 +1,16 @@
 -- Walks over bytes without a cut.
-use Rattle.std.proofs.Common.{◌≡◌, ℕ, suc, ◌+◌, ◌-◌, ◌<◌, ◌≤◌, Bool, true, false, ◌&&◌, ◌==◌, not, cond, List, [], ◌∷◌, length, take, drop, slice_index, Option, Some, None, refl, sym, ap, ◌∙◌, subst, arith, inl, inr}
+use Rattle.std.proofs.Common.{◌≡◌, ℕ, suc, ◌+◌, ◌-◌, ◌<◌, ◌≤◌, Bool, true, false, ◌&&◌, ◌||◌, ◌==◌, not, cond, List, [], ◌∷◌, length, take, drop, slice_index, Option, Some, None, refl, sym, ap, ◌∙◌, subst, arith, inl, inr, eqb-true}
 use Rattle.std.specs.List.{list_all, prefix_len}
 use Rattle.std.proofs.Math.Bool.{and-true}
 use Rattle.std.proofs.Math.Numerals.{one-add}
 use Rattle.std.proofs.Math.Seq.{drop-cons, take-add}
-use Rattle.std.proofs.lemmas.Bool.{and_from, and_parts, cases_order, false≢true, ne_eqb, not-true}
+use Rattle.std.proofs.lemmas.Bool.{and_from, and_parts, cases_order, false≢true, ne_eqb, not-true, or_cases}
 use Rattle.std.proofs.lemmas.List.{drop_all, length-drop, take_all}
 use Rattle.std.proofs.lemmas.List.Sums.{prefix_len-le-length, prefix_len_passes, prefix_len_stops}
 use Rattle.std.specs.Option.{unwrap_or}
 use Rattle.memchr.specs.Find.{IsFirstByte, is_byte}
 use Rattle.bw_lex.proofs.Prefixes.{all_prefix}
+use Rattle.bw_lex.specs.Spellings.{is_blank}
 use Rattle.bw_split.specs.declared.progress.Place.{Place}
 use Rattle.bw_split.specs.declared.progress.Place.TheVariants.{Outside, Comment, Text}
 use Rattle.bw_split.specs.declared.progress.Progress.{Progress}
@@ -113,6 +114,29 @@ not_blank = not-true
 
 pub outside : (place : Place) (blank : Bool) (bytes : List ℕ) (walk : Walk) → place ≡ Outside → blank ≡ false → IsWalk (at Outside false) bytes walk → IsWalk (at place blank) bytes walk
 outside place blank bytes walk e says w = rw (e, says) w
+
+-- a blank is one of four bytes
+blank_case : (P : ℕ → Type 0) → P 9 → P 10 → P 13 → P 32 → (b : ℕ) → is_blank b ≡ true → P b
+blank_case P tab newline return space b h =
+    elim (or_cases ((b == 9 || b == 10) || b == 13) (b == 32) h) [
+      | inl f ↦ elim (or_cases (b == 9 || b == 10) (b == 13) f) [
+        | inl g ↦ elim (or_cases (b == 9) (b == 10) g) [
+          | inl e ↦ subst P (sym (eqb-true b 9 e)) tab
+          | inr e ↦ subst P (sym (eqb-true b 10 e)) newline
+        ]
+        | inr e ↦ subst P (sym (eqb-true b 13 e)) return
+      ]
+      | inr e ↦ subst P (sym (eqb-true b 32 e)) space
+    ]
+
+blank_uncut : (b : ℕ) → is_blank b ≡ true → is_cut Outside b ≡ false
+blank_uncut = blank_case (λ b. is_cut Outside b ≡ false) refl refl refl refl
+
+blank_stays : (b : ℕ) → is_blank b ≡ true → step (at Outside true) b ≡ at Outside true
+blank_stays = blank_case (λ b. step (at Outside true) b ≡ at Outside true) refl refl refl refl
+
+pub in_blanks : (place : Place) (blank : Bool) (bytes : List ℕ) (n : ℕ) → place ≡ Outside → blank ≡ true → n ≡ prefix_len is_blank bytes → IsWalk (at place blank) bytes (record { len = n; progress = at place blank })
+in_blanks place blank bytes n e says same = rw (e, says, same) (run (at Outside true) is_blank blank_uncut blank_stays bytes)
 
 -- one walk, and then another
 pub join : (p q r : Progress) (bytes : List ℕ) (m n : ℕ) → IsWalk p bytes (record { len = m; progress = q }) → IsWalk q (drop m bytes) (record { len = n; progress = r }) → IsWalk p bytes (record { len = m + n; progress = r })

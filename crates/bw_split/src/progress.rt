@@ -36,7 +36,8 @@ pub(crate) enum Stage {
     Finished,
 }
 
-fn is_blank(b: u8) -> bool
+/// Whether the byte is a tab, an end of line, a return or a space.
+pub(crate) fn is_blank(b: u8) -> bool
     ensures { result ≡ is_blank b }
 {
     b == b'\t' || b == b'\n' || b == b'\r' || b == b' '

@@ -99,6 +99,3 @@ impl Splitter {
         self.stage = Stage::Begun;
     }
 }
-
-#[cfg(test)]
-mod tests;

@@ -2,11 +2,12 @@
 
 ghost use Rattle.std.specs.Prelude.{◌==◌, ◌≡◌, drop, false, not};
 ghost use Rattle.std.specs.List.{prefix_len};
+ghost use Rattle.bw_lex.specs.Spellings.{is_blank};
 ghost use Rattle.bw_split.specs.declared.progress.Place.TheVariants as place;
 ghost use Rattle.bw_split.specs.Walks.{IsWalk, StopsBefore};
 
 use crate::lanes::quiet_len;
-use crate::progress::{Place, Progress, opened_by};
+use crate::progress::{Place, Progress, is_blank, opened_by};
 use memchr::memchr;
 
 /// Bytes without a cut: how many, and where they end.
@@ -21,6 +22,13 @@ fn len_before(byte: u8, bytes: &[u8]) -> usize
     ensures { result ≡ prefix_len (λ b. not (b == byte)) bytes.now }
 {
     memchr(byte, bytes).unwrap_or(bytes.len())
+}
+
+// How many blanks come first.
+fn blank_len(bytes: &[u8]) -> usize
+    ensures { result ≡ prefix_len is_blank bytes.now }
+{
+    bytes.iter().take_while(|b| is_blank(**b)).count()
 }
 
 fn in_text(progress: Progress, bytes: &[u8]) -> Walk
@@ -68,7 +76,11 @@ fn stretch(progress: Progress, bytes: &[u8]) -> Walk
             progress,
         },
         Place::Outside if !progress.is_blank => outside(bytes),
-        _ => Walk { len: 0, progress },
+        Place::Outside => Walk {
+            len: blank_len(bytes),
+            progress,
+        },
+        Place::Dash => Walk { len: 0, progress },
     }
 }
 

@@ -250,6 +250,3 @@ pub fn add_from<A: Source<[u64; 4]>, B: Source<[u64; 4]>>(
         );
     }
 }
-
-#[cfg(test)]
-mod tests;

@@ -50,7 +50,12 @@ impl VerticalColumn {
         ensures rows { (q i r : ℕ) → i < planes_in self.now.width g → r < 256
             → row_in (slice_index_or result.now (q * planes_in self.now.width g + i) []) r ≡ bit_of (code_at self.now (256 * q + r)) (self.now.width - 1 - (4 * g + i)) }
     {
-        &self.groups[g]
+        let VerticalColumn {
+            width: _,
+            len: _,
+            groups,
+        } = self;
+        &groups[g]
     }
 
     /// The planes as units that are read one at a time, none of them read yet: unit q * width + i is plane i of segment q.
@@ -189,8 +194,3 @@ impl CodeColumn for VerticalColumn {
         meter.add(right.reads());
     }
 }
-
-#[cfg(test)]
-mod pair_tests;
-#[cfg(test)]
-mod tests;

@@ -1,0 +1,180 @@
+//! Scripts in pieces: what stands, however they are cut, and parts as long as may be.
+
+ghost use Rattle.std.specs.Prelude.{length, ◌≡◌, ◌≤◌};
+ghost use Rattle.bw_split.specs.declared.progress.Stage.TheVariants as stage;
+
+use bw_lex::{SqlFault, parts};
+use bw_split::{LONGEST_PART, Splitter};
+use std::process::Abort;
+
+// Scripts, and their parts by the definition: each with a `;` behind it where a cut closes it, else with a `|`.
+const SCRIPTS: [(&[u8], &[u8]); 8] = [
+    (b"", b""),
+    (b" ;\t;; -- nothing; here", b""),
+    (b"-", b"-|"),
+    (b"--", b""),
+    (b" -; --;", b" -;"),
+    (b"'", b"'|"),
+    (
+        b"SELECT 'not closed;; -- it",
+        b"SELECT 'not closed;; -- it|",
+    ),
+    (
+        b"CREATE TABLE t (a INT); -- one; 'two\n;; SELECT 'x;y--'; 'it''s; one' - -- three;\n-5;--;\n ; -;SELECT a -- the; end",
+        b"CREATE TABLE t (a INT); SELECT 'x;y--'; 'it''s; one' - -- three;\n-5; -;SELECT a -- the; end|",
+    ),
+];
+
+fn add<R: Abort + AllocGlobal>(
+    rt: &R,
+    told: &mut Vec<u8>,
+    text: Result<&[u8], SqlFault>,
+    mark: u8,
+) {
+    match text {
+        Ok(text) => told.extend_from_slice(text).expect(rt, "memory"),
+        Err(_) => told.extend_from_slice(b"too long").expect(rt, "memory"),
+    }
+    told.push(mark).expect(rt, "memory");
+}
+
+// Feeds the bytes, and adds each part that stands.
+fn feed_all<R: Abort + AllocGlobal>(
+    rt: &R,
+    splitter: &mut Splitter,
+    bytes: &[u8],
+    told: &mut Vec<u8>,
+)
+    requires { splitter.old.stage ≡ stage.Begun }
+    ensures { splitter.new.stage ≡ stage.Begun }
+{
+    let mut rest = bytes;
+    loop {
+        let Some(taken) = splitter.feed(rest) else {
+            return;
+        };
+        add(rt, told, splitter.text(), b';');
+        splitter.clear();
+        rest = &rest[taken..];
+    }
+}
+
+fn feed_singly<R: Abort + AllocGlobal>(
+    rt: &R,
+    splitter: &mut Splitter,
+    bytes: &[u8],
+    told: &mut Vec<u8>,
+)
+    requires { splitter.old.stage ≡ stage.Begun }
+    ensures { splitter.new.stage ≡ stage.Begun }
+{
+    let mut at = 0;
+    while at < bytes.len() {
+        feed_all(rt, splitter, &bytes[at..at + 1], told);
+        at += 1;
+    }
+}
+
+fn finish<R: Abort + AllocGlobal>(rt: &R, splitter: &mut Splitter, told: &mut Vec<u8>)
+    requires { splitter.old.stage ≡ stage.Begun }
+{
+    if splitter.finish() {
+        add(rt, told, splitter.text(), b'|');
+    }
+}
+
+fn told_in_two<R: Abort + AllocGlobal>(rt: &R, script: &[u8], at: usize) -> Vec<u8>
+    requires { at ≤ length script.now }
+{
+    let mut splitter = Splitter::new(rt.alloc()).expect(rt, "memory");
+    let mut told = Vec::new(rt.alloc());
+    feed_all(rt, &mut splitter, &script[..at], &mut told);
+    feed_all(rt, &mut splitter, &script[at..], &mut told);
+    finish(rt, &mut splitter, &mut told);
+    told
+}
+
+fn told_singly<R: Abort + AllocGlobal>(rt: &R, script: &[u8]) -> Vec<u8> {
+    let mut splitter = Splitter::new(rt.alloc()).expect(rt, "memory");
+    let mut told = Vec::new(rt.alloc());
+    feed_singly(rt, &mut splitter, script, &mut told);
+    finish(rt, &mut splitter, &mut told);
+    told
+}
+
+// What the whole script tells at once.
+fn told_of_parts<R: Abort + AllocGlobal>(rt: &R, script: &[u8]) -> Vec<u8> {
+    let mut told = Vec::new(rt.alloc());
+    let parts = parts(rt.alloc(), script).expect(rt, "memory");
+    for part in &parts {
+        let text = script
+            .get(part.span.start..part.span.end)
+            .expect(rt, "a part of the script");
+        add(
+            rt,
+            &mut told,
+            Ok(text),
+            if part.is_closed { b';' } else { b'|' },
+        );
+    }
+    told
+}
+
+#[test]
+fn however_it_is_cut(rt: HostRuntime) {
+    for (script, want) in SCRIPTS {
+        assert!(rt; told_of_parts(&rt, script).as_slice() == want, "at once");
+        assert!(rt; told_singly(&rt, script).as_slice() == want, "singly");
+        for at in 0..script.len() + 1 {
+            assert!(rt;
+                told_in_two(&rt, script, at).as_slice() == want,
+                "cut at {at}"
+            );
+        }
+    }
+}
+
+// Feeds a piece in which no part ends.
+fn goes_on<R: Abort>(rt: &R, splitter: &mut Splitter, piece: &[u8])
+    requires { splitter.old.stage ≡ stage.Begun }
+    ensures { splitter.new.stage ≡ stage.Begun }
+{
+    if splitter.feed(piece).is_some() {
+        panic!(rt; "a part stands");
+    }
+}
+
+// Feeds a piece of which so many bytes are taken, and where this part stands then.
+fn stands<R: Abort>(rt: &R, splitter: &mut Splitter, piece: &[u8], want: usize, text: &[u8])
+    requires { splitter.old.stage ≡ stage.Begun }
+{
+    let Some(taken) = splitter.feed(piece) else {
+        panic!(rt; "no part stands");
+    };
+    assert!(rt; taken == want);
+    assert!(rt; splitter.text().expect(rt, "a short part") == text);
+    splitter.clear();
+}
+
+#[test]
+fn two_dashes_in_two_pieces(rt: HostRuntime) {
+    let mut splitter = Splitter::new(rt.alloc()).expect(&rt, "memory");
+    goes_on(&rt, &mut splitter, b"-");
+    stands(&rt, &mut splitter, b"-;\n;TABLES;", 11, b"TABLES");
+}
+
+// `TABLES` and blanks, so many bytes in all, and a cut.
+fn long_part<R: Abort + AllocGlobal>(rt: &R, len: usize) -> Vec<u8> {
+    let mut script = Vec::from_slice(rt.alloc(), b"TABLES").expect(rt, "memory");
+    script.resize(len, b' ').expect(rt, "memory");
+    script.push(b';').expect(rt, "memory");
+    script
+}
+
+#[test]
+fn parts_as_long_as_may_be(rt: HostRuntime) {
+    let longest = long_part(&rt, LONGEST_PART);
+    assert!(rt; told_singly(&rt, &longest) == longest);
+    let longer = long_part(&rt, LONGEST_PART + 1);
+    assert!(rt; told_singly(&rt, &longer).as_slice() == b"too long;".as_slice());
+}

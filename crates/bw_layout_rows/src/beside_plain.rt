@@ -1,0 +1,186 @@
+//! Columns in each layout beside plain columns of the same codes, at lengths round the seams of words and segments.
+
+ghost use Rattle.std.specs.Prelude.{length, ◌+◌, ◌<◌, ◌^◌, ◌≡◌, ◌≤◌};
+ghost use Rattle.bw_code.specs.Tests.{TestFits};
+
+use crate::codes::{FREQUENT, code_at, codes_of, column_of, need_of};
+use bw_byteslice::SliceColumn;
+use bw_code::{CmpOp, CodeColumn, CodeTest, Meter, PlainColumn};
+use bw_horizontal::HorizontalColumn;
+use bw_mask::Mask;
+use bw_vertical::VerticalColumn;
+use std::process::Abort;
+
+/// Tests on codes; the constants are cut to the width of the codes.
+const TESTS: [CodeTest; 13] = [
+    CodeTest::None,
+    CodeTest::All,
+    CodeTest::Cmp(CmpOp::Eq, FREQUENT),
+    CodeTest::Cmp(CmpOp::Ne, FREQUENT),
+    CodeTest::Cmp(CmpOp::Lt, FREQUENT),
+    CodeTest::Cmp(CmpOp::Le, FREQUENT),
+    CodeTest::Cmp(CmpOp::Gt, FREQUENT),
+    CodeTest::Cmp(CmpOp::Ge, FREQUENT),
+    CodeTest::Cmp(CmpOp::Lt, 0),
+    CodeTest::Cmp(CmpOp::Le, 0xffff_ffff),
+    CodeTest::Range(0x0155_aa11, FREQUENT),
+    CodeTest::Range(0, 0xffff_ffff),
+    CodeTest::Range(0xffff_ffff, 0),
+];
+
+/// The test, of codes of so many bits.
+fn fitted(test: CodeTest, width: u32) -> CodeTest
+    requires { width ≤ 32 }
+    ensures { TestFits width result }
+{
+    let codes = 1 << width;
+    match test {
+        CodeTest::Cmp(op, constant) => CodeTest::Cmp(op, constant % codes),
+        CodeTest::Range(low, high) => CodeTest::Range(low % codes, high % codes),
+        other => other,
+    }
+}
+
+/// The rows that a scan finds, into a mask in which all rows were in.
+fn found<C: CodeColumn, R: Abort + AllocGlobal>(rt: &R, column: &C, test: CodeTest) -> Mask
+    requires test { TestFits (C.seen column.now).width test }
+    requires few { length (C.seen column.now).codes ≤ 2000 }
+{
+    let need = need_of(rt, column.len());
+    let mut out = Mask::filled(rt.alloc(), column.len(), true).expect(rt, "memory");
+    column.scan(test, &need, &mut out, &mut Meter::new());
+    out
+}
+
+fn check_scans<C: CodeColumn, R: Abort + AllocGlobal>(
+    rt: &R,
+    width: u32,
+    column: &C,
+    plain: &PlainColumn,
+)
+    requires narrow { width ≤ 32 }
+    requires width { (C.seen column.now).width ≡ width }
+    requires also { plain.now.width ≡ width }
+    requires few { length (C.seen column.now).codes ≤ 2000 }
+    requires others { length plain.now.codes ≤ 2000 }
+{
+    for test in TESTS {
+        let test = fitted(test, width);
+        let rows = found(rt, column, test);
+        let wanted = found(rt, plain, test);
+        assert_eq!(rt; rows.words(), wanted.words(), "{width} bits");
+    }
+}
+
+/// `get` and `read` answer what plain codes answer.
+fn check_codes<C: CodeColumn, R: Abort + AllocGlobal>(rt: &R, column: &C, plain: &PlainColumn)
+    requires { length plain.now.codes ≡ length (C.seen column.now).codes }
+{
+    let rows = column.len();
+    for row in 0..rows {
+        assert_eq!(rt; column.get(row), plain.get(row), "row {row}");
+    }
+    let at = rows / 5;
+    let mut codes = Vec::from_elem(rt.alloc(), 0, rows - at).expect(rt, "memory");
+    let mut wanted = Vec::from_elem(rt.alloc(), 0, rows - at).expect(rt, "memory");
+    column.read(at, &mut codes);
+    plain.read(at, &mut wanted);
+    assert_eq!(rt; codes, wanted);
+}
+
+/// The rows with a bit, into a mask in which all rows were in.
+fn plane_of<C: CodeColumn, R: Abort + AllocGlobal>(rt: &R, column: &C, bit: u32) -> Mask
+    requires bit { bit < (C.seen column.now).width }
+    requires few { length (C.seen column.now).codes ≤ 2000 }
+{
+    let mut plane = Mask::filled(rt.alloc(), column.len(), true).expect(rt, "memory");
+    column.plane(bit, &mut plane);
+    plane
+}
+
+fn check_planes<C: CodeColumn, R: Abort + AllocGlobal>(
+    rt: &R,
+    width: u32,
+    column: &C,
+    plain: &PlainColumn,
+)
+    requires width { (C.seen column.now).width ≡ width }
+    requires also { plain.now.width ≡ width }
+    requires few { length (C.seen column.now).codes ≤ 2000 }
+    requires others { length plain.now.codes ≤ 2000 }
+{
+    for bit in 0..width {
+        let plane = plane_of(rt, column, bit);
+        let wanted = plane_of(rt, plain, bit);
+        assert_eq!(rt; plane.words(), wanted.words(), "bit {bit}");
+    }
+}
+
+/// Another code in the middle.
+fn change<C: CodeColumn>(column: &mut C, code: u64)
+    requires fits { code < 2 ^ (C.seen column.old).width }
+    ensures width { (C.seen column.new).width ≡ (C.seen column.old).width }
+    ensures count { length (C.seen column.new).codes ≡ length (C.seen column.old).codes }
+{
+    let rows = column.len();
+    if rows > 0 {
+        column.set(rows / 2, code);
+    }
+}
+
+/// Every call answers what it answers of plain codes.
+fn check_calls<C: CodeColumn + Drop, R: Abort + AllocGlobal>(rt: &R, width: u32, rows: usize)
+    requires some { 1 ≤ width }
+    requires narrow { width ≤ 32 }
+    requires wide { 32 ≤ C.WIDEST }
+    requires few { rows ≤ 1000 }
+{
+    let codes = codes_of(rt, width, rows);
+    let mut column: C = column_of(rt, width, &codes);
+    let mut plain: PlainColumn = column_of(rt, width, &codes);
+    change(&mut column, code_at(width, 4));
+    change(&mut plain, code_at(width, 4));
+    assert_eq!(rt; (column.len(), column.width()), (rows, width));
+    check_codes(rt, &column, &plain);
+    check_planes(rt, width, &column, &plain);
+    check_scans(rt, width, &column, &plain);
+}
+
+#[test]
+fn planes(rt: HostRuntime) {
+    for width in 1..=32 {
+        for rows in [0, 1, 63, 64, 65, 255, 256, 257, 513] {
+            check_calls::<VerticalColumn, _>(&rt, width, rows);
+        }
+    }
+}
+
+#[test]
+fn slices(rt: HostRuntime) {
+    for width in 1..=32 {
+        for rows in [0, 1, 31, 32, 33, 64, 65] {
+            check_calls::<SliceColumn, _>(&rt, width, rows);
+        }
+    }
+}
+
+/// How many rows a segment of codes of so many bits has.
+fn segment_rows(width: u32) -> usize
+    requires some { 1 ≤ width }
+    requires narrow { width ≤ 32 }
+    ensures some { 1 ≤ result }
+    ensures few { result ≤ 64 }
+{
+    let section = width as usize + 1;
+    section * (64 / section)
+}
+
+#[test]
+fn words(rt: HostRuntime) {
+    for width in 1..=32 {
+        let rows = segment_rows(width);
+        for rows in [0, 1, rows - 1, rows, rows + 1, 2 * rows + 5] {
+            check_calls::<HorizontalColumn, _>(&rt, width, rows);
+        }
+    }
+}

@@ -1,0 +1,84 @@
+//! Two columns side by side, beside their codes compared one by one.
+
+ghost use Rattle.std.specs.Prelude.{length, ◌<◌, ◌≡◌, ◌≤◌};
+ghost use Rattle.bw_mask.specs.Masks.{len};
+
+use crate::codes::{OPERATORS, codes_of, column_of, need_of, other_codes};
+use bw_byteslice::SliceColumn;
+use bw_code::{CmpOp, CodeColumn, Meter, PlainColumn};
+use bw_horizontal::HorizontalColumn;
+use bw_mask::Mask;
+use bw_vertical::VerticalColumn;
+use std::process::Abort;
+
+/// The needed rows that a scan found, beside those whose codes compare so.
+fn check_found<R: Abort + AllocGlobal>(
+    rt: &R,
+    op: CmpOp,
+    codes: &[u64],
+    others: &[u64],
+    need: &Mask,
+    found: &Mask,
+)
+    requires others { length others.now ≡ length codes.now }
+    requires need { len need.now ≡ length codes.now }
+    requires found { len found.now ≡ length codes.now }
+{
+    for row in 0..codes.len() {
+        let wanted = need.get(row) && op.compares(codes[row], others[row]);
+        assert_eq!(rt; found.get(row), wanted, "row {row}");
+    }
+}
+
+fn check_pairs<C: CodeColumn + Drop, R: Abort + AllocGlobal>(rt: &R, width: u32, rows: usize)
+    requires some { 1 ≤ width }
+    requires narrow { width ≤ 32 }
+    requires wide { 32 ≤ C.WIDEST }
+    requires few { rows ≤ 1000 }
+{
+    let codes = codes_of(rt, width, rows);
+    let others = other_codes(rt, width, rows);
+    let column: C = column_of(rt, width, &codes);
+    let other: C = column_of(rt, width, &others);
+    let need = need_of(rt, rows);
+    for op in OPERATORS {
+        let mut found = Mask::filled(rt.alloc(), rows, true).expect(rt, "memory");
+        column.scan_pair(&other, op, &need, &mut found, &mut Meter::new());
+        check_found(rt, op, &codes, &others, &need, &found);
+    }
+}
+
+#[test]
+fn beside_their_codes(rt: HostRuntime) {
+    for width in [1, 5, 8, 9, 17, 31, 32] {
+        for rows in [1, 32, 33, 64, 65, 255, 257] {
+            check_pairs::<PlainColumn, _>(&rt, width, rows);
+            check_pairs::<VerticalColumn, _>(&rt, width, rows);
+            check_pairs::<HorizontalColumn, _>(&rt, width, rows);
+            check_pairs::<SliceColumn, _>(&rt, width, rows);
+        }
+    }
+}
+
+/// The rows where 0, 3 is below 3, 0, and the units that are read to tell.
+fn units_of_two_rows<C: CodeColumn + Drop, R: Abort + AllocGlobal>(rt: &R) -> (u64, u64)
+    requires { 32 ≤ C.WIDEST }
+{
+    let column: C = column_of(rt, 2, &[0, 3]);
+    let other: C = column_of(rt, 2, &[3, 0]);
+    let need = Mask::filled(rt.alloc(), 2, true).expect(rt, "memory");
+    let mut found = Mask::filled(rt.alloc(), 2, true).expect(rt, "memory");
+    let mut meter = Meter::new();
+    column.scan_pair(&other, CmpOp::Lt, &need, &mut found, &mut meter);
+    (found.bits(0, 2), meter.units())
+}
+
+// Of each column two codes, two planes, the three words of a segment, or one slice.
+#[test]
+fn units_of_a_pair(rt: HostRuntime) {
+    let found = 0b01;
+    assert_eq!(&rt; units_of_two_rows::<PlainColumn, _>(&rt), (found, 4));
+    assert_eq!(&rt; units_of_two_rows::<VerticalColumn, _>(&rt), (found, 4));
+    assert_eq!(&rt; units_of_two_rows::<HorizontalColumn, _>(&rt), (found, 6));
+    assert_eq!(&rt; units_of_two_rows::<SliceColumn, _>(&rt), (found, 2));
+}
