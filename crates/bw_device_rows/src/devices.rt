@@ -3,13 +3,18 @@
 ghost use Rattle.std.specs.Prelude.{◌≡◌, ◌<◌, ◌^◌};
 ghost use Rattle.bw_shell.specs.Folders.{IsWriteFault, failures_after};
 
-use crate::files::SAVED;
 use crate::harness::{File, folder_of};
 use crate::streams::{FailingReader, FullWriter, UnflushedWriter};
 use bw_engine::FILE_LIMIT;
 use bw_shell::{Folder, FolderFault, HostFolder, MemoryFolder, OnError, RunEnd, run};
 use std::fs::{self, Files};
 use std::process::Abort;
+
+// The table of one column A of three rows: 3, NULL, -1, in layout V and of kind OFFSET.
+const SAVED: [u8; 31] = [
+    0x42, 0x49, 0x54, 0x43, 0x4f, 0x4c, 0x01, 0x00, 0x01, 0x00, 0x03, 0x00, 0x00, 0x00, 0x01, 0x41,
+    0x01, 0x00, 0x05, 0x03, 0x00, 0x00, 0x00, 0x00, 0x00, 0x00, 0x00, 0xff, 0xff, 0xff, 0xff,
+];
 
 /// A statement with its `;`, and its reply.
 type Answered = (&'static str, &'static str);
