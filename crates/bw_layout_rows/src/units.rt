@@ -42,12 +42,22 @@ fn planes(rt: HostRuntime) {
 }
 
 /// 33 codes of 16 bits: 0x0102 in the first segment and 0x0304 in the second.
+fn two_segments<R: Abort + AllocGlobal>(rt: &R) -> SliceColumn
+    ensures width { result.width ≡ 16 }
+    ensures count { length result.codes ≡ 33 }
+{
+    let mut column = SliceColumn::with_width(rt.alloc(), 16).expect(rt, "memory");
+    column.reserve(33).expect(rt, "memory");
+    for row in 0..32_usize {
+        column.push(0x0102);
+    }
+    column.push(0x0304);
+    column
+}
+
 #[test]
 fn slices(rt: HostRuntime) {
-    let mut column = SliceColumn::with_width(rt.alloc(), 16).expect(&rt, "memory");
-    column.reserve(33).expect(&rt, "memory");
-    column.extend(&[0x0102; 32]);
-    column.push(0x0304);
+    let column = two_segments(&rt);
     for (test, units) in [
         (CodeTest::Cmp(CmpOp::Lt, 0x0200), 2),
         (CodeTest::Cmp(CmpOp::Lt, 0x0100), 3),
