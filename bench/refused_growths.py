@@ -59,7 +59,7 @@ void *realloc(void *block, size_t size) {
 }
 """
 
-ADDRESS_SPACE = 64 * 2**20
+ADDRESS_SPACE = 32 * 2**20
 
 WANT = b"error 90: out of memory\n"
 NO_MEMORY = (2, b"", b"bitcol: out of memory\n")
