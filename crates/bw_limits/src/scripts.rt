@@ -6,7 +6,7 @@ use bw_shell::{MemoryFolder, OnError, RunEnd, run};
 use std::io::{self, Read};
 use std::process::Abort;
 
-// Of lines of so many bytes, each a comment, 16,384 are a script of the most bytes, 2^30.
+// Of lines of so many bytes, each a comment and a cut, 16,384 are a script of the most bytes, 2^30.
 const LINE_BYTES: usize = 65_536;
 
 #[test]
@@ -101,7 +101,7 @@ fn check_longest<R: Abort + AllocGlobal>(
     replies: &[Piece<'_>],
     end: RunEnd,
 ) {
-    let line = repeated(rt, "", "-", LINE_BYTES - 1, "\n");
+    let line = repeated(rt, "", "-", LINE_BYTES - 2, "\n;");
     let blanks = repeated(rt, "", " ", blanks, "");
     let script = [
         (line.as_str(), 16_383),

@@ -91,6 +91,32 @@ fn many_rows_of_sixty_four_columns(rt: HostRuntime) {
 }
 
 #[test]
+fn sixty_four_tables_of_sixty_four_columns(rt: HostRuntime) {
+    let columns = numbered(&rt, "c", 1..64, " INT, ");
+    let mut creates = String::new(rt.alloc());
+    for table in 0..64 {
+        let create = format!(in rt.alloc(); "CREATE TABLE t{table} ({columns}c0 INT);").expect(
+            &rt, "memory",
+        );
+        creates.push_str(create.as_str()).expect(&rt, "memory");
+    }
+    let listed = numbered(&rt, "T", 0..64, ",64,0\n");
+    check_run(
+        &rt,
+        &[
+            (creates.as_str(), 1),
+            ("CREATE TABLE t64 (a INT);TABLES;", 1),
+        ],
+        &[
+            ("ok\n", 64),
+            ("error 24: over a limit\nTABLE,COLUMNS,ROWS\n", 1),
+            (listed.as_str(), 1),
+            ("rows 64\n", 1),
+        ],
+    );
+}
+
+#[test]
 fn lines_that_are_longer_than_their_buffer(rt: HostRuntime) {
     check_run(
         &rt,
