@@ -2,6 +2,8 @@
 #![tactic(auto)]
 
 mod cells;
+mod ends;
 mod slices;
 
-pub use cells::Cells;
+pub use cells::{Bounded, Cells};
+pub use ends::ends_of_both;

@@ -1,6 +1,6 @@
 //! Cells that lie in memory as they are.
 
-use crate::cells::Cells;
+use crate::cells::{Bounded, Cells};
 
 impl Cells for &[Option<i64>] {
     ghost cells = { λ s. s.now };
@@ -13,3 +13,5 @@ impl Cells for &[Option<i64>] {
         out.copy_from_slice(&self[at..at + out.len()]);
     }
 }
+
+impl Bounded for &[Option<i64>] {}

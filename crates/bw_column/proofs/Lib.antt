@@ -2,7 +2,6 @@ pub mod Changed
 pub mod Extremes
 pub mod Flat
 pub mod Known
-pub mod KnownEnds
 pub mod Listed
 pub mod Narrow
 pub mod Overwriting

@@ -13,7 +13,7 @@ use Rattle.bw_code.specs.declared.kind.Kind.TheVariants as kind
 use Rattle.bw_column.specs.Codes.{AreRowCodes, IsRowCode, value_from, values_from}
 use Rattle.bw_column.specs.Extremes.{IsGreatestFrom, IsLeastFrom, IsReached}
 use Rattle.bw_column.specs.Values.{known, value_at}
-use Rattle.bw_column.proofs.Known.{all_known, known_at, none_known}
+use Rattle.bw_cells.proofs.Known.{all_known, known_at, none_known}
 use Rattle.bw_column.proofs.Rows.{known_rows, value_of_row}
 
 row_code : (e : Encoding) (code : ℕ) (there : Bool) → there ≡ true → IsRowCode e code there → IsCode e code

@@ -3,6 +3,7 @@
 ghost use Rattle.std.specs.Prelude.{drop, length, slice_index, take, ℕ, ◌+◌, ◌<◌, ◌≡◌, ◌≤◌};
 ghost use Rattle.bw_mask.specs.Masks.{bit_of};
 ghost use Rattle.bw_code.specs.Columns.{count};
+ghost use Rattle.bw_code.specs.declared.encoding.Encoding.TheVariants as by;
 ghost use Rattle.bw_column.specs.Codes.{AreRowCodes, IsRowCode, value_from, values_from};
 ghost use Rattle.bw_column.specs.Storing.{list_of};
 ghost use Rattle.bw_column.specs.Values.{IsNullOrInteger, value_at};
@@ -11,7 +12,7 @@ use crate::bits::has_bit;
 use crate::column::Column;
 use crate::storage::Codes;
 use bw_cells::Cells;
-use bw_code::Encoding;
+use bw_code::{Encoding, Offset};
 use bw_mask::Mask;
 
 /// The value of a row, by its code and by whether it is there.
@@ -27,8 +28,30 @@ pub(crate) fn value(encoding: &Encoding, code: u64, there: bool) -> Option<i64>
     }
 }
 
-/// Fills `out` with the values of the codes, of which those are there whose bit is set.
-fn decode_all(encoding: &Encoding, codes: &[u64], present: u64, out: &mut [Option<i64>])
+/// Fills `out` with the values of codes that are distances from a base, of which those are there whose bit is set.
+fn decode_by_offset(offset: Offset, codes: &[u64], present: u64, out: &mut [Option<i64>])
+    requires few { length out.old ≤ 64 }
+    requires codes { length codes.now ≡ length out.old }
+    requires each { (k : ℕ) → k < length out.old → IsRowCode (by.Offset offset) (slice_index codes.now k) (bit_of present k) }
+    ensures { (k : ℕ) → k < length out.old → value_at out.new k ≡ value_from (by.Offset offset) (slice_index codes.now k) (bit_of present k) }
+{
+    for i in 0..out.len() {
+        out[i] = value_by_offset(offset, codes[i], has_bit(present, i));
+    }
+}
+
+/// The value of a row by an offset. The number is made at a null, too: what is left to choose takes no branch.
+#[inline]
+fn value_by_offset(offset: Offset, code: u64, there: bool) -> Option<i64>
+    requires { IsRowCode (by.Offset offset) code there }
+    ensures { result ≡ value_from (by.Offset offset) code there }
+{
+    let number = offset.base.wrapping_add_unsigned(code);
+    if there { Some(number) } else { None }
+}
+
+/// The same by any encoding, value by value.
+fn decode_each(encoding: &Encoding, codes: &[u64], present: u64, out: &mut [Option<i64>])
     requires few { length out.old ≤ 64 }
     requires codes { length codes.now ≡ length out.old }
     requires each { (k : ℕ) → k < length out.old → IsRowCode encoding.now (slice_index codes.now k) (bit_of present k) }
@@ -36,6 +59,19 @@ fn decode_all(encoding: &Encoding, codes: &[u64], present: u64, out: &mut [Optio
 {
     for i in 0..out.len() {
         out[i] = value(encoding, codes[i], has_bit(present, i));
+    }
+}
+
+/// Fills `out` with the values of the codes, of which those are there whose bit is set.
+fn decode_all(encoding: &Encoding, codes: &[u64], present: u64, out: &mut [Option<i64>])
+    requires few { length out.old ≤ 64 }
+    requires codes { length codes.now ≡ length out.old }
+    requires each { (k : ℕ) → k < length out.old → IsRowCode encoding.now (slice_index codes.now k) (bit_of present k) }
+    ensures { (k : ℕ) → k < length out.old → value_at out.new k ≡ value_from encoding.now (slice_index codes.now k) (bit_of present k) }
+{
+    match encoding {
+        Encoding::Offset(offset) => decode_by_offset(*offset, codes, present, out),
+        Encoding::Dictionary(_) => decode_each(encoding, codes, present, out),
     }
 }
 

@@ -14,8 +14,8 @@ ghost use Rattle.bw_column.specs.Storing.{ShiftsTo};
 ghost use Rattle.bw_column.specs.Values.{IsNullOrInteger, known};
 
 use crate::column::Column;
-use crate::telling::tell_cells;
-use bw_cells::Cells;
+use crate::telling::{tell_cells, tell_runs};
+use bw_cells::Bounded;
 use bw_code::{Encoding, Fitting, Kind, Layout, Offset};
 use std::alloc::{AllocError, Global};
 
@@ -48,14 +48,14 @@ impl Column {
             Kind::Offset => Ok(Fitting::Offset(self.ends())),
             Kind::Dictionary => {
                 let mut fitting = Fitting::new(alloc, Kind::Dictionary, room)?;
-                tell_cells(&mut fitting, self)?;
+                tell_runs(&mut fitting, self)?;
                 Ok(fitting)
             }
         }
     }
 
     /// The encoding of the column's kind that fits its values and these.
-    pub(crate) fn encoding_with<C: Cells>(
+    pub(crate) fn encoding_with<C: Bounded>(
         &self,
         alloc: Global,
         values: &C,

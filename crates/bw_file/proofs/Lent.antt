@@ -1,5 +1,5 @@
 -- The cells of a column that lies in its bits and words.
-use Rattle.std.proofs.Common.{Bool, List, None, Option, Some, ap, arith, cond, drop, false, get_or, inl, inr, length, nat_eq, refl, subst, sym, take, true, slice_index, ℕ, ℤ, ◌%◌, ◌*◌, ◌+◌, ◌-◌, ◌/◌, ◌<◌, ◌==◌, ◌^◌, ◌||◌, ◌≡◌, ◌≤◌, ◌∙◌, ◌⊎◌}
+use Rattle.std.proofs.Common.{Bool, List, None, Option, Some, ap, arith, cond, drop, false, get_or, inl, inr, length, nat_eq, refl, subst, sym, take, true, slice_index, ℕ, ℤ, ◌%◌, ◌&&◌, ◌*◌, ◌+◌, ◌-◌, ◌/◌, ◌<◌, ◌==◌, ◌^◌, ◌||◌, ◌≡◌, ◌≤◌, ◌∙◌, ◌⊎◌}
 use Rattle.std.proofs.Math.Facts.{sfits_to_z}
 use Rattle.std.proofs.Math.ListN.{get_or-eq_default}
 use Rattle.std.proofs.lemmas.Bool.{cases_lt}
@@ -13,7 +13,9 @@ use Rattle.std.specs.Prelude.{All}
 use Rattle.byteorder.specs.Endian.{little_number}
 use Rattle.byteorder.specs.Numbers.{little_from-lt}
 use Rattle.bw_file.specs.Cells.{IsCell, cell_number}
-use Rattle.bw_file.specs.Reading.{cell_by, cells_in, read_cell}
+use Rattle.bw_file.specs.Reading.{AreSpelled, cell_by, cells_in, read_cell}
+use Rattle.bw_file.proofs.Agree.{both}
+use borrow.Author.Count.{below_more}
 use borrow.Rule.Slice.PartMut.{put_mid}
 
 -- how many cells there are, and which
@@ -99,3 +101,23 @@ word_of_cell false n small h = grind (arith, nat_tests)
 pub cell_of_word : (has : Bool) (n : ℕ) → n ≡ cell_number (cond has (Some (cast_signed w32 n)) None) → (has || nat_eq n 0) ≡ true
 cell_of_word true n e = refl
 cell_of_word false n e = grind (arith, nat_tests)
+
+-- the bit of a row among the eight of a byte
+pub bit_among_eight : (present : List ℕ) (q j : ℕ) → j < 8 → (bit_at (slice_index present q) j == 1) ≡ (bit_at (slice_index present ((8 * q + j) / 8)) ((8 * q + j) % 8) == 1)
+bit_among_eight present q j small =
+    let byte : q ≡ (8 * q + j) / 8 = omega arith in
+    let place : j ≡ (8 * q + j) % 8 = omega arith in
+    ap (λ k. bit_at (slice_index present k) j == 1) byte ∙ ap (λ k. bit_at (slice_index present ((8 * q + j) / 8)) k == 1) place
+
+-- one word more that is there, or 0
+pub spelled_more : (present words : List ℕ) (i : ℕ) (agree has zero : Bool) → little_number 4 (drop (4 * i) words) < 2 ^ 32 → has ≡ (bit_at (slice_index present (i / 8)) (i % 8) == 1) → zero ≡ nat_eq (little_number 4 (drop (4 * i) words)) 0
+    → (agree ≡ true → AreSpelled i present words) → (agree && (has || zero)) ≡ true → AreSpelled (i + 1) present words
+spelled_more present words i agree has zero small there none before agrees =
+    let parts = both agree (has || zero) agrees in
+    let word = little_number 4 (drop (4 * i) words) in
+    below_more (λ k. little_number 4 (drop (4 * k) words) ≡ cell_number (read_cell present words k)) i (before parts.0)
+    (word_of_cell (bit_at (slice_index present (i / 8)) (i % 8) == 1) word small (rw (there, none) at parts.1))
+
+pub zero_or_there : (present words : List ℕ) (i : ℕ) (has zero : Bool) → has ≡ (bit_at (slice_index present (i / 8)) (i % 8) == 1) → zero ≡ nat_eq (little_number 4 (drop (4 * i) words)) 0
+    → little_number 4 (drop (4 * i) words) ≡ cell_number (read_cell present words i) → (has || zero) ≡ true
+zero_or_there present words i has zero there none spelled = rw (there, none) (cell_of_word (bit_at (slice_index present (i / 8)) (i % 8) == 1) (little_number 4 (drop (4 * i) words)) spelled)

@@ -1,5 +1,6 @@
 pub mod Agree
 pub mod Blocks
+pub mod ColumnEnds
 pub mod Distinct
 pub mod Fronts
 pub mod Joined

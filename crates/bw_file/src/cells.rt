@@ -1,6 +1,6 @@
 //! The cells of a column by their bits and words.
 
-ghost use Rattle.std.specs.Prelude.{None, Some, drop, get_or, if◌then◌else◌, length, slice_index, true, ℕ, ◌%◌, ◌*◌, ◌+◌, ◌/◌, ◌<◌, ◌==◌, ◌≡◌, ◌≤◌};
+ghost use Rattle.std.specs.Prelude.{None, Some, drop, get_or, if◌then◌else◌, length, nat_eq, slice_index, true, ℕ, ◌%◌, ◌*◌, ◌+◌, ◌/◌, ◌<◌, ◌==◌, ◌≡◌, ◌≤◌};
 ghost use Rattle.std.specs.Int.{bit_at, cast_signed, w32};
 ghost use Rattle.byteorder.specs.Endian.{little_number};
 ghost use Rattle.bw_file.specs.Cells.{presence_size, row_limit};
@@ -17,9 +17,15 @@ pub(crate) fn are_spelled(present: &[u8], words: &[u8], rows: usize) -> bool
     ensures told { AreSpelled rows present.now words.now → result ≡ true }
 {
     let mut agree = true;
-    'rows: for i in 0..rows {
-        // No branch, so that the loop stays flat.
-        agree &= has_cell(present, i) | (LittleEndian::read_u32(&words[4 * i..]) == 0);
+    // No branch, so that the loops stay flat, and the place of each bit is known among eight.
+    'eights: for q in 0..rows / 8 {
+        let byte = present[q];
+        'bits: for j in 0..8 {
+            agree &= has_bit(byte, j) | is_zero(words, 8 * q + j);
+        }
+    }
+    'rest: for i in rows / 8 * 8..rows {
+        agree &= has_cell(present, i) | is_zero(words, i);
     }
     agree
 }
@@ -75,9 +81,18 @@ fn read_cell(present: &[u8], words: &[u8], i: usize) -> Option<i64>
     cell_by(present[i / 8], i % 8, word_at(words, i))
 }
 
+/// Whether word i is 0.
+#[inline]
+fn is_zero(words: &[u8], i: usize) -> bool
+    requires { 4 * i + 4 ≤ length words.now }
+    ensures { result ≡ nat_eq (little_number 4 (drop (4 * i) words.now)) 0 }
+{
+    LittleEndian::read_u32(&words[4 * i..]) == 0
+}
+
 /// Word i as a number.
 #[inline]
-fn word_at(words: &[u8], i: usize) -> i32
+pub(crate) fn word_at(words: &[u8], i: usize) -> i32
     requires { 4 * i + 4 ≤ length words.now }
     ensures { result ≡ cast_signed w32 (little_number 4 (drop (4 * i) words.now)) }
 {
@@ -101,7 +116,7 @@ fn cell_by(present: u8, j: usize, word: i32) -> Option<i64>
 
 /// Whether the cell of row i is not null.
 #[inline]
-fn has_cell(present: &[u8], i: usize) -> bool
+pub(crate) fn has_cell(present: &[u8], i: usize) -> bool
     requires few { i < row_limit }
     requires present { i / 8 < length present.now }
     ensures { result ≡ (bit_at (slice_index present.now (i / 8)) (i % 8) == 1) }
@@ -111,7 +126,7 @@ fn has_cell(present: &[u8], i: usize) -> bool
 
 /// Whether bit j of the byte is set.
 #[inline]
-fn has_bit(byte: u8, j: usize) -> bool
+pub(crate) fn has_bit(byte: u8, j: usize) -> bool
     requires { j < 8 }
     ensures { result ≡ (bit_at byte j == 1) }
 {

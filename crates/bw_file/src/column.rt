@@ -4,8 +4,10 @@ ghost use Rattle.std.specs.Prelude.{All, IfSome, List, None, Option, length, ◌
 ghost use Rattle.bw_file.specs.Cells.{column_bytes, column_size, presence_size, row_limit, IsCell};
 
 use crate::cells::{are_spelled, read_cells};
+use crate::ends::ends_of_words;
 use crate::presence::has_spare_bit;
-use bw_cells::Cells;
+use bw_cells::{Bounded, Cells};
+use bw_code::Ends;
 use std::marker::Model;
 
 /// A column of a table file, lent from the file's bytes. A contract sees the list of its cells.
@@ -72,5 +74,11 @@ impl<'a> Cells for FileColumn<'a> {
 
     fn read(&self, at: usize, out: &mut [Option<i64>]) {
         read_cells(self.present, self.words, at, out);
+    }
+}
+
+impl<'a> Bounded for FileColumn<'a> {
+    fn ends(&self) -> Option<Ends> {
+        ends_of_words(self.present, self.words, self.rows)
     }
 }

@@ -8,6 +8,7 @@ mod column;
 mod columns;
 mod decoding;
 mod encoding;
+mod ends;
 mod fault;
 mod front;
 mod header;

@@ -4,7 +4,7 @@ ghost use Rattle.std.specs.Prelude.{All, length, ◌<◌, ◌≡◌};
 ghost use Rattle.bw_table.specs.Slots.{column_of};
 
 use crate::rows::Rows;
-use bw_cells::Cells;
+use bw_cells::{Bounded, Cells};
 
 /// One column of rows, read downward.
 #[derive(Drop)]
@@ -38,3 +38,5 @@ impl<'a> Cells for RowColumn<'a> {
         self.rows.read_column(self.k, at, out);
     }
 }
+
+impl<'a> Bounded for RowColumn<'a> {}

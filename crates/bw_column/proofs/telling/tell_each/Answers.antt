@@ -3,7 +3,7 @@ use Rattle.std.specs.Option.{option_to_list}
 use Rattle.std.proofs.lemmas.List.{append-nil, take_all}
 use Rattle.bw_code.specs.Fittings.{AreTold}
 use Rattle.bw_column.specs.Values.{known}
-use Rattle.bw_column.proofs.Known.{known_more}
+use Rattle.bw_cells.proofs.Known.{known_more}
 use Rattle.bw_column.proofs.telling.tell_each.Goals as goal
 
 pub loop-value-init : goal.loop-value-init

@@ -1,31 +1,56 @@
-use Rattle.std.proofs.Common.{None, Some, ap, arith, cond, drop, length, nat_eq, slice_index, sym, ◌%◌, ◌*◌, ◌-◌, ◌/◌, ◌<◌, ◌==◌, ◌^◌, ◌||◌, ◌≡◌, ◌∙◌}
-use Rattle.std.proofs.lemmas.List.{length-drop, take_all}
-use Rattle.std.specs.Int.{bit_at, cast_signed, w32}
-use Rattle.byteorder.specs.Endian.{little_number}
-use Rattle.bw_file.specs.Cells.{cell_number}
-use Rattle.bw_file.specs.Reading.{read_cell}
-use Rattle.bw_file.proofs.Agree.{both, still}
-use Rattle.bw_file.proofs.Lent.{cell_of_word, word_of_cell}
+use Rattle.std.proofs.Common.{arith, refl, ◌*◌, ◌+◌, ◌∙◌}
+use Rattle.bw_file.proofs.Agree.{still}
+use Rattle.bw_file.proofs.Lent.{bit_among_eight, spelled_more, word_small, zero_or_there}
 use Rattle.bw_file.proofs.cells.are_spelled.Goals as goal
-use borrow.Author.Count.{below_more}
 
-pub rows-preserved : goal.rows-preserved
-rows-preserved c =
-    let inv = c.rows.invariant in
+pub eights-init : goal.eights-init
+eights-init c = record { yes = λ agree i h. absurd (omega (arith, h)); told = λ all. refl }
+
+pub bits-init : goal.bits-init
+bits-init c = record {
+  yes = λ agree i h. c.eights.invariant.yes agree i (omega (arith, h));
+  told = c.eights.invariant.told;
+}
+
+pub bits-preserved : goal.bits-preserved
+bits-preserved c =
+    let inv = c.bits.invariant in
     let present = c.args.present.now in
     let words = c.args.words.now in
-    let i = c.rows.i in
-    let at = 4 * i in
-    let has = c.has_cell.result in
-    let n = c.read_u32.result in
-    let read : n ≡ little_number 4 (drop at words) = c.read_u32.ensures ∙ ap (little_number 4) (take_all (length words - at) (drop at words) (omega (arith, length-drop at words))) in
-    let small : n < 2 ^ 32 = omega (arith, c.read_u32.type_inv) in
-    let cell : cell_number (cond has (Some (cast_signed w32 n)) None) ≡ cell_number (read_cell present words i) =
-    ap (λ b. cell_number (cond b (Some (cast_signed w32 n)) None)) c.has_cell.ensures ∙ ap (λ m. cell_number (cond (bit_at (slice_index present (i / 8)) (i % 8) == 1) (Some (cast_signed w32 m)) None)) read in
+    let i = 8 * c.eights.q + c.bits.j in
+    let has = c.has_bit.ensures ∙ bit_among_eight present c.eights.q c.bits.j (omega (arith, c.bits-test.true)) in
+    let small = word_small words (4 * i) (λ k. omega (arith, c.type_inv.words k)) in
     record {
-      yes = λ agree. below_more (λ k. little_number 4 (drop (4 * k) words) ≡ cell_number (read_cell present words k)) i (inv.yes (both c.rows.agree _ agree).0) (sym read ∙ word_of_cell has n small (both c.rows.agree _ agree).1 ∙ cell);
-      told = λ all. still c.rows.agree (has || nat_eq n 0) (inv.told all) (cell_of_word has n (read ∙ all i c.rows-test.true ∙ sym cell));
+      yes = λ agree k h. spelled_more present words i c.bits.agree _ _ small has c.is_zero.ensures inv.yes agree k (omega (arith, h));
+      told = λ all. still c.bits.agree _ (inv.told all) (zero_or_there present words i _ _ has c.is_zero.ensures (all i (omega (arith, c.bits-test.true, c.eights-test.true))));
+    }
+
+pub eights-preserved : goal.eights-preserved
+eights-preserved c = record {
+  yes = λ agree i h. c.bits.invariant.yes agree i (omega (arith, h, c.bits-test.false));
+  told = c.bits.invariant.told;
+}
+
+pub rest-init : goal.rest-init
+rest-init c = record {
+  yes = λ agree i h. c.eights.invariant.yes agree i (omega (arith, h, c.eights-test.false));
+  told = c.eights.invariant.told;
+}
+
+pub rest-preserved : goal.rest-preserved
+rest-preserved c =
+    let inv = c.rest.invariant in
+    let present = c.args.present.now in
+    let words = c.args.words.now in
+    let i = c.rest.i in
+    let small = word_small words (4 * i) (λ k. omega (arith, c.type_inv.words k)) in
+    record {
+      yes = λ agree k h. spelled_more present words i c.rest.agree _ _ small c.has_cell.ensures c.is_zero-in-rest.ensures inv.yes agree k (omega (arith, h));
+      told = λ all. still c.rest.agree _ (inv.told all) (zero_or_there present words i _ _ c.has_cell.ensures c.is_zero-in-rest.ensures (all i (omega (arith, c.rest-test.true))));
     }
 
 pub returns-clause-yes : goal.returns-clause-yes
-returns-clause-yes c agree i h = c.rows.invariant.yes agree i (omega (arith, c.rows-test.false))
+returns-clause-yes c agree i h = c.rest.invariant.yes agree i (omega (arith, c.rest-test.false, h))
+
+pub returns-clause-told : goal.returns-clause-told
+returns-clause-told c = c.rest.invariant.told

@@ -1,8 +1,8 @@
 use Rattle.std.proofs.Common.{FitsSigned, [], false, fold, length, take, true, w64, ◌<◌, ◌≡◌}
 use Rattle.std.specs.Int.{int_max, int_min}
 use Rattle.std.specs.List.{All}
-use Rattle.bw_column.specs.Values.{known}
-use Rattle.bw_column.proofs.telling.known_ends.Given as goal
+use Rattle.bw_cells.specs.Known.{known}
+use Rattle.bw_cells.proofs.ends.known_ends.Given as goal
 
 abbrev pub invariant-loop-i : goal.invariant-loop-i
 invariant-loop-i l = record {

@@ -1,7 +1,7 @@
 use Rattle.std.proofs.Common.{List, drop, length, ℤ, ◌++◌, ◌-◌, ◌≡◌, ◌≤◌}
 use Rattle.bw_code.specs.Fittings.{AreTold, told_kind}
 use Rattle.bw_column.specs.Values.{known}
-use Rattle.bw_column.proofs.telling.tell_cells.Given as goal
+use Rattle.bw_column.proofs.telling.tell_runs.Given as goal
 
 -- what was told so far, and what is known of the cells that are left behind it
 abbrev pub invariant-loop-at : goal.invariant-loop-at

@@ -1,7 +1,7 @@
 use Rattle.std.proofs.Common.{of_z, rules, to_z, w64, ◌≡◌, ◌∙◌}
 use Rattle.std.proofs.lemmas.Int.{to_z-of_z}
-use Rattle.bw_column.proofs.KnownEnds.{greatest_both, least_both}
-use Rattle.bw_column.proofs.telling.ends_of_both.Goals as goal
+use Rattle.bw_cells.proofs.KnownEnds.{greatest_both, least_both}
+use Rattle.bw_cells.proofs.ends.ends_of_both.Goals as goal
 
 pub returns : goal.returns
 returns c =

@@ -1,10 +1,10 @@
 use Rattle.std.proofs.Common.{FitsSigned, None, arith, get_or, of_z, refl, rules, take, to_z, w64, ◌≡◌}
 use Rattle.std.proofs.lemmas.Int.{ints, to_z-of_z}
 use Rattle.std.proofs.lemmas.List.{take_all}
-use Rattle.bw_column.proofs.Known.{known_more}
-use Rattle.bw_column.proofs.KnownEnds.{fits_more, greatest_is, greatest_more, least_is, least_more, none_more, some_more}
-use Rattle.bw_column.specs.Values.{known}
-use Rattle.bw_column.proofs.telling.known_ends.Goals as goal
+use Rattle.bw_cells.proofs.Known.{known_more}
+use Rattle.bw_cells.proofs.KnownEnds.{fits_more, greatest_is, greatest_more, least_is, least_more, none_more, some_more}
+use Rattle.bw_cells.specs.Known.{known}
+use Rattle.bw_cells.proofs.ends.known_ends.Goals as goal
 
 pub loop-i-init : goal.loop-i-init
 loop-i-init c = record {

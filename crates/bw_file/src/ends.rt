@@ -1,0 +1,60 @@
+//! The least and the greatest of the cells of a column.
+
+ghost use Rattle.std.specs.Prelude.{IfSome, None, Some, length, unwrap_or, if◌then◌else◌, ◌*◌, ◌<ℤ◌, ◌≡◌, ◌≤◌, ◌≤ℤ◌};
+ghost use Rattle.bw_cells.specs.Known.{known};
+ghost use Rattle.bw_code.specs.Fittings.{AreEnds};
+ghost use Rattle.bw_file.specs.Cells.{presence_size, row_limit};
+ghost use Rattle.bw_file.specs.Reading.{cells_in};
+
+use crate::cells::{has_bit, has_cell, word_at};
+use bw_code::Ends;
+
+/// The least and the greatest of the cells that are integers, if there are any, by their bits and words.
+pub(crate) fn ends_of_words(present: &[u8], words: &[u8], rows: usize) -> Option<Ends>
+    requires few { rows ≤ row_limit }
+    requires present { length present.now ≡ presence_size rows }
+    requires words { length words.now ≡ 4 * rows }
+    ensures { AreEnds (known (cells_in rows present.now words.now)) result }
+{
+    let (mut least, mut greatest) = (i32::MAX, i32::MIN);
+    // No branch, and the place of each bit is known among eight. A null is taken as what changes neither end.
+    'eights: for q in 0..rows / 8 {
+        let byte = present[q];
+        'bits: for j in 0..8 {
+            let there = has_bit(byte, j);
+            let word = word_at(words, 8 * q + j);
+            least = least.min(word_or(there, word, i32::MAX));
+            greatest = greatest.max(word_or(there, word, i32::MIN));
+        }
+    }
+    'rest: for i in rows / 8 * 8..rows {
+        let there = has_cell(present, i);
+        let word = word_at(words, i);
+        least = least.min(word_or(there, word, i32::MAX));
+        greatest = greatest.max(word_or(there, word, i32::MIN));
+    }
+    ends_between(least, greatest)
+}
+
+/// The word where it is there, and else what stands for a null.
+#[inline]
+fn word_or(there: bool, word: i32, null: i32) -> i32
+    ensures { result ≡ unwrap_or (if there then Some word else None) null }
+{
+    if there { word } else { null }
+}
+
+/// The ends, where the one is not above the other. As long as no integer is there, it is.
+fn ends_between(least: i32, greatest: i32) -> Option<Ends>
+    ensures some { IfSome result (λ ends. (ends.least ≡ least) × (ends.greatest ≡ greatest) × (least ≤ℤ greatest)) }
+    ensures none { result ≡ None → greatest <ℤ least }
+{
+    if least <= greatest {
+        Some(Ends {
+            least: i64::from(least),
+            greatest: i64::from(greatest),
+        })
+    } else {
+        None
+    }
+}
