@@ -2,10 +2,7 @@
 
 ghost use Rattle.bw_engine.specs.Files.{IsBytesOf};
 
-use bw_model::Refusal;
-
-/// The most bytes of a file.
-pub const FILE_LIMIT: usize = 268_435_456;
+use bw_model::{FILE_LIMIT, Refusal};
 
 /// What became of the file that a statement wants.
 #[derive(Clone, Copy, Debug, Drop)]

@@ -19,7 +19,7 @@ mod select;
 mod shown;
 mod table;
 
-pub use bw_model::{Answer, Cell, Heading, Refusal, Reply};
+pub use bw_model::{Answer, Cell, FILE_LIMIT, Heading, Refusal, Reply};
 pub use engine::Engine;
-pub use file_answer::{FILE_LIMIT, FileAnswer};
+pub use file_answer::FileAnswer;
 pub use outcome::{Outcome, Saving};

@@ -10,13 +10,12 @@ ghost use Rattle.bw_plan.specs.Words.{word_of_kind, word_of_layout};
 ghost use Rattle.bw_engine.specs.Files.{SavesOr};
 ghost use Rattle.bw_engine.specs.Stores.{store_of, table_in};
 
-use crate::file_answer::FILE_LIMIT;
 use crate::live_cells::live_columns;
 use crate::outcome::Saving;
 use crate::table::Table;
 use bw_code::{Kind, Layout};
 use bw_file::{ColumnHeader, encode};
-use bw_model::Refusal;
+use bw_model::{FILE_LIMIT, Refusal};
 use bw_sql::{KindWord, LayoutWord, Name, Save};
 use bw_table::Header;
 use indexmap::IndexMap;

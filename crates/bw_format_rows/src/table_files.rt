@@ -1,6 +1,6 @@
 //! Tables as the bytes of table files: examples byte by byte, and bytes that spell no table.
 
-use bw_cells::Cells;
+use bw_cells::{Bounded, Cells};
 use bw_file::{ColumnHeader, FileColumn, FileFault, TableFile, decode, encode, file_length};
 use bw_sql::{KindWord, LayoutWord, Name, is_name};
 use std::process::Abort;
@@ -47,6 +47,14 @@ fn check_cells<R: Abort>(rt: &R, column: &FileColumn<'_>, cells: &[Option<i64>])
     let half = cells.len() / 2;
     column.read(half, &mut run[..cells.len() - half]);
     assert_eq!(rt; &run[..cells.len() - half], &cells[half..]);
+}
+
+// Sees that these are the least and the greatest of the integers.
+fn check_ends<R: Abort, C: Bounded>(rt: &R, cells: &C, least: i64, greatest: i64) {
+    let Some(ends) = cells.ends() else {
+        panic!(rt; "there is an integer")
+    };
+    assert_eq!(rt; (ends.least, ends.greatest), (least, greatest));
 }
 
 fn check_header<R: Abort>(
@@ -273,4 +281,44 @@ fn rows_in_runs(rt: HostRuntime) {
             assert_eq!(rt; run[k], many_rows_cell((7 * r + k) as u32));
         }
     }
+}
+
+#[test]
+fn ends_of_nine_rows(rt: HostRuntime) {
+    let table = decode(rt.alloc(), &NINE_ROWS).expect(&rt, "a table");
+    let columns = table.columns();
+    assert_eq!(rt; columns.len(), 2);
+    check_ends(&rt, &columns[0], 1, 9);
+    check_ends(&rt, &columns[1], -2_147_483_648, 2_147_483_647);
+}
+
+// The first row has the least, row 2,049 the greatest: the last row is null.
+#[test]
+fn ends_of_many_rows(rt: HostRuntime) {
+    let bytes = many_rows(&rt);
+    let table = decode(rt.alloc(), &bytes).expect(&rt, "a table");
+    assert_eq!(rt; table.columns().len(), 1);
+    check_ends(&rt, &table.columns()[0], -1_000_000, 1_049_000);
+}
+
+#[test]
+fn no_ends_of_nulls(rt: HostRuntime) {
+    let mut bytes = [0; 31];
+    bytes[..18].copy_from_slice(&EXAMPLE[..18]);
+    let table = decode(rt.alloc(), &bytes).expect(&rt, "a table");
+    assert_eq!(rt; table.rows(), 3);
+    assert_eq!(rt; table.columns().len(), 1);
+    assert!(rt; table.columns()[0].ends().is_none());
+}
+
+// The least is in the last of three runs of 64, the greatest in the first.
+#[test]
+fn ends_of_a_list(rt: HostRuntime) {
+    let mut cells = [None; 130];
+    assert!(rt; cells.as_slice().ends().is_none());
+    cells[129] = Some(-5);
+    check_ends(&rt, &cells.as_slice(), -5, -5);
+    cells[63] = Some(7);
+    cells[64] = Some(0);
+    check_ends(&rt, &cells.as_slice(), -5, 7);
 }

@@ -28,7 +28,9 @@ fn units_of<C: CodeColumn, R: Abort + AllocGlobal>(rt: &R, column: &C, test: Cod
 #[test]
 fn planes(rt: HostRuntime) {
     let four: VerticalColumn = column_of(&rt, 8, &[3; 4]);
-    let five: VerticalColumn = column_of(&rt, 8, &[3, 3, 3, 3, 128]);
+    let mut five: VerticalColumn = column_of(&rt, 8, &[3; 4]);
+    five.reserve(1).expect(&rt, "memory");
+    five.push(128);
     let below = CodeTest::Cmp(CmpOp::Lt, 128);
     let equal = CodeTest::Cmp(CmpOp::Eq, 3);
     assert_eq!(&rt;

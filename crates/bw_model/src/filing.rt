@@ -7,8 +7,8 @@ ghost use Rattle.bw_model.specs.Filing.{file_limit, filed_header, filed_length};
 
 use crate::store::{Header, Table};
 
-/// The most bytes of a file.
-const FILE_LIMIT: usize = 268_435_456;
+/// The most bytes of a file that is read or written.
+pub const FILE_LIMIT: usize = 268_435_456;
 
 /// Whether the file of a table is longer than a file may be.
 pub(crate) fn is_too_long(table: &Table) -> bool

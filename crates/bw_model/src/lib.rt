@@ -25,6 +25,7 @@ pub use condition_laws::{
     between_is_two_comparisons, in_is_a_run_of_or, not_in_with_null_finds_nothing,
 };
 pub use content::Content;
+pub use filing::FILE_LIMIT;
 pub use laws::{
     one_content, one_table_a_file, refusals_change_nothing, refusals_need_no_memory,
     replies_are_told, stores_stay_well_formed, texts_tell_replies,
