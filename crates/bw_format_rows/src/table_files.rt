@@ -292,7 +292,7 @@ fn ends_of_nine_rows(rt: HostRuntime) {
     check_ends(&rt, &columns[1], -2_147_483_648, 2_147_483_647);
 }
 
-// The first row has the least, row 2,049 the greatest: the last row is null.
+// The first row has the least, the last but one the greatest: the last is null.
 #[test]
 fn ends_of_many_rows(rt: HostRuntime) {
     let bytes = many_rows(&rt);

@@ -42,7 +42,7 @@ fn push_if_number(numbers: &mut Vec<i64>, entry: Value) -> Result<(), AllocError
 }
 
 /// The entries that are not NULL, in order.
-#[tactic(auto, using(bw_column::proofs::Known::known_more))]
+#[tactic(auto, using(bw_cells::proofs::Known::known_more))]
 fn numbers_of(alloc: Global, entries: &[Value]) -> Result<Vec<i64>, AllocError>
     ensures { IfOk result (λ numbers. numbers.items ≡ known entries.now) }
 {
