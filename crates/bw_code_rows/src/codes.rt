@@ -9,6 +9,26 @@ const NONE: CodeTest = CodeTest::None;
 
 const ALL: CodeTest = CodeTest::All;
 
+const OPERATORS: [CmpOp; 6] = [Eq, Ne, Lt, Le, Gt, Ge];
+
+/// Values, and the entries and the bits of their dictionary. Five places need three bits, and four need two.
+const DICTIONARIES: [(&[i64], &[i64], u32); 5] = [
+    (&[5, 4, 1, 4], &[1, 4, 5], 2),
+    (&[], &[], 1),
+    (&[7, 7], &[7], 1),
+    (&[1, 2, 3, 5, 9], &[1, 2, 3, 5, 9], 3),
+    (&[1, 2, 3, 9], &[1, 2, 3, 9], 2),
+];
+
+/// Values, and the base and the bits of their offset.
+const OFFSETS: [(&[i64], i64, u32); 5] = [
+    (&[3, 1, 2], 1, 2),
+    (&[], 0, 1),
+    (&[7, 7], 7, 1),
+    (&[i64::MAX, i64::MIN], i64::MIN, 64),
+    (&[i64::MAX - 2, i64::MAX], i64::MAX - 2, 2),
+];
+
 /// An operator, and its test against 0, 1, 2, 4, 5 and 6 by the dictionary of 1, 4, 5.
 const DICTIONARY_TESTS: [(CmpOp, [CodeTest; 6]); 6] = [
     (
@@ -112,6 +132,18 @@ const OFFSET_RANGES: [(i64, i64, CodeTest); 8] = [
     (4, 4, CodeTest::Range(3, 3)),
 ];
 
+/// An operator, and its test by a dictionary of nothing.
+const EMPTY_TESTS: [(CmpOp, CodeTest); 6] = [
+    (Eq, NONE),
+    (Ne, ALL),
+    (Lt, NONE),
+    (Le, NONE),
+    (Gt, NONE),
+    (Ge, NONE),
+];
+
+const MANY_VALUES: [i64; 4] = [40, -2, 7, 40];
+
 /// The encoding that fits the values, which are told one after the other.
 fn fitted_one_by_one<R: Abort + AllocGlobal>(rt: &R, values: &[i64], kind: Kind) -> Encoding {
     let mut fitting = Fitting::new(rt.alloc(), kind, 0).expect(rt, "memory");
@@ -152,115 +184,199 @@ fn span_of(encoding: &Encoding) -> Option<(i64, u32)> {
     }
 }
 
-#[test]
-fn tests_by_a_dictionary(rt: HostRuntime) {
-    let dictionary = fitted(&rt, &[5, 4, 1, 4], Kind::Dictionary);
-    assert_eq!(rt; entries_of(&dictionary), Some(&[1, 4, 5][..]));
+/// Sees the entries and the bits of the dictionary that fits these values.
+fn check_dictionary<R: Abort + AllocGlobal>(rt: &R, values: &[i64], entries: &[i64], bits: u32) {
+    let dictionary = fitted(rt, values, Kind::Dictionary);
+    assert_eq!(rt; entries_of(&dictionary), Some(entries));
     assert_eq!(rt;
         (dictionary.kind(), dictionary.width()),
-        (Kind::Dictionary, 2)
+        (Kind::Dictionary, bits)
     );
+}
+
+/// Sees the base and the bits of the offset that fits these values.
+fn check_offset<R: Abort + AllocGlobal>(rt: &R, values: &[i64], base: i64, bits: u32) {
+    let offset = fitted(rt, values, Kind::Offset);
+    assert_eq!(rt; span_of(&offset), Some((base, bits)));
+    assert_eq!(rt; (offset.kind(), offset.width()), (Kind::Offset, bits));
+}
+
+#[test]
+fn entries_and_bits_of_dictionaries(rt: HostRuntime) {
+    for (values, entries, bits) in DICTIONARIES {
+        check_dictionary(&rt, values, entries, bits);
+    }
+}
+
+#[test]
+fn bases_and_bits_of_offsets(rt: HostRuntime) {
+    for (values, base, bits) in OFFSETS {
+        check_offset(&rt, values, base, bits);
+    }
+}
+
+/// Sees the codes of these values, each by itself, where it has one.
+fn check_encode<R: Abort>(rt: &R, encoding: &Encoding, wants: &[(i64, Option<u64>)]) {
+    for (x, want) in wants {
+        assert_eq!(rt; encoding.encode(*x), *want, "{x}");
+    }
+}
+
+/// Sees that the tests of one operator against these constants are these.
+fn check_tests<R: Abort>(
+    rt: &R,
+    encoding: &Encoding,
+    op: CmpOp,
+    constants: &[i64],
+    wants: &[CodeTest],
+) {
+    for (constant, want) in constants.iter().zip(wants) {
+        assert_eq!(rt; encoding.test(op, *constant), *want, "{op:?} {constant}");
+    }
+}
+
+/// Sees that the tests for these ranges are these.
+fn check_ranges<R: Abort>(rt: &R, encoding: &Encoding, wants: &[(i64, i64, CodeTest)]) {
+    for (low, high, want) in wants {
+        assert_eq!(rt; encoding.range(*low, *high), *want, "{low} to {high}");
+    }
+}
+
+/// The dictionary of 1, 4, 5.
+fn dictionary_of_three<R: Abort + AllocGlobal>(rt: &R) -> Encoding {
+    fitted(rt, &[5, 4, 1, 4], Kind::Dictionary)
+}
+
+#[test]
+fn comparisons_by_a_dictionary(rt: HostRuntime) {
+    let dictionary = dictionary_of_three(&rt);
     for (op, wants) in &DICTIONARY_TESTS {
-        for (constant, want) in [0, 1, 2, 4, 5, 6].iter().zip(wants) {
-            assert_eq!(rt; dictionary.test(*op, *constant), *want, "{op:?} {constant}");
-        }
-    }
-    for (low, high, want) in &DICTIONARY_RANGES {
-        assert_eq!(rt; dictionary.range(*low, *high), *want, "{low} to {high}");
+        check_tests(&rt, &dictionary, *op, &[0, 1, 2, 4, 5, 6], wants);
     }
 }
 
 #[test]
-fn tests_by_an_offset(rt: HostRuntime) {
-    let offset = fitted(&rt, &[3, 1, 2], Kind::Offset);
-    assert_eq!(rt; span_of(&offset), Some((1, 2)));
-    assert_eq!(rt; (offset.kind(), offset.width()), (Kind::Offset, 2));
+fn ranges_by_a_dictionary(rt: HostRuntime) {
+    check_ranges(&rt, &dictionary_of_three(&rt), &DICTIONARY_RANGES);
+}
+
+/// The offset of base 1 and width 2.
+fn offset_of_three<R: Abort + AllocGlobal>(rt: &R) -> Encoding {
+    fitted(rt, &[3, 1, 2], Kind::Offset)
+}
+
+#[test]
+fn comparisons_by_an_offset(rt: HostRuntime) {
+    let offset = offset_of_three(&rt);
     for (op, wants) in &OFFSET_TESTS {
-        for (constant, want) in [0, 1, 4, 5].iter().zip(wants) {
-            assert_eq!(rt; offset.test(*op, *constant), *want, "{op:?} {constant}");
-        }
-    }
-    for (low, high, want) in &OFFSET_RANGES {
-        assert_eq!(rt; offset.range(*low, *high), *want, "{low} to {high}");
+        check_tests(&rt, &offset, *op, &[0, 1, 4, 5], wants);
     }
 }
 
 #[test]
-fn few_values(rt: HostRuntime) {
+fn ranges_by_an_offset(rt: HostRuntime) {
+    check_ranges(&rt, &offset_of_three(&rt), &OFFSET_RANGES);
+}
+
+#[test]
+fn codes_by_an_offset_of_no_values(rt: HostRuntime) {
     let offset = fitted(&rt, &[], Kind::Offset);
-    assert_eq!(rt; span_of(&offset), Some((0, 1)));
-    for (x, want) in [(-1, None), (0, Some(0)), (1, Some(1)), (2, None)] {
-        assert_eq!(rt; offset.encode(x), want, "{x}");
-    }
+    let wants = [(-1, None), (0, Some(0)), (1, Some(1)), (2, None)];
+    check_encode(&rt, &offset, &wants);
+}
+
+#[test]
+fn tests_by_a_dictionary_of_no_values(rt: HostRuntime) {
     let dictionary = fitted(&rt, &[], Kind::Dictionary);
-    assert_eq!(rt; entries_of(&dictionary), Some(&[][..]));
-    assert_eq!(rt; dictionary.width(), 1);
-    for (op, want) in [
-        (Eq, NONE),
-        (Ne, ALL),
-        (Lt, NONE),
-        (Le, NONE),
-        (Gt, NONE),
-        (Ge, NONE),
-    ] {
-        assert_eq!(rt; dictionary.test(op, 0), want, "{op:?}");
+    for (op, want) in EMPTY_TESTS {
+        check_tests(&rt, &dictionary, op, &[0], &[want]);
     }
-    assert_eq!(rt; dictionary.range(0, 9), NONE);
-    assert_eq!(rt; span_of(&fitted(&rt, &[7, 7], Kind::Offset)), Some((7, 1)));
+    check_ranges(&rt, &dictionary, &[(0, 9, NONE)]);
+}
+
+/// The offset that reaches from one end of i64 to the other.
+fn whole<R: Abort + AllocGlobal>(rt: &R) -> Encoding {
+    fitted(rt, &[i64::MAX, i64::MIN], Kind::Offset)
+}
+
+#[test]
+fn an_offset_of_both_ends_of_i64(rt: HostRuntime) {
+    let whole = whole(&rt);
+    check_encode(&rt, &whole, &[(i64::MAX, Some(u64::MAX))]);
+    check_ranges(&rt, &whole, &[(i64::MIN, i64::MAX, ALL)]);
+}
+
+#[test]
+fn comparisons_with_both_ends_of_i64(rt: HostRuntime) {
+    let whole = whole(&rt);
+    for op in OPERATORS {
+        let wants = [CodeTest::Cmp(op, 0), CodeTest::Cmp(op, u64::MAX)];
+        check_tests(&rt, &whole, op, &[i64::MIN, i64::MAX], &wants);
+    }
+}
+
+/// An offset whose top is one above i64::MAX, so no constant is above it, and no high end reaches it.
+fn high<R: Abort + AllocGlobal>(rt: &R) -> Encoding {
+    fitted(rt, &[i64::MAX - 2, i64::MAX], Kind::Offset)
+}
+
+#[test]
+fn all_of_i64_by_a_top_above_it(rt: HostRuntime) {
+    let want = (i64::MIN, i64::MAX, CodeTest::Range(0, 2));
+    check_ranges(&rt, &high(&rt), &[want]);
+}
+
+#[test]
+fn the_greatest_i64_by_a_top_above_it(rt: HostRuntime) {
+    let high = high(&rt);
+    for op in OPERATORS {
+        check_tests(&rt, &high, op, &[i64::MAX], &[CodeTest::Cmp(op, 2)]);
+    }
+}
+
+/// Sees what the codes of both ends of i64 stand for: of the greatest for itself, and of the least for this.
+fn check_ends<R: Abort>(rt: &R, encoding: &Encoding, least: Option<i64>) {
     assert_eq!(rt;
-        entries_of(&fitted(&rt, &[7, 7], Kind::Dictionary)),
-        Some(&[7][..])
+        (back(encoding, i64::MIN), back(encoding, i64::MAX)),
+        (least, Some(i64::MAX))
     );
 }
 
 #[test]
-fn the_ends_of_i64(rt: HostRuntime) {
-    let whole = fitted(&rt, &[i64::MAX, i64::MIN], Kind::Offset);
-    assert_eq!(rt; span_of(&whole), Some((i64::MIN, 64)));
-    assert_eq!(rt; whole.encode(i64::MAX), Some(u64::MAX));
-    assert_eq!(rt; whole.range(i64::MIN, i64::MAX), ALL);
-    // The top is one above i64::MAX, so no constant is above it, and no high end reaches it.
-    let high = fitted(&rt, &[i64::MAX - 2, i64::MAX], Kind::Offset);
-    assert_eq!(rt; span_of(&high), Some((i64::MAX - 2, 2)));
-    assert_eq!(rt; high.range(i64::MIN, i64::MAX), CodeTest::Range(0, 2));
-    for op in [Eq, Ne, Lt, Le, Gt, Ge] {
-        assert_eq!(rt; whole.test(op, i64::MIN), CodeTest::Cmp(op, 0), "{op:?}");
-        assert_eq!(rt;
-            whole.test(op, i64::MAX),
-            CodeTest::Cmp(op, u64::MAX),
-            "{op:?}"
-        );
-        assert_eq!(rt; high.test(op, i64::MAX), CodeTest::Cmp(op, 2), "{op:?}");
-    }
-    for encoding in [
-        &whole,
-        &high,
-        &fitted(&rt, &[i64::MIN, i64::MAX], Kind::Dictionary),
-    ] {
-        assert_eq!(rt; back(encoding, i64::MAX), Some(i64::MAX));
-    }
-    assert_eq!(rt;
-        (back(&whole, i64::MIN), back(&high, i64::MIN)),
-        (Some(i64::MIN), None)
-    );
+fn the_ends_of_i64_there_and_back(rt: HostRuntime) {
+    check_ends(&rt, &whole(&rt), Some(i64::MIN));
+    check_ends(&rt, &high(&rt), None);
+    let both = fitted(&rt, &[i64::MIN, i64::MAX], Kind::Dictionary);
+    check_ends(&rt, &both, Some(i64::MIN));
+}
+
+/// Sees that the codes of these values by an encoding that fits them are these, of so many bits.
+fn check_codes<R: Abort + AllocGlobal>(rt: &R, kind: Kind, wants: [u64; 4], bits: u32) {
+    let encoding = fitted(rt, &MANY_VALUES, kind);
+    let mut codes = [0; 4];
+    assert!(rt; encoding.encode_all(&MANY_VALUES, &mut codes));
+    assert_eq!(rt; (codes, encoding.width()), (wants, bits));
 }
 
 #[test]
 fn codes_of_many_values(rt: HostRuntime) {
-    let values = [40, -2, 7, 40];
-    for (kind, wants, bits) in [
-        (Kind::Offset, [42, 0, 9, 42], 6),
-        (Kind::Dictionary, [2, 0, 1, 2], 2),
-    ] {
-        let encoding = fitted(&rt, &values, kind);
-        let mut codes = [0; 4];
-        assert!(rt; encoding.encode_all(&values, &mut codes));
-        assert_eq!(rt; (codes, encoding.width()), (wants, bits));
-        assert!(rt; !encoding.encode_all(&[7, 40, -3, 7], &mut codes));
+    check_codes(&rt, Kind::Offset, [42, 0, 9, 42], 6);
+    check_codes(&rt, Kind::Dictionary, [2, 0, 1, 2], 2);
+}
+
+#[test]
+fn no_code_for_a_value_that_was_not_told(rt: HostRuntime) {
+    for kind in [Kind::Offset, Kind::Dictionary] {
+        let encoding = fitted(&rt, &MANY_VALUES, kind);
+        assert!(rt; !encoding.encode_all(&[7, 40, -3, 7], &mut [0; 4]));
+    }
+}
+
+#[test]
+fn encodings_are_equal_by_their_values(rt: HostRuntime) {
+    for kind in [Kind::Offset, Kind::Dictionary] {
+        let encoding = fitted(&rt, &MANY_VALUES, kind);
         assert!(rt; encoding == fitted(&rt, &[7, -2, 40], kind));
         assert!(rt; encoding != fitted(&rt, &[7, -3, 40], kind));
     }
-    // Five places need three bits, four need two.
-    assert_eq!(rt; fitted(&rt, &[1, 2, 3, 5, 9], Kind::Dictionary).width(), 3);
-    assert_eq!(rt; fitted(&rt, &[1, 2, 3, 9], Kind::Dictionary).width(), 2);
 }
