@@ -76,46 +76,23 @@ fn column_of<C: CodeColumn + Drop, R: Abort + AllocGlobal>(rt: &R, rows: usize) 
     column
 }
 
-/// Rows of which one of three is not needed.
-fn need_of<R: Abort + AllocGlobal>(rt: &R, rows: usize) -> Mask
-    requires { rows < 1000 }
-    ensures { len result ≡ rows }
-{
-    let mut need = Mask::filled(rt.alloc(), rows, false).expect(rt, "memory");
-    for row in 0..rows {
-        need.set(row, row % 3 != 1);
-    }
-    need
-}
-
-/// The rows that a scan finds, into a mask in which all rows were in.
-fn found<C: CodeColumn, R: Abort + AllocGlobal>(
-    rt: &R,
-    column: &C,
-    test: CodeTest,
-    need: &Mask,
-) -> Mask
-    requires test { TestFits (C.seen column.now).width test }
-    requires few { length (C.seen column.now).codes < 1000 }
-    requires need { len need.now ≡ length (C.seen column.now).codes }
-    ensures { len result ≡ length (C.seen column.now).codes }
-{
-    let mut out = Mask::filled(rt.alloc(), column.len(), true).expect(rt, "memory");
-    column.scan(test, need, &mut out, &mut Meter::new());
-    out
-}
-
-/// Scans with each row of three but one needed, beside a plain loop.
+/// Scans with each row of three but one needed, into a mask in which all rows are in.
 fn check_scan<C: CodeColumn + Drop, R: Abort + AllocGlobal>(rt: &R, column: &C, test: CodeTest)
     requires width { (C.seen column.now).width ≡ 9 }
     requires few { length (C.seen column.now).codes < 1000 }
     requires test { TestFits 9 test }
 {
-    let need = need_of(rt, column.len());
-    let found = found(rt, column, test, &need);
-    for row in 0..column.len() {
+    let rows = column.len();
+    let mut need = Mask::filled(rt.alloc(), rows, false).expect(rt, "memory");
+    for row in 0..rows {
+        need.set(row, row % 3 != 1);
+    }
+    let mut out = Mask::filled(rt.alloc(), rows, true).expect(rt, "memory");
+    let mut meter = Meter::new();
+    column.scan(test, &need, &mut out, &mut meter);
+    for row in 0..rows {
         let wanted = row % 3 != 1 && plainly_meets(test, column.get(row));
-        assert_eq!(rt; found.get(row), wanted, "row {row}");
+        assert_eq!(rt; out.get(row), wanted, "row {row}");
     }
 }
 
@@ -129,41 +106,27 @@ fn check_scans<C: CodeColumn + Drop, R: Abort + AllocGlobal>(rt: &R, rows: usize
     }
 }
 
-/// Four codes, of which the first is pushed, the others put behind it, and one of these changed.
-fn four_codes<C: CodeColumn + Drop, R: Abort + AllocGlobal>(rt: &R) -> C
+fn check_calls<C: CodeColumn + Drop, R: Abort + AllocGlobal>(rt: &R)
     requires { 9 ≤ C.WIDEST }
-    ensures width { (C.seen result).width ≡ 9 }
-    ensures count { length (C.seen result).codes ≡ 4 }
 {
     let mut column = C::with_width(rt.alloc(), 9).expect(rt, "memory");
     column.reserve(4).expect(rt, "memory");
     column.push(300);
     column.extend(&[0, 511, 7]);
     column.set(1, 256);
-    column
-}
-
-#[test]
-fn codes_of_a_plain_column(rt: HostRuntime) {
-    let column: PlainColumn = four_codes(&rt);
     assert_eq!(rt; (column.len(), column.width()), (4, 9));
     assert_eq!(rt; (column.get(0), column.get(1)), (300, 256));
-}
-
-#[test]
-fn a_run_of_a_plain_column(rt: HostRuntime) {
-    let column: PlainColumn = four_codes(&rt);
     let mut codes = [0; 2];
     column.read(1, &mut codes);
     assert_eq!(rt; codes, [256, 511]);
+    let mut rows = Mask::filled(rt.alloc(), 4, true).expect(rt, "memory");
+    column.plane(8, &mut rows);
+    assert_eq!(rt; rows.words(), [0b0111].as_slice());
 }
 
 #[test]
-fn a_plane_of_a_plain_column(rt: HostRuntime) {
-    let column: PlainColumn = four_codes(&rt);
-    let mut rows = Mask::filled(rt.alloc(), 4, true).expect(&rt, "memory");
-    column.plane(8, &mut rows);
-    assert_eq!(rt; rows.words(), [0b0111].as_slice());
+fn calls_of_a_plain_column(rt: HostRuntime) {
+    check_calls::<PlainColumn, HostRuntime>(&rt);
 }
 
 #[test]

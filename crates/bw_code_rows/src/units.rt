@@ -335,7 +335,7 @@ fn units_of<R: Abort + AllocGlobal>(
 
 // Segments whose first digits settle all rows stop there; those with a row that agrees farther go on.
 #[test]
-fn units_of_a_scan_in_each_layout(rt: HostRuntime) {
+fn units_of_one_scan(rt: HostRuntime) {
     let below = CodeTest::Cmp(CmpOp::Lt, 256);
     for (layout, units) in [
         (Layout::S, 1),
@@ -345,30 +345,18 @@ fn units_of_a_scan_in_each_layout(rt: HostRuntime) {
     ] {
         assert_eq!(rt; units_of(&rt, layout, 9, below, u64::MAX, &[0, 300]), units);
     }
-}
-
-/// The units of a scan for the codes below 128.
-fn units_below_128<R: Abort + AllocGlobal>(rt: &R, layout: Layout, codes: &[u32]) -> u64 {
-    units_of(
-        rt,
-        layout,
-        8,
-        CodeTest::Cmp(CmpOp::Lt, 128),
-        u64::MAX,
-        codes,
-    )
-}
-
-#[test]
-fn units_of_a_scan_that_meets_its_constant(rt: HostRuntime) {
+    let below = CodeTest::Cmp(CmpOp::Lt, 128);
     for (layout, units, with_128) in [
         (Layout::V, 4, 8),
         (Layout::H, 9, 9),
         (Layout::S, 1, 2),
         (Layout::P, 32, 33),
     ] {
-        assert_eq!(rt; units_below_128(&rt, layout, &ENDS[..32]), units);
-        assert_eq!(rt; units_below_128(&rt, layout, &ENDS), with_128);
+        assert_eq!(rt;
+            units_of(&rt, layout, 8, below, u64::MAX, &ENDS[..32]),
+            units
+        );
+        assert_eq!(rt; units_of(&rt, layout, 8, below, u64::MAX, &ENDS), with_128);
     }
 }
 
@@ -417,27 +405,12 @@ fn units_of_a_pair(rt: HostRuntime) {
     );
 }
 
-/// The units of an addition in which of so many rows those are needed whose bits are set.
-fn units_of_adding<R: Abort + AllocGlobal>(
-    rt: &R,
-    (width, other_width): (u32, u32),
-    rows: usize,
-    bits: u64,
-) -> u64 {
-    assert!(rt; width <= 32 && other_width <= 32);
-    addition_units(width, other_width, &needed(rt, rows, bits))
-}
-
 #[test]
-fn units_of_additions(rt: HostRuntime) {
-    assert_eq!(rt; units_of_adding(&rt, (3, 4), 3, 0b111), 7);
-    assert_eq!(rt; units_of_adding(&rt, (2, 2), 2, 0b11), 4);
-    assert_eq!(rt; units_of_adding(&rt, (1, 1), 1, 0), 0);
-    assert_eq!(rt; units_of_adding(&rt, (3, 4), 257, 1), 14);
-}
-
-#[test]
-fn units_of_fetches(rt: HostRuntime) {
+fn units_of_additions_and_fetches(rt: HostRuntime) {
+    assert_eq!(rt; addition_units(3, 4, &needed(&rt, 3, 0b111)), 7);
+    assert_eq!(rt; addition_units(2, 2, &needed(&rt, 2, 0b11)), 4);
+    assert_eq!(rt; addition_units(1, 1, &needed(&rt, 1, 0)), 0);
+    assert_eq!(rt; addition_units(3, 4, &needed(&rt, 257, 1)), 14);
     assert_eq!(rt; fetch_units(&needed(&rt, 2, 0b11)), 4);
     assert_eq!(rt; fetch_units(&needed(&rt, 32, u64::MAX)), 64);
     assert_eq!(rt; fetch_units(&needed(&rt, 32, 0)), 0);

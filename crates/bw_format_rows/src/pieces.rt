@@ -120,26 +120,17 @@ fn told_of_parts<R: Abort + AllocGlobal>(rt: &R, script: &[u8]) -> Vec<u8> {
     told
 }
 
-// Cuts the script in two pieces, in each place.
-fn check_cuts<R: Abort + AllocGlobal>(rt: &R, script: &[u8], want: &[u8]) {
-    for at in 0..script.len() + 1 {
-        assert!(rt;
-            told_in_two(rt, script, at).as_slice() == want,
-            "cut at {at}"
-        );
-    }
-}
-
-fn check_script<R: Abort + AllocGlobal>(rt: &R, script: &[u8], want: &[u8]) {
-    assert!(rt; told_of_parts(rt, script).as_slice() == want, "at once");
-    assert!(rt; told_singly(rt, script).as_slice() == want, "singly");
-    check_cuts(rt, script, want);
-}
-
 #[test]
 fn however_it_is_cut(rt: HostRuntime) {
     for (script, want) in SCRIPTS {
-        check_script(&rt, script, want);
+        assert!(rt; told_of_parts(&rt, script).as_slice() == want, "at once");
+        assert!(rt; told_singly(&rt, script).as_slice() == want, "singly");
+        for at in 0..script.len() + 1 {
+            assert!(rt;
+                told_in_two(&rt, script, at).as_slice() == want,
+                "cut at {at}"
+            );
+        }
     }
 }
 

@@ -1,7 +1,5 @@
 //! Tables as the bytes of table files: examples byte by byte, and bytes that spell no table.
 
-ghost use Rattle.std.specs.Prelude.{◌≤◌};
-
 use bw_cells::{Bounded, Cells};
 use bw_file::{ColumnHeader, FileColumn, FileFault, TableFile, decode, encode, file_length};
 use bw_sql::{KindWord, LayoutWord, Name, is_name};
@@ -27,34 +25,6 @@ const NINE_ROWS: [u8; 100] = [
     0x00, 0x00, 0x00, 0x80, 0x00, 0x00, 0x00, 0x00, 0x00, 0x00, 0x00, 0x00, 0x00, 0x00, 0x00, 0x00,
     0x00, 0x00, 0x00, 0x00, 0x00, 0x00, 0x00, 0x00, 0x00, 0x00, 0x00, 0x00, 0x00, 0x00, 0x00, 0x00,
     0xff, 0xff, 0xff, 0x7f,
-];
-
-// Places of the example, and a byte that makes it no table.
-const WRONG_BYTES: [(usize, u8); 5] = [(18, 0x0d), (23, 0x01), (16, 0x04), (15, 0x61), (17, 0x02)];
-
-// The cells of C1 and of X_.
-const ODD_NUMBERS: [Option<i64>; 9] = [
-    Some(1),
-    None,
-    Some(3),
-    None,
-    Some(5),
-    None,
-    Some(7),
-    None,
-    Some(9),
-];
-
-const BOTH_ENDS: [Option<i64>; 9] = [
-    Some(-2_147_483_648),
-    None,
-    None,
-    None,
-    None,
-    None,
-    None,
-    None,
-    Some(2_147_483_647),
 ];
 
 fn check_no_table<R: Abort + AllocGlobal>(rt: &R, bytes: &[u8]) {
@@ -148,9 +118,11 @@ fn a_part_of_the_example_is_no_table(rt: HostRuntime) {
 
 #[test]
 fn a_wrong_byte_is_no_table(rt: HostRuntime) {
-    for (at, byte) in WRONG_BYTES {
-        check_no_table(&rt, &changed(at, byte));
-    }
+    check_no_table(&rt, &changed(18, 0x0d));
+    check_no_table(&rt, &changed(23, 0x01));
+    check_no_table(&rt, &changed(16, 0x04));
+    check_no_table(&rt, &changed(15, 0x61));
+    check_no_table(&rt, &changed(17, 0x02));
 }
 
 // With any byte in any place, the bytes spell no table or the one that is spelled so.
@@ -190,24 +162,35 @@ fn two_columns_of_nine_rows(rt: HostRuntime) {
     check_spelled(&rt, &table, &NINE_ROWS);
     assert_eq!(rt; file_length(table.headers(), 9), 100);
     assert_eq!(rt; table.rows(), 9);
-}
-
-#[test]
-fn headers_of_two_columns(rt: HostRuntime) {
-    let table = decode(rt.alloc(), &NINE_ROWS).expect(&rt, "a table");
-    let (headers, _) = table.into_headers_and_columns();
+    let (headers, columns) = table.into_headers_and_columns();
     assert_eq!(rt; headers.len(), 2);
     check_header(&rt, &headers[0], b"C1", LayoutWord::P, KindWord::Dictionary);
     check_header(&rt, &headers[1], b"X_", LayoutWord::H, KindWord::Offset);
-}
-
-#[test]
-fn cells_of_two_columns(rt: HostRuntime) {
-    let table = decode(rt.alloc(), &NINE_ROWS).expect(&rt, "a table");
-    let (_, columns) = table.into_headers_and_columns();
     assert_eq!(rt; columns.len(), 2);
-    check_cells(&rt, &columns[0], &ODD_NUMBERS);
-    check_cells(&rt, &columns[1], &BOTH_ENDS);
+    let odd = [
+        Some(1),
+        None,
+        Some(3),
+        None,
+        Some(5),
+        None,
+        Some(7),
+        None,
+        Some(9),
+    ];
+    check_cells(&rt, &columns[0], &odd);
+    let ends = [
+        Some(-2_147_483_648),
+        None,
+        None,
+        None,
+        None,
+        None,
+        None,
+        None,
+        Some(2_147_483_647),
+    ];
+    check_cells(&rt, &columns[1], &ends);
 }
 
 #[test]
@@ -283,33 +266,20 @@ fn many_rows<R: Abort + AllocGlobal>(rt: &R) -> Vec<u8> {
 
 // More rows than are written in one run, the last of them not a whole byte of bits.
 #[test]
-fn a_column_of_many_rows(rt: HostRuntime) {
+fn rows_in_runs(rt: HostRuntime) {
     let bytes = many_rows(&rt);
     let table = decode(rt.alloc(), &bytes).expect(&rt, "a table");
     check_spelled(&rt, &table, &bytes);
     assert_eq!(rt; table.rows(), 2_051);
-}
-
-// Sees seven cells of the column of many rows.
-fn check_run<R: Abort>(rt: &R, column: &FileColumn<'_>, from: usize)
-    requires { from ≤ 2044 }
-{
-    assert_eq!(rt; column.rows(), 2_051);
-    let mut run = [None; 7];
-    column.read(from, &mut run);
-    for k in 0..7 {
-        assert_eq!(rt; run[k], many_rows_cell((from + k) as u32));
-    }
-}
-
-#[test]
-fn runs_of_many_rows(rt: HostRuntime) {
-    let bytes = many_rows(&rt);
-    let table = decode(rt.alloc(), &bytes).expect(&rt, "a table");
     let columns = table.columns();
     assert_eq!(rt; columns.len(), 1);
+    assert_eq!(rt; columns[0].rows(), 2_051);
+    let mut run = [None; 7];
     for r in 0..293 {
-        check_run(&rt, &columns[0], 7 * r);
+        columns[0].read(7 * r, &mut run);
+        for k in 0..7 {
+            assert_eq!(rt; run[k], many_rows_cell((7 * r + k) as u32));
+        }
     }
 }
 
