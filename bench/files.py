@@ -1,5 +1,6 @@
 #!/usr/bin/env python3
-"""Times LOAD of CSV files beside sqlite3's `.import`, and SAVE and OPEN of the table that they make, in one run.
+"""Times LOAD of CSV files beside sqlite3's `.import`, and SAVE and OPEN of the table that all of them make and of the table of one, in one
+run and in each layout.
 
 The files have two columns of random values of 32 bits, of which one in ten of the second is NULL. Of the LOAD of one file it also
 tells the memory that it takes at its peak beside the bytes of the file. Build bitcol first, by `rt run` in crates/bitcol.
@@ -40,37 +41,67 @@ def opened(table, times):
     return "".join(f"OPEN u{number} FROM '{table}';\n" for number in range(times))
 
 
+def created(layout):
+    return f"CREATE TABLE t (a INT USING {layout}, b INT USING {layout});\n"
+
+
+def scripts_of(layout, which, loads):
+    """Scripts that save a table once and more often, and that open it so, by what they do."""
+    table = data_file(f"{which}_{layout}.table")
+    begin = created(layout) + loads
+    saved = f"SAVE t TO '{table}';\n"
+    return table, {
+        "save": script_file(f"save_{which}_{layout}.sql", begin, saved),
+        "saves": script_file(f"saves_{which}_{layout}.sql", begin, saved * (1 + MORE)),
+        "open": script_file(f"open_{which}_{layout}.sql", opened(table, 1)),
+        "opens": script_file(f"opens_{which}_{layout}.sql", opened(table, 1 + MORE)),
+    }
+
+
+def quickest_of(runs):
+    """The quickest of some rounds of each run: seconds of the processor, and the least of the peaks of memory."""
+    rounds = [{name: processor_seconds(*run) for name, run in runs.items()} for _ in range(ROUNDS)]
+    return {name: tuple(min(found[name][part] for found in rounds) for part in (0, 1)) for name in runs}
+
+
+def time_loads(paths, rows):
+    loads = "".join(f"LOAD t FROM '{path}';\n" for path in paths)
+    program = [built("bitcol"), "--stop"]
+    runs = {
+        "one": (program, script_file("load_one.sql", TABLE, f"LOAD t FROM '{paths[0]}';\n")),
+        "loads": (program, script_file("load.sql", TABLE, loads)),
+    }
+    if other := sqlite3():
+        imports = "".join(f".import {path} t\n" for path in paths)
+        runs["sqlite3"] = [other, ":memory:"], script_file("import.sql", TABLE, "BEGIN;\n.mode csv\n", imports, "COMMIT;\n")
+    found = quickest_of(runs)
+    seconds = {name: took for name, (took, _) in found.items()}
+    beside = f", sqlite3's .import {seconds['sqlite3'] / seconds['loads']:.1f} times as long" if "sqlite3" in seconds else ""
+    print(f"LOAD: {seconds['loads'] / (len(paths) * rows * 2) * 1e9:.0f} ns a value{beside}")
+    # The process itself is counted in: what a script of one CREATE takes is told too high, since Python was in its place before.
+    held = found["one"][1] * MEGABYTE - paths[0].stat().st_size
+    print(f"LOAD of one file: at most {held / (rows * 2):.0f} bytes a value at its peak, beside those of the file")
+
+
+def time_table(layout, which, paths, rows):
+    table, scripts = scripts_of(layout, which, "".join(f"LOAD t FROM '{path}';\n" for path in paths))
+    program = [built("bitcol"), "--stop"]
+    found = quickest_of({name: (program, source) for name, source in scripts.items()})
+    size = table.stat().st_size / MEGABYTE
+    told = []
+    for what in "save", "open":
+        took = (found[f"{what}s"][0] - found[what][0]) / MORE
+        told.append(f"{what.upper()} {size / took:.0f} MB of file a second, {took / (len(paths) * rows * 2) * 1e9:.1f} ns a value")
+    print(f"{layout}, {size:.1f} MB: {'; '.join(told)}")
+
+
 def main():
     files, rows = (*map(int, sys.argv[1:3]), *DEFAULTS[len(sys.argv) - 1 :])
     paths = [csv_file(number, rows) for number in range(files)]
-    table = data_file("saved.table")
-    loads = "".join(f"LOAD t FROM '{path}';\n" for path in paths)
-    scripts = {
-        "one": script_file("load_one.sql", TABLE, f"LOAD t FROM '{paths[0]}';\n"),
-        "loads": script_file("load.sql", TABLE, loads),
-        "save": script_file("save.sql", TABLE, loads, f"SAVE t TO '{table}';\n"),
-        "saves": script_file("saves.sql", TABLE, loads, f"SAVE t TO '{table}';\n" * (1 + MORE)),
-        "open": script_file("open.sql", opened(table, 1)),
-        "opens": script_file("opens.sql", opened(table, 1 + MORE)),
-    }
-    runs = {name: ([built("bitcol"), "--stop"], source) for name, source in scripts.items()}
-    if program := sqlite3():
-        imports = "".join(f".import {path} t\n" for path in paths)
-        runs["sqlite3"] = [program, ":memory:"], script_file("import.sql", TABLE, "BEGIN;\n.mode csv\n", imports, "COMMIT;\n")
-    rounds = [{name: processor_seconds(*run) for name, run in runs.items()} for _ in range(ROUNDS)]
-    seconds = {name: min(found[name][0] for found in rounds) for name in runs}
-    memory = {name: min(found[name][1] for found in rounds) for name in runs}
-
-    values = files * rows * 2
-    beside = f", sqlite3's .import {seconds['sqlite3'] / seconds['loads']:.1f} times as long" if "sqlite3" in seconds else ""
-    print(f"LOAD: {seconds['loads'] / values * 1e9:.0f} ns a value{beside}")
-    # The process itself is counted in: what a script of one CREATE takes is told too high, since Python was in its place before.
-    held = memory["one"] * MEGABYTE - paths[0].stat().st_size
-    print(f"LOAD of one file: at most {held / (rows * 2):.0f} bytes a value at its peak, beside those of the file")
-    size = table.stat().st_size / MEGABYTE
-    for what in "save", "open":
-        took = (seconds[f"{what}s"] - seconds[what]) / MORE
-        print(f"{what.upper()}: {size / took:.0f} MB of file a second, {took / values * 1e9:.1f} ns a value")
+    time_loads(paths, rows)
+    for layout in "VHSP":
+        time_table(layout, "one", paths[:1], rows)
+        time_table(layout, "all", paths, rows)
 
 
 if __name__ == "__main__":
