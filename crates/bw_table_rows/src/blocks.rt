@@ -72,7 +72,7 @@ fn check_layouts<R: Abort + AllocGlobal>(rt: &R, length: usize, nulls: bool, kin
     let values = many_values(rt, length, nulls);
     let chosen = many_rows(rt, length);
     let rows = mask_of(rt, &chosen);
-    let wanted = folded(rt, &mut chosen_values(rt, &values, &chosen));
+    let wanted = folded(rt, chosen_values(rt, &values, &chosen));
     for layout in LAYOUTS {
         check_column(rt, &values, (layout, kind), &rows, wanted);
     }

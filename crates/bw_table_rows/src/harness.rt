@@ -7,7 +7,7 @@ ghost use Rattle.bw_table.specs.Changes.{IsSetTo};
 
 use bw_code::{Encoding, Kind, Layout};
 use bw_mask::Mask;
-use bw_table::{Header, Rows, SetTo, Table};
+use bw_table::{Choice, Header, Rows, SetTo, Table};
 use std::process::Abort;
 
 /// A value or null.
@@ -182,6 +182,20 @@ pub(crate) fn delete<R: Abort + AllocGlobal>(rt: &R, table: &mut Table<usize>, w
     table.delete(&found);
 }
 
+/// Lays the chosen columns anew, and all others as they are.
+pub(crate) fn rebuild<R: Abort + AllocGlobal>(
+    rt: &R,
+    table: &mut Table<usize>,
+    choices: &[(usize, Choice)],
+) {
+    assert_eq!(rt; table.rebuild(rt.alloc(), choices), Ok(()));
+}
+
+/// Drops the dead slots.
+pub(crate) fn compact<R: Abort + AllocGlobal>(rt: &R, table: &mut Table<usize>) {
+    assert_eq!(rt; table.compact(rt.alloc()), Ok(()));
+}
+
 /// The rows of a table, one behind the other.
 pub(crate) fn rows_of<R: Abort + AllocGlobal>(rt: &R, table: &Table<usize>) -> Vec<Option<i64>> {
     let mut cells = Vec::new(rt.alloc());
@@ -199,6 +213,22 @@ pub(crate) fn rows_of<R: Abort + AllocGlobal>(rt: &R, table: &Table<usize>) -> V
 pub(crate) fn check_rows<R: Abort + AllocGlobal>(rt: &R, table: &Table<usize>, cells: &[Cell]) {
     let wanted = wide_cells(rt, cells);
     assert_eq!(rt; rows_of(rt, table).as_slice(), wanted.as_slice());
+}
+
+/// A column's layout and kind, and the base and width of an offset.
+pub(crate) type Laying = (Layout, Kind, Option<(i64, u32)>);
+
+/// Checks how the first column of a table is laid, and which rows the table has.
+pub(crate) fn check_table<R: Abort + AllocGlobal>(
+    rt: &R,
+    table: Table<usize>,
+    laying: Laying,
+    cells: &[Cell],
+) {
+    let (layout, kind, span) = laying;
+    assert_eq!(rt; header_of(&table, 0), Some((0, layout, kind)));
+    assert_eq!(rt; span_of(&table, 0), span);
+    check_rows(rt, &table, cells);
 }
 
 /// An offset's base and width, where there is such a column and it has one.

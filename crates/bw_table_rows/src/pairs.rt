@@ -1,11 +1,12 @@
 //! Two columns compared with each other: worked examples with the units that are read, and random pairs in all layouts and
 //! kinds beside a plain comparison of their values.
 
-use crate::columns::{ALL, Outcome, column_of, side_by_side};
+use crate::columns::column_of;
 use crate::random::{LAYOUTS, Random};
+use crate::scans::{ALL, Outcome, side_by_side};
 use bw_code::{CmpOp, Kind, Layout, Meter};
 use bw_column::Column;
-use bw_mask::Mask;
+use bw_mask::{Mask, Truth};
 use std::process::Abort;
 
 const KINDS: [Kind; 2] = [Kind::Offset, Kind::Dictionary];
@@ -19,6 +20,18 @@ const OPERATORS: [CmpOp; 6] = [
     CmpOp::Ge,
 ];
 
+/// Values, and the layout and kind of their column.
+type Laid<'a> = (&'a [Option<i64>], Layout, Kind);
+
+/// What comes of one list of at most 32 values beside another.
+fn beside<R: Abort + AllocGlobal>(rt: &R, left: Laid<'_>, op: CmpOp, right: Laid<'_>) -> Outcome {
+    let (values, layout, kind) = left;
+    let column = column_of(rt, values, layout, kind);
+    let (others, other_layout, other_kind) = right;
+    let other = column_of(rt, others, other_layout, other_kind);
+    side_by_side(rt, column, op, other, ALL)
+}
+
 /// Where the values of one list are below those of another, of kind OFFSET in these layouts.
 fn below<R: Abort + AllocGlobal>(
     rt: &R,
@@ -27,9 +40,9 @@ fn below<R: Abort + AllocGlobal>(
     other_layout: Layout,
     others: &[Option<i64>],
 ) -> Outcome {
-    let left = column_of(rt, values, layout, Kind::Offset);
-    let right = column_of(rt, others, other_layout, Kind::Offset);
-    side_by_side(rt, &left, CmpOp::Lt, &right, ALL)
+    let left = (values, layout, Kind::Offset);
+    let right = (others, other_layout, Kind::Offset);
+    beside(rt, left, CmpOp::Lt, right)
 }
 
 #[test]
@@ -64,14 +77,20 @@ fn no_row_no_unit(rt: HostRuntime) {
     }
 }
 
+/// How the worked pair is compared, where it compares so, and where it doesn't.
+const WORKED: [(CmpOp, u64, u64); 2] = [(CmpOp::Lt, 0b0010, 0b0001), (CmpOp::Eq, 0b0001, 0b0010)];
+
 /// 5, -3, null, 7 beside 5, 4, 1, null in these layouts and kinds.
 fn check_worked<R: Abort + AllocGlobal>(rt: &R, layouts: (Layout, Layout), kinds: (Kind, Kind)) {
     let left = [Some(5), Some(-3), None, Some(7)];
     let right = [Some(5), Some(4), Some(1), None];
-    let a = column_of(rt, &left, layouts.0, kinds.0);
-    let b = column_of(rt, &right, layouts.1, kinds.1);
-    for (op, trues, falses) in [(CmpOp::Lt, 0b0010, 0b0001), (CmpOp::Eq, 0b0001, 0b0010)] {
-        let (found, missed, _) = side_by_side(rt, &a, op, &b, ALL);
+    for (op, trues, falses) in WORKED {
+        let (found, missed, _) = beside(
+            rt,
+            (&left, layouts.0, kinds.0),
+            op,
+            (&right, layouts.1, kinds.1),
+        );
         assert_eq!(rt; (found, missed), (trues, falses));
     }
 }
@@ -149,6 +168,38 @@ fn wanted(op: CmpOp, x: Option<i64>, y: Option<i64>, needed: bool) -> Option<boo
     }
 }
 
+/// The rows, of at most 200, that a word chooses again and again.
+fn rows_chosen<R: Abort + AllocGlobal>(rt: &R, length: usize, chosen: u64) -> Mask {
+    assert!(rt; length <= 200);
+    let mut rows = Mask::filled(rt.alloc(), length, false).expect(rt, "memory");
+    for q in 0..length.div_ceil(64) {
+        rows.put_bits(64 * q, 64, chosen);
+    }
+    rows
+}
+
+/// Where two columns compare so, of these rows.
+fn truth_of<R: Abort + AllocGlobal>(
+    rt: &R,
+    left: &Column,
+    op: CmpOp,
+    right: &Column,
+    need: &Mask,
+) -> Truth {
+    assert!(rt; left.len() == right.len() && need.len() == left.len());
+    left.compare_column(rt.alloc(), op, right, need, &mut Meter::new())
+        .expect(rt, "memory")
+}
+
+/// Checks the truth at a row.
+fn check_truth<R: Abort>(rt: &R, truth: &Truth, row: usize, wanted: Option<bool>) {
+    let found = (
+        truth.trues().bits(row, 1) == 1,
+        truth.falses().bits(row, 1) == 1,
+    );
+    assert_eq!(rt; found, (wanted == Some(true), wanted == Some(false)));
+}
+
 /// Compares two columns at the rows that a word chooses again and again, and each truth with that of the plain values.
 fn check_pair<R: Abort + AllocGlobal>(
     rt: &R,
@@ -157,24 +208,28 @@ fn check_pair<R: Abort + AllocGlobal>(
     op: CmpOp,
     chosen: u64,
 ) {
-    assert!(rt; left.len() == right.len() && left.len() <= 200);
-    let mut need = Mask::filled(rt.alloc(), left.len(), false).expect(rt, "memory");
-    for q in 0..left.len().div_ceil(64) {
-        need.put_bits(64 * q, 64, chosen);
-    }
-    assert!(rt; need.len() == left.len());
-    let mut meter = Meter::new();
-    let truth = left
-        .compare_column(rt.alloc(), op, right, &need, &mut meter)
-        .expect(rt, "memory");
+    let need = rows_chosen(rt, left.len(), chosen);
+    let truth = truth_of(rt, left, op, right, &need);
+    assert!(rt; left.len() == right.len());
     for i in 0..left.len() {
-        let truth_at = wanted(op, left.get(i), right.get(i), need.bits(i, 1) == 1);
-        let found = (
-            truth.trues().bits(i, 1) == 1,
-            truth.falses().bits(i, 1) == 1,
-        );
-        assert_eq!(rt; found, (truth_at == Some(true), truth_at == Some(false)));
+        let wanted = wanted(op, left.get(i), right.get(i), need.bits(i, 1) == 1);
+        check_truth(rt, &truth, i, wanted);
     }
+}
+
+/// Compares two lists laid in columns.
+fn check_laid<R: Abort + AllocGlobal>(
+    rt: &R,
+    left: Laid<'_>,
+    right: Laid<'_>,
+    op: CmpOp,
+    chosen: u64,
+) {
+    let (values, layout, kind) = left;
+    let column = column_of(rt, values, layout, kind);
+    let (others, other_layout, other_kind) = right;
+    let other = column_of(rt, others, other_layout, other_kind);
+    check_pair(rt, &column, &other, op, chosen);
 }
 
 /// All pairs of layouts and kinds of one pair of lists.
@@ -185,10 +240,10 @@ fn check_layouts<R: Abort + AllocGlobal>(
     others: &[Option<i64>],
 ) {
     for i in 0..64 {
-        let left = column_of(rt, values, LAYOUTS[i / 16], KINDS[i / 8 % 2]);
-        let right = column_of(rt, others, LAYOUTS[i / 2 % 4], KINDS[i % 2]);
+        let left = (values, LAYOUTS[i / 16], KINDS[i / 8 % 2]);
+        let right = (others, LAYOUTS[i / 2 % 4], KINDS[i % 2]);
         let op = OPERATORS[(random.next() >> 8) as usize % 6];
-        check_pair(rt, &left, &right, op, random.next() | random.next());
+        check_laid(rt, left, right, op, random.next() | random.next());
     }
 }
 

@@ -1,6 +1,8 @@
 //! Random changes of a table, and the same changes of a plain list of rows beside it.
 
-use crate::harness::{Cell, To, check_rows, delete, insert, set_one, set_two, table_of};
+use crate::harness::{
+    Cell, To, check_rows, compact, delete, insert, rebuild, set_one, set_two, table_of,
+};
 use bw_code::{Kind, Layout};
 use bw_table::{Choice, Table};
 use std::process::Abort;
@@ -147,12 +149,12 @@ fn rebuild_some<R: Abort + AllocGlobal>(rt: &R, pair: &mut Pair, random: &mut Ra
         None
     };
     let choices = [(random.column(), Choice { layout, kind })];
-    assert_eq!(rt; pair.table.rebuild(rt.alloc(), &choices), Ok(()));
+    rebuild(rt, &mut pair.table, &choices);
     assert_eq!(rt; pair.table.slot_count(), pair.rows.len());
 }
 
-fn compact<R: Abort + AllocGlobal>(rt: &R, pair: &mut Pair) {
-    assert_eq!(rt; pair.table.compact(rt.alloc()), Ok(()));
+fn compact_all<R: Abort + AllocGlobal>(rt: &R, pair: &mut Pair) {
+    compact(rt, &mut pair.table);
     assert_eq!(rt; pair.table.slot_count(), pair.rows.len());
 }
 
@@ -162,7 +164,7 @@ fn change<R: Abort + AllocGlobal>(rt: &R, pair: &mut Pair, random: &mut Random) 
         6..=10 => update_some(rt, pair, random),
         11..=13 => delete_some(rt, pair, random),
         14 => rebuild_some(rt, pair, random),
-        _ => compact(rt, pair),
+        _ => compact_all(rt, pair),
     }
 }
 

@@ -158,18 +158,18 @@ fn ends(first: i64, others: &[i64]) -> (i64, i64) {
     (least, greatest)
 }
 
-/// The answers from the values themselves, which are sorted for it.
-pub(crate) fn folded<R: Abort>(rt: &R, values: &mut Vec<i64>) -> Answers {
+/// The answers from the values themselves.
+pub(crate) fn folded<R: Abort>(rt: &R, mut values: Vec<i64>) -> Answers {
     let Some(first) = values.first().copied() else {
         return (0, None, None, None, None);
     };
-    let (least, greatest) = ends(first, values);
+    let (least, greatest) = ends(first, &values);
     values.sort_unstable();
     // Entry ceil(n / 2), counted from 1.
     let middle = values.len().div_ceil(2).saturating_sub(1);
     (
         values.len() as u64,
-        Some(total(rt, values)),
+        Some(total(rt, &values)),
         Some(least),
         Some(greatest),
         values.get(middle).copied(),
@@ -208,6 +208,18 @@ pub(crate) fn answered_at_once<R: Abort + AllocGlobal>(
     (count, told.sum, told.least, told.greatest, told.median)
 }
 
+/// Checks the answers of some rows of a column.
+fn check_answers<R: Abort + AllocGlobal>(rt: &R, column: &Column, rows: &Mask, wanted: Answers) {
+    assert!(rt; rows.len() == column.len());
+    let (layout, kind, length) = (column.layout(), column.kind(), column.len());
+    assert_eq!(rt;
+        answered(rt, column, rows),
+        wanted,
+        "{layout:?} {kind:?}, {length} rows"
+    );
+    assert_eq!(rt; answered_at_once(rt, column, rows), wanted);
+}
+
 /// Checks the functions of some rows of a column that has these values.
 fn check_rows<R: Abort + AllocGlobal>(
     rt: &R,
@@ -216,17 +228,12 @@ fn check_rows<R: Abort + AllocGlobal>(
     values: &[Option<i64>],
 ) {
     let chosen = drawn_rows(rt, random, values.len());
-    let rows = mask_of(rt, &chosen);
-    let mut known = chosen_values(rt, values, &chosen);
-    let wanted = folded(rt, &mut known);
-    assert!(rt; rows.len() == column.len());
-    let (layout, kind, length) = (column.layout(), column.kind(), column.len());
-    assert_eq!(rt;
-        answered(rt, column, &rows),
-        wanted,
-        "{layout:?} {kind:?}, {length} rows"
-    );
-    assert_eq!(rt; answered_at_once(rt, column, &rows), wanted);
+    let wanted = folded(rt, chosen_values(rt, values, &chosen));
+    check_answers(rt, column, &mask_of(rt, &chosen), wanted);
+}
+
+fn check_width<R: Abort>(rt: &R, column: &Column, width: u32) {
+    assert_eq!(rt; column.encoding().width(), width);
 }
 
 /// Checks a column of this share of known values, whose codes have so many bits if it is an offset.
@@ -241,7 +248,7 @@ fn check_column<R: Abort + AllocGlobal>(
     let values = drawn_values(rt, random, width, length, known);
     let column = column_of(rt, &values, way.0, way.1);
     if way.1 == Kind::Offset && known > 0 && length > 1 {
-        assert_eq!(rt; column.encoding().width(), width);
+        check_width(rt, &column, width);
     }
     check_rows(rt, random, &column, &values);
 }
