@@ -1,9 +1,12 @@
 //! A list of cells.
 
-ghost use Rattle.std.specs.Prelude.{List, Option, drop, length, take, ℕ, ℤ, ◌+◌, ◌≡◌, ◌≤◌};
+ghost use Rattle.std.specs.Prelude.{List, None, Option, drop, is_some, length, map, slice_index_or, take, ℕ, ℤ, ◌+◌, ◌≡◌, ◌≤◌};
 ghost use Rattle.bw_code.specs.Fittings.{AreEnds};
+ghost use Rattle.bw_cells.specs.Distances.{distance_from};
 ghost use Rattle.bw_cells.specs.Known.{known};
+ghost use Rattle.bw_mask.specs.Masks.{bit_of};
 
+use crate::distances::distances_in_run;
 use crate::ends::ends_in_runs;
 use bw_code::Ends;
 
@@ -22,13 +25,24 @@ pub trait Cells {
         ensures { out.new ≡ take (length out.old) (drop at (cells self.now)) };
 }
 
-/// Cells of which the ends are told before any is taken.
-pub trait Bounded: Cells {
+/// Cells that are measured: their ends, and how far each lies above a base.
+pub trait Measured: Cells {
     /// The least and the greatest of the integers, if there are any. Takes no memory. It reads all cells in runs, unless a
     /// type has them in a form in which their ends are found quicker.
     fn ends(&self) -> Option<Ends>
         ensures { AreEnds (known (Self.cells self.now)) result }
     {
         ends_in_runs(self)
+    }
+
+    /// Fills `out` with how far each of at most 64 cells from number `at` on lies above the base, modulo 2^64, and 0 for
+    /// a NULL. Bit i of the answer says whether cell `at + i` is an integer; past the last it isn't set. Takes no memory.
+    fn distances(&self, at: usize, base: i64, out: &mut [u64]) -> u64
+        requires few { length out.old ≤ 64 }
+        requires inside { at + length out.old ≤ length (Self.cells self.now) }
+        ensures distances { out.new ≡ map (distance_from base) (take (length out.old) (drop at (Self.cells self.now))) }
+        ensures present { (i : ℕ) → bit_of result i ≡ is_some (slice_index_or (take (length out.old) (drop at (Self.cells self.now))) i None) }
+    {
+        distances_in_run(self, at, base, out)
     }
 }

@@ -2,8 +2,10 @@
 #![tactic(auto)]
 
 mod cells;
+mod distances;
 mod ends;
 mod slices;
 
-pub use cells::{Bounded, Cells};
+pub use cells::{Cells, Measured};
+pub use distances::presence;
 pub use ends::ends_of_both;

@@ -1,6 +1,6 @@
 //! Cells that lie in memory as they are.
 
-use crate::cells::{Bounded, Cells};
+use crate::cells::{Cells, Measured};
 
 impl Cells for &[Option<i64>] {
     ghost cells = { λ s. s.now };
@@ -14,4 +14,4 @@ impl Cells for &[Option<i64>] {
     }
 }
 
-impl Bounded for &[Option<i64>] {}
+impl Measured for &[Option<i64>] {}

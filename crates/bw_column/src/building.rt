@@ -10,13 +10,13 @@ use crate::codes::{encode_all, push_presence};
 use crate::column::Column;
 use crate::storage::Codes;
 use crate::telling::tell_cells;
-use bw_cells::{Bounded, Cells};
+use bw_cells::{Measured, Cells};
 use bw_code::{Encoding, Fitting, Kind, Layout};
 use bw_mask::Mask;
 use std::alloc::{AllocError, Global};
 
 /// The encoding of a kind that fits the values which are not null.
-fn encoding_of<C: Bounded>(alloc: Global, values: &C, kind: Kind) -> Result<Encoding, AllocError>
+fn encoding_of<C: Measured>(alloc: Global, values: &C, kind: Kind) -> Result<Encoding, AllocError>
     requires integers { All IsNullOrInteger (C.cells values.now) }
     requires few { length (C.cells values.now) ≤ 2 ^ 24 }
     ensures fits { IfOk result (IsFit (known (C.cells values.now))) }
@@ -135,7 +135,7 @@ impl Column {
     }
 
     /// A column of these values. Its encoding is the one of its kind that fits those that are not null.
-    pub fn build<C: Bounded>(
+    pub fn build<C: Measured>(
         alloc: Global,
         values: &C,
         layout: Layout,

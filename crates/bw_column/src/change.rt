@@ -13,7 +13,7 @@ ghost use Rattle.bw_column.specs.Values.{IsNullOrInteger, known};
 use crate::column::Column;
 use crate::kept::{KeptCodes, find_codes, keep_codes};
 use crate::step::Step;
-use bw_cells::{Bounded, Cells};
+use bw_cells::{Measured, Cells};
 use bw_mask::Mask;
 use std::alloc::{AllocError, Global};
 use std::marker::Model;
@@ -45,7 +45,7 @@ impl Column {
     /// Makes ready to take the values, at the end where the column is to grow, and else in place of others. Where one
     /// of them has no code, what is prepared has the step to an encoding that fits all values. The column keeps its
     /// values, layout and encoding, also where memory is wanting; at most its room grows.
-    pub fn room_for<C: Bounded>(
+    pub fn room_for<C: Measured>(
         &mut self,
         alloc: Global,
         values: &C,

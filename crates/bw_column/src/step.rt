@@ -15,7 +15,7 @@ ghost use Rattle.bw_column.specs.Values.{IsNullOrInteger, known};
 
 use crate::column::Column;
 use crate::telling::{tell_cells, tell_runs};
-use bw_cells::Bounded;
+use bw_cells::Measured;
 use bw_code::{Encoding, Fitting, Kind, Layout, Offset};
 use std::alloc::{AllocError, Global};
 
@@ -55,7 +55,7 @@ impl Column {
     }
 
     /// The encoding of the column's kind that fits its values and these.
-    pub(crate) fn encoding_with<C: Bounded>(
+    pub(crate) fn encoding_with<C: Measured>(
         &self,
         alloc: Global,
         values: &C,

@@ -4,7 +4,7 @@ ghost use Rattle.bw_code.specs.Fittings.{AreTold, told_kind};
 ghost use Rattle.bw_column.specs.Values.{known};
 ghost use Rattle.std.specs.Prelude.{List, OnOk, option_to_list, ℤ, ◌++◌, ◌≡◌};
 
-use bw_cells::{Bounded, Cells, ends_of_both};
+use bw_cells::{Measured, Cells, ends_of_both};
 use bw_code::Fitting;
 use std::alloc::AllocError;
 
@@ -47,7 +47,7 @@ pub(crate) fn tell_runs<C: Cells>(fitting: &mut Fitting, cells: &C) -> Result<()
 }
 
 /// Tells those of the cells that are not null. For OFFSET their ends are enough.
-pub(crate) fn tell_cells<C: Bounded>(fitting: &mut Fitting, cells: &C) -> Result<(), AllocError>
+pub(crate) fn tell_cells<C: Measured>(fitting: &mut Fitting, cells: &C) -> Result<(), AllocError>
     ensures told { OnOk result ((told : List ℤ) → AreTold told fitting.old → AreTold (told ++ known (C.Cells.cells cells.now)) fitting.new) }
     ensures kind { told_kind fitting.new ≡ told_kind fitting.old }
 {

@@ -11,7 +11,7 @@ ghost use Rattle.bw_table.specs.Opening.{rows_across};
 ghost use Rattle.bw_table.specs.Tables.{AreChosen};
 ghost use Rattle.bw_engine.specs.Stores.{rows_in};
 
-use bw_cells::Bounded;
+use bw_cells::Measured;
 use bw_mask::Mask;
 use bw_plan::Headers;
 use bw_sql::Name;
@@ -56,7 +56,7 @@ impl Table {
 
     /// The table of these columns: for each header its cells, in as many rows.
     #[tactic(auto, using(crate::proofs::LiveRows::new_rows))]
-    pub(crate) fn of_columns<C: Bounded>(
+    pub(crate) fn of_columns<C: Measured>(
         alloc: Global,
         headers: Vec<Header<Name>>,
         rows: usize,

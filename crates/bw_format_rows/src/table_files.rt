@@ -1,6 +1,6 @@
 //! Tables as the bytes of table files: examples byte by byte, and bytes that spell no table.
 
-use bw_cells::{Bounded, Cells};
+use bw_cells::{Measured, Cells};
 use bw_file::{ColumnHeader, FileColumn, FileFault, TableFile, decode, encode, file_length};
 use bw_sql::{KindWord, LayoutWord, Name, is_name};
 use std::process::Abort;
@@ -50,7 +50,7 @@ fn check_cells<R: Abort>(rt: &R, column: &FileColumn<'_>, cells: &[Option<i64>])
 }
 
 // Sees that these are the least and the greatest of the integers.
-fn check_ends<R: Abort, C: Bounded>(rt: &R, cells: &C, least: i64, greatest: i64) {
+fn check_ends<R: Abort, C: Measured>(rt: &R, cells: &C, least: i64, greatest: i64) {
     let Some(ends) = cells.ends() else {
         panic!(rt; "there is an integer")
     };

@@ -5,12 +5,12 @@ ghost use Rattle.bw_column.specs.Values.{IsNullOrInteger};
 ghost use Rattle.bw_table.specs.Opening.{AreOpened, IsOpened};
 
 use crate::header::Header;
-use bw_cells::Bounded;
+use bw_cells::Measured;
 use bw_column::Column;
 use std::alloc::{AllocError, Global};
 
 /// A column of these cells, as its header says.
-fn column_of<N, C: Bounded>(
+fn column_of<N, C: Measured>(
     alloc: Global,
     header: &Header<N>,
     cells: &C,
@@ -23,7 +23,7 @@ fn column_of<N, C: Bounded>(
 }
 
 /// For each header its column of cells.
-pub(crate) fn columns_of<N, C: Bounded>(
+pub(crate) fn columns_of<N, C: Measured>(
     alloc: Global,
     headers: &Vec<Header<N>>,
     columns: &[C],

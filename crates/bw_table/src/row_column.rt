@@ -4,7 +4,7 @@ ghost use Rattle.std.specs.Prelude.{All, length, ◌<◌, ◌≡◌};
 ghost use Rattle.bw_table.specs.Slots.{column_of};
 
 use crate::rows::Rows;
-use bw_cells::{Bounded, Cells};
+use bw_cells::{Measured, Cells};
 
 /// One column of rows, read downward.
 #[derive(Drop)]
@@ -39,4 +39,4 @@ impl<'a> Cells for RowColumn<'a> {
     }
 }
 
-impl<'a> Bounded for RowColumn<'a> {}
+impl<'a> Measured for RowColumn<'a> {}

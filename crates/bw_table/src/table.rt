@@ -20,7 +20,7 @@ use crate::opening::columns_of;
 use crate::rows::Rows;
 use crate::setting::SetTo;
 use crate::slots::Slots;
-use bw_cells::Bounded;
+use bw_cells::Measured;
 use bw_column::Column;
 use bw_mask::Mask;
 use std::alloc::{AllocError, Global};
@@ -61,7 +61,7 @@ impl<N: Drop> Table<N> {
 
     /// The table of these columns: for each header its values, in live slots. Each column is encoded as its values ask,
     /// in the layout and of the kind that its header says. Refused only where memory is wanting.
-    pub fn of_columns<C: Bounded>(
+    pub fn of_columns<C: Measured>(
         alloc: Global,
         headers: Vec<Header<N>>,
         rows: usize,

@@ -1,7 +1,7 @@
 use Rattle.std.proofs.Common.{subst}
 use Rattle.bw_code.specs.Fittings.{AreEnds}
 use Rattle.bw_cells.specs.Known.{known}
-use Rattle.bw_file.proofs.column.FileColumnBounded.ends.Goals as goal
+use Rattle.bw_file.proofs.column.FileColumnMeasured.ends.Goals as goal
 
 pub ends_of_words-requires : goal.ends_of_words-requires
 ends_of_words-requires c = record { few = c.self.invariant.few; present = c.self.invariant.bits; words = c.self.invariant.numbers }
