@@ -41,7 +41,7 @@ fn distances_of(cells: &[Option<i64>], base: i64, out: &mut [u64])
 }
 
 /// Fills `out` with the distance of each of at most 64 cells from number `at` on, and answers which of them are integers.
-pub(crate) fn distances_in_run<C: Cells>(cells: &C, at: usize, base: i64, out: &mut [u64]) -> u64
+pub fn distances_in_run<C: Cells>(cells: &C, at: usize, base: i64, out: &mut [u64]) -> u64
     requires few { length out.old ≤ 64 }
     requires inside { at + length out.old ≤ length (C.cells cells.now) }
     ensures distances { out.new ≡ map (distance_from base) (take (length out.old) (drop at (C.cells cells.now))) }

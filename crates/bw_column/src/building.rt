@@ -10,7 +10,7 @@ use crate::codes::{encode_all, push_presence};
 use crate::column::Column;
 use crate::storage::Codes;
 use crate::telling::tell_cells;
-use bw_cells::{Measured, Cells};
+use bw_cells::{Cells, Measured};
 use bw_code::{Encoding, Fitting, Kind, Layout};
 use bw_mask::Mask;
 use std::alloc::{AllocError, Global};

@@ -13,7 +13,7 @@ ghost use Rattle.bw_column.specs.Values.{IsNullOrInteger, known};
 use crate::column::Column;
 use crate::kept::{KeptCodes, find_codes, keep_codes};
 use crate::step::Step;
-use bw_cells::{Measured, Cells};
+use bw_cells::{Cells, Measured};
 use bw_mask::Mask;
 use std::alloc::{AllocError, Global};
 use std::marker::Model;

@@ -4,7 +4,7 @@ ghost use Rattle.bw_code.specs.Fittings.{AreTold, told_kind};
 ghost use Rattle.bw_column.specs.Values.{known};
 ghost use Rattle.std.specs.Prelude.{List, OnOk, option_to_list, ℤ, ◌++◌, ◌≡◌};
 
-use bw_cells::{Measured, Cells, ends_of_both};
+use bw_cells::{Cells, Measured, ends_of_both};
 use bw_code::Fitting;
 use std::alloc::AllocError;
 

@@ -6,7 +6,7 @@ ghost use Rattle.bw_file.specs.Cells.{column_bytes, column_size, presence_size, 
 use crate::cells::{are_spelled, read_cells};
 use crate::ends::ends_of_words;
 use crate::presence::has_spare_bit;
-use bw_cells::{Measured, Cells};
+use bw_cells::{Cells, Measured};
 use bw_code::Ends;
 use std::marker::Model;
 

@@ -1,6 +1,6 @@
 //! Tables as the bytes of table files: examples byte by byte, and bytes that spell no table.
 
-use bw_cells::{Measured, Cells};
+use bw_cells::{Cells, Measured};
 use bw_file::{ColumnHeader, FileColumn, FileFault, TableFile, decode, encode, file_length};
 use bw_sql::{KindWord, LayoutWord, Name, is_name};
 use std::process::Abort;

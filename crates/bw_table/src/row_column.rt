@@ -4,7 +4,7 @@ ghost use Rattle.std.specs.Prelude.{All, length, ◌<◌, ◌≡◌};
 ghost use Rattle.bw_table.specs.Slots.{column_of};
 
 use crate::rows::Rows;
-use bw_cells::{Measured, Cells};
+use bw_cells::{Cells, Measured};
 
 /// One column of rows, read downward.
 #[derive(Drop)]
