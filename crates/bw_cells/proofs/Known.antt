@@ -1,10 +1,10 @@
 -- The cells that are integers.
-use Rattle.std.proofs.Common.{append_assoc, drop, sym, ◌≡◌, ℕ, suc, zero, ℤ, ◌+◌, ◌<◌, List, [], ◌∷◌, ◌++◌, length, get_or, take, refl, ap, ◌∙◌, arith, length-append, Option, Some, None, false, is_some, unwrap_or}
+use Rattle.std.proofs.Common.{append_assoc, drop, sym, ◌≡◌, ℕ, suc, zero, ℤ, ◌+◌, ◌<◌, List, [], ◌∷◌, ◌++◌, length, get_or, take, refl, ap, ◌∙◌, arith, Option, Some, None, false, is_some, unwrap_or}
 use Rattle.std.proofs.Math.Seq.{take-add}
 use Rattle.std.specs.List.{All, Contains}
 use Rattle.std.specs.Option.{option_to_list}
-use Rattle.std.proofs.lemmas.List.{drop-drop, take-append-drop, take_more, get_or_append_left, get_or-append_right}
-use Rattle.std.proofs.lemmas.List.Elements.{filter_map-append, All-head, All-tail}
+use Rattle.std.proofs.lemmas.List.{drop-drop, take-append-drop, take_more}
+use Rattle.std.proofs.lemmas.List.Elements.{filter_map-append}
 use Rattle.bw_cells.specs.Known.{known}
 
 known_one : (value : Option ℤ) → known (value ∷ []) ≡ option_to_list value

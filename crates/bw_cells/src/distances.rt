@@ -20,7 +20,7 @@ pub fn presence(cells: &[Option<i64>]) -> u64
 }
 
 /// Bit i says whether byte i is set.
-fn set_bytes(bytes: &[u8; 64]) -> u64
+pub fn set_bytes(bytes: &[u8; 64]) -> u64
     ensures { (i : ℕ) → i < 64 → bit_of result i ≡ nat_lt 0 (slice_index bytes.now i) }
 {
     u8x64::splat(0)

@@ -7,5 +7,5 @@ mod ends;
 mod slices;
 
 pub use cells::{Cells, Measured};
-pub use distances::{distances_in_run, presence};
+pub use distances::{distances_in_run, presence, set_bytes};
 pub use ends::ends_of_both;

@@ -1,3 +1,5 @@
+pub mod Bases
+pub mod Blocks
 pub mod Changed
 pub mod Extremes
 pub mod Flat
@@ -8,9 +10,9 @@ pub mod Overwriting
 pub mod PairRows
 pub mod Pieces
 pub mod Planed
-pub mod Presence
 pub mod Ranks
 pub mod Rows
 pub mod Scans
 pub mod Shifting
 pub mod Spanned
+pub mod Told

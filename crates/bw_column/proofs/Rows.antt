@@ -32,6 +32,24 @@ module _ (e : Encoding) (sound : IsEncoding e) where
       let is : value_of e code ≡ x = code_back e sound x code (code_is x h) in
       (ap Some is, (rw is (code_is x h), rw is int))
 
+-- what a row's code says of its value
+module _ (e : Encoding) where
+  pub there : (code : ℕ) (b : Bool) → b ≡ is_some (value_from e code b)
+  there code true = refl
+  there code false = refl
+
+  pub code_again : (code : ℕ) (b : Bool) → IsRowCode e code b → code ≡ code_for e (value_from e code b)
+  code_again code true h = sym (ap (λ (o : Option ℕ). unwrap_or o 0) h.0)
+  code_again code false h = h
+
+  pub integer : (code : ℕ) (b : Bool) → IsRowCode e code b → IsNullOrInteger (value_from e code b)
+  integer code true h = h.1
+  integer code false h = tt
+
+  pub has_code : IsEncoding e → (code : ℕ) (b : Bool) → IsRowCode e code b → IsCoded e (value_from e code b)
+  has_code sound code true h = (coded e sound (value_of e code)).0 (rw h.0 refl)
+  has_code sound code false h = tt
+
 module _ (e : Encoding) (codes : CodeList) (nonnull : MaskRows) (are : AreRowCodes e codes nonnull) where
   -- the value of any row
   pub value_of_row : (i : ℕ) → value_at (values_from e codes nonnull) i ≡ value_from e (code_at codes i) (row_at nonnull i)
@@ -43,40 +61,24 @@ module _ (e : Encoding) (codes : CodeList) (nonnull : MaskRows) (are : AreRowCod
             get_or_past (values_from e codes nonnull) i None (omega (arith, made_len (count codes) (λ j. value_from e (code_at codes j) (row_at nonnull j)))) ∙ rw away refl
       ]
 
-  there : (code : ℕ) (b : Bool) → b ≡ is_some (value_from e code b)
-  there code true = refl
-  there code false = refl
-
   pub known_rows : (i : ℕ) → row_at nonnull i ≡ is_some (value_at (values_from e codes nonnull) i)
-  known_rows i = there (code_at codes i) (row_at nonnull i) ∙ ap is_some (sym (value_of_row i))
-
-  code_again : (code : ℕ) (b : Bool) → IsRowCode e code b → code ≡ code_for e (value_from e code b)
-  code_again code true h = sym (ap (λ (o : Option ℕ). unwrap_or o 0) h.0)
-  code_again code false h = h
+  known_rows i = there e (code_at codes i) (row_at nonnull i) ∙ ap is_some (sym (value_of_row i))
 
   pub row_codes : (i : ℕ) → code_at codes i ≡ code_for e (value_at (values_from e codes nonnull) i)
   row_codes i =
       elim (cases_lt i (count codes)) [
-        | inl h ↦ code_again (code_at codes i) (row_at nonnull i) (are.each i h) ∙ ap (code_for e) (sym (value_of_row i))
+        | inl h ↦ code_again e (code_at codes i) (row_at nonnull i) (are.each i h) ∙ ap (code_for e) (sym (value_of_row i))
         | inr h ↦
             let none : value_at (values_from e codes nonnull) i ≡ None = get_or_past (values_from e codes nonnull) i None (omega (arith, made_len (count codes) (λ j. value_from e (code_at codes j) (row_at nonnull j)))) in
             get_or_past codes.codes i 0 h ∙ ap (code_for e) (sym none)
       ]
 
-  integer : (code : ℕ) (b : Bool) → IsRowCode e code b → IsNullOrInteger (value_from e code b)
-  integer code true h = h.1
-  integer code false h = tt
-
   pub row_integers : All IsNullOrInteger (values_from e codes nonnull)
   row_integers k d h =
       let low : k < count codes = omega (arith, made_len (count codes) (λ j. value_from e (code_at codes j) (row_at nonnull j))) in
-      rw (made_at (count codes) (λ j. value_from e (code_at codes j) (row_at nonnull j)) k d low) (integer (code_at codes k) (row_at nonnull k) (are.each k low))
-
-  has_code : (code : ℕ) (b : Bool) → IsRowCode e code b → IsCoded e (value_from e code b)
-  has_code code true h = (coded e are.sound (value_of e code)).0 (rw h.0 refl)
-  has_code code false h = tt
+      rw (made_at (count codes) (λ j. value_from e (code_at codes j) (row_at nonnull j)) k d low) (integer e (code_at codes k) (row_at nonnull k) (are.each k low))
 
   pub row_coded : All (IsCoded e) (values_from e codes nonnull)
   row_coded k d h =
       let low : k < count codes = omega (arith, made_len (count codes) (λ j. value_from e (code_at codes j) (row_at nonnull j))) in
-      rw (made_at (count codes) (λ j. value_from e (code_at codes j) (row_at nonnull j)) k d low) (has_code (code_at codes k) (row_at nonnull k) (are.each k low))
+      rw (made_at (count codes) (λ j. value_from e (code_at codes j) (row_at nonnull j)) k d low) (has_code e are.sound (code_at codes k) (row_at nonnull k) (are.each k low))

@@ -6,11 +6,10 @@ ghost use Rattle.bw_column.specs.Codes.{IsCoded, codes_for};
 ghost use Rattle.bw_column.specs.Columns.{Keeps};
 ghost use Rattle.bw_column.specs.Values.{IsNullOrInteger, known};
 
-use crate::codes::{encode_all, push_presence};
 use crate::column::Column;
 use crate::storage::Codes;
 use crate::telling::tell_cells;
-use bw_cells::{Cells, Measured};
+use bw_cells::Measured;
 use bw_code::{Encoding, Fitting, Kind, Layout};
 use bw_mask::Mask;
 use std::alloc::{AllocError, Global};
@@ -53,85 +52,6 @@ impl Column {
             codes,
             nonnull,
         })
-    }
-
-    /// Adds values with their codes at the end, within the room.
-    #[tactic(auto, using(bw_code::proofs::Lists::made_len))]
-    pub(crate) fn extend(&mut self, values: &[Option<i64>], codes: &[u64])
-        requires coded { All (IsCoded self.old.encoding) values.now }
-        requires codes { codes.now ≡ codes_for self.old.encoding values.now }
-        requires integers { All IsNullOrInteger values.now }
-        requires room { length self.old.values + length values.now ≤ self.old.room }
-        requires few { length self.old.values + length values.now ≤ 2 ^ 24 }
-        ensures values { self.new.values ≡ self.old.values ++ values.now }
-        ensures layout { self.new.layout ≡ self.old.layout }
-        ensures encoding { self.new.encoding ≡ self.old.encoding }
-        ensures room { self.old.room ≤ self.new.room }
-    {
-        self.codes.extend(codes);
-        push_presence(&mut self.nonnull, values);
-    }
-
-    /// Adds at most 64 values at the end, within the room.
-    pub(crate) fn extend_block(&mut self, values: &[Option<i64>])
-        requires block { length values.now ≤ 64 }
-        requires coded { All (IsCoded self.old.encoding) values.now }
-        requires integers { All IsNullOrInteger values.now }
-        requires room { length self.old.values + length values.now ≤ self.old.room }
-        requires few { length self.old.values + length values.now ≤ 2 ^ 24 }
-        ensures values { self.new.values ≡ self.old.values ++ values.now }
-        ensures layout { self.new.layout ≡ self.old.layout }
-        ensures encoding { self.new.encoding ≡ self.old.encoding }
-        ensures room { self.old.room ≤ self.new.room }
-    {
-        let mut list = [0; 64];
-        let codes = &mut list[..values.len()];
-        if !encode_all(&self.encoding, values, codes) {
-            unreachable!()
-        }
-        self.extend(values, codes);
-    }
-
-    /// Adds cells at the end, within the room.
-    pub(crate) fn extend_from<C: Cells>(&mut self, cells: &C)
-        requires coded { All (IsCoded self.old.encoding) (C.cells cells.now) }
-        requires integers { All IsNullOrInteger (C.cells cells.now) }
-        requires room { length self.old.values + length (C.cells cells.now) ≤ self.old.room }
-        requires few { length self.old.values + length (C.cells cells.now) ≤ 2 ^ 24 }
-        ensures values { self.new.values ≡ self.old.values ++ C.cells cells.now }
-        ensures layout { self.new.layout ≡ self.old.layout }
-        ensures encoding { self.new.encoding ≡ self.old.encoding }
-        ensures room { self.old.room ≤ self.new.room }
-    {
-        let mut run = [None; 64];
-        let mut at = 0;
-        while at < cells.len() {
-            let n = (cells.len() - at).min(64);
-            cells.read(at, &mut run[..n]);
-            self.extend_block(&run[..n]);
-            at += n;
-        }
-    }
-
-    /// Adds cells with their codes at the end, within the room.
-    pub(crate) fn extend_with<C: Cells>(&mut self, cells: &C, codes: &[u64])
-        requires coded { All (IsCoded self.old.encoding) (C.cells cells.now) }
-        requires codes { codes.now ≡ codes_for self.old.encoding (C.cells cells.now) }
-        requires integers { All IsNullOrInteger (C.cells cells.now) }
-        requires room { length self.old.values + length (C.cells cells.now) ≤ self.old.room }
-        requires few { length self.old.values + length (C.cells cells.now) ≤ 2 ^ 24 }
-        ensures values { self.new.values ≡ self.old.values ++ C.cells cells.now }
-        ensures layout { self.new.layout ≡ self.old.layout }
-        ensures encoding { self.new.encoding ≡ self.old.encoding }
-    {
-        let mut run = [None; 64];
-        let mut at = 0;
-        while at < cells.len() {
-            let n = (cells.len() - at).min(64);
-            cells.read(at, &mut run[..n]);
-            self.extend(&run[..n], &codes[at..at + n]);
-            at += n;
-        }
     }
 
     /// A column of these values. Its encoding is the one of its kind that fits those that are not null.

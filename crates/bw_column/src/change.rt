@@ -70,7 +70,7 @@ impl Column {
     }
 
     /// Adds the values at the end. Takes no memory.
-    pub fn append<C: Cells>(&mut self, prepared: Prepared, values: &C)
+    pub fn append<C: Measured>(&mut self, prepared: Prepared, values: &C)
         requires { IsPreparedFor self.old (C.cells values.now) true prepared }
         ensures values { self.new.values ≡ self.old.values ++ C.cells values.now }
         ensures layout { self.new.layout ≡ self.old.layout }

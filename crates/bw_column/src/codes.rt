@@ -1,14 +1,11 @@
-//! Many values at a time: their codes, and which of them are there.
+//! The codes of many values at a time.
 
 ghost use Rattle.std.specs.Bool.{OnTrue};
 ghost use Rattle.std.specs.Prelude.{All, IfSome, IsSome, IsTrue, is_some, length, map, ◌++◌, ◌+◌, ◌-◌, ◌^◌, ◌↔◌, ◌≡◌, ◌≤◌};
-ghost use Rattle.bw_mask.specs.Masks.{bit_of, len, rows_of};
 ghost use Rattle.bw_code.specs.declared.encoding.Encoding.TheVariants as by;
 ghost use Rattle.bw_column.specs.Codes.{IsCoded, code_for, codes_for};
 
-use crate::bits::set_bytes;
 use bw_code::{Encoding, Offset};
-use bw_mask::Mask;
 
 /// The code of a value, if it has one.
 fn code(encoding: &Encoding, value: Option<i64>) -> Option<u64>
@@ -86,31 +83,4 @@ pub(crate) fn encode_all(encoding: &Encoding, values: &[Option<i64>], codes: &mu
         Encoding::Offset(offset) => encode_by_offset(*offset, values, codes),
         Encoding::Dictionary(_) => encode_each(encoding, values, codes),
     }
-}
-
-/// Bit i says whether value i is there.
-fn presence(values: &[Option<i64>]) -> u64
-    requires { length values.now ≤ 64 }
-    ensures { rows_of (length values.now) (bit_of result) ≡ map is_some values.now }
-{
-    let mut there = [0; 64];
-    for i in 0..values.len() {
-        there[i] = u8::from(values[i].is_some());
-    }
-    set_bytes(&there)
-}
-
-/// Adds a row for each value, within the room: whether the value is there.
-pub(crate) fn push_presence(mask: &mut Mask, values: &[Option<i64>])
-    requires room { len mask.old + length values.now ≤ mask.old.room }
-    requires few { len mask.old + length values.now ≤ 2 ^ 24 }
-    ensures room { mask.old.room ≤ mask.new.room }
-    ensures rows { mask.new.rows ≡ mask.old.rows ++ map is_some values.now }
-{
-    let blocks = values.len() / 64;
-    for q in 0..blocks {
-        mask.push_bits(64, presence(&values[64 * q..64 * q + 64]));
-    }
-    let rest = &values[64 * blocks..];
-    mask.push_bits(rest.len(), presence(rest));
 }

@@ -8,8 +8,8 @@ ghost use Rattle.bw_column.specs.Comparisons.{compare_so};
 ghost use Rattle.bw_column.specs.Costs.{needed_known, units_of_both, units_of_columns};
 ghost use Rattle.bw_column.specs.Values.{value_at};
 
-use crate::bits::set_bytes;
 use crate::column::Column;
+use bw_cells::set_bytes;
 use bw_code::{CmpOp, Meter};
 use bw_mask::Mask;
 

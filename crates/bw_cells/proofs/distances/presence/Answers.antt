@@ -1,4 +1,4 @@
-use Rattle.std.proofs.Common.{None, ap, arith, get_or, inl, inr, is_some, length, nat_lt, replicate, sym, ℕ, ◌<◌, ◌≡◌, ◌≤◌, ◌∙◌}
+use Rattle.std.proofs.Common.{None, ap, arith, get_or, inl, inr, is_some, length, nat_lt, replicate, sym, ℕ, ◌≡◌, ◌≤◌, ◌∙◌}
 use Rattle.std.proofs.lemmas.List.{length-replicate}
 use Rattle.std.proofs.lemmas.Simd.{get_or-replicate}
 use Rattle.std.proofs.Math.ListN.{get_or-eq_default}

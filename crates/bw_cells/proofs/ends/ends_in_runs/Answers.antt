@@ -1,4 +1,4 @@
-use Rattle.std.proofs.Common.{ap, arith, drop, length, refl, subst, sym, take, ◌++◌, ◌+◌, ◌∙◌, ◌≡◌, ◌≤◌}
+use Rattle.std.proofs.Common.{arith, drop, length, refl, subst, sym, take, ◌+◌, ◌≤◌}
 use Rattle.std.proofs.lemmas.List.{take_all}
 use Rattle.bw_code.specs.Fittings.{AreEnds}
 use Rattle.bw_code.proofs.Lists.{front_is}

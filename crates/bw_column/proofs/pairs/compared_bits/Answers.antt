@@ -1,7 +1,7 @@
 use Rattle.std.proofs.Common.{arith, length-set, ◌∙◌}
 use Rattle.bw_column.specs.Comparisons.{compare_so}
 use Rattle.bw_column.specs.Values.{value_at}
-use Rattle.bw_column.proofs.Presence.{told_more}
+use Rattle.bw_column.proofs.Told.{told_more}
 use Rattle.bw_column.proofs.pairs.compared_bits.Goals as goal
 
 pub loop-i-preserved : goal.loop-i-preserved

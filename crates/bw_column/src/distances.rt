@@ -1,0 +1,63 @@
+//! How far the values of a column lie above a base, by their codes.
+
+ghost use Rattle.std.specs.Prelude.{None, drop, if◌then◌else◌, is_some, length, map, slice_index, slice_index_or, take, ℕ, ◌%◌, ◌+◌, ◌<◌, ◌^◌, ◌≡◌, ◌≤◌};
+ghost use Rattle.bw_mask.specs.Masks.{bit_of};
+ghost use Rattle.bw_cells.specs.Distances.{distance_from};
+ghost use Rattle.bw_code.specs.Columns.{count};
+ghost use Rattle.bw_code.specs.declared.encoding.Encoding.TheVariants as by;
+ghost use Rattle.bw_column.specs.Codes.{AreRowCodes, values_from};
+ghost use Rattle.bw_column.specs.Storing.{list_of};
+
+use crate::bits::has_bit;
+use crate::column::Column;
+use crate::storage::Codes;
+use bw_cells::{Measured, distances_in_run};
+use bw_code::{Encoding, Offset};
+use bw_mask::Mask;
+
+/// Adds so much to each number whose bit is set, modulo 2^64. Each other becomes 0.
+fn add_where_set(numbers: &mut [u64], set: u64, more: u64)
+    requires { length numbers.old ≤ 64 }
+    ensures count { length numbers.new ≡ length numbers.old }
+    ensures each { (k : ℕ) → k < length numbers.old → slice_index numbers.new k ≡ (if bit_of set k then (slice_index numbers.old k + more) % 2 ^ 64 else 0) }
+{
+    // No branch a number, so that numbers are taken side by side.
+    for i in 0..numbers.len() {
+        let sum = numbers[i].wrapping_add(more);
+        numbers[i] = if has_bit(set, i) { sum } else { 0 };
+    }
+}
+
+/// Fills `out` with the distances from a base of the values of at most 64 rows from row `at` on, and answers which of them
+/// are not null. The codes are distances already, from another base.
+fn distances_by_offset(
+    offset: Offset,
+    codes: &Codes,
+    nonnull: &Mask,
+    at: usize,
+    base: i64,
+    out: &mut [u64],
+) -> u64
+    requires rows { AreRowCodes (by.Offset offset) (list_of codes.now) nonnull.now }
+    requires few { length out.old ≤ 64 }
+    requires there { at + length out.old ≤ count (list_of codes.now) }
+    ensures distances { out.new ≡ map (distance_from base) (take (length out.old) (drop at (values_from (by.Offset offset) (list_of codes.now) nonnull.now))) }
+    ensures present { (i : ℕ) → bit_of result i ≡ is_some (slice_index_or (take (length out.old) (drop at (values_from (by.Offset offset) (list_of codes.now) nonnull.now))) i None) }
+{
+    codes.read(at, out);
+    let present = nonnull.bits(at, out.len());
+    let more = offset.base.cast_unsigned().wrapping_sub(base.cast_unsigned());
+    add_where_set(out, present, more);
+    present
+}
+
+impl Measured for Column {
+    fn distances(&self, at: usize, base: i64, out: &mut [u64]) -> u64 {
+        match &self.encoding {
+            Encoding::Offset(offset) => {
+                distances_by_offset(*offset, &self.codes, &self.nonnull, at, base, out)
+            }
+            Encoding::Dictionary(_) => distances_in_run(self, at, base, out),
+        }
+    }
+}
