@@ -1,5 +1,5 @@
 -- Rows given by their codes and by a word that says which are not null.
-use Rattle.std.proofs.Common.{List, None, Option, ap, arith, get_or, is_some, length, map, refl, sym, ℕ, ℤ, ◌<◌, ◌≡◌, ◌∙◌}
+use Rattle.std.proofs.Common.{List, None, Option, ap, arith, false, get_or, is_some, length, map, refl, sym, ℕ, ℤ, ◌<◌, ◌≡◌, ◌∙◌}
 use Rattle.std.specs.List.{All}
 use Rattle.std.proofs.lemmas.List.{get_or-map, length-map}
 use Rattle.bw_mask.specs.Masks.{bit_of, rows_of}
@@ -9,7 +9,7 @@ use Rattle.bw_code.specs.Lists.{made}
 use Rattle.bw_code.specs.declared.encoding.Encoding.{Encoding}
 use Rattle.bw_code.proofs.Lists.{made_at, made_is, made_len}
 use Rattle.bw_column.specs.Codes.{IsCoded, IsRowCode, code_for, codes_for, value_from}
-use Rattle.bw_column.specs.Values.{IsNullOrInteger, value_at}
+use Rattle.bw_column.specs.Values.{IsNullOrInteger}
 use Rattle.bw_column.proofs.Changed.{codes_fit}
 use Rattle.bw_column.proofs.Rows.{back, code_again, has_code, integer, there}
 
@@ -40,8 +40,8 @@ module _ (e : Encoding) (sound : IsEncoding e) (codes : List ℕ) (word : ℕ) (
 
   pub rows_present : rows_of (length codes) (bit_of word) ≡ map is_some (rows e codes word)
   rows_present =
-      sym (made_is (length codes) (bit_of word) (map is_some (rows e codes word)) _ (length-map (rows e codes word) is_some ∙ made_len (length codes) (row e codes word)) (λ i h.
-      get_or-map is_some (rows e codes word) i None _ (omega (arith, h, made_len (length codes) (row e codes word)))
+      sym (made_is (length codes) (bit_of word) (map is_some (rows e codes word)) false (length-map (rows e codes word) is_some ∙ made_len (length codes) (row e codes word)) (λ i h.
+      get_or-map is_some (rows e codes word) i None false (omega (arith, h, made_len (length codes) (row e codes word)))
       ∙ ap is_some (made_at (length codes) (row e codes word) i None h) ∙ sym (there e (get_or codes i 0) (bit_of word i))))
 
   pub rows_fit : Fit (width e) codes

@@ -46,7 +46,10 @@ fn distances_by_offset(
 {
     codes.read(at, out);
     let present = nonnull.bits(at, out.len());
-    let more = offset.base.cast_unsigned().wrapping_sub(base.cast_unsigned());
+    let more = offset
+        .base
+        .cast_unsigned()
+        .wrapping_sub(base.cast_unsigned());
     add_where_set(out, present, more);
     present
 }

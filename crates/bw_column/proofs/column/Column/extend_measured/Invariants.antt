@@ -1,5 +1,5 @@
 use Rattle.std.proofs.Common.{drop, length, ◌++◌, ◌-◌, ◌≡◌, ◌≤◌}
-use Rattle.bw_column.proofs.column.Column.extend_from.Given as goal
+use Rattle.bw_column.proofs.column.Column.extend_measured.Given as goal
 
 -- the values so far, and the cells that are left behind them
 abbrev pub invariant-loop-at : goal.invariant-loop-at

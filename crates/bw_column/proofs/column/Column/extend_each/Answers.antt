@@ -1,6 +1,6 @@
 use Rattle.std.proofs.Common.{ap, arith, drop, length, ◌++◌, ◌+◌, ◌∙◌, ◌≤◌}
 use Rattle.bw_code.proofs.Lists.{front_is, part_fits, part_over}
-use Rattle.bw_column.proofs.column.Column.extend_from.Goals as goal
+use Rattle.bw_column.proofs.column.Column.extend_each.Goals as goal
 
 pub extend_block-requires-clause-room : goal.extend_block-requires-clause-room
 extend_block-requires-clause-room g c =
