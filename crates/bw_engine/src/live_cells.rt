@@ -9,7 +9,7 @@ ghost use Rattle.bw_engine.specs.Stores.{rows_in};
 
 use crate::shown::found_values;
 use crate::table::Table;
-use bw_cells::Cells;
+use bw_cells::{Cells, Measured};
 use bw_column::Column;
 use bw_sql::Value;
 use std::alloc::{AllocError, Global};
@@ -39,6 +39,15 @@ impl Cells for LiveCells<'_> {
         match self {
             LiveCells::Whole(column) => column.read(at, out),
             LiveCells::Gathered(values) => values.as_slice().read(at, out),
+        }
+    }
+}
+
+impl Measured for LiveCells<'_> {
+    fn distances(&self, at: usize, base: i64, out: &mut [u64]) -> u64 {
+        match self {
+            LiveCells::Whole(column) => column.distances(at, base, out),
+            LiveCells::Gathered(values) => values.as_slice().distances(at, base, out),
         }
     }
 }
