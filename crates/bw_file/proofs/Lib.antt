@@ -1,6 +1,8 @@
 pub mod Agree
+pub mod Bits
 pub mod Blocks
 pub mod ColumnEnds
+pub mod Distances
 pub mod Distinct
 pub mod Fronts
 pub mod Joined

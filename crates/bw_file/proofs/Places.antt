@@ -1,6 +1,6 @@
 -- Where the bits and the cells of a column lie.
-use Rattle.std.proofs.Common.{List, None, Option, Some, [], ap, arith, cond, drop, drop-cons, get_or, length, length-append, length-drop, length-take, refl, suc, sym, take, zero, ℕ, ℤ, ◌%◌, ◌*◌, ◌+◌, ◌++◌, ◌-◌, ◌/◌, ◌<◌, ◌==◌, ◌^◌, ◌≡◌, ◌≤◌, ◌∙◌, ◌∷◌}
-use Rattle.std.proofs.Math.Nat.{pow-le-pow_right, pow-suc}
+use Rattle.std.proofs.Common.{List, None, Option, Some, [], ap, arith, cond, drop, drop-cons, get_or, length, length-append, length-drop, length-take, refl, suc, sym, take, zero, ℕ, ℤ, ◌%◌, ◌*◌, ◌+◌, ◌++◌, ◌/◌, ◌<◌, ◌==◌, ◌^◌, ◌≡◌, ◌∙◌, ◌∷◌}
+use Rattle.std.proofs.Math.Nat.{pow-suc}
 use Rattle.std.proofs.Math.Facts.{Fits-lt-pow, Fits-of_z}
 use Rattle.std.proofs.lemmas.Int.{to_z-of_z}
 use Rattle.std.proofs.lemmas.List.{append_cancel_left, drop-append-le, drop-drop, drop_all, get_or-drop, get_or-take, get_or_default, same_lists, take-append-le, take_all}
@@ -85,20 +85,6 @@ read_cell-spelled cells i all h =
     let words = drop-words cells i ∙ ap (flat_map cell_bytes) (drop-cons cells i None h) in
     let bit = bit-presence cells i h in
     rw (bit, words) (cell-first (get_or cells i None) (flat_map cell_bytes (drop (suc i) cells)) (All-get_or IsCell cells i None h all))
-
--- the bits of what is left of eight cells
-pub eight_bound : (cells : List (Option ℤ)) (i : ℕ) → length cells ≤ 8 → 0 < i → presence_byte (drop i cells) < 128
-eight_bound cells i few some =
-    let bound = presence_byte-bound (drop i cells) in
-    let long : length (drop i cells) ≤ 7 = omega (arith, length-drop i cells) in
-    let pow : 2 ^ length (drop i cells) ≤ 2 ^ 7 = pow-le-pow_right {n = 2} (omega arith) {i = length (drop i cells)} {j = 7} long in
-    omega arith
-
-pub presence_byte_drop : (cells : List (Option ℤ)) (i : ℕ) → 0 < i → i ≤ length cells
-    → presence_byte (drop (i - 1) cells) ≡ presence (get_or cells (i - 1) None) + 2 * presence_byte (drop i cells)
-presence_byte_drop cells i some h =
-    let e : suc (i - 1) ≡ i = omega arith in
-    ap presence_byte (drop-cons cells (i - 1) None (omega arith)) ∙ ap (λ k. presence (get_or cells (i - 1) None) + 2 * presence_byte (drop k cells)) e
 
 -- a column that is read where it is spelled
 pub read-spelled : (cells spelled : List (Option ℤ)) (present words : List ℕ) → All IsCell spelled → length cells ≡ length spelled

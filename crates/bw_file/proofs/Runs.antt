@@ -20,15 +20,15 @@ up_to start n xs h =
     let front : length (take start xs) ≡ start = omega (arith, length-take start xs) in
     ap (take (start + n)) (sym (take-append-drop start xs)) ∙ ap (λ k. take (k + n) (take start xs ++ drop start xs)) (sym front) ∙ take-append-add (take start xs) (drop start xs) n
 
--- the words of a run, put after those of the rows before it
-pub words_more : (cells : List (Option ℤ)) (out new post : List ℕ) (start n : ℕ) → start + n ≤ length cells → length out ≡ 4 * length cells → length new ≡ 4 * n
-    → take (4 * start) out ≡ flat_map cell_bytes (take start cells) → new ≡ flat_map cell_bytes (take n (drop start cells))
-    → take (4 * (start + n)) (take (4 * start) out ++ (new ++ post)) ≡ flat_map cell_bytes (take (start + n) cells)
-words_more cells out new post start n within long size so_far wrote =
+-- the words of a run, put after those of what stands before it
+pub words_more : {X : Type 0} (word : X → List ℕ) (xs : List X) (out new post : List ℕ) (start n : ℕ) → start + n ≤ length xs → length out ≡ 4 * length xs → length new ≡ 4 * n
+    → take (4 * start) out ≡ flat_map word (take start xs) → new ≡ flat_map word (take n (drop start xs))
+    → take (4 * (start + n)) (take (4 * start) out ++ (new ++ post)) ≡ flat_map word (take (start + n) xs)
+words_more word xs out new post start n within long size so_far wrote =
     let front = take (4 * start) out in
     let end : 4 * (start + n) ≡ length front + length new = omega (arith, length-take (4 * start) out) in
-    ap (λ k. take k (front ++ (new ++ post))) end ∙ take-append-add front (new ++ post) (length new) ∙ ap (λ xs. front ++ xs) (take-append-le (length new) new post (omega arith) ∙ take_all (length new) new (omega arith))
-    ∙ ap (λ xs. xs ++ new) so_far ∙ ap (λ xs. flat_map cell_bytes (take start cells) ++ xs) wrote ∙ sym (ap (flat_map cell_bytes) (up_to start n cells (omega arith)) ∙ flat_map-append cell_bytes (take start cells) (take n (drop start cells)))
+    ap (λ k. take k (front ++ (new ++ post))) end ∙ take-append-add front (new ++ post) (length new) ∙ ap (λ ys. front ++ ys) (take-append-le (length new) new post (omega arith) ∙ take_all (length new) new (omega arith))
+    ∙ ap (λ ys. ys ++ new) so_far ∙ ap (λ ys. flat_map word (take start xs) ++ ys) wrote ∙ sym (ap (flat_map word) (up_to start n xs (omega arith)) ∙ flat_map-append word (take start xs) (take n (drop start xs)))
 
 -- a byte of a run's bits is one of the column's, where the run ends with a whole byte or with the column
 pub run_byte : (cells : List (Option ℤ)) (start n j : ℕ) → j < presence_size n → (n % 8 ≡ 0) ⊎ (length cells ≤ start + n)
@@ -64,33 +64,33 @@ bits_more cells out new post at n room ends so_far wrote k h = by (cases_lt k at
         ∙ ap (λ xs. get_or xs j 0) wrote ∙ byte-presence_bytes (presence_size n) run j (omega arith) ∙ run_byte cells (at * 8) n j (omega arith) ends ∙ ap (λ i. presence_byte (take 8 (drop i cells))) start
 
 -- the bits and the words up to the end of run r, where those before it are written
-module _ (cells run : List (Option ℤ)) (r rows end : ℕ) (count : length cells ≡ rows) (below : r * 1024 < rows) (last : end ≡ min rows (r * 1024 + 1024)) (read : run ≡ take (end - r * 1024) (drop (r * 1024) cells)) where
-  size : length run ≡ end - r * 1024
-  size = ap length read ∙ omega (arith, length-take (end - r * 1024) (drop (r * 1024) cells), length-drop (r * 1024) cells)
+module _ (cells : List (Option ℤ)) (r rows end : ℕ) (count : length cells ≡ rows) (below : r * 64 < rows) (last : end ≡ min rows (r * 64 + 64)) where
+  abbrev n : ℕ
+  n = end - r * 64
 
-  pub bits_next : (present new : List ℕ) (k : ℕ) → length present ≡ presence_size rows → new ≡ presence_bytes (presence_size (length run)) run
-      → ((i : ℕ) → i < presence_size (min (r * 1024) rows) → get_or present i 0 ≡ presence_byte (take 8 (drop (i * 8) cells)))
-      → (i : ℕ) → i < presence_size (min ((r + 1) * 1024) rows) → get_or (put_mid (r * 1024 / 8) k present new) i 0 ≡ presence_byte (take 8 (drop (i * 8) cells))
+  abbrev run : List (Option ℤ)
+  run = take n (drop (r * 64) cells)
+
+  pub bits_next : (present new : List ℕ) (k : ℕ) → length present ≡ presence_size rows → new ≡ presence_bytes (presence_size n) run
+      → ((i : ℕ) → i < presence_size (min (r * 64) rows) → get_or present i 0 ≡ presence_byte (take 8 (drop (i * 8) cells)))
+      → (i : ℕ) → i < presence_size (min ((r + 1) * 64) rows) → get_or (put_mid (r * 64 / 8) k present new) i 0 ≡ presence_byte (take 8 (drop (i * 8) cells))
   bits_next present new k long wrote so_far i h =
-      let at = r * 1024 / 8 in
-      let n = end - r * 1024 in
-      let start : r * 1024 ≡ at * 8 = omega arith in
-      let bits : new ≡ presence_bytes (presence_size n) (take n (drop (at * 8) cells)) =
-      wrote ∙ ap (λ m. presence_bytes (presence_size m) run) size ∙ ap (presence_bytes (presence_size n)) (read ∙ ap (λ m. take n (drop m cells)) start) in
-      bits_more cells present new _ at n (omega arith) (by (cases_lt (r * 1024 + 1024) rows)) (λ j before. so_far j (omega arith)) bits i (omega arith)
+      let at = r * 64 / 8 in
+      let start : r * 64 ≡ at * 8 = omega arith in
+      bits_more cells present new _ at n (omega arith) (by (cases_lt (r * 64 + 64) rows)) (λ j before. so_far j (omega arith)) (wrote ∙ ap (λ m. presence_bytes (presence_size n) (take n (drop m cells))) start) i (omega arith)
     where
-      by : (r * 1024 + 1024 < rows) ⊎ (rows ≤ r * 1024 + 1024) → ((end - r * 1024) % 8 ≡ 0) ⊎ (length cells ≤ r * 1024 / 8 * 8 + (end - r * 1024))
-      by (inl before) = let n : end - r * 1024 ≡ 1024 = omega arith in inl (ap (λ m. m % 8) n)
+      by : (r * 64 + 64 < rows) ⊎ (rows ≤ r * 64 + 64) → (n % 8 ≡ 0) ⊎ (length cells ≤ r * 64 / 8 * 8 + n)
+      by (inl before) = let full : n ≡ 64 = omega arith in inl (ap (λ m. m % 8) full)
       by (inr past) = inr (omega arith)
 
   pub words_next : (words new : List ℕ) (k : ℕ) → length words ≡ 4 * rows → new ≡ flat_map cell_bytes run
-      → take (4 * min (r * 1024) rows) words ≡ flat_map cell_bytes (take (min (r * 1024) rows) cells)
-      → take (4 * min ((r + 1) * 1024) rows) (put_mid (4 * (r * 1024)) k words new) ≡ flat_map cell_bytes (take (min ((r + 1) * 1024) rows) cells)
+      → take (4 * min (r * 64) rows) words ≡ flat_map cell_bytes (take (min (r * 64) rows) cells)
+      → take (4 * min ((r + 1) * 64) rows) (put_mid (4 * (r * 64)) k words new) ≡ flat_map cell_bytes (take (min ((r + 1) * 64) rows) cells)
   words_next words new k long wrote so_far =
-      let n = end - r * 1024 in
-      let reached : min (r * 1024) rows ≡ r * 1024 = omega arith in
-      let next : r * 1024 + n ≡ min ((r + 1) * 1024) rows = omega arith in
-      let before : take (4 * (r * 1024)) words ≡ flat_map cell_bytes (take (r * 1024) cells) = subst (λ m. take (4 * m) words ≡ flat_map cell_bytes (take m cells)) reached so_far in
+      let reached : min (r * 64) rows ≡ r * 64 = omega arith in
+      let next : r * 64 + n ≡ min ((r + 1) * 64) rows = omega arith in
+      let before : take (4 * (r * 64)) words ≡ flat_map cell_bytes (take (r * 64) cells) = subst (λ m. take (4 * m) words ≡ flat_map cell_bytes (take m cells)) reached so_far in
+      let size : length run ≡ n = omega (arith, length-take n (drop (r * 64) cells), length-drop (r * 64) cells) in
       let all : length new ≡ 4 * n = ap length wrote ∙ length-words run ∙ ap (λ m. 4 * m) size in
-      subst (λ m. take (4 * m) (put_mid (4 * (r * 1024)) k words new) ≡ flat_map cell_bytes (take m cells)) next
-      (words_more cells words new _ (r * 1024) n (omega arith) (omega arith) all before (wrote ∙ ap (flat_map cell_bytes) read))
+      subst (λ m. take (4 * m) (put_mid (4 * (r * 64)) k words new) ≡ flat_map cell_bytes (take m cells)) next
+      (words_more cell_bytes cells words new _ (r * 64) n (omega arith) (omega arith) all before wrote)

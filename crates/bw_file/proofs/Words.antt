@@ -11,6 +11,7 @@ use Rattle.std.specs.Prelude.{All}
 use Rattle.byteorder.specs.Endian.{little_bytes, little_number}
 use Rattle.byteorder.specs.Numbers.{little_number-reads_back}
 use Rattle.bw_file.specs.Cells.{IsCell, cell_bytes, cell_number}
+use Rattle.bw_file.proofs.Distances.{low_bytes}
 use Rattle.bw_file.proofs.Places.{drop-words}
 
 -- four bytes are those of their number
@@ -53,15 +54,15 @@ words-by_numbers (a ∷ b ∷ d ∷ e ∷ words) (c ∷ cells) small long each =
     ap (little_number 4) (drop-drop (4 * k) 4 (a ∷ b ∷ d ∷ e ∷ words) ∙ ap (λ m. drop m (a ∷ b ∷ d ∷ e ∷ words)) (sym step)) ∙ each (suc k) (omega arith)) in
     ap (λ xs. xs ++ words) first ∙ ap (λ xs. cell_bytes c ++ xs) rest
 
--- one cell more is written
-pub write_next : (cells : List (Option ℤ)) (out new rest post : List ℕ) (i : ℕ) → i < length cells → 4 * i ≤ length out → take (4 * i) out ≡ flat_map cell_bytes (take i cells)
-    → new ≡ cell_bytes (get_or cells i None) ++ rest → take (4 * (i + 1)) (take (4 * i) out ++ (new ++ post)) ≡ flat_map cell_bytes (take (i + 1) cells)
-write_next cells out new rest post i h room so_far wrote =
+-- one number more is written
+pub write_next : (numbers out new rest post : List ℕ) (i : ℕ) → i < length numbers → 4 * i ≤ length out → take (4 * i) out ≡ flat_map low_bytes (take i numbers)
+    → new ≡ low_bytes (get_or numbers i 0) ++ rest → take (4 * (i + 1)) (take (4 * i) out ++ (new ++ post)) ≡ flat_map low_bytes (take (i + 1) numbers)
+write_next numbers out new rest post i h room so_far wrote =
     let front = take (4 * i) out in
     let long : length front ≡ 4 * i = omega (arith, length-take (4 * i) out) in
     let end : 4 * (i + 1) ≡ length front + 4 = omega arith in
-    let word = cell_bytes (get_or cells i None) in
-    let next : flat_map cell_bytes (take (i + 1) cells) ≡ flat_map cell_bytes (take i cells) ++ cell_bytes (get_or cells i None) =
-    ap (flat_map cell_bytes) (take_more cells i None h) ∙ flat_map-append cell_bytes (take i cells) (get_or cells i None ∷ []) ∙ ap (λ xs. flat_map cell_bytes (take i cells) ++ xs) (append-nil (cell_bytes (get_or cells i None))) in
+    let word = low_bytes (get_or numbers i 0) in
+    let next : flat_map low_bytes (take (i + 1) numbers) ≡ flat_map low_bytes (take i numbers) ++ low_bytes (get_or numbers i 0) =
+    ap (flat_map low_bytes) (take_more numbers i 0 h) ∙ flat_map-append low_bytes (take i numbers) (get_or numbers i 0 ∷ []) ∙ ap (λ xs. flat_map low_bytes (take i numbers) ++ xs) (append-nil (low_bytes (get_or numbers i 0))) in
     ap (λ n. take n (front ++ (new ++ post))) end ∙ take-append-add front (new ++ post) 4 ∙ ap (λ xs. front ++ take 4 (xs ++ post)) wrote
     ∙ ap (λ xs. xs ++ word) so_far ∙ sym next

@@ -6,7 +6,7 @@ ghost use Rattle.bw_file.specs.Cells.{column_bytes, column_size, row_limit, IsCe
 
 use crate::column::FileColumn;
 use crate::writing::write_column;
-use bw_cells::Cells;
+use bw_cells::Measured;
 use std::alloc::{AllocError, Global};
 
 /// How many bytes a column of so many rows has.
@@ -18,7 +18,7 @@ pub(crate) fn column_size(rows: usize) -> usize
 }
 
 /// Puts the bytes of columns of so many rows last.
-pub(crate) fn put_columns<C: Cells>(
+pub(crate) fn put_columns<C: Measured>(
     bytes: &mut Vec<u8>,
     rows: usize,
     columns: &[C],
@@ -35,7 +35,7 @@ pub(crate) fn put_columns<C: Cells>(
 }
 
 /// Puts the bytes of a column of so many rows last.
-fn put_column<C: Cells>(bytes: &mut Vec<u8>, rows: usize, column: &C) -> Result<(), AllocError>
+fn put_column<C: Measured>(bytes: &mut Vec<u8>, rows: usize, column: &C) -> Result<(), AllocError>
     requires few { rows ≤ row_limit }
     requires long { length (C.cells column.now) ≡ rows }
     requires integers { All IsCell (C.cells column.now) }

@@ -9,7 +9,7 @@ use crate::columns::{column_size, put_columns};
 use crate::front::front;
 use crate::header::ColumnHeader;
 use crate::headers::{have_names, headers_size, put_headers};
-use bw_cells::Cells;
+use bw_cells::Measured;
 use std::alloc::{AllocError, Global};
 
 /// How many bytes spell a table of these headers and so many rows.
@@ -23,7 +23,7 @@ pub fn file_length(headers: &[ColumnHeader], rows: usize) -> u64
 }
 
 /// The bytes that spell the table of these headers and columns, each of so many rows.
-pub fn encode<C: Cells>(
+pub fn encode<C: Measured>(
     alloc: Global,
     headers: &[ColumnHeader],
     rows: usize,

@@ -8,8 +8,8 @@ write-preserved c =
     let j = c.write.j in
     let out = c.write.out in
     let rest = drop 4 (take (length out - 4 * j) (drop (4 * j) out)) in
-    let number = c.gather.invariant.numbers j (omega (arith, c.write-test.true, c.gather-test.false)) in
+    let low = c.gather.invariant.low j (omega (arith, c.write-test.true, c.gather-test.false)) in
     record {
       count = search rules;
-      words = write_next c.args.cells.now out c.write_u32.new.buf rest _ j (omega (arith, c.write-test.true, c.requires.count)) (omega (arith, c.write-test.true, c.write.invariant.count)) c.write.invariant.words (c.write_u32.ensures ∙ ap (λ n. little_bytes 4 n ++ rest) number);
+      words = write_next c.args.numbers.now out c.write_u32.new.buf rest _ j (omega (arith, c.write-test.true, c.requires.count)) (omega (arith, c.write-test.true, c.write.invariant.count)) c.write.invariant.words (c.write_u32.ensures ∙ ap (λ n. little_bytes 4 n ++ rest) low);
     }

@@ -8,6 +8,6 @@ abbrev pub invariant-runs : goal.invariant-runs
 invariant-runs g l = record {
   present : length l.present ≡ presence_size l.rows;
   numbers : length l.words ≡ 4 * l.rows;
-  bits : (k : ℕ) → k < presence_size (min (l.r * 1024) l.rows) → slice_index l.present k ≡ presence_byte (take 8 (drop (k * 8) (g.C.Cells.cells l.column)));
-  words : take (4 * min (l.r * 1024) l.rows) l.words ≡ flat_map cell_bytes (take (min (l.r * 1024) l.rows) (g.C.Cells.cells l.column));
+  bits : (k : ℕ) → k < presence_size (min (l.r * 64) l.rows) → slice_index l.present k ≡ presence_byte (take 8 (drop (k * 8) (g.C.Cells.cells l.column)));
+  words : take (4 * min (l.r * 64) l.rows) l.words ≡ flat_map cell_bytes (take (min (l.r * 64) l.rows) (g.C.Cells.cells l.column));
 }
