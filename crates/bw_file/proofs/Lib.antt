@@ -2,6 +2,7 @@ pub mod Agree
 pub mod Blocks
 pub mod ColumnEnds
 pub mod Distinct
+pub mod EndLanes
 pub mod Fronts
 pub mod Joined
 pub mod Lengths
