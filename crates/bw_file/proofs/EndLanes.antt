@@ -1,5 +1,5 @@
 -- The least and the greatest of words that are kept side by side, of which one takes a word more.
-use Rattle.std.proofs.Common.{List, [], ap, arith, fold, length, refl, slice_index_or, slice_set, suc, zero, ℕ, ℤ, ◌+◌, ◌<◌, ◌∷◌, ◌≡◌, ◌∙◌}
+use Rattle.std.proofs.Common.{List, [], ap, arith, fold, length, refl, slice_index_or, slice_set, suc, zero, ℕ, ℤ, ◌<◌, ◌∷◌, ◌≡◌, ◌∙◌}
 use Rattle.std.specs.Int.{int_max, int_min}
 use Rattle.std.proofs.lemmas.Int.{clamps, ints}
 

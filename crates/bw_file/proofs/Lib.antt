@@ -8,6 +8,8 @@ pub mod Joined
 pub mod Lengths
 pub mod Lent
 pub mod Places
+pub mod RowBits
+pub mod RunDistances
 pub mod Runs
 pub mod Spare
 pub mod Words
