@@ -1,4 +1,4 @@
-use Rattle.std.proofs.Common.{ap, arith, fold, get_or, of_z, pos, refl, rules, sym, take, to_z, w32, ◌*◌, ◌+◌, ◌/◌, ◌<◌, ◌≡◌, ◌∙◌}
+use Rattle.std.proofs.Common.{ap, arith, fold, get_or, of_z, pos, refl, rules, sym, take, to_z, w32, ◌%◌, ◌*◌, ◌+◌, ◌/◌, ◌<◌, ◌≡◌, ◌∙◌}
 use Rattle.std.proofs.lemmas.Int.{to_z-of_z}
 use Rattle.std.proofs.lemmas.List.{take_all}
 use Rattle.std.specs.Int.{int_max, int_min}
@@ -80,12 +80,12 @@ rest-preserved c =
     let word : to_z w32 (of_z w32 c.word_at-word-in-rest.result) ≡ c.word_at-word-in-rest.result = to_z-of_z w32 c.word_at-word-in-rest.result (search rules) in
     let low : to_z w32 (of_z w32 c.word_or-in-rest.result) ≡ c.word_or-in-rest.result = to_z-of_z w32 c.word_or-in-rest.result (search rules) in
     let high : to_z w32 (of_z w32 c.word_or-in-rest-2.result) ≡ c.word_or-in-rest-2.result = to_z-of_z w32 c.word_or-in-rest-2.result (search rules) in
-    let low_lane : to_z w32 (of_z w32 (get_or c.rest.least 0 (pos 0))) ≡ get_or c.rest.least 0 (pos 0) = to_z-of_z w32 (get_or c.rest.least 0 (pos 0)) (search rules) in
-    let high_lane : to_z w32 (of_z w32 (get_or c.rest.greatest 0 (pos 0))) ≡ get_or c.rest.greatest 0 (pos 0) = to_z-of_z w32 (get_or c.rest.greatest 0 (pos 0)) (search rules) in
+    let low_lane : to_z w32 (of_z w32 (get_or c.rest.least (i % 8) (pos 0))) ≡ get_or c.rest.least (i % 8) (pos 0) = to_z-of_z w32 (get_or c.rest.least (i % 8) (pos 0)) (search rules) in
+    let high_lane : to_z w32 (of_z w32 (get_or c.rest.greatest (i % 8) (pos 0))) ≡ get_or c.rest.greatest (i % 8) (pos 0) = to_z-of_z w32 (get_or c.rest.greatest (i % 8) (pos 0)) (search rules) in
     let least : to_z w32 (of_z w32 c.min-in-rest.result) ≡ c.min-in-rest.result = to_z-of_z w32 c.min-in-rest.result (search rules) in
     let greatest : to_z w32 (of_z w32 c.max-in-rest.result) ≡ c.max-in-rest.result = to_z-of_z w32 c.max-in-rest.result (search rules) in
-    let lower = least_set top _ (pos 0) c.min-in-rest.result c.rest.least 0 (omega (arith, c.rest.invariant.long_least)) (rw (low_lane, low, c.word_or-in-rest.ensures, word) at c.min-in-rest.ensures.value) in
-    let higher = greatest_set bottom _ (pos 0) c.max-in-rest.result c.rest.greatest 0 (omega (arith, c.rest.invariant.long_greatest)) (rw (high_lane, high, c.word_or-in-rest-2.ensures, word) at c.max-in-rest.ensures.value) in
+    let lower = least_set top _ (pos 0) c.min-in-rest.result c.rest.least (i % 8) (omega (arith, c.rest.invariant.long_least)) (rw (low_lane, low, c.word_or-in-rest.ensures, word) at c.min-in-rest.ensures.value) in
+    let higher = greatest_set bottom _ (pos 0) c.max-in-rest.result c.rest.greatest (i % 8) (omega (arith, c.rest.invariant.long_greatest)) (rw (high_lane, high, c.word_or-in-rest-2.ensures, word) at c.max-in-rest.ensures.value) in
     rw (least, greatest) record {
       long_least = search rules;
       long_greatest = search rules;
