@@ -14,7 +14,7 @@ use Rattle.bw_cells.specs.Known.{known}
 use Rattle.bw_cells.proofs.Known.{all_known, known_more}
 use Rattle.bw_cells.proofs.KnownEnds.{greatest_is, greatest_more, least_is, least_more}
 use Rattle.bw_file.specs.Cells.{IsCell}
-use Rattle.bw_file.specs.Reading.{cells_in, read_cell}
+use Rattle.bw_file.specs.Reading.{cells_in}
 use Rattle.bw_file.proofs.Lent.{cell_in, length-cells_in}
 
 -- what stands for a null

@@ -4,11 +4,14 @@ pub mod Blocks
 pub mod ColumnEnds
 pub mod Distances
 pub mod Distinct
+pub mod EndLanes
 pub mod Fronts
 pub mod Joined
 pub mod Lengths
 pub mod Lent
 pub mod Places
+pub mod RowBits
+pub mod RunDistances
 pub mod Runs
 pub mod Spare
 pub mod Words

@@ -4,9 +4,10 @@ ghost use Rattle.std.specs.Prelude.{All, IfSome, List, None, Option, length, ◌
 ghost use Rattle.bw_file.specs.Cells.{column_bytes, column_size, presence_size, row_limit, IsCell};
 
 use crate::cells::{are_spelled, read_cells};
+use crate::distances::{presence_of_rows, read_distances};
 use crate::ends::ends_of_words;
 use crate::presence::has_spare_bit;
-use bw_cells::{Cells, Measured};
+use bw_cells::{Cells, Measured, distances_in_run};
 use bw_code::Ends;
 use std::marker::Model;
 
@@ -80,5 +81,13 @@ impl<'a> Cells for FileColumn<'a> {
 impl<'a> Measured for FileColumn<'a> {
     fn ends(&self) -> Option<Ends> {
         ends_of_words(self.present, self.words, self.rows)
+    }
+
+    fn distances(&self, at: usize, base: i64, out: &mut [u64]) -> u64 {
+        if at % 8 != 0 {
+            return distances_in_run(self, at, base, out);
+        }
+        read_distances(self.present, self.words, at, base, out);
+        presence_of_rows(self.present, at, out.len())
     }
 }

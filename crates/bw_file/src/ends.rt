@@ -1,6 +1,8 @@
 //! The least and the greatest of the cells of a column.
 
-ghost use Rattle.std.specs.Prelude.{IfSome, None, Some, length, unwrap_or, if◌then◌else◌, ◌*◌, ◌<ℤ◌, ◌≡◌, ◌≤◌, ◌≤ℤ◌};
+ghost use Rattle.std.specs.Prelude.{IfSome, None, Some, length, negsuc, pos, unwrap_or, if◌then◌else◌, ◌*◌, ◌<ℤ◌, ◌≡◌, ◌≤◌, ◌≤ℤ◌};
+ghost use Rattle.std.specs.Int.{int_max, int_min};
+ghost use Rattle.std.specs.List.{fold};
 ghost use Rattle.bw_cells.specs.Known.{known};
 ghost use Rattle.bw_code.specs.Fittings.{AreEnds};
 ghost use Rattle.bw_file.specs.Cells.{presence_size, row_limit};
@@ -16,24 +18,49 @@ pub(crate) fn ends_of_words(present: &[u8], words: &[u8], rows: usize) -> Option
     requires words { length words.now ≡ 4 * rows }
     ensures { AreEnds (known (cells_in rows present.now words.now)) result }
 {
-    let (mut least, mut greatest) = (i32::MAX, i32::MIN);
+    // Eight of each, so that no row waits for the one before it.
+    let mut least = [i32::MAX; 8];
+    let mut greatest = [i32::MIN; 8];
     // No branch, and the place of each bit is known among eight. A null is taken as what changes neither end.
     'eights: for q in 0..rows / 8 {
         let byte = present[q];
         'bits: for j in 0..8 {
             let there = has_bit(byte, j);
             let word = word_at(words, 8 * q + j);
-            least = least.min(word_or(there, word, i32::MAX));
-            greatest = greatest.max(word_or(there, word, i32::MIN));
+            least[j] = least[j].min(word_or(there, word, i32::MAX));
+            greatest[j] = greatest[j].max(word_or(there, word, i32::MIN));
         }
     }
+    // A place that is known beforehand would leave LLVM only half of the eight to take side by side above.
     'rest: for i in rows / 8 * 8..rows {
         let there = has_cell(present, i);
         let word = word_at(words, i);
-        least = least.min(word_or(there, word, i32::MAX));
-        greatest = greatest.max(word_or(there, word, i32::MIN));
+        least[i % 8] = least[i % 8].min(word_or(there, word, i32::MAX));
+        greatest[i % 8] = greatest[i % 8].max(word_or(there, word, i32::MIN));
     }
-    ends_between(least, greatest)
+    ends_between(least_of(&least), greatest_of(&greatest))
+}
+
+/// The least of eight words.
+fn least_of(words: &[i32; 8]) -> i32
+    ensures { result ≡ fold int_min (pos 2147483647) words.now }
+{
+    let mut least = i32::MAX;
+    for word in words {
+        least = least.min(*word);
+    }
+    least
+}
+
+/// The greatest of eight words.
+fn greatest_of(words: &[i32; 8]) -> i32
+    ensures { result ≡ fold int_max (negsuc 2147483647) words.now }
+{
+    let mut greatest = i32::MIN;
+    for word in words {
+        greatest = greatest.max(*word);
+    }
+    greatest
 }
 
 /// The word where it is there, and else what stands for a null.

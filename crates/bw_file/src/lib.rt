@@ -7,6 +7,7 @@ mod cells;
 mod column;
 mod columns;
 mod decoding;
+mod distances;
 mod encoding;
 mod ends;
 mod fault;

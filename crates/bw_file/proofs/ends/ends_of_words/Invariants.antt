@@ -1,4 +1,4 @@
-use Rattle.std.proofs.Common.{fold, take, ◌*◌, ◌+◌, ◌≡◌}
+use Rattle.std.proofs.Common.{fold, length, take, ◌*◌, ◌+◌, ◌≡◌}
 use Rattle.std.specs.Int.{int_max, int_min}
 use Rattle.bw_cells.specs.Known.{known}
 use Rattle.bw_file.specs.Reading.{cells_in}
@@ -7,18 +7,24 @@ use Rattle.bw_file.proofs.ends.ends_of_words.Given as goal
 
 abbrev pub invariant-eights : goal.invariant-eights
 invariant-eights l = record {
-  least : l.least ≡ fold int_min top (known (take (8 * l.q) (cells_in l.rows l.present l.words)));
-  greatest : l.greatest ≡ fold int_max bottom (known (take (8 * l.q) (cells_in l.rows l.present l.words)));
+  long_least : length l.least ≡ 8;
+  long_greatest : length l.greatest ≡ 8;
+  least : fold int_min top l.least ≡ fold int_min top (known (take (8 * l.q) (cells_in l.rows l.present l.words)));
+  greatest : fold int_max bottom l.greatest ≡ fold int_max bottom (known (take (8 * l.q) (cells_in l.rows l.present l.words)));
 }
 
 abbrev pub invariant-bits : goal.invariant-bits
 invariant-bits l = record {
-  least : l.least ≡ fold int_min top (known (take (8 * l.q + l.j) (cells_in l.rows l.present l.words)));
-  greatest : l.greatest ≡ fold int_max bottom (known (take (8 * l.q + l.j) (cells_in l.rows l.present l.words)));
+  long_least : length l.least ≡ 8;
+  long_greatest : length l.greatest ≡ 8;
+  least : fold int_min top l.least ≡ fold int_min top (known (take (8 * l.q + l.j) (cells_in l.rows l.present l.words)));
+  greatest : fold int_max bottom l.greatest ≡ fold int_max bottom (known (take (8 * l.q + l.j) (cells_in l.rows l.present l.words)));
 }
 
 abbrev pub invariant-rest : goal.invariant-rest
 invariant-rest l = record {
-  least : l.least ≡ fold int_min top (known (take l.i (cells_in l.rows l.present l.words)));
-  greatest : l.greatest ≡ fold int_max bottom (known (take l.i (cells_in l.rows l.present l.words)));
+  long_least : length l.least ≡ 8;
+  long_greatest : length l.greatest ≡ 8;
+  least : fold int_min top l.least ≡ fold int_min top (known (take l.i (cells_in l.rows l.present l.words)));
+  greatest : fold int_max bottom l.greatest ≡ fold int_max bottom (known (take l.i (cells_in l.rows l.present l.words)));
 }
