@@ -2,13 +2,13 @@ pub mod Agree
 pub mod Bits
 pub mod Blocks
 pub mod ColumnEnds
-pub mod Distances
 pub mod Distinct
 pub mod EndLanes
 pub mod Fronts
 pub mod Joined
 pub mod Lengths
 pub mod Lent
+pub mod LowWords
 pub mod Places
 pub mod RowBits
 pub mod RunDistances

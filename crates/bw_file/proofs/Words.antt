@@ -11,7 +11,7 @@ use Rattle.std.specs.Prelude.{All}
 use Rattle.byteorder.specs.Endian.{little_bytes, little_number}
 use Rattle.byteorder.specs.Numbers.{little_number-reads_back}
 use Rattle.bw_file.specs.Cells.{IsCell, cell_bytes, cell_number}
-use Rattle.bw_file.proofs.Distances.{low_bytes}
+use Rattle.bw_file.proofs.LowWords.{low_bytes}
 use Rattle.bw_file.proofs.Places.{drop-words}
 
 -- four bytes are those of their number

@@ -1,6 +1,6 @@
 use Rattle.std.proofs.Common.{get_or, length, take, ℕ, ◌%◌, ◌*◌, ◌<◌, ◌^◌, ◌≡◌}
 use Rattle.std.specs.List.{flat_map}
-use Rattle.bw_file.proofs.Distances.{low_bytes}
+use Rattle.bw_file.proofs.LowWords.{low_bytes}
 use Rattle.bw_file.proofs.writing.write_eight.Given as goal
 
 abbrev pub invariant-gather : goal.invariant-gather

@@ -2,7 +2,7 @@ use Rattle.std.proofs.Common.{ap, arith, drop, length, rules, subst, sym, take, 
 use Rattle.std.proofs.lemmas.List.{length-drop, length-take, take_all}
 use Rattle.std.specs.List.{flat_map}
 use Rattle.byteorder.specs.Endian.{little_bytes}
-use Rattle.bw_file.proofs.Distances.{length-low_bytes, low_bytes, words_by_distances}
+use Rattle.bw_file.proofs.LowWords.{length-low_bytes, low_bytes, words_by_distances}
 use Rattle.bw_file.proofs.Runs.{words_more}
 use Rattle.bw_file.proofs.Words.{write_next}
 use borrow.Rule.Slice.PartMut.{put_mid}

@@ -1,6 +1,6 @@
 use Rattle.std.proofs.Common.{length, take, ◌*◌, ◌≡◌}
 use Rattle.std.specs.List.{flat_map}
-use Rattle.bw_file.proofs.Distances.{low_bytes}
+use Rattle.bw_file.proofs.LowWords.{low_bytes}
 use Rattle.bw_file.proofs.writing.write_words.Given as goal
 
 -- the words so far are written
