@@ -4,4 +4,5 @@ pub mod Marks
 pub mod Pairs
 pub mod Places
 pub mod Rows
+pub mod Runs
 pub mod Views

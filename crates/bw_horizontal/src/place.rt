@@ -2,6 +2,7 @@
 
 ghost use Rattle.std.specs.Prelude.{if◌then◌else◌, length, slice_index, ℕ, ◌%◌, ◌*◌, ◌+◌, ◌/◌, ◌<◌, ◌==◌, ◌^◌, ◌≡◌, ◌≤◌};
 ghost use Rattle.std.specs.List.{All};
+ghost use Rattle.bw_code.specs.Columns.{Fit};
 ghost use Rattle.bw_lane.specs.Sections.{IsStored};
 ghost use Rattle.bw_horizontal.specs.Words.{code_in, section_in, segment_rows, word_of};
 
@@ -123,5 +124,25 @@ impl Place {
     {
         let i = self.start + self.word;
         words[i] = self.masks.with_code(words[i], self.section, code as u32);
+    }
+
+    /// The codes of the rows from this one on, which are of the run, become these.
+    pub(crate) fn put_run(self, words: &mut [u64], codes: &[u64])
+        requires some { 1 ≤ length codes.now }
+        requires run { length codes.now + self.row % segment_rows self.masks.width % (self.masks.width + 1) ≤ self.masks.width + 1 }
+        requires there { (i : ℕ) → i < length codes.now → word_of self.masks.width (self.row + i) < length words.old }
+        requires stored { All (IsStored self.masks.width) words.old }
+        requires fit { Fit self.masks.width codes.now }
+        ensures len { length words.new ≡ length words.old }
+        ensures stored { All (IsStored self.masks.width) words.new }
+        ensures put { (i : ℕ) → i < length codes.now → code_in self.masks.width words.new (self.row + i) ≡ slice_index codes.now i }
+        ensures other { (j : ℕ) → (self.row ≤ j → self.row + length codes.now ≤ j) → code_in self.masks.width words.new j ≡ code_in self.masks.width words.old j }
+    {
+        let first = self.start + self.word;
+        // The run's words alone, one for each code: no bound is left to be looked at for each row.
+        let run = &mut words[first..first + codes.len()];
+        for i in 0..codes.len() {
+            run[i] = self.masks.with_code(run[i], self.section, codes[i] as u32);
+        }
     }
 }

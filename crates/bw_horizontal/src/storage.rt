@@ -7,7 +7,7 @@ ghost use Rattle.bw_horizontal.specs.Words.{code_in, segments_of, word_of};
 
 use crate::place::Place;
 
-/// How wide codes are at least that are read run after run.
+/// How wide codes are at least that are put and read run after run.
 const LEAST_IN_RUNS: u32 = 6;
 
 /// How many words so many rows take.
@@ -35,8 +35,8 @@ pub(crate) fn fill_up(words: &mut Vec<u64>, width: u32, rows: usize)
     };
 }
 
-/// The codes of the rows from `at` on become these.
-pub(crate) fn put_codes(words: &mut [u64], width: u32, at: usize, codes: &[u64])
+/// The codes of the rows from `at` on become these, row after row.
+fn put_rows(words: &mut [u64], width: u32, at: usize, codes: &[u64])
     requires narrow { width ≤ 32 }
     requires few { at + length codes.now ≤ 2 ^ 24 }
     requires fit { Fit width codes.now }
@@ -50,6 +50,45 @@ pub(crate) fn put_codes(words: &mut [u64], width: u32, at: usize, codes: &[u64])
     for code in codes {
         place.put(words, *code);
         place = place.after(1);
+    }
+}
+
+/// The codes of the rows from `at` on become these, run after run.
+fn put_runs(words: &mut [u64], width: u32, at: usize, codes: &[u64])
+    requires narrow { width ≤ 32 }
+    requires few { at + length codes.now ≤ 2 ^ 24 }
+    requires fit { Fit width codes.now }
+    requires there { (j : ℕ) → j < at + length codes.now → word_of width j < length words.old }
+    requires stored { All (IsStored width) words.old }
+    ensures stored { All (IsStored width) words.new }
+    ensures put { (i : ℕ) → i < length codes.now → code_in width words.new (at + i) ≡ slice_index codes.now i }
+    ensures other { (j : ℕ) → (at ≤ j → at + length codes.now ≤ j) → code_in width words.new j ≡ code_in width words.old j }
+{
+    let mut place = Place::of(width, at);
+    let mut done = 0;
+    'runs: while done < codes.len() {
+        let n = place.run().min(codes.len() - done);
+        place.put_run(words, &codes[done..done + n]);
+        place = place.after(n);
+        done += n;
+    }
+}
+
+/// The codes of the rows from `at` on become these. Narrow codes have short runs, which do not pay.
+pub(crate) fn put_codes(words: &mut [u64], width: u32, at: usize, codes: &[u64])
+    requires narrow { width ≤ 32 }
+    requires few { at + length codes.now ≤ 2 ^ 24 }
+    requires fit { Fit width codes.now }
+    requires there { (j : ℕ) → j < at + length codes.now → word_of width j < length words.old }
+    requires stored { All (IsStored width) words.old }
+    ensures stored { All (IsStored width) words.new }
+    ensures put { (i : ℕ) → i < length codes.now → code_in width words.new (at + i) ≡ slice_index codes.now i }
+    ensures other { (j : ℕ) → (at ≤ j → at + length codes.now ≤ j) → code_in width words.new j ≡ code_in width words.old j }
+{
+    if width < LEAST_IN_RUNS {
+        put_rows(words, width, at, codes);
+    } else {
+        put_runs(words, width, at, codes);
     }
 }
 

@@ -1,6 +1,6 @@
 use Rattle.std.proofs.Common.{ap, arith, ◌+◌, ◌∙◌}
 use Rattle.bw_horizontal.proofs.Views.{codes_more, codes_other}
-use Rattle.bw_horizontal.proofs.storage.put_codes.Goals as goal
+use Rattle.bw_horizontal.proofs.storage.put_rows.Goals as goal
 
 pub loop-code-preserved : goal.loop-code-preserved
 loop-code-preserved c =

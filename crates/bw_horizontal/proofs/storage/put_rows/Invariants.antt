@@ -2,7 +2,7 @@ use Rattle.std.proofs.Common.{get_or, ℕ, ◌+◌, ◌<◌, ◌≡◌, ◌≤�
 use Rattle.std.specs.List.{All}
 use Rattle.bw_lane.specs.Sections.{IsStored}
 use Rattle.bw_horizontal.specs.Words.{code_in}
-use Rattle.bw_horizontal.proofs.storage.put_codes.Given as goal
+use Rattle.bw_horizontal.proofs.storage.put_rows.Given as goal
 
 -- the codes so far
 abbrev pub invariant-loop-code : goal.invariant-loop-code
