@@ -8,6 +8,7 @@ ghost use Rattle.bw_byteslice.specs.Storing.{byte_of, bytes_of, capacities_of};
 
 use crate::shift::{narrow_byte_at, raise_narrow};
 use std::alloc::{AllocError, Global};
+use std::simd::prelude::*;
 
 /// How many codes are written at a time, so that their numbers stay in the cache for all slices.
 const BLOCK: usize = 64;
@@ -80,8 +81,8 @@ fn raise_codes(codes: &[u64], width: u32, numbers: &mut [u32])
     }
 }
 
-/// Byte i of each number of m bytes.
-fn put_bytes(bytes: &mut [u8], m: usize, i: usize, numbers: &[u32])
+/// Byte i of each of a few numbers of m bytes.
+fn put_few_bytes(bytes: &mut [u8], m: usize, i: usize, numbers: &[u32])
     requires narrow { m ≤ 4 }
     requires slice { i < m }
     requires long { length bytes.old ≡ length numbers.now }
@@ -90,6 +91,38 @@ fn put_bytes(bytes: &mut [u8], m: usize, i: usize, numbers: &[u32])
 {
     for r in 0..bytes.len() {
         bytes[r] = narrow_byte_at(numbers[r], m, i);
+    }
+}
+
+/// Byte i of each of 64 numbers of m bytes, sixteen of which a register takes.
+fn put_64_bytes(bytes: &mut [u8], m: usize, i: usize, numbers: &[u32])
+    requires narrow { m ≤ 4 }
+    requires slice { i < m }
+    requires whole { length numbers.now ≡ 64 }
+    requires long { length bytes.old ≡ 64 }
+    ensures len { length bytes.new ≡ 64 }
+    ensures bytes { (r : ℕ) → r < 64 → slice_index bytes.new r ≡ digit 256 m (slice_index numbers.now r) i }
+{
+    let low = 8 * (m - 1 - i) as u32;
+    let shifted = u32x64::from_slice(numbers) >> u32x64::splat(low);
+    (shifted & u32x64::splat(0xff))
+        .cast::<u8>()
+        .copy_to_slice(bytes);
+}
+
+/// Byte i of each number of m bytes.
+fn put_bytes(bytes: &mut [u8], m: usize, i: usize, numbers: &[u32])
+    requires narrow { m ≤ 4 }
+    requires slice { i < m }
+    requires long { length bytes.old ≡ length numbers.now }
+    ensures len { length bytes.new ≡ length bytes.old }
+    ensures bytes { (r : ℕ) → r < length numbers.now → slice_index bytes.new r ≡ digit 256 m (slice_index numbers.now r) i }
+{
+    // Most come by whole blocks, and quicker where the length is known.
+    if numbers.len() == BLOCK {
+        put_64_bytes(bytes, m, i, numbers);
+    } else {
+        put_few_bytes(bytes, m, i, numbers);
     }
 }
 

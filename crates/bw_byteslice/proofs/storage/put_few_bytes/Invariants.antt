@@ -1,6 +1,6 @@
 use Rattle.std.proofs.Common.{get_or, length, ℕ, ◌<◌, ◌≡◌}
 use Rattle.bw_code.specs.Units.{digit}
-use Rattle.bw_byteslice.proofs.storage.put_bytes.Given as goal
+use Rattle.bw_byteslice.proofs.storage.put_few_bytes.Given as goal
 
 abbrev pub invariant-loop-r : goal.invariant-loop-r
 invariant-loop-r l = record {
