@@ -105,9 +105,9 @@ module _ (k : ℕ) (units others : List (List ℕ)) (stored : AreStored k units)
       ap (λ x. agreement 256 (slices_of k) x (number_in (slices_of k) others (32 * q + j))) (number_is k units stored (32 * q + j))
       ∙ ap (agreement 256 (slices_of k) (code_in k units (32 * q + j) * 2 ^ shift_of k)) (number_is k others also_stored (32 * q + j))))
 
--- what the shift of a u64 leaves
-pub raised_is : (k s c : ℕ) → k ≤ 32 → s ≡ shift_of k → c < 2 ^ k → c * 2 ^ s % 2 ^ 64 ≡ c * 2 ^ shift_of k
-raised_is k s c narrow is h =
+-- what the shift of a number of so many bits leaves
+pub raised_is : (bits k s c : ℕ) → 8 * slices_of k ≤ bits → s ≡ shift_of k → c < 2 ^ k → c * 2 ^ s % 2 ^ bits ≡ c * 2 ^ shift_of k
+raised_is bits k s c narrow is h =
     let fits = raised_fits k c h in
-    let top : 2 ^ (8 * slices_of k) ≤ 2 ^ 64 = pow_mono {i = 8 * slices_of k} {j = 64} (omega arith) in
-    ap (λ n. c * 2 ^ n % 2 ^ 64) is ∙ mod-eq_of_lt (omega (arith, fits, top, pow_bytes (slices_of k)))
+    let top : 2 ^ (8 * slices_of k) ≤ 2 ^ bits = pow_mono {i = 8 * slices_of k} {j = bits} narrow in
+    ap (λ n. c * 2 ^ n % 2 ^ bits) is ∙ mod-eq_of_lt (omega (arith, fits, top, pow_bytes (slices_of k)))

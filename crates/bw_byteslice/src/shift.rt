@@ -33,6 +33,15 @@ pub(crate) fn raise(code: u64, width: u32) -> u64
     code << shift_of(width)
 }
 
+/// A code of `width` bits shifted up, as a number of 32 bits.
+pub(crate) fn raise_narrow(code: u64, width: u32) -> u32
+    requires narrow { width ≤ 32 }
+    requires fits { code < 2 ^ width }
+    ensures { result ≡ code * 2 ^ shift_of width }
+{
+    (code as u32) << shift_of(width)
+}
+
 /// The same test of the shifted codes.
 pub(crate) fn raise_test(test: CodeTest, width: u32) -> CodeTest
     requires narrow { width ≤ 32 }
@@ -50,6 +59,15 @@ pub(crate) fn raise_test(test: CodeTest, width: u32) -> CodeTest
 
 /// Byte i, from the highest, of a number of m bytes.
 pub(crate) fn byte_at(number: u64, m: usize, i: usize) -> u8
+    requires narrow { m ≤ 4 }
+    requires below { i < m }
+    ensures { result ≡ digit 256 m number i }
+{
+    (number >> (8 * (m - 1 - i)) & 0xff) as u8
+}
+
+/// Byte i, from the highest, of a number of m bytes, which has 32 bits.
+pub(crate) fn narrow_byte_at(number: u32, m: usize, i: usize) -> u8
     requires narrow { m ≤ 4 }
     requires below { i < m }
     ensures { result ≡ digit 256 m number i }

@@ -6,11 +6,12 @@ ghost use Rattle.bw_code.specs.Units.{digit};
 ghost use Rattle.bw_byteslice.specs.Slices.{shift_of, slices_of};
 ghost use Rattle.bw_byteslice.specs.Storing.{byte_of, bytes_of, capacities_of};
 
-use crate::shift::{byte_at, raise, slices_of};
+use crate::shift::{narrow_byte_at, raise_narrow};
 use std::alloc::{AllocError, Global};
+use std::simd::prelude::*;
 
-/// How many codes are written at a time.
-const BLOCK: usize = 1024;
+/// How many codes are written at a time, so that their numbers stay in the cache for all slices.
+const BLOCK: usize = 64;
 
 /// So many slices without bytes.
 pub(crate) fn no_bytes(alloc: Global, count: usize) -> Result<Vec<Vec<u8>>, AllocError>
@@ -67,39 +68,100 @@ pub(crate) fn grow(slices: &mut Vec<Vec<u8>>, len: usize)
     }
 }
 
-/// Byte i of each code, shifted up.
-fn put_bytes(bytes: &mut [u8], width: u32, i: usize, codes: &[u64])
+/// Each code shifted up, as a number of 32 bits: a register takes twice as many of them as of 64.
+fn raise_codes(codes: &[u64], width: u32, numbers: &mut [u32])
     requires narrow { width ≤ 32 }
-    requires slice { i < slices_of width }
     requires fit { Fit width codes.now }
-    requires long { length bytes.old ≡ length codes.now }
-    ensures len { length bytes.new ≡ length bytes.old }
-    ensures bytes { (r : ℕ) → r < length codes.now → slice_index bytes.new r ≡ digit 256 (slices_of width) (slice_index codes.now r * 2 ^ shift_of width) i }
+    requires long { length numbers.old ≡ length codes.now }
+    ensures len { length numbers.new ≡ length numbers.old }
+    ensures numbers { (r : ℕ) → r < length codes.now → slice_index numbers.new r ≡ slice_index codes.now r * 2 ^ shift_of width }
 {
-    let m = slices_of(width);
-    for r in 0..bytes.len() {
-        bytes[r] = byte_at(raise(codes[r], width), m, i);
+    for r in 0..numbers.len() {
+        numbers[r] = raise_narrow(codes[r], width);
     }
 }
 
-/// Byte i of each code, shifted up, goes to the row of the code. The first code is that of row `at`.
-fn put_in_slice(slice: &mut Vec<u8>, width: u32, i: usize, at: usize, codes: &[u64])
-    requires narrow { width ≤ 32 }
-    requires slice { i < slices_of width }
-    requires fit { Fit width codes.now }
-    requires there { at + length codes.now ≤ length slice.old.items }
-    ensures len { length slice.new.items ≡ length slice.old.items }
-    ensures capacity { vec_capacity slice.new ≡ vec_capacity slice.old }
-    ensures inside { (r : ℕ) → r < length codes.now → slice_index slice.new.items (at + r) ≡ digit 256 (slices_of width) (slice_index codes.now r * 2 ^ shift_of width) i }
-    ensures outside { (j : ℕ) → (at ≤ j → at + length codes.now ≤ j) → slice_index slice.new.items j ≡ slice_index slice.old.items j }
+/// Byte i of each of a few numbers of m bytes.
+fn put_few_bytes(bytes: &mut [u8], m: usize, i: usize, numbers: &[u32])
+    requires narrow { m ≤ 4 }
+    requires slice { i < m }
+    requires long { length bytes.old ≡ length numbers.now }
+    ensures len { length bytes.new ≡ length bytes.old }
+    ensures bytes { (r : ℕ) → r < length numbers.now → slice_index bytes.new r ≡ digit 256 m (slice_index numbers.now r) i }
 {
-    put_bytes(&mut slice[at..at + codes.len()], width, i, codes);
+    for r in 0..bytes.len() {
+        bytes[r] = narrow_byte_at(numbers[r], m, i);
+    }
 }
 
-/// The rows from `at` on get these codes, slice by slice.
+/// Byte i of each of 64 numbers of m bytes, sixteen of which a register takes.
+fn put_64_bytes(bytes: &mut [u8], m: usize, i: usize, numbers: &[u32])
+    requires narrow { m ≤ 4 }
+    requires slice { i < m }
+    requires whole { length numbers.now ≡ 64 }
+    requires long { length bytes.old ≡ 64 }
+    ensures len { length bytes.new ≡ 64 }
+    ensures bytes { (r : ℕ) → r < 64 → slice_index bytes.new r ≡ digit 256 m (slice_index numbers.now r) i }
+{
+    let low = 8 * (m - 1 - i) as u32;
+    let shifted = u32x64::from_slice(numbers) >> u32x64::splat(low);
+    (shifted & u32x64::splat(0xff))
+        .cast::<u8>()
+        .copy_to_slice(bytes);
+}
+
+/// Byte i of each number of m bytes.
+fn put_bytes(bytes: &mut [u8], m: usize, i: usize, numbers: &[u32])
+    requires narrow { m ≤ 4 }
+    requires slice { i < m }
+    requires long { length bytes.old ≡ length numbers.now }
+    ensures len { length bytes.new ≡ length bytes.old }
+    ensures bytes { (r : ℕ) → r < length numbers.now → slice_index bytes.new r ≡ digit 256 m (slice_index numbers.now r) i }
+{
+    // Most come by whole blocks, and quicker where the length is known.
+    if numbers.len() == BLOCK {
+        put_64_bytes(bytes, m, i, numbers);
+    } else {
+        put_few_bytes(bytes, m, i, numbers);
+    }
+}
+
+/// Byte i of each number of m bytes goes to the row of the number. The first number is that of row `at`.
+fn put_in_slice(slice: &mut Vec<u8>, m: usize, i: usize, at: usize, numbers: &[u32])
+    requires narrow { m ≤ 4 }
+    requires slice { i < m }
+    requires there { at + length numbers.now ≤ length slice.old.items }
+    ensures len { length slice.new.items ≡ length slice.old.items }
+    ensures capacity { vec_capacity slice.new ≡ vec_capacity slice.old }
+    ensures inside { (r : ℕ) → r < length numbers.now → slice_index slice.new.items (at + r) ≡ digit 256 m (slice_index numbers.now r) i }
+    ensures outside { (j : ℕ) → (at ≤ j → at + length numbers.now ≤ j) → slice_index slice.new.items j ≡ slice_index slice.old.items j }
+{
+    put_bytes(&mut slice[at..at + numbers.len()], m, i, numbers);
+}
+
+/// The rows from `at` on get these numbers, of as many bytes as there are slices, slice by slice.
+fn put_numbers(slices: &mut Vec<Vec<u8>>, at: usize, numbers: &[u32])
+    requires narrow { vec_len slices.old ≤ 4 }
+    requires there { (i : ℕ) → i < vec_len slices.old → at + length numbers.now ≤ length (slice_index_or (bytes_of slices.old.items) i []) }
+    ensures count { vec_len slices.new ≡ vec_len slices.old }
+    ensures capacities { capacities_of slices.new.items ≡ capacities_of slices.old.items }
+    ensures len { (i : ℕ) → length (slice_index_or (bytes_of slices.new.items) i []) ≡ length (slice_index_or (bytes_of slices.old.items) i []) }
+    ensures inside { (i r : ℕ) → i < vec_len slices.old → r < length numbers.now
+        → byte_of (bytes_of slices.new.items) (at + r) i ≡ digit 256 (vec_len slices.old) (slice_index numbers.now r) i }
+    ensures outside { (i j : ℕ) → (at ≤ j → at + length numbers.now ≤ j) → byte_of (bytes_of slices.new.items) j i ≡ byte_of (bytes_of slices.old.items) j i }
+{
+    let m = slices.len();
+    for i in 0..m {
+        let slice = &mut slices[i];
+        put_in_slice(slice, m, i, at, numbers);
+    }
+}
+
+/// The rows from `at` on get these codes, of which there are few. They are shifted up once for all slices.
 fn put_block(slices: &mut Vec<Vec<u8>>, width: u32, at: usize, codes: &[u64])
     requires narrow { width ≤ 32 }
     requires count { vec_len slices.old ≡ slices_of width }
+    requires few { length codes.now ≤ 64 }
     requires fit { Fit width codes.now }
     requires there { (i : ℕ) → i < slices_of width → at + length codes.now ≤ length (slice_index_or (bytes_of slices.old.items) i []) }
     ensures count { vec_len slices.new ≡ vec_len slices.old }
@@ -109,13 +171,13 @@ fn put_block(slices: &mut Vec<Vec<u8>>, width: u32, at: usize, codes: &[u64])
         → byte_of (bytes_of slices.new.items) (at + r) i ≡ digit 256 (slices_of width) (slice_index codes.now r * 2 ^ shift_of width) i }
     ensures outside { (i j : ℕ) → (at ≤ j → at + length codes.now ≤ j) → byte_of (bytes_of slices.new.items) j i ≡ byte_of (bytes_of slices.old.items) j i }
 {
-    for i in 0..slices.len() {
-        let slice = &mut slices[i];
-        put_in_slice(slice, width, i, at, codes);
-    }
+    let mut list = [0; BLOCK];
+    let numbers = &mut list[..codes.len()];
+    raise_codes(codes, width, numbers);
+    put_numbers(slices, at, numbers);
 }
 
-/// The rows from `at` on get these codes, so many at a time that they stay in the cache for all slices.
+/// The rows from `at` on get these codes, a block at a time.
 pub(crate) fn put(slices: &mut Vec<Vec<u8>>, width: u32, at: usize, codes: &[u64])
     requires narrow { width ≤ 32 }
     requires count { vec_len slices.old ≡ slices_of width }

@@ -1,16 +1,14 @@
-use Rattle.std.proofs.Common.{[], ap, arith, get_or, length, sym, vec_capacity, ◌*◌, ◌+◌, ◌<◌, ◌^◌, ◌≡◌, ◌∙◌}
+use Rattle.std.proofs.Common.{[], ap, arith, get_or, length, sym, vec_capacity, ◌+◌, ◌<◌, ◌≡◌, ◌∙◌}
 use Rattle.std.proofs.Math.Seq.{map-set_same}
 use Rattle.bw_code.specs.Units.{digit}
-use Rattle.bw_byteslice.specs.Slices.{shift_of, slices_of}
 use Rattle.bw_byteslice.specs.Storing.{byte_of, bytes_of}
 use Rattle.bw_byteslice.proofs.Replacing.{each_is, read_is}
-use Rattle.bw_byteslice.proofs.storage.put_block.Goals as goal
+use Rattle.bw_byteslice.proofs.storage.put_numbers.Goals as goal
 
 pub put_in_slice-requires-clause-there : goal.put_in_slice-requires-clause-there
 put_in_slice-requires-clause-there c =
     let was = read_is (λ v. v.items) [] c.loop-i.slices.items c.loop-i.i (omega arith) c.index_mut-slice.result.now c.index_mut-slice.ensures.value in
-    let within : c.loop-i.i < slices_of c.args.width = omega arith in
-    omega (arith, ap length was, c.loop-i.invariant.len c.loop-i.i, c.requires.there c.loop-i.i within)
+    omega (arith, ap length was, c.loop-i.invariant.len c.loop-i.i, c.requires.there c.loop-i.i (omega arith))
 
 pub loop-i-preserved : goal.loop-i-preserved
 loop-i-preserved c =
@@ -18,7 +16,8 @@ loop-i-preserved c =
     let old = c.args.slices.now.items in
     let i = c.loop-i.i in
     let at = c.args.at in
-    let codes = c.args.codes.now in
+    let numbers = c.args.numbers.now in
+    let m = c.args.slices.now.len in
     let slice = c.index_mut-slice.result.now in
     let new = c.put_in_slice.new.slice in
     let within : i < length slices = omega arith in
@@ -28,8 +27,8 @@ loop-i-preserved c =
       capacities = map-set_same (λ v. vec_capacity v) slices i new slice (c.put_in_slice.ensures.capacity ∙ ap (λ v. vec_capacity v) c.index_mut-slice.ensures.value) ∙ c.loop-i.invariant.capacities;
       len = each_is (λ v. v.items) [] slices i within new (λ h xs. length xs ≡ length (get_or (bytes_of old) h []))
           (c.put_in_slice.ensures.len ∙ ap length (sym was) ∙ c.loop-i.invariant.len i) (λ h _. c.loop-i.invariant.len h);
-      inside = λ h r below. each_is (λ v. v.items) [] slices i within new (λ h xs. h < i + 1 → r < length codes → get_or xs (at + r) 0 ≡ digit 256 (slices_of c.args.width) (get_or codes r 0 * 2 ^ shift_of c.args.width) h)
-          (λ _. c.put_in_slice.ensures.inside r) (λ h other l. c.loop-i.invariant.inside h r (omega (arith, other, l))) h below;
+      inside = λ h r below. each_is (λ v. v.items) [] slices i within new (λ h xs. h < i + 1 → r < length numbers → get_or xs (at + r) 0 ≡ digit 256 m (get_or numbers r 0) h)
+          (λ _ below. c.put_in_slice.ensures.inside r below ∙ ap (λ k. digit 256 k (get_or numbers r 0) i) c.len-m.ensures) (λ h other l. c.loop-i.invariant.inside h r (omega (arith, other, l))) h below;
       outside = λ h j apart. each_is (λ v. v.items) [] slices i within new (λ h xs. get_or xs j 0 ≡ byte_of (bytes_of old) j h)
           (c.put_in_slice.ensures.outside j apart ∙ ap (λ xs. get_or xs j 0) (sym was) ∙ c.loop-i.invariant.outside i j apart) (λ h _. c.loop-i.invariant.outside h j apart) h;
     }
