@@ -36,6 +36,9 @@ pub(crate) fn fill_up(words: &mut Vec<u64>, width: u32, rows: usize)
 }
 
 /// The codes of the rows from `at` on become these, row after row.
+///
+/// Apart from the loop over runs in the machine's code too, so that the registers serve this loop alone.
+#[inline(never)]
 fn put_rows(words: &mut [u64], width: u32, at: usize, codes: &[u64])
     requires narrow { width ≤ 32 }
     requires few { at + length codes.now ≤ 2 ^ 24 }
