@@ -89,7 +89,8 @@ fn read_file<H: Files>(
     if length > limit as u64 {
         return Err(FolderFault::TooLarge);
     }
-    let mut bytes = Vec::with_capacity(alloc, length as usize)?;
+    // Room for one byte more, so that the read that finds the end does not make the vector grow.
+    let mut bytes = Vec::with_capacity(alloc, (length as usize).saturating_add(1))?;
     // The file may have grown meanwhile, which a byte behind the limit tells.
     let mut rest = file.take((limit as u64).saturating_add(1));
     match rest.read_to_end(&mut bytes) {
