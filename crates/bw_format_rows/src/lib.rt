@@ -4,6 +4,8 @@
 #[cfg(test)]
 mod csv_rows;
 #[cfg(test)]
+mod measured;
+#[cfg(test)]
 mod pieces;
 #[cfg(test)]
 mod table_files;
