@@ -1,6 +1,6 @@
 #!/usr/bin/env python3
 """Times LOAD of CSV files beside sqlite3's `.import`, and SAVE and OPEN of the table that all of them make and of the table of one, in one
-run and in each layout.
+run and in each layout, with the pages that the kernel gives and with huge pages.
 
 The files have two columns of random values of 32 bits, of which one in ten of the second is NULL. Of the LOAD of one file it also
 tells the memory that it takes at its peak beside the bytes of the file. Build bitcol first, by `rt run` in crates/bitcol.
@@ -17,6 +17,8 @@ TABLE = "CREATE TABLE t (a INT, b INT);\n"
 # So often a table is saved or opened, less once: the time of one is too short beside that of the loads.
 MORE = 8
 DEFAULTS = 4, 1_048_576
+# What a run stands behind. glibc 2.35 and later asks the kernel for huge pages where this variable is set.
+PAGES = {"pages of 4 KB": [], "huge pages": ["env", "GLIBC_TUNABLES=glibc.malloc.hugetlb=1"]}
 
 
 def csv_file(number, rows):
@@ -41,16 +43,19 @@ def opened(table, times):
     return "".join(f"OPEN u{number} FROM '{table}';\n" for number in range(times))
 
 
-def created(layout):
-    return f"CREATE TABLE t (a INT USING {layout}, b INT USING {layout});\n"
-
-
-def scripts_of(layout, which, loads):
-    """Scripts that save a table once and more often, and that open it so, by what they do."""
+def made(layout, which, loads):
+    """The file of the table that the loads fill, made by a run that isn't timed."""
     table = data_file(f"{which}_{layout}.table")
-    begin = created(layout) + loads
-    saved = f"SAVE t TO '{table}';\n"
-    return table, {
+    create = f"CREATE TABLE t (a INT USING {layout}, b INT USING {layout});\n"
+    processor_seconds([built("bitcol"), "--stop"], script_file("make.sql", create, loads, f"SAVE t TO '{table}';\n"))
+    return table
+
+
+def scripts_of(layout, which, table):
+    """Scripts that save a table once and more often, and that open it so, by what they do."""
+    begin = f"OPEN t FROM '{table}';\n"
+    saved = f"SAVE t TO '{data_file('saved.table')}';\n"
+    return {
         "save": script_file(f"save_{which}_{layout}.sql", begin, saved),
         "saves": script_file(f"saves_{which}_{layout}.sql", begin, saved * (1 + MORE)),
         "open": script_file(f"open_{which}_{layout}.sql", opened(table, 1)),
@@ -84,15 +89,18 @@ def time_loads(paths, rows):
 
 
 def time_table(layout, which, paths, rows):
-    table, scripts = scripts_of(layout, which, "".join(f"LOAD t FROM '{path}';\n" for path in paths))
+    table = made(layout, which, "".join(f"LOAD t FROM '{path}';\n" for path in paths))
+    scripts = scripts_of(layout, which, table)
     program = [built("bitcol"), "--stop"]
-    found = quickest_of({name: (program, source) for name, source in scripts.items()})
+    runs = {(pages, name): (before + program, source) for pages, before in PAGES.items() for name, source in scripts.items()}
+    found = quickest_of(runs)
     size = table.stat().st_size / MEGABYTE
-    told = []
-    for what in "save", "open":
-        took = (found[f"{what}s"][0] - found[what][0]) / MORE
-        told.append(f"{what.upper()} {size / took:.0f} MB of file a second, {took / (len(paths) * rows * 2) * 1e9:.1f} ns a value")
-    print(f"{layout}, {size:.1f} MB: {'; '.join(told)}")
+    for pages in PAGES:
+        told = []
+        for what in "save", "open":
+            took = (found[pages, f"{what}s"][0] - found[pages, what][0]) / MORE
+            told.append(f"{what.upper()} {size / took:.0f} MB of file a second, {took / (len(paths) * rows * 2) * 1e9:.1f} ns a value")
+        print(f"{layout}, {size:.1f} MB, {pages}: {'; '.join(told)}")
 
 
 def main():

@@ -32,7 +32,13 @@ fn distances_in_memory(rt: HostRuntime) {
         18_446_744_073_709_551_615,
         0,
     ];
-    let from_minus_3 = [8, 0, 0, 9_223_372_036_854_775_810, 9_223_372_036_854_775_811];
+    let from_minus_3 = [
+        8,
+        0,
+        0,
+        9_223_372_036_854_775_810,
+        9_223_372_036_854_775_811,
+    ];
     check_distances(&rt, &cells, i64::MIN, &from_least, 0b11101);
     check_distances(&rt, &cells, -3, &from_minus_3, 0b11101);
 }
