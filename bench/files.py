@@ -14,10 +14,10 @@ import sys
 from common import MEGABYTE, ROUNDS, built, data_file, processor_seconds, random_value, sqlite3
 
 TABLE = "CREATE TABLE t (a INT, b INT);\n"
-# So often a table is saved or opened, less once: the time of one is too short beside that of the loads.
+# So often a table is saved or opened beyond once: the difference leaves out the program's start and what comes before.
 MORE = 8
 DEFAULTS = 4, 1_048_576
-# What a run stands behind. glibc 2.35 and later asks the kernel for huge pages where this variable is set.
+# The words before the program's. glibc 2.35 and later asks the kernel for huge pages where this variable is set.
 PAGES = {"pages of 4 KB": [], "huge pages": ["env", "GLIBC_TUNABLES=glibc.malloc.hugetlb=1"]}
 
 
