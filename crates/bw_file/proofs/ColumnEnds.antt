@@ -1,9 +1,10 @@
 -- The least and the greatest of the cells of a column that lies in its bits and words.
-use Rattle.std.proofs.Common.{Bool, List, None, Option, Some, [], ap, arith, cond, drop, fold, get_or, inl, inr, length, negsuc, pos, refl, slice_index, subst, sym, take, unwrap_or, ℕ, ℤ, ◌%◌, ◌*◌, ◌+◌, ◌/◌, ◌<◌, ◌<ℤ◌, ◌==◌, ◌∷◌, ◌≡◌, ◌≤ℤ◌, ◌∙◌}
+use Rattle.std.proofs.Common.{Bool, List, None, Option, Some, [], ap, arith, cond, drop, false, fold, get_or, inl, inr, length, nat_eq, negsuc, pos, refl, slice_index, subst, sym, take, true, unwrap_or, ℕ, ℤ, ◌%◌, ◌*◌, ◌+◌, ◌/◌, ◌<◌, ◌<ℤ◌, ◌==◌, ◌∷◌, ◌≡◌, ◌≤ℤ◌, ◌∙◌, ◌||◌}
 use Rattle.std.specs.Int.{bit_at, cast_signed, int_max, int_min, w32}
 use Rattle.std.specs.List.{All}
 use Rattle.std.proofs.Math.ListN.{get_or-eq_default}
 use Rattle.std.proofs.lemmas.Bool.{cases_lt}
+use Rattle.std.proofs.lemmas.Bool.Decides.{nat_tests}
 use Rattle.std.proofs.lemmas.Int.{fold-int_max_bounds, fold-int_min_bounds, ints}
 use Rattle.byteorder.specs.Endian.{little_number}
 use Rattle.bw_code.specs.Encodings.{IsGreatest, IsLeast}
@@ -41,6 +42,13 @@ module _ (rows i : ℕ) (present words : List ℕ) (there : Bool) (word : ℤ) (
   greatest_at greatest result before now =
       greatest_more bottom (known (take i cells)) (get_or cells i None) greatest result before (now ∙ ap (λ c. int_max greatest (unwrap_or c bottom)) cell)
       ∙ ap (fold int_max bottom) (sym (known_more cells i (omega (arith, inside, length-cells_in rows present words))))
+
+-- the word of a null that is spelled
+pub zero_at_null : (there zero : Bool) (n : ℕ) (word : ℤ) → (there || zero) ≡ true → zero ≡ nat_eq n 0 → word ≡ cast_signed w32 n → there ≡ false → word ≡ pos 0
+zero_at_null true zero n word h none is gone = cc
+zero_at_null false zero n word h none is gone =
+    let e : n ≡ 0 = grind (arith, nat_tests) in
+    is ∙ ap (cast_signed w32) e
 
 -- what is known of cells is between the two that stand for nulls
 abbrev pub IsBetween : ℤ → Type 0

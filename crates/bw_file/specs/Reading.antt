@@ -3,6 +3,9 @@ use Rattle.std.specs.Prelude.{All, List, None, Option, Some, drop, if◌then◌e
 use Rattle.std.specs.Int.{bit_at, cast_signed, w32}
 use Rattle.std.specs.List.{range_with_len}
 use Rattle.byteorder.specs.Endian.{little_number}
+use Rattle.bw_cells.specs.Known.{known}
+use Rattle.bw_code.specs.Fittings.{AreEnds}
+use Rattle.bw_code.specs.declared.ends.Ends.{Ends}
 use Rattle.bw_file.specs.Cells.{IsCell, cell_number, presence_size, row_limit}
 
 -- the cell of row i, by the bits that say which are not null and the words
@@ -26,11 +29,12 @@ cells_in rows present words = map (read_cell present words) (range_with_len 0 ro
 abbrev pub AreSpelled : ℕ → List ℕ → List ℕ → Type 0
 AreSpelled rows present words = (i : ℕ) → i < rows → little_number 4 (drop (4 * i) words) ≡ cell_number (read_cell present words i)
 
--- bits and words of so many rows, as a column spells its cells
-pub record IsColumn (rows : ℕ) (present words : List ℕ) : Type 0 where
+-- bits and words of so many rows, as a column spells its cells, and the ends of these
+pub record IsColumn (rows : ℕ) (present words : List ℕ) (ends : Option Ends) : Type 0 where
   pub few : rows ≤ row_limit
   pub bits : length present ≡ presence_size rows
   pub numbers : length words ≡ 4 * rows
   pub spare : HasNoSpareBit rows present
   pub spelled : AreSpelled rows present words
   pub integers : All IsCell (cells_in rows present words)
+  pub measured : AreEnds (known (cells_in rows present words)) ends

@@ -1,34 +1,12 @@
 //! The cells of a column by their bits and words.
 
-ghost use Rattle.std.specs.Prelude.{None, Some, drop, get_or, if◌then◌else◌, length, nat_eq, slice_index, true, ℕ, ◌%◌, ◌*◌, ◌+◌, ◌/◌, ◌<◌, ◌==◌, ◌≡◌, ◌≤◌};
+ghost use Rattle.std.specs.Prelude.{None, Some, drop, get_or, if◌then◌else◌, length, nat_eq, slice_index, ℕ, ◌%◌, ◌*◌, ◌+◌, ◌/◌, ◌<◌, ◌==◌, ◌≡◌, ◌≤◌};
 ghost use Rattle.std.specs.Int.{bit_at, cast_signed, w32};
 ghost use Rattle.byteorder.specs.Endian.{little_number};
-ghost use Rattle.bw_file.specs.Cells.{presence_size, row_limit};
-ghost use Rattle.bw_file.specs.Reading.{cell_by, read_cell, AreSpelled};
+ghost use Rattle.bw_file.specs.Cells.{row_limit};
+ghost use Rattle.bw_file.specs.Reading.{cell_by, read_cell};
 
 use byteorder::{ByteOrder, LittleEndian};
-
-/// Whether the words of the first rows are those of the cells that are read there: 0 at a null.
-pub(crate) fn are_spelled(present: &[u8], words: &[u8], rows: usize) -> bool
-    requires few { rows ≤ row_limit }
-    requires present { length present.now ≡ presence_size rows }
-    requires words { length words.now ≡ 4 * rows }
-    ensures yes { result ≡ true → AreSpelled rows present.now words.now }
-    ensures told { AreSpelled rows present.now words.now → result ≡ true }
-{
-    let mut agree = true;
-    // No branch, so that the loops stay flat, and the place of each bit is known among eight.
-    'eights: for q in 0..rows / 8 {
-        let byte = present[q];
-        'bits: for j in 0..8 {
-            agree &= has_bit(byte, j) | is_zero(words, 8 * q + j);
-        }
-    }
-    'rest: for i in rows / 8 * 8..rows {
-        agree &= has_cell(present, i) | is_zero(words, i);
-    }
-    agree
-}
 
 /// Fills `out` with the cells of the rows from row `at` on.
 pub(crate) fn read_cells(present: &[u8], words: &[u8], at: usize, out: &mut [Option<i64>])
@@ -83,7 +61,7 @@ fn read_cell(present: &[u8], words: &[u8], i: usize) -> Option<i64>
 
 /// Whether word i is 0.
 #[inline]
-fn is_zero(words: &[u8], i: usize) -> bool
+pub(crate) fn is_zero(words: &[u8], i: usize) -> bool
     requires { 4 * i + 4 ≤ length words.now }
     ensures { result ≡ nat_eq (little_number 4 (drop (4 * i) words.now)) 0 }
 {

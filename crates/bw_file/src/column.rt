@@ -3,9 +3,9 @@
 ghost use Rattle.std.specs.Prelude.{All, IfSome, List, None, Option, length, ◌*◌, ◌++◌, ◌+◌, ◌≡◌, ◌≤◌, ℤ};
 ghost use Rattle.bw_file.specs.Cells.{column_bytes, column_size, presence_size, row_limit, IsCell};
 
-use crate::cells::{are_spelled, read_cells};
+use crate::cells::read_cells;
 use crate::distances::{presence_of_rows, read_distances};
-use crate::ends::ends_of_words;
+use crate::ends::spelled_ends;
 use crate::presence::has_spare_bit;
 use bw_cells::{Cells, Measured, distances_in_run};
 use bw_code::Ends;
@@ -19,6 +19,8 @@ pub struct FileColumn<'a> {
     // Four bytes for each row.
     words: &'a [u8],
     rows: usize,
+    // Of the cells that are integers.
+    ends: Option<Ends>,
 }
 
 impl<'a> Model for FileColumn<'a> {
@@ -29,7 +31,7 @@ impl<'a> Model for FileColumn<'a> {
 
     ghost view = { λ column. cells_in column.rows column.present.now column.words.now };
 
-    ghost invariant = { λ column. IsColumn column.rows column.present.now column.words.now };
+    ghost invariant = { λ column. IsColumn column.rows column.present.now column.words.now column.ends };
 }
 
 impl<'a> FileColumn<'a> {
@@ -55,13 +57,15 @@ impl<'a> FileColumn<'a> {
         if has_spare_bit(present, rows) {
             return None;
         }
-        if !are_spelled(present, words, rows) {
+        let found = spelled_ends(present, words, rows);
+        if !found.spelled {
             return None;
         }
         Some(FileColumn {
             present,
             words,
             rows,
+            ends: found.ends,
         })
     }
 }
@@ -80,7 +84,7 @@ impl<'a> Cells for FileColumn<'a> {
 
 impl<'a> Measured for FileColumn<'a> {
     fn ends(&self) -> Option<Ends> {
-        ends_of_words(self.present, self.words, self.rows)
+        self.ends
     }
 
     fn distances(&self, at: usize, base: i64, out: &mut [u64]) -> u64 {

@@ -1,23 +1,37 @@
-//! The least and the greatest of the cells of a column.
+//! The least and the greatest of the cells of a column, found while its words are looked over.
 
-ghost use Rattle.std.specs.Prelude.{IfSome, None, Some, length, negsuc, pos, unwrap_or, if◌then◌else◌, ◌*◌, ◌<ℤ◌, ◌≡◌, ◌≤◌, ◌≤ℤ◌};
+ghost use Rattle.std.specs.Prelude.{IfSome, None, Some, false, length, negsuc, pos, true, unwrap_or, if◌then◌else◌, ◌*◌, ◌<ℤ◌, ◌≡◌, ◌≤◌, ◌≤ℤ◌};
 ghost use Rattle.std.specs.Int.{int_max, int_min};
 ghost use Rattle.std.specs.List.{fold};
 ghost use Rattle.bw_cells.specs.Known.{known};
 ghost use Rattle.bw_code.specs.Fittings.{AreEnds};
 ghost use Rattle.bw_file.specs.Cells.{presence_size, row_limit};
-ghost use Rattle.bw_file.specs.Reading.{cells_in};
+ghost use Rattle.bw_file.specs.Reading.{AreSpelled, cells_in};
 
-use crate::cells::{has_bit, has_cell, word_at};
+use crate::cells::{has_bit, has_cell, is_zero, word_at};
 use bw_code::Ends;
 
-/// The least and the greatest of the cells that are integers, if there are any, by their bits and words.
-pub(crate) fn ends_of_words(present: &[u8], words: &[u8], rows: usize) -> Option<Ends>
+/// What one pass over the words of a column finds.
+#[derive(Clone, Copy)]
+pub(crate) struct SpelledEnds {
+    /// Whether each word is that of the cell that is read there: 0 at a null.
+    pub(crate) spelled: bool,
+    /// If so, the least and the greatest of the cells that are integers, if there are any.
+    pub(crate) ends: Option<Ends>,
+}
+
+/// Whether the words of the first rows are those of the cells that are read there, and the ends of these cells.
+// Not inlined: within its caller LLVM takes the words in another way, which is nearly half as long again.
+#[inline(never)]
+pub(crate) fn spelled_ends(present: &[u8], words: &[u8], rows: usize) -> SpelledEnds
     requires few { rows ≤ row_limit }
     requires present { length present.now ≡ presence_size rows }
     requires words { length words.now ≡ 4 * rows }
-    ensures { AreEnds (known (cells_in rows present.now words.now)) result }
+    ensures yes { result.spelled ≡ true → AreSpelled rows present.now words.now }
+    ensures told { AreSpelled rows present.now words.now → result.spelled ≡ true }
+    ensures ends { result.spelled ≡ true → AreEnds (known (cells_in rows present.now words.now)) result.ends }
 {
+    let mut agree = true;
     // Eight of each, so that no row waits for the one before it.
     let mut least = [i32::MAX; 8];
     let mut greatest = [i32::MIN; 8];
@@ -27,6 +41,7 @@ pub(crate) fn ends_of_words(present: &[u8], words: &[u8], rows: usize) -> Option
         'bits: for j in 0..8 {
             let there = has_bit(byte, j);
             let word = word_at(words, 8 * q + j);
+            agree &= there | is_zero(words, 8 * q + j);
             least[j] = least[j].min(word_or(there, word, i32::MAX));
             greatest[j] = greatest[j].max(word_or(there, word, i32::MIN));
         }
@@ -35,10 +50,14 @@ pub(crate) fn ends_of_words(present: &[u8], words: &[u8], rows: usize) -> Option
     'rest: for i in rows / 8 * 8..rows {
         let there = has_cell(present, i);
         let word = word_at(words, i);
+        agree &= there | is_zero(words, i);
         least[i % 8] = least[i % 8].min(word_or(there, word, i32::MAX));
         greatest[i % 8] = greatest[i % 8].max(word_or(there, word, i32::MIN));
     }
-    ends_between(least_of(&least), greatest_of(&greatest))
+    SpelledEnds {
+        spelled: agree,
+        ends: ends_between(least_of(&least), greatest_of(&greatest)),
+    }
 }
 
 /// The least of eight words.
@@ -63,12 +82,13 @@ fn greatest_of(words: &[i32; 8]) -> i32
     greatest
 }
 
-/// The word where it is there, and else what stands for a null.
+/// The word where it is there, and else what stands for a null, as long as the word of a null is 0.
 #[inline]
 fn word_or(there: bool, word: i32, null: i32) -> i32
-    ensures { result ≡ unwrap_or (if there then Some word else None) null }
+    ensures { (there ≡ false → word ≡ pos 0) → result ≡ unwrap_or (if there then Some word else None) null }
 {
-    if there { word } else { null }
+    // Joined with a word that is 0 it is itself. By the null alone here, the pass takes nearly half as long again.
+    if there { word } else { word | null }
 }
 
 /// The ends, where the one is not above the other. As long as no integer is there, it is.
