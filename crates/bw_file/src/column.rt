@@ -5,7 +5,7 @@ ghost use Rattle.bw_file.specs.Cells.{column_bytes, column_size, presence_size, 
 
 use crate::cells::read_cells;
 use crate::distances::{presence_of_rows, read_distances};
-use crate::ends::spelled_ends;
+use crate::ends::{Spelling, spelled_ends};
 use crate::presence::has_spare_bit;
 use bw_cells::{Cells, Measured, distances_in_run};
 use bw_code::Ends;
@@ -57,15 +57,14 @@ impl<'a> FileColumn<'a> {
         if has_spare_bit(present, rows) {
             return None;
         }
-        let found = spelled_ends(present, words, rows);
-        if !found.spelled {
+        let Spelling::Right(ends) = spelled_ends(present, words, rows) else {
             return None;
-        }
+        };
         Some(FileColumn {
             present,
             words,
             rows,
-            ends: found.ends,
+            ends,
         })
     }
 }

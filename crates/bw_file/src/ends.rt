@@ -1,10 +1,12 @@
 //! The least and the greatest of the cells of a column, found while its words are looked over.
 
-ghost use Rattle.std.specs.Prelude.{IfSome, None, Some, false, length, negsuc, pos, true, unwrap_or, if◌then◌else◌, ◌*◌, ◌<ℤ◌, ◌≡◌, ◌≤◌, ◌≤ℤ◌};
+ghost use Rattle.std.specs.Prelude.{IfSome, None, Option, Some, false, length, negsuc, pos, unwrap_or, if◌then◌else◌, ◌*◌, ◌<ℤ◌, ◌≡◌, ◌≤◌, ◌≤ℤ◌};
 ghost use Rattle.std.specs.Int.{int_max, int_min};
 ghost use Rattle.std.specs.List.{fold};
 ghost use Rattle.bw_cells.specs.Known.{known};
 ghost use Rattle.bw_code.specs.Fittings.{AreEnds};
+ghost use Rattle.bw_code.specs.declared.ends.Ends.{Ends};
+ghost use Rattle.bw_file.specs.declared.ends.Spelling.TheVariants as found;
 ghost use Rattle.bw_file.specs.Cells.{presence_size, row_limit};
 ghost use Rattle.bw_file.specs.Reading.{AreSpelled, cells_in};
 
@@ -13,23 +15,24 @@ use bw_code::Ends;
 
 /// What one pass over the words of a column finds.
 #[derive(Clone, Copy)]
-pub(crate) struct SpelledEnds {
-    /// Whether each word is that of the cell that is read there: 0 at a null.
-    pub(crate) spelled: bool,
-    /// If so, the least and the greatest of the cells that are integers, if there are any.
-    pub(crate) ends: Option<Ends>,
+pub(crate) enum Spelling {
+    /// Each word is that of the cell that is read there: 0 at a null. With the least and the greatest of the cells that are
+    /// integers, if there are any.
+    Right(Option<Ends>),
+    /// The word of some null is not 0.
+    Wrong,
 }
 
 /// Whether the words of the first rows are those of the cells that are read there, and the ends of these cells.
 // Not inlined: within its caller LLVM takes the words in another way, which is nearly half as long again.
 #[inline(never)]
-pub(crate) fn spelled_ends(present: &[u8], words: &[u8], rows: usize) -> SpelledEnds
+pub(crate) fn spelled_ends(present: &[u8], words: &[u8], rows: usize) -> Spelling
     requires few { rows ≤ row_limit }
     requires present { length present.now ≡ presence_size rows }
     requires words { length words.now ≡ 4 * rows }
-    ensures yes { result.spelled ≡ true → AreSpelled rows present.now words.now }
-    ensures told { AreSpelled rows present.now words.now → result.spelled ≡ true }
-    ensures ends { result.spelled ≡ true → AreEnds (known (cells_in rows present.now words.now)) result.ends }
+    ensures right { (ends : Option Ends) → result ≡ found.Right ends → AreSpelled rows present.now words.now }
+    ensures ends { (ends : Option Ends) → result ≡ found.Right ends → AreEnds (known (cells_in rows present.now words.now)) ends }
+    ensures wrong { result ≡ found.Wrong → AreSpelled rows present.now words.now → ⊥ }
 {
     let mut agree = true;
     // Eight of each, so that no row waits for the one before it.
@@ -54,9 +57,10 @@ pub(crate) fn spelled_ends(present: &[u8], words: &[u8], rows: usize) -> Spelled
         least[i % 8] = least[i % 8].min(word_or(there, word, i32::MAX));
         greatest[i % 8] = greatest[i % 8].max(word_or(there, word, i32::MIN));
     }
-    SpelledEnds {
-        spelled: agree,
-        ends: ends_between(least_of(&least), greatest_of(&greatest)),
+    if agree {
+        Spelling::Right(ends_between(least_of(&least), greatest_of(&greatest)))
+    } else {
+        Spelling::Wrong
     }
 }
 

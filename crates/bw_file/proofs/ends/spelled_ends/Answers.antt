@@ -1,8 +1,12 @@
-use Rattle.std.proofs.Common.{ap, arith, fold, get_or, of_z, pos, refl, rules, sym, take, to_z, w32, ◌%◌, ◌&&◌, ◌||◌, true, false, ◌*◌, ◌+◌, ◌/◌, ◌<◌, ◌≡◌, ◌∙◌}
+use Rattle.std.proofs.Common.{None, Option, ap, arith, fold, get_or, of_z, pos, refl, rules, subst, sym, take, to_z, w32, ◌%◌, ◌&&◌, ◌||◌, true, false, ◌*◌, ◌+◌, ◌/◌, ◌<◌, ◌≡◌, ◌∙◌}
 use Rattle.std.proofs.lemmas.Int.{to_z-of_z}
 use Rattle.std.proofs.lemmas.List.{take_all}
 use Rattle.std.specs.Int.{int_max, int_min}
 use Rattle.bw_cells.specs.Known.{known}
+use Rattle.bw_code.specs.Fittings.{AreEnds}
+use Rattle.bw_code.specs.declared.ends.Ends.{Ends}
+use Rattle.bw_file.specs.declared.ends.Spelling.{Spelling}
+use Rattle.bw_file.specs.declared.ends.Spelling.TheVariants.{Right, Wrong}
 use Rattle.bw_file.specs.Reading.{cells_in}
 use Rattle.bw_file.proofs.Agree.{both, still}
 use Rattle.bw_file.proofs.ColumnEnds.{are_between, bottom, ends_are, greatest_at, least_at, top, zero_at_null}
@@ -112,20 +116,21 @@ rest-preserved c =
           greatest_at rows i present words c.has_cell-there.result c.word_at-word-in-rest.result c.rest-test.true c.has_cell-there.ensures c.word_at-word-in-rest.ensures _ _ (c.rest.invariant.greatest (both c.rest.agree _ agrees).0) higher;
     }
 
-pub returns-clause-yes : goal.returns-clause-yes
-returns-clause-yes c agree i h = c.rest.invariant.yes agree i (omega (arith, c.rest-test.false, h))
+-- the ends where all words agree
+abbrev ends_of : Spelling → Option Ends
+ends_of (Right ends) = ends
+ends_of Wrong = None
 
-pub returns-clause-told : goal.returns-clause-told
-returns-clause-told c = c.rest.invariant.told
-
-pub returns-clause-ends : goal.returns-clause-ends
-returns-clause-ends c agree =
+pub returns-then-agree-clause-ends : goal.returns-then-agree-clause-ends
+returns-then-agree-clause-ends c ends is =
+    let agree = c.if-agree.true in
     let cells = cells_in c.args.rows c.args.present.now c.args.words.now in
     let all : take c.rest.i cells ≡ cells = take_all c.rest.i cells (omega (arith, c.rest-test.false, length-cells_in c.args.rows c.args.present.now c.args.words.now)) in
     let integers = integers_in c.args.rows c.args.present.now c.args.words.now (λ k. omega (arith, c.type_inv.words k)) in
     let least : to_z w32 (of_z w32 c.least_of.result) ≡ c.least_of.result = to_z-of_z w32 c.least_of.result (search rules) in
     let greatest : to_z w32 (of_z w32 c.greatest_of.result) ≡ c.greatest_of.result = to_z-of_z w32 c.greatest_of.result (search rules) in
-    ends_are (known cells) _ _ c.ends_between.result (are_between cells integers)
+    subst (AreEnds (known cells)) (ap ends_of is)
+    (ends_are (known cells) _ _ c.ends_between.result (are_between cells integers)
     (least ∙ c.least_of.ensures ∙ c.rest.invariant.least agree ∙ ap (λ xs. fold int_min top (known xs)) all)
     (greatest ∙ c.greatest_of.ensures ∙ c.rest.invariant.greatest agree ∙ ap (λ xs. fold int_max bottom (known xs)) all)
-    c.ends_between.ensures.some c.ends_between.ensures.none
+    c.ends_between.ensures.some c.ends_between.ensures.none)
