@@ -1,6 +1,7 @@
 #!/usr/bin/env python3
 """Times LOAD of CSV files beside sqlite3's `.import`, and SAVE and OPEN of the table that all of them make and of the table of one, in one
-run and in each layout, with the pages that the kernel gives and with huge pages.
+run and in each layout: in fresh pages of 4 KB, in fresh huge pages, and in memory that the program has had before. It also tells what
+the kernel takes for a page that is touched for the first time.
 
 The files have two columns of random values of 32 bits, of which one in ten of the second is NULL. Of the LOAD of one file it also
 tells the memory that it takes at its peak beside the bytes of the file. Build bitcol first, by `rt run` in crates/bitcol.
@@ -8,8 +9,11 @@ tells the memory that it takes at its peak beside the bytes of the file. Build b
     python3 bench/files.py [FILES [ROWS]]      how many files of how many rows; 4 of 1048576 if not given
 """
 
+import mmap
 import random
 import sys
+import time
+from dataclasses import dataclass
 
 from common import MEGABYTE, ROUNDS, built, data_file, processor_seconds, random_value, sqlite3
 
@@ -17,8 +21,30 @@ TABLE = "CREATE TABLE t (a INT, b INT);\n"
 # So often a table is saved or opened beyond once: the difference leaves out the program's start and what comes before.
 MORE = 8
 DEFAULTS = 4, 1_048_576
-# The words before the program's. glibc 2.35 and later asks the kernel for huge pages where this variable is set.
-PAGES = {"pages of 4 KB": [], "huge pages": ["env", "GLIBC_TUNABLES=glibc.malloc.hugetlb=1"]}
+
+
+@dataclass(frozen=True)
+class Memory:
+    """Which memory the program takes for a file's bytes and for columns."""
+
+    name: str
+    # What glibc is asked for: its tunables.
+    tunables: str
+    # Whether each table is dropped before the next is opened.
+    drops: bool
+
+    def run(self, script):
+        asked = ["env", f"GLIBC_TUNABLES={self.tunables}"] if self.tunables else []
+        return [*asked, built("bitcol"), "--stop"], script
+
+
+MEMORIES = (
+    Memory("fresh pages of 4 KB", "", drops=False),
+    # From glibc 2.35 on.
+    Memory("fresh huge pages", "glibc.malloc.hugetlb=1", drops=False),
+    # What is freed stays with the program.
+    Memory("its own memory", f"glibc.malloc.mmap_max=0:glibc.malloc.trim_threshold={1 << 36}", drops=True),
+)
 
 
 def csv_file(number, rows):
@@ -38,9 +64,11 @@ def script_file(name, *statements):
     return path
 
 
-def opened(table, times):
-    """Statements that open the table so often, under another name each time."""
-    return "".join(f"OPEN u{number} FROM '{table}';\n" for number in range(times))
+def opened(table, times, drops):
+    """Statements that open the table so often, under another name each time, and drop each but the last if so."""
+    opens = [f"OPEN u{number} FROM '{table}';\n" for number in range(times)]
+    between = [f"DROP TABLE u{number};\n" if drops else "" for number in range(times - 1)]
+    return "".join(a + b for a, b in zip(opens, [*between, ""]))
 
 
 def made(layout, which, loads):
@@ -51,15 +79,16 @@ def made(layout, which, loads):
     return table
 
 
-def scripts_of(layout, which, table):
+def scripts_of(layout, which, table, drops):
     """Scripts that save a table once and more often, and that open it so, by what they do."""
     begin = f"OPEN t FROM '{table}';\n"
     saved = f"SAVE t TO '{data_file('saved.table')}';\n"
+    name = f"{which}_{layout}_{'drops' if drops else 'keeps'}.sql"
     return {
-        "save": script_file(f"save_{which}_{layout}.sql", begin, saved),
-        "saves": script_file(f"saves_{which}_{layout}.sql", begin, saved * (1 + MORE)),
-        "open": script_file(f"open_{which}_{layout}.sql", opened(table, 1)),
-        "opens": script_file(f"opens_{which}_{layout}.sql", opened(table, 1 + MORE)),
+        "save": script_file(f"save_{name}", begin, saved),
+        "saves": script_file(f"saves_{name}", begin, saved * (1 + MORE)),
+        "open": script_file(f"open_{name}", opened(table, 1, drops)),
+        "opens": script_file(f"opens_{name}", opened(table, 1 + MORE, drops)),
     }
 
 
@@ -90,17 +119,33 @@ def time_loads(paths, rows):
 
 def time_table(layout, which, paths, rows):
     table = made(layout, which, "".join(f"LOAD t FROM '{path}';\n" for path in paths))
-    scripts = scripts_of(layout, which, table)
-    program = [built("bitcol"), "--stop"]
-    runs = {(pages, name): (before + program, source) for pages, before in PAGES.items() for name, source in scripts.items()}
+    runs = {(memory, name): memory.run(source) for memory in MEMORIES for name, source in scripts_of(layout, which, table, memory.drops).items()}
     found = quickest_of(runs)
     size = table.stat().st_size / MEGABYTE
-    for pages in PAGES:
+    for memory in MEMORIES:
         told = []
         for what in "save", "open":
-            took = (found[pages, f"{what}s"][0] - found[pages, what][0]) / MORE
+            took = (found[memory, f"{what}s"][0] - found[memory, what][0]) / MORE
             told.append(f"{what.upper()} {size / took:.0f} MB of file a second, {took / (len(paths) * rows * 2) * 1e9:.1f} ns a value")
-        print(f"{layout}, {size:.1f} MB, {pages}: {'; '.join(told)}")
+        print(f"{layout}, {size:.1f} MB, {memory.name}: {'; '.join(told)}")
+
+
+def first_touch():
+    """Nanoseconds for a page of 4 KB that is touched for the first time, beyond those for one that was touched before."""
+    pages = 16_384
+    marks = b"\1" * pages
+
+    def touched(memory):
+        begin = time.perf_counter()
+        memory[:: mmap.PAGESIZE] = marks
+        return time.perf_counter() - begin
+
+    fresh, again = [], []
+    for _ in range(ROUNDS):
+        with mmap.mmap(-1, pages * mmap.PAGESIZE) as memory:
+            fresh.append(touched(memory))
+            again.append(touched(memory))
+    return (min(fresh) - min(again)) / pages * 1e9
 
 
 def main():
@@ -110,6 +155,8 @@ def main():
     for layout in "VHSP":
         time_table(layout, "one", paths[:1], rows)
         time_table(layout, "all", paths, rows)
+    # At the end, since a program's peak of memory is told no lower than Python's.
+    print(f"The first touch of a page of {mmap.PAGESIZE} bytes: {first_touch():.0f} ns")
 
 
 if __name__ == "__main__":
