@@ -76,9 +76,10 @@ def sources():
                         names.update(IDENTIFIER.findall(text))
                         names.update(re.findall(r"\w+", text))
     for path in walk(ROOT):
+        parts = path.relative_to(ROOT).parts
         files.add(path.name)
-        names.add(path.stem)
-        names.update(part for part in path.relative_to(ROOT).parts)
+        if not {"proofs", "evidence"} & set(parts):
+            names.update((path.stem, *parts))
     names.update(re.findall(r"\w+", (ROOT / "crates.txt").read_text()))
     return names, files
 
