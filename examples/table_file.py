@@ -1,5 +1,5 @@
 #!/usr/bin/env python3
-"""Reads and writes table files (docs/FORMATS.md, "Table files").
+"""Reads and writes table files (docs/TABLE_FILE.md).
 
     headers, columns = read_table(data)      # bytes to a table; NotTable if they spell none
     data = write_table(headers, columns)     # and back; ValueError if there is no such table
