@@ -1,6 +1,7 @@
 //! Encodings and tests on codes: the worked tables of dictionaries and offsets, the ends of i64, and each call that may
 //! want memory, seen answering.
 
+use crate::seen::{see, see_at};
 use bw_code::CmpOp::{Eq, Ge, Gt, Le, Lt, Ne};
 use bw_code::{CmpOp, CodeTest, Encoding, Fitting, Kind, fit};
 use std::process::Abort;
@@ -188,17 +189,18 @@ fn span_of(encoding: &Encoding) -> Option<(i64, u32)> {
 fn check_dictionary<R: Abort + AllocGlobal>(rt: &R, values: &[i64], entries: &[i64], bits: u32) {
     let dictionary = fitted(rt, values, Kind::Dictionary);
     assert_eq!(rt; entries_of(&dictionary), Some(entries));
-    assert_eq!(rt;
+    see(
+        rt,
         (dictionary.kind(), dictionary.width()),
-        (Kind::Dictionary, bits)
+        (Kind::Dictionary, bits),
     );
 }
 
 /// Sees the base and the bits of the offset that fits these values.
 fn check_offset<R: Abort + AllocGlobal>(rt: &R, values: &[i64], base: i64, bits: u32) {
     let offset = fitted(rt, values, Kind::Offset);
-    assert_eq!(rt; span_of(&offset), Some((base, bits)));
-    assert_eq!(rt; (offset.kind(), offset.width()), (Kind::Offset, bits));
+    see(rt, span_of(&offset), Some((base, bits)));
+    see(rt, (offset.kind(), offset.width()), (Kind::Offset, bits));
 }
 
 #[test]
@@ -218,7 +220,7 @@ fn bases_and_bits_of_offsets(rt: HostRuntime) {
 /// Sees the codes of these values, each by itself, where it has one.
 fn check_encode<R: Abort>(rt: &R, encoding: &Encoding, wants: &[(i64, Option<u64>)]) {
     for (x, want) in wants {
-        assert_eq!(rt; encoding.encode(*x), *want, "{x}");
+        see_at(rt, *x, encoding.encode(*x), *want);
     }
 }
 
@@ -231,14 +233,14 @@ fn check_tests<R: Abort>(
     wants: &[CodeTest],
 ) {
     for (constant, want) in constants.iter().zip(wants) {
-        assert_eq!(rt; encoding.test(op, *constant), *want, "{op:?} {constant}");
+        see_at(rt, (op, *constant), encoding.test(op, *constant), *want);
     }
 }
 
 /// Sees that the tests for these ranges are these.
 fn check_ranges<R: Abort>(rt: &R, encoding: &Encoding, wants: &[(i64, i64, CodeTest)]) {
     for (low, high, want) in wants {
-        assert_eq!(rt; encoding.range(*low, *high), *want, "{low} to {high}");
+        see_at(rt, (*low, *high), encoding.range(*low, *high), *want);
     }
 }
 
@@ -336,10 +338,8 @@ fn the_greatest_i64_by_a_top_above_it(rt: HostRuntime) {
 
 /// Sees what the codes of both ends of i64 stand for: of the greatest for itself, and of the least for this.
 fn check_ends<R: Abort>(rt: &R, encoding: &Encoding, least: Option<i64>) {
-    assert_eq!(rt;
-        (back(encoding, i64::MIN), back(encoding, i64::MAX)),
-        (least, Some(i64::MAX))
-    );
+    see(rt, back(encoding, i64::MIN), least);
+    see(rt, back(encoding, i64::MAX), Some(i64::MAX));
 }
 
 #[test]
@@ -355,7 +355,8 @@ fn check_codes<R: Abort + AllocGlobal>(rt: &R, kind: Kind, wants: [u64; 4], bits
     let encoding = fitted(rt, &MANY_VALUES, kind);
     let mut codes = [0; 4];
     assert!(rt; encoding.encode_all(&MANY_VALUES, &mut codes));
-    assert_eq!(rt; (codes, encoding.width()), (wants, bits));
+    see(rt, codes, wants);
+    see(rt, encoding.width(), bits);
 }
 
 #[test]

@@ -9,4 +9,6 @@ mod masks;
 #[cfg(test)]
 mod plain_codes;
 #[cfg(test)]
+mod seen;
+#[cfg(test)]
 mod units;

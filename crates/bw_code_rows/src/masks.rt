@@ -1,5 +1,9 @@
 //! Masks and truths: the truth tables of SQL-92, and each call that may want memory, seen answering.
 
+ghost use Rattle.std.specs.Prelude.{◌≡◌};
+ghost use Rattle.bw_mask.specs.Masks.{len};
+
+use crate::seen::{see, see_at};
 use bw_mask::TruthValue::{False, True, Unknown};
 use bw_mask::{Mask, Truth, TruthValue};
 use std::process::Abort;
@@ -44,29 +48,28 @@ fn at_row(truths: &Truth, row: usize) -> Option<TruthValue> {
     }
 }
 
-/// AND, at the last of 70 rows.
-fn and_of_rows<R: Abort + AllocGlobal>(
-    rt: &R,
-    left: TruthValue,
-    right: TruthValue,
-) -> Option<TruthValue> {
-    let mut truths = rows_of(rt, left);
-    let other = rows_of(rt, right);
-    assert_eq!(rt; truths.len(), other.len());
-    truths.and_in(&other);
-    at_row(&truths, 69)
+/// What is made of two truths or of two masks.
+#[derive(Clone, Copy)]
+enum Pairing {
+    And,
+    Or,
+    AndNot,
 }
 
-/// OR, at the last of 70 rows.
-fn or_of_rows<R: Abort + AllocGlobal>(
+/// AND or OR, at the last of 70 rows.
+fn of_rows<R: Abort + AllocGlobal>(
     rt: &R,
+    pairing: Pairing,
     left: TruthValue,
     right: TruthValue,
 ) -> Option<TruthValue> {
     let mut truths = rows_of(rt, left);
     let other = rows_of(rt, right);
-    assert_eq!(rt; truths.len(), other.len());
-    truths.or_in(&other);
+    assert!(rt; truths.len() == other.len());
+    match pairing {
+        Pairing::Or => truths.or_in(&other),
+        _ => truths.and_in(&other),
+    }
     at_row(&truths, 69)
 }
 
@@ -88,26 +91,36 @@ fn is_false_of_rows<R: Abort + AllocGlobal>(
 #[test]
 fn tables_of_and_and_or(rt: HostRuntime) {
     for (left, right, and, or) in TABLES {
-        assert_eq!(rt; left.and(right), and);
-        assert_eq!(rt; left.or(right), or);
+        see_at(&rt, (left, right), left.and(right), and);
+        see_at(&rt, (left, right), left.or(right), or);
     }
 }
 
 #[test]
 fn tables_of_not_and_is(rt: HostRuntime) {
     for (truth, not, is_true, is_false, is_unknown) in TESTS {
-        assert_eq!(rt; truth.not(), not);
-        assert_eq!(rt; truth.is(True), is_true);
-        assert_eq!(rt; truth.is(False), is_false);
-        assert_eq!(rt; truth.is(Unknown), is_unknown);
+        see_at(&rt, truth, truth.not(), not);
+        see_at(&rt, truth, truth.is(True), is_true);
+        see_at(&rt, truth, truth.is(False), is_false);
+        see_at(&rt, truth, truth.is(Unknown), is_unknown);
     }
 }
 
 #[test]
 fn and_and_or_of_rows(rt: HostRuntime) {
     for (left, right, and, or) in TABLES {
-        assert_eq!(rt; and_of_rows(&rt, left, right), Some(and));
-        assert_eq!(rt; or_of_rows(&rt, left, right), Some(or));
+        see_at(
+            &rt,
+            (left, right),
+            of_rows(&rt, Pairing::And, left, right),
+            Some(and),
+        );
+        see_at(
+            &rt,
+            (left, right),
+            of_rows(&rt, Pairing::Or, left, right),
+            Some(or),
+        );
     }
 }
 
@@ -118,63 +131,94 @@ fn is_tests_of_rows(rt: HostRuntime) {
         (False, True, False),
         (Unknown, False, True),
     ] {
-        assert_eq!(rt; is_false_of_rows(&rt, truth, false, 0), Some(is));
-        assert_eq!(rt; is_false_of_rows(&rt, truth, true, 0), Some(is_not));
-        assert_eq!(rt; is_false_of_rows(&rt, truth, true, 1), Some(Unknown));
+        see_at(&rt, truth, is_false_of_rows(&rt, truth, false, 0), Some(is));
+        see_at(
+            &rt,
+            truth,
+            is_false_of_rows(&rt, truth, true, 0),
+            Some(is_not),
+        );
+        see_at(
+            &rt,
+            truth,
+            is_false_of_rows(&rt, truth, true, 1),
+            Some(Unknown),
+        );
     }
+}
+
+fn see_words<R: Abort>(rt: &R, mask: &Mask, words: [u64; 2]) {
+    assert_eq!(rt; mask.words(), words.as_slice());
 }
 
 #[test]
 fn rows_of_a_mask(rt: HostRuntime) {
     let mut mask = mask_of(&rt, 70, true);
-    assert_eq!(rt; mask.words(), [u64::MAX, 0x3f].as_slice());
+    see_words(&rt, &mask, [u64::MAX, 0x3f]);
     mask.complement_in();
-    assert!(rt; !mask.any());
+    see(&rt, mask.any(), false);
     mask.put_bits(62, 4, 0b1011);
     mask.put_bits(68, 64, u64::MAX);
-    assert_eq!(rt; mask.len(), 70);
+    assert!(rt; mask.len() == 70);
     mask.reserve(1).expect(&rt, "memory");
     mask.push(true);
-    assert_eq!(rt; mask.words(), [0xc000_0000_0000_0000, 0x72].as_slice());
-    assert_eq!(rt; (mask.len(), mask.count()), (71, 6));
+    see_words(&rt, &mask, [0xc000_0000_0000_0000, 0x72]);
+    see(&rt, (mask.len(), mask.count()), (71, 6));
 }
 
 #[test]
 fn words_of_a_mask(rt: HostRuntime) {
     let mut mask = mask_of(&rt, 70, true);
     mask.put_word(1, 0xffff_ffff_ffff_ff2a);
-    assert_eq!(rt; mask.words(), [u64::MAX, 0x2a].as_slice());
+    see_words(&rt, &mask, [u64::MAX, 0x2a]);
     mask.put_word(0, 0x72c);
     mask.put_word(2, u64::MAX);
-    assert_eq!(rt; mask.words(), [0x72c, 0x2a].as_slice());
-    assert_eq!(rt; (mask.len(), mask.count()), (70, 9));
+    see_words(&rt, &mask, [0x72c, 0x2a]);
+    see(&rt, (mask.len(), mask.count()), (70, 9));
 }
 
 #[test]
 fn bits_of_a_mask(rt: HostRuntime) {
     let mut mask = mask_of(&rt, 71, false);
     mask.put_bits(60, 11, 0x72c);
-    assert_eq!(rt; mask.bits(60, 64), 0x72c);
-    assert_eq!(rt; mask.bits(60, 6), 0x2c);
-    assert_eq!(rt; mask.next_from(0), Some(62));
-    assert_eq!(rt; mask.next_from(64), Some(65));
-    assert_eq!(rt; mask.next_from(71), None);
+    see(&rt, mask.bits(60, 64), 0x72c);
+    see(&rt, mask.bits(60, 6), 0x2c);
+    for (from, next) in [(0, Some(62)), (64, Some(65)), (71, None)] {
+        see_at(&rt, from, mask.next_from(from), next);
+    }
+}
+
+/// A copy of a mask of four rows.
+fn four_rows<R: Abort + AllocGlobal>(rt: &R, bits: u64) -> Mask
+    ensures { len result ≡ 4 }
+{
+    let mut mask = mask_of(rt, 4, false);
+    mask.put_bits(0, 4, bits);
+    let copy = mask.try_clone().expect(rt, "memory");
+    assert!(rt; copy.len() == 4);
+    copy
+}
+
+/// What is made of two masks of four rows.
+fn of_masks<R: Abort + AllocGlobal>(rt: &R, pairing: Pairing, left: u64, right: u64) -> u64 {
+    let mut mask = four_rows(rt, left);
+    let other = four_rows(rt, right);
+    match pairing {
+        Pairing::And => mask.and_in(&other),
+        Pairing::Or => mask.or_in(&other),
+        Pairing::AndNot => mask.andnot_in(&other),
+    }
+    mask.bits(0, 64)
 }
 
 #[test]
 fn two_masks(rt: HostRuntime) {
-    let mut left = mask_of(&rt, 4, false);
-    left.put_bits(0, 4, 0b1100);
-    let mut right = mask_of(&rt, 4, false);
-    right.put_bits(0, 4, 0b1010);
-    let mut both = left.try_clone().expect(&rt, "memory");
-    let mut one = left.try_clone().expect(&rt, "memory");
-    assert!(rt; right.len() == both.len() && right.len() == left.len() && right.len() == one.len());
-    assert_eq!(rt; left.count_both(&right), 1);
-    both.and_in(&right);
-    left.or_in(&right);
-    one.andnot_in(&right);
-    assert_eq!(rt; both.words(), [0b1000].as_slice());
-    assert_eq!(rt; left.words(), [0b1110].as_slice());
-    assert_eq!(rt; one.words(), [0b0100].as_slice());
+    see(&rt, of_masks(&rt, Pairing::And, 0b1100, 0b1010), 0b1000);
+    see(&rt, of_masks(&rt, Pairing::Or, 0b1100, 0b1010), 0b1110);
+    see(&rt, of_masks(&rt, Pairing::AndNot, 0b1100, 0b1010), 0b0100);
+    see(
+        &rt,
+        four_rows(&rt, 0b1100).count_both(&four_rows(&rt, 0b1010)),
+        1,
+    );
 }

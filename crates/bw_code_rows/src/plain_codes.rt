@@ -4,6 +4,7 @@ ghost use Rattle.std.specs.Prelude.{length, ◌<◌, ◌≡◌, ◌≤◌};
 ghost use Rattle.bw_mask.specs.Masks.{len};
 ghost use Rattle.bw_code.specs.Tests.{TestFits};
 
+use crate::seen::{see, see_at};
 use bw_code::{CmpOp, CodeColumn, CodeTest, Meter, PlainColumn};
 use bw_mask::Mask;
 use std::process::Abort;
@@ -76,23 +77,40 @@ fn column_of<C: CodeColumn + Drop, R: Abort + AllocGlobal>(rt: &R, rows: usize) 
     column
 }
 
-/// Scans with each row of three but one needed, into a mask in which all rows are in.
+/// So many rows, of which each of three but one is needed.
+fn two_of_three<R: Abort + AllocGlobal>(rt: &R, rows: usize) -> Mask
+    requires { rows < 1000 }
+    ensures { len result ≡ rows }
+{
+    let mut need = Mask::filled(rt.alloc(), rows, false).expect(rt, "memory");
+    for row in 0..rows {
+        need.set(row, row % 3 != 1);
+    }
+    need
+}
+
+/// The rows that a scan finds of those, in a mask in which all rows were in.
+fn scanned<C: CodeColumn + Drop, R: Abort + AllocGlobal>(rt: &R, column: &C, test: CodeTest) -> Mask
+    requires width { (C.seen column.now).width ≡ 9 }
+    requires few { length (C.seen column.now).codes < 1000 }
+    requires test { TestFits 9 test }
+    ensures { len result ≡ length (C.seen column.now).codes }
+{
+    let need = two_of_three(rt, column.len());
+    let mut out = Mask::filled(rt.alloc(), column.len(), true).expect(rt, "memory");
+    column.scan(test, &need, &mut out, &mut Meter::new());
+    out
+}
+
 fn check_scan<C: CodeColumn + Drop, R: Abort + AllocGlobal>(rt: &R, column: &C, test: CodeTest)
     requires width { (C.seen column.now).width ≡ 9 }
     requires few { length (C.seen column.now).codes < 1000 }
     requires test { TestFits 9 test }
 {
-    let rows = column.len();
-    let mut need = Mask::filled(rt.alloc(), rows, false).expect(rt, "memory");
-    for row in 0..rows {
-        need.set(row, row % 3 != 1);
-    }
-    let mut out = Mask::filled(rt.alloc(), rows, true).expect(rt, "memory");
-    let mut meter = Meter::new();
-    column.scan(test, &need, &mut out, &mut meter);
-    for row in 0..rows {
+    let found = scanned(rt, column, test);
+    for row in 0..column.len() {
         let wanted = row % 3 != 1 && plainly_meets(test, column.get(row));
-        assert_eq!(rt; out.get(row), wanted, "row {row}");
+        see_at(rt, (test, row), found.get(row), wanted);
     }
 }
 
@@ -114,14 +132,22 @@ fn check_calls<C: CodeColumn + Drop, R: Abort + AllocGlobal>(rt: &R)
     column.push(300);
     column.extend(&[0, 511, 7]);
     column.set(1, 256);
-    assert_eq!(rt; (column.len(), column.width()), (4, 9));
-    assert_eq!(rt; (column.get(0), column.get(1)), (300, 256));
+    see_four(rt, &column);
+}
+
+/// Sees the codes 300, 256, 511 and 7 of nine bits, and their highest plane.
+fn see_four<C: CodeColumn + Drop, R: Abort + AllocGlobal>(rt: &R, column: &C)
+    requires width { (C.seen column.now).width ≡ 9 }
+    requires four { length (C.seen column.now).codes ≡ 4 }
+{
+    see(rt, (column.len(), column.width()), (4, 9));
+    see(rt, (column.get(0), column.get(1)), (300, 256));
     let mut codes = [0; 2];
     column.read(1, &mut codes);
-    assert_eq!(rt; codes, [256, 511]);
+    see(rt, codes, [256, 511]);
     let mut rows = Mask::filled(rt.alloc(), 4, true).expect(rt, "memory");
     column.plane(8, &mut rows);
-    assert_eq!(rt; rows.words(), [0b0111].as_slice());
+    see(rt, rows.bits(0, 64), 0b0111);
 }
 
 #[test]
@@ -159,7 +185,12 @@ fn units_of_a_plain_column(rt: HostRuntime) {
         (CodeTest::All, 0b0111_1111, 0),
         (CodeTest::None, 0, 0),
     ] {
-        assert_eq!(rt; found_and_units(&rt, fitted(test)), (found, units));
+        see_at(
+            &rt,
+            test,
+            found_and_units(&rt, fitted(test)),
+            (found, units),
+        );
     }
 }
 
@@ -168,7 +199,7 @@ fn a_full_meter_stays_full(rt: HostRuntime) {
     let mut meter = Meter::new();
     meter.add(u64::MAX - 1);
     meter.add(1);
-    assert_eq!(rt; meter.units(), u64::MAX);
+    see(&rt, meter.units(), u64::MAX);
     meter.add(1);
-    assert_eq!(rt; meter.units(), u64::MAX);
+    see(&rt, meter.units(), u64::MAX);
 }

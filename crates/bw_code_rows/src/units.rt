@@ -6,6 +6,7 @@ ghost use Rattle.bw_code.specs.Tests.{TestFits};
 ghost use Rattle.bw_code.specs.declared.compare.CodeTest.TheVariants.{Range};
 ghost use Rattle.bw_code.specs.Units.{agreement, cost_of, segmentation, segments_of, some_below, sum_below, units_of_addition, units_of_fetches, units_of_pair, units_of_scan};
 
+use crate::seen::{see, see_at};
 use bw_code::{CmpOp, CodeTest, Layout};
 use bw_mask::Mask;
 use std::alloc::{AllocError, Global};
@@ -343,8 +344,13 @@ fn units_of_one_scan(rt: HostRuntime) {
         (Layout::H, 10),
         (Layout::P, 2),
     ] {
-        assert_eq!(rt; units_of(&rt, layout, 9, below, u64::MAX, &[0, 300]), units);
+        let found = units_of(&rt, layout, 9, below, u64::MAX, &[0, 300]);
+        see_at(&rt, layout, found, units);
     }
+}
+
+#[test]
+fn units_with_a_row_that_agrees_farther(rt: HostRuntime) {
     let below = CodeTest::Cmp(CmpOp::Lt, 128);
     for (layout, units, with_128) in [
         (Layout::V, 4, 8),
@@ -352,11 +358,10 @@ fn units_of_one_scan(rt: HostRuntime) {
         (Layout::S, 1, 2),
         (Layout::P, 32, 33),
     ] {
-        assert_eq!(rt;
-            units_of(&rt, layout, 8, below, u64::MAX, &ENDS[..32]),
-            units
-        );
-        assert_eq!(rt; units_of(&rt, layout, 8, below, u64::MAX, &ENDS), with_128);
+        for (codes, units) in [(&ENDS[..32], units), (&ENDS, with_128)] {
+            let found = units_of(&rt, layout, 8, below, u64::MAX, codes);
+            see_at(&rt, layout, found, units);
+        }
     }
 }
 
@@ -372,7 +377,8 @@ fn units_by_needed_rows(rt: HostRuntime) {
         (CodeTest::None, 0xffff_ffff, 0),
         (CodeTest::Cmp(CmpOp::Eq, 3), 0, 0),
     ] {
-        assert_eq!(rt; units_of(&rt, Layout::V, 8, test, bits, &ENDS[..32]), units);
+        let found = units_of(&rt, Layout::V, 8, test, bits, &ENDS[..32]);
+        see_at(&rt, test, found, units);
     }
 }
 
@@ -397,21 +403,20 @@ fn units_of_a_pair(rt: HostRuntime) {
         (Layout::S, 2),
         (Layout::P, 4),
     ] {
-        assert_eq!(rt; units_of_two(&rt, layout, 2, &[0, 3], &[3, 0]), units);
+        let found = units_of_two(&rt, layout, 2, &[0, 3], &[3, 0]);
+        see_at(&rt, layout, found, units);
     }
-    assert_eq!(rt;
-        units_of_two(&rt, Layout::V, 8, &ENDS[..32], &ENDS[..32]),
-        16
-    );
+    let found = units_of_two(&rt, Layout::V, 8, &ENDS[..32], &ENDS[..32]);
+    see(&rt, found, 16);
 }
 
 #[test]
 fn units_of_additions_and_fetches(rt: HostRuntime) {
-    assert_eq!(rt; addition_units(3, 4, &needed(&rt, 3, 0b111)), 7);
-    assert_eq!(rt; addition_units(2, 2, &needed(&rt, 2, 0b11)), 4);
-    assert_eq!(rt; addition_units(1, 1, &needed(&rt, 1, 0)), 0);
-    assert_eq!(rt; addition_units(3, 4, &needed(&rt, 257, 1)), 14);
-    assert_eq!(rt; fetch_units(&needed(&rt, 2, 0b11)), 4);
-    assert_eq!(rt; fetch_units(&needed(&rt, 32, u64::MAX)), 64);
-    assert_eq!(rt; fetch_units(&needed(&rt, 32, 0)), 0);
+    see(&rt, addition_units(3, 4, &needed(&rt, 3, 0b111)), 7);
+    see(&rt, addition_units(2, 2, &needed(&rt, 2, 0b11)), 4);
+    see(&rt, addition_units(1, 1, &needed(&rt, 1, 0)), 0);
+    see(&rt, addition_units(3, 4, &needed(&rt, 257, 1)), 14);
+    see(&rt, fetch_units(&needed(&rt, 2, 0b11)), 4);
+    see(&rt, fetch_units(&needed(&rt, 32, u64::MAX)), 64);
+    see(&rt, fetch_units(&needed(&rt, 32, 0)), 0);
 }
