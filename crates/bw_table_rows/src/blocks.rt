@@ -2,6 +2,7 @@
 
 use crate::columns::column_of;
 use crate::random::LAYOUTS;
+use crate::seen::see_at;
 use crate::set_functions::{Answers, answered_at_once, cell, chosen_values, folded, mask_of};
 use bw_code::{Kind, Layout};
 use bw_mask::Mask;
@@ -59,11 +60,11 @@ fn check_column<R: Abort + AllocGlobal>(
 ) {
     let column = column_of(rt, values, way.0, way.1);
     assert!(rt; rows.len() == column.len());
-    assert_eq!(rt;
+    see_at(
+        rt,
+        (way, rows.len()),
         answered_at_once(rt, &column, rows),
         wanted,
-        "{way:?}, {} rows",
-        column.len()
     );
 }
 

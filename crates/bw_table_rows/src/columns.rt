@@ -4,6 +4,7 @@ ghost use Rattle.std.specs.Prelude.{All, length, ◌≡◌, ◌≤◌};
 ghost use Rattle.bw_mask.specs.Masks.{len};
 ghost use Rattle.bw_column.specs.Values.{IsNullOrInteger};
 
+use crate::seen::{see, see_at};
 use bw_code::{CmpOp, Encoding, Kind, Layout, Meter};
 use bw_column::{Column, Storage};
 use bw_mask::{Mask, Truth};
@@ -66,30 +67,31 @@ fn span_of(column: &Column) -> Option<(i64, u32)> {
     }
 }
 
-fn append<R: Abort + AllocGlobal>(rt: &R, column: &mut Column, values: &[Option<i64>]) {
+/// Sees the values of a column.
+fn see_values<R: Abort + AllocGlobal>(rt: &R, column: &Column, values: &[Option<i64>]) {
+    assert!(rt; all_of(rt, column).as_slice() == values);
+}
+
+/// Sees the values of an offset, its base and its width.
+fn see_offset<R: Abort + AllocGlobal>(
+    rt: &R,
+    column: Column,
+    values: &[Option<i64>],
+    span: (i64, u32),
+) {
+    see(rt, span_of(&column), Some(span));
+    see_values(rt, &column, values);
+}
+
+/// The column with these values after its own.
+fn appended<R: Abort + AllocGlobal>(rt: &R, mut column: Column, values: &[Option<i64>]) -> Column {
     check_values(rt, values);
     assert!(rt; column.len() <= 200_000);
     let prepared = column
         .room_for(rt.alloc(), &values, true)
         .expect(rt, "memory");
     column.append(prepared, &values);
-}
-
-/// Puts the values in the places whose bits are set.
-fn overwrite<R: Abort + AllocGlobal>(
-    rt: &R,
-    column: &mut Column,
-    bits: u64,
-    values: &[Option<i64>],
-) {
-    check_values(rt, values);
-    let mut places = Mask::filled(rt.alloc(), column.len(), false).expect(rt, "memory");
-    places.put_bits(0, 64, bits);
-    assert!(rt; places.count() == values.len() && places.len() == column.len());
-    let prepared = column
-        .room_for(rt.alloc(), &values, false)
-        .expect(rt, "memory");
-    column.overwrite(prepared, &places, values);
+    column
 }
 
 /// The rows of a column whose bits are set, of at most 64 rows.
@@ -101,6 +103,23 @@ fn rows_of<R: Abort + AllocGlobal>(rt: &R, column: &Column, bits: u64) -> Mask
     rows
 }
 
+/// The column with the values in the rows whose bits are set.
+fn overwritten<R: Abort + AllocGlobal>(
+    rt: &R,
+    mut column: Column,
+    bits: u64,
+    values: &[Option<i64>],
+) -> Column {
+    check_values(rt, values);
+    let places = rows_of(rt, &column, bits);
+    assert!(rt; places.count() == values.len() && column.len() <= 200_000);
+    let prepared = column
+        .room_for(rt.alloc(), &values, false)
+        .expect(rt, "memory");
+    column.overwrite(prepared, &places, values);
+    column
+}
+
 fn outcome(truth: &Truth, meter: &Meter) -> Outcome {
     let (trues, falses) = (truth.trues().bits(0, 64), truth.falses().bits(0, 64));
     (trues, falses, meter.units())
@@ -108,141 +127,131 @@ fn outcome(truth: &Truth, meter: &Meter) -> Outcome {
 
 fn compared<R: Abort + AllocGlobal>(
     rt: &R,
-    column: &Column,
+    column: Column,
     op: CmpOp,
     constant: i64,
     need: u64,
 ) -> Outcome {
     let mut meter = Meter::new();
+    let need = rows_of(rt, &column, need);
     let truth = column
-        .compare(
-            rt.alloc(),
-            op,
-            constant,
-            &rows_of(rt, column, need),
-            &mut meter,
-        )
+        .compare(rt.alloc(), op, constant, &need, &mut meter)
         .expect(rt, "memory");
     outcome(&truth, &meter)
 }
 
 fn between<R: Abort + AllocGlobal>(
     rt: &R,
-    column: &Column,
+    column: Column,
     low: i64,
     high: i64,
     need: u64,
 ) -> Outcome {
     let mut meter = Meter::new();
+    let need = rows_of(rt, &column, need);
     let truth = column
-        .range(
-            rt.alloc(),
-            low,
-            high,
-            &rows_of(rt, column, need),
-            &mut meter,
-        )
+        .range(rt.alloc(), low, high, &need, &mut meter)
         .expect(rt, "memory");
     outcome(&truth, &meter)
 }
 
-fn listed<R: Abort + AllocGlobal>(rt: &R, column: &Column, entries: &[i64], need: u64) -> Outcome {
+fn listed<R: Abort + AllocGlobal>(rt: &R, column: Column, entries: &[i64], need: u64) -> Outcome {
     let mut meter = Meter::new();
+    let need = rows_of(rt, &column, need);
     let truth = column
-        .in_list(rt.alloc(), entries, &rows_of(rt, column, need), &mut meter)
+        .in_list(rt.alloc(), entries, &need, &mut meter)
         .expect(rt, "memory");
     outcome(&truth, &meter)
 }
 
+/// Two columns compared with each other.
 pub(crate) fn side_by_side<R: Abort + AllocGlobal>(
     rt: &R,
-    left: &Column,
+    left: Column,
     op: CmpOp,
-    right: &Column,
+    right: Column,
     need: u64,
 ) -> Outcome {
-    let mut meter = Meter::new();
     assert!(rt; right.len() == left.len());
+    let mut meter = Meter::new();
+    let need = rows_of(rt, &left, need);
     let truth = left
-        .compare_column(rt.alloc(), op, right, &rows_of(rt, left, need), &mut meter)
+        .compare_column(rt.alloc(), op, &right, &need, &mut meter)
         .expect(rt, "memory");
     outcome(&truth, &meter)
-}
-
-/// 0 to 15 and 240 to 255.
-fn two_runs() -> [Option<i64>; 32] {
-    let mut values = [None; 32];
-    for i in 0..32 {
-        let x = if i < 16 { i } else { i + 224 };
-        values[i] = Some(x as i64);
-    }
-    values
 }
 
 #[test]
 fn a_value_without_a_code_encodes_the_column_anew(rt: HostRuntime) {
-    let mut column = column_of(&rt, &[Some(1), Some(2), Some(3)], Layout::V, Kind::Offset);
-    assert_eq!(rt; span_of(&column), Some((1, 2)));
-    overwrite(&rt, &mut column, 0b010, &[Some(1_000_000)]);
-    assert_eq!(rt;
-        all_of(&rt, &column).as_slice(),
-        [Some(1), Some(1_000_000), Some(3)].as_slice()
+    let column = column_of(&rt, &[Some(1), Some(2), Some(3)], Layout::V, Kind::Offset);
+    see(&rt, span_of(&column), Some((1, 2)));
+    let column = overwritten(&rt, column, 0b010, &[Some(1_000_000)]);
+    see(
+        &rt,
+        (column.layout(), column.kind()),
+        (Layout::V, Kind::Offset),
     );
-    assert_eq!(rt; span_of(&column), Some((1, 20)));
-    assert!(rt; column.layout() == Layout::V && column.kind() == Kind::Offset);
+    let values = [Some(1), Some(1_000_000), Some(3)];
+    see_offset(&rt, column, &values, (1, 20));
+}
+
+/// Sees the words of sections of a column in layout H.
+fn see_words<R: Abort>(rt: &R, column: Column, words: &[u64]) {
+    let Storage::H(codes) = column.storage() else {
+        panic!(rt; "another layout")
+    };
+    assert!(rt; codes.words() == words);
 }
 
 #[test]
 fn both_ends_in_words_of_sections(rt: HostRuntime) {
     let ends = [Some(-2_147_483_648), Some(2_147_483_647)];
-    let column = column_of(&rt, &ends, Layout::H, Kind::Offset);
     let mut wanted = [0; 33];
     wanted[1] = 0xffff_ffff;
-    let Storage::H(codes) = column.storage() else {
-        panic!(rt; "another layout")
-    };
-    assert_eq!(rt; codes.words(), wanted.as_slice());
+    see_words(&rt, column_of(&rt, &ends, Layout::H, Kind::Offset), &wanted);
 }
 
 #[test]
 fn a_null_has_a_code_in_any_encoding(rt: HostRuntime) {
-    let values = [Some(1), Some(1_000_000)];
-    let mut column = column_of(&rt, &values, Layout::V, Kind::Offset);
-    append(&rt, &mut column, &[None, Some(2)]);
-    assert_eq!(rt; span_of(&column), Some((1, 20)));
-    assert_eq!(rt;
-        all_of(&rt, &column).as_slice(),
-        [Some(1), Some(1_000_000), None, Some(2)].as_slice()
-    );
+    let column = column_of(&rt, &[Some(1), Some(1_000_000)], Layout::V, Kind::Offset);
+    let column = appended(&rt, column, &[None, Some(2)]);
+    let values = [Some(1), Some(1_000_000), None, Some(2)];
+    see_offset(&rt, column, &values, (1, 20));
 }
 
 #[test]
 fn a_column_without_values(rt: HostRuntime) {
-    let mut column = column_of(&rt, &[], Layout::P, Kind::Offset);
-    assert_eq!(rt; (column.len(), span_of(&column)), (0, Some((0, 1))));
-    for (value, span) in [(1, (0, 1)), (-1, (-1, 2))] {
-        append(&rt, &mut column, &[Some(value)]);
-        assert_eq!(rt; span_of(&column), Some(span));
-    }
-    assert_eq!(rt;
-        all_of(&rt, &column).as_slice(),
-        [Some(1), Some(-1)].as_slice()
-    );
+    let column = column_of(&rt, &[], Layout::P, Kind::Offset);
+    see(&rt, (column.len(), span_of(&column)), (0, Some((0, 1))));
+    let column = appended(&rt, column, &[Some(1)]);
+    see(&rt, span_of(&column), Some((0, 1)));
+    let column = appended(&rt, column, &[Some(-1)]);
+    see_offset(&rt, column, &[Some(1), Some(-1)], (-1, 2));
 }
 
 #[test]
 fn a_dictionary_without_values(rt: HostRuntime) {
-    let mut column = column_of(&rt, &[], Layout::S, Kind::Dictionary);
-    append(&rt, &mut column, &[None, Some(7), None]);
-    overwrite(&rt, &mut column, 0b101, &[Some(9), Some(7)]);
-    assert_eq!(rt;
-        all_of(&rt, &column).as_slice(),
-        [Some(9), Some(7), Some(7)].as_slice()
+    let column = column_of(&rt, &[], Layout::S, Kind::Dictionary);
+    let column = appended(&rt, column, &[None, Some(7), None]);
+    see_values(
+        &rt,
+        &overwritten(&rt, column, 0b101, &[Some(9), Some(7)]),
+        &[Some(9), Some(7), Some(7)],
     );
 }
 
 /// The first 32 rows.
 pub(crate) const ALL: u64 = 0xffff_ffff;
+
+/// A column of 0 to 15 and 240 to 255.
+fn two_runs<R: Abort + AllocGlobal>(rt: &R) -> Column {
+    let mut values = [None; 32];
+    for i in 0..32 {
+        let x = if i < 16 { i } else { i + 224 };
+        values[i] = Some(x as i64);
+    }
+    column_of(rt, &values, Layout::P, Kind::Offset)
+}
 
 /// A constant that two runs are below or not, at which rows it is asked, and what comes of it.
 const BELOW: [(i64, u64, Outcome); 3] = [
@@ -253,62 +262,68 @@ const BELOW: [(i64, u64, Outcome); 3] = [
 
 #[test]
 fn a_column_and_a_constant(rt: HostRuntime) {
-    let column = column_of(&rt, &two_runs(), Layout::P, Kind::Offset);
     for (constant, need, outcome) in BELOW {
-        assert_eq!(rt; compared(&rt, &column, CmpOp::Lt, constant, need), outcome);
+        let found = compared(&rt, two_runs(&rt), CmpOp::Lt, constant, need);
+        see_at(&rt, constant, found, outcome);
     }
 }
 
 #[test]
 fn a_column_and_a_range(rt: HostRuntime) {
-    let column = column_of(&rt, &two_runs(), Layout::P, Kind::Offset);
-    assert_eq!(rt;
-        between(&rt, &column, 3, 200, ALL),
-        (0xfff8, 0xffff_0007, 32)
-    );
-    assert_eq!(rt; between(&rt, &column, 200, 3, ALL), (0, ALL, 0));
+    for (low, high, outcome) in [(3, 200, (0xfff8, 0xffff_0007, 32)), (200, 3, (0, ALL, 0))] {
+        let found = between(&rt, two_runs(&rt), low, high, ALL);
+        see_at(&rt, (low, high), found, outcome);
+    }
 }
+
+/// Entries, and the rows of two runs that are found among them.
+const LISTED: [([i64; 2], u64); 2] = [([3, 250], 1 << 3 | 1 << 26), ([3, 3], 1 << 3)];
 
 #[test]
 fn a_column_and_a_list(rt: HostRuntime) {
-    let column = column_of(&rt, &two_runs(), Layout::P, Kind::Offset);
-    let (three, either) = (1 << 3, 1 << 3 | 1 << 26);
-    for (entries, found) in [([3, 250], either), ([3, 3], three)] {
-        assert_eq!(rt;
-            listed(&rt, &column, &entries, ALL),
-            (found, ALL ^ found, 63)
-        );
+    for (entries, rows) in LISTED {
+        let found = listed(&rt, two_runs(&rt), &entries, ALL);
+        see_at(&rt, entries, found, (rows, ALL ^ rows, 63));
     }
-    assert_eq!(rt; listed(&rt, &column, &[], ALL), (0, ALL, 0));
+    see(&rt, listed(&rt, two_runs(&rt), &[], ALL), (0, ALL, 0));
 }
 
-const WITH_A_NULL: [Option<i64>; 4] = [Some(1), None, Some(3), Some(5)];
+/// 1, NULL, 3 and 5 in layout H.
+fn with_a_null<R: Abort + AllocGlobal>(rt: &R, kind: Kind) -> Column {
+    let values = [Some(1), None, Some(3), Some(5)];
+    column_of(rt, &values, Layout::H, kind)
+}
 
 #[test]
 fn nulls_beside_a_constant(rt: HostRuntime) {
     // Words of sections: one more than the bits of a code.
     for (kind, units) in [(Kind::Offset, 4), (Kind::Dictionary, 3)] {
-        let column = column_of(&rt, &WITH_A_NULL, Layout::H, kind);
         for (need, trues) in [(0b1111, 0b1001), (0b0111, 0b0001)] {
-            let outcome = (trues, 0b0100, units);
-            assert_eq!(rt; compared(&rt, &column, CmpOp::Ne, 3, need), outcome);
+            let found = compared(&rt, with_a_null(&rt, kind), CmpOp::Ne, 3, need);
+            see_at(&rt, kind, found, (trues, 0b0100, units));
         }
-        let outcome = (0b0100, 0b1001, units);
-        assert_eq!(rt; between(&rt, &column, 2, 3, 0b1111), outcome);
+        let found = between(&rt, with_a_null(&rt, kind), 2, 3, 0b1111);
+        see_at(&rt, kind, found, (0b0100, 0b1001, units));
     }
 }
 
 #[test]
 fn nulls_beside_a_list(rt: HostRuntime) {
     for (kind, units) in [(Kind::Offset, 8), (Kind::Dictionary, 6)] {
-        let column = column_of(&rt, &WITH_A_NULL, Layout::H, kind);
-        let outcome = (0b1001, 0b0100, units);
-        assert_eq!(rt; listed(&rt, &column, &[5, 1], 0b1111), outcome);
-        assert_eq!(rt; listed(&rt, &column, &[], 0b1111), (0, 0b1101, 0));
+        let found = listed(&rt, with_a_null(&rt, kind), &[5, 1], 0b1111);
+        see_at(&rt, kind, found, (0b1001, 0b0100, units));
+        let found = listed(&rt, with_a_null(&rt, kind), &[], 0b1111);
+        see_at(&rt, kind, found, (0, 0b1101, 0));
     }
 }
 
-/// 5, 4, 1, null: another column beside 5, -3, null, 7.
+/// 5, -3, NULL and 7.
+fn offset<R: Abort + AllocGlobal>(rt: &R) -> Column {
+    let values = [Some(5), Some(-3), None, Some(7)];
+    column_of(rt, &values, Layout::P, Kind::Offset)
+}
+
+/// 5, 4, 1 and NULL.
 fn dictionary<R: Abort + AllocGlobal>(rt: &R) -> Column {
     let values = [Some(5), Some(4), Some(1), None];
     column_of(rt, &values, Layout::P, Kind::Dictionary)
@@ -316,32 +331,26 @@ fn dictionary<R: Abort + AllocGlobal>(rt: &R) -> Column {
 
 #[test]
 fn two_columns(rt: HostRuntime) {
-    let values = [Some(5), Some(-3), None, Some(7)];
-    let a = column_of(&rt, &values, Layout::P, Kind::Offset);
-    let b = dictionary(&rt);
     for (op, need, outcome) in [
         (CmpOp::Lt, 0b1111, (0b0010, 0b0001, 4)),
         (CmpOp::Eq, 0b1100, (0, 0, 0)),
     ] {
-        assert_eq!(rt; side_by_side(&rt, &a, op, &b, need), outcome);
+        let found = side_by_side(&rt, offset(&rt), op, dictionary(&rt), need);
+        see_at(&rt, op, found, outcome);
     }
-    let exchanged = side_by_side(&rt, &b, CmpOp::Le, &a, 0b1110);
-    assert_eq!(rt; exchanged, (0, 0b0010, 2));
+    let exchanged = side_by_side(&rt, dictionary(&rt), CmpOp::Le, offset(&rt), 0b1110);
+    see(&rt, exchanged, (0, 0b0010, 2));
 }
 
 #[test]
 fn constants_that_a_dictionary_lacks(rt: HostRuntime) {
-    let column = dictionary(&rt);
     for (op, constant, trues) in [(CmpOp::Eq, 2, 0), (CmpOp::Gt, 6, 0), (CmpOp::Ne, 2, 0b0111)] {
-        let falses = 0b0111 ^ trues;
-        assert_eq!(rt;
-            compared(&rt, &column, op, constant, 0b1111),
-            (trues, falses, 0)
-        );
+        let found = compared(&rt, dictionary(&rt), op, constant, 0b1111);
+        see_at(&rt, (op, constant), found, (trues, 0b0111 ^ trues, 0));
     }
 }
 
-/// Every seventh value is null.
+/// 150 values, of which every seventh is null.
 fn many<R: Abort + AllocGlobal>(rt: &R) -> Vec<Option<i64>> {
     let mut values = Vec::from_elem(rt.alloc(), None, 150).expect(rt, "memory");
     for i in 0..values.len() {
@@ -352,48 +361,64 @@ fn many<R: Abort + AllocGlobal>(rt: &R) -> Vec<Option<i64>> {
     values
 }
 
-/// The values come in two calls, and are read in runs that begin and end at different places.
-fn check_runs<R: Abort + AllocGlobal>(rt: &R, values: &[Option<i64>], kind: Kind) {
-    assert!(rt; values.len() == 150);
-    let (first, more) = values.split_at(70);
-    let mut column = column_of(rt, first, Layout::P, kind);
-    append(rt, &mut column, more);
-    for (at, end) in [
-        (0, 150),
-        (60, 70),
-        (1, 131),
-        (64, 64),
-        (63, 129),
-        (149, 150),
-    ] {
+/// Where runs begin and end.
+const RUNS: [(usize, usize); 6] = [
+    (0, 150),
+    (60, 70),
+    (1, 131),
+    (64, 64),
+    (63, 129),
+    (149, 150),
+];
+
+/// Sees the values of a column, read in runs.
+fn see_runs<R: Abort + AllocGlobal>(rt: &R, column: Column, values: &[Option<i64>]) {
+    for (at, end) in RUNS {
         assert!(rt; at <= end && end <= values.len());
-        assert_eq!(rt;
-            read(rt, &column, at, end - at).as_slice(),
-            &values[at..end]
+        assert!(rt;
+            read(rt, &column, at, end - at).as_slice() == &values[at..end],
+            "{at}"
         );
     }
 }
 
+// The values come in two calls.
 #[test]
 fn runs_of_values(rt: HostRuntime) {
     let values = many(&rt);
-    check_runs(&rt, &values, Kind::Offset);
-    check_runs(&rt, &values, Kind::Dictionary);
+    assert!(rt; values.len() == 150);
+    let (first, more) = values.split_at(70);
+    for kind in [Kind::Offset, Kind::Dictionary] {
+        let column = column_of(&rt, first, Layout::P, kind);
+        see_runs(&rt, appended(&rt, column, more), &values);
+    }
+}
+
+/// 4, NULL and 7.
+fn three_rows<R: Abort + AllocGlobal>(rt: &R) -> Column {
+    column_of(rt, &[Some(4), None, Some(7)], Layout::P, Kind::Offset)
+}
+
+/// The first two values of a column, and its rows that are not null.
+fn front_of<R: Abort>(rt: &R, column: Column) -> (Option<i64>, Option<i64>, u64) {
+    assert!(rt; column.len() == 3);
+    (column.get(0), column.get(1), column.nonnull().bits(0, 64))
 }
 
 #[test]
 fn rows_of_a_column(rt: HostRuntime) {
-    let column = column_of(&rt, &[Some(4), None, Some(7)], Layout::P, Kind::Offset);
-    assert_eq!(rt; column.nonnull().words(), [0b101].as_slice());
-    assert!(rt; column.len() == 3);
-    assert_eq!(rt; (column.get(0), column.get(1)), (Some(4), None));
+    see(&rt, front_of(&rt, three_rows(&rt)), (Some(4), None, 0b101));
+}
+
+/// The rows of a column of two bits whose code has the higher one.
+fn high_bits<R: Abort + AllocGlobal>(rt: &R, column: Column) -> u64 {
+    let mut rows = rows_of(rt, &column, 0b111);
+    assert!(rt; column.encoding().width() == 2);
+    column.plane(1, &mut rows);
+    rows.bits(0, 64)
 }
 
 #[test]
 fn a_plane_of_a_column(rt: HostRuntime) {
-    let column = column_of(&rt, &[Some(4), None, Some(7)], Layout::P, Kind::Offset);
-    let mut rows = rows_of(&rt, &column, 0b111);
-    assert!(rt; column.encoding().width() == 2);
-    column.plane(1, &mut rows);
-    assert_eq!(rt; rows.words(), [0b100].as_slice());
+    see(&rt, high_bits(&rt, three_rows(&rt)), 0b100);
 }

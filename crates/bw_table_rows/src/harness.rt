@@ -83,8 +83,8 @@ pub(crate) fn insert<R: Abort + AllocGlobal>(rt: &R, table: &mut Table<usize>, c
     assert!(rt; width > 0);
     assert!(rt; cells.len() / width * width == cells.len());
     let rows = Rows::new(width, &cells);
-    assert_eq!(rt; rows.len(), cells.len() / width);
-    assert_eq!(rt; table.insert(rt.alloc(), &rows), Ok(()));
+    assert!(rt; rows.len() == cells.len() / width);
+    table.insert(rt.alloc(), &rows).expect(rt, "inserted");
 }
 
 fn see_integer(cell: Cell)
@@ -112,8 +112,8 @@ pub(crate) fn load<R: Abort + AllocGlobal>(rt: &R, table: &mut Table<usize>, cel
     assert!(rt; width > 0);
     assert!(rt; cells.len() / width * width == cells.len());
     let rows = Rows::of_integers(width, cells);
-    assert_eq!(rt; rows.len(), cells.len() / width);
-    assert_eq!(rt; table.insert(rt.alloc(), &rows), Ok(()));
+    assert!(rt; rows.len() == cells.len() / width);
+    table.insert(rt.alloc(), &rows).expect(rt, "inserted");
 }
 
 /// The slots of a table that are the live ones picked by the bits of a word, counted round.
@@ -153,7 +153,9 @@ pub(crate) fn set_one<R: Abort + AllocGlobal>(
     assert!(rt; set.0 < columns);
     let found = picked(rt, table, word);
     let sets = [(set.0, set_to(columns, set.1))];
-    assert_eq!(rt; table.update(rt.alloc(), &found, &sets), Ok(()));
+    table
+        .update(rt.alloc(), &found, &sets)
+        .expect(rt, "updated");
 }
 
 /// Sets two columns in the picked rows.
@@ -173,7 +175,9 @@ pub(crate) fn set_two<R: Abort + AllocGlobal>(
         (set.0, set_to(columns, set.1)),
         (other.0, set_to(columns, other.1)),
     ];
-    assert_eq!(rt; table.update(rt.alloc(), &found, &sets), Ok(()));
+    table
+        .update(rt.alloc(), &found, &sets)
+        .expect(rt, "updated");
 }
 
 /// Deletes the picked rows.
@@ -195,10 +199,21 @@ pub(crate) fn rows_of<R: Abort + AllocGlobal>(rt: &R, table: &Table<usize>) -> V
     cells
 }
 
-/// Checks that a table has these rows, which lie one behind the other.
+/// Checks that a table has these rows, one after the other.
 pub(crate) fn check_rows<R: Abort + AllocGlobal>(rt: &R, table: &Table<usize>, cells: &[Cell]) {
     let wanted = wide_cells(rt, cells);
-    assert_eq!(rt; rows_of(rt, table).as_slice(), wanted.as_slice());
+    assert!(rt; rows_of(rt, table).as_slice() == wanted.as_slice());
+}
+
+/// Checks that a table has these rows at its end, one after the other, and this many slots.
+pub(crate) fn check_last<R: Abort + AllocGlobal>(
+    rt: &R,
+    table: Table<usize>,
+    cells: &[Cell],
+    slots: usize,
+) {
+    check_rows(rt, &table, cells);
+    assert!(rt; table.slot_count() == slots);
 }
 
 /// An offset's base and width, where there is such a column and it has one.

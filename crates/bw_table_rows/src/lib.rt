@@ -17,6 +17,8 @@ mod pairs;
 #[cfg(test)]
 mod random;
 #[cfg(test)]
+mod seen;
+#[cfg(test)]
 mod set_functions;
 #[cfg(test)]
 mod units;

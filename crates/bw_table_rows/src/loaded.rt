@@ -2,7 +2,9 @@
 
 use crate::harness::{Cell, insert, load, rows_of, table_of};
 use crate::random::LAYOUTS;
+use crate::seen::see_at;
 use bw_code::{Kind, Layout};
+use bw_table::Table;
 use std::process::Abort;
 
 /// Cells of rows, again and again. Seven divides neither 64 nor a width, so no two runs of rows that are read one after the
@@ -37,20 +39,37 @@ fn many_cells<R: Abort + AllocGlobal>(rt: &R) -> Vec<Cell> {
     cells
 }
 
-/// Checks the values of a table that gets the rows twice, the second time behind others, and those of one that gets them in
-/// the other form.
-fn check_loaded<R: Abort + AllocGlobal>(rt: &R, columns: &[(Layout, Kind)], cells: &[Cell]) {
-    let (mut loaded, mut inserted) = (table_of(rt, columns), table_of(rt, columns));
-    for _ in 0..2 {
-        load(rt, &mut loaded, cells);
-        insert(rt, &mut inserted, cells);
-    }
-    let values = rows_of(rt, &loaded);
-    assert_eq!(rt; values.len(), 840);
+/// Checks the values of a table that got the cells twice.
+fn check_values<R: Abort + AllocGlobal>(rt: &R, table: Table<usize>, column: (Layout, Kind)) {
+    let values = rows_of(rt, &table);
+    assert!(rt; values.len() == 840);
     for i in 0..values.len() {
-        assert_eq!(rt; values[i], VALUES[i % 7], "cell {i} of {columns:?}");
+        see_at(rt, (column, i), values[i], VALUES[i % 7]);
     }
-    assert_eq!(rt; rows_of(rt, &inserted).as_slice(), values.as_slice());
+}
+
+/// Checks the values of a table that gets the rows twice, the second time after others.
+fn check_loaded<R: Abort + AllocGlobal>(
+    rt: &R,
+    mut table: Table<usize>,
+    column: (Layout, Kind),
+    cells: &[Cell],
+) {
+    load(rt, &mut table, cells);
+    load(rt, &mut table, cells);
+    check_values(rt, table, column);
+}
+
+/// Checks the values of a table that gets the rows twice in the form that those of a statement have.
+fn check_inserted<R: Abort + AllocGlobal>(
+    rt: &R,
+    mut table: Table<usize>,
+    column: (Layout, Kind),
+    cells: &[Cell],
+) {
+    insert(rt, &mut table, cells);
+    insert(rt, &mut table, cells);
+    check_values(rt, table, column);
 }
 
 #[test]
@@ -59,8 +78,10 @@ fn rows_in_the_form_of_a_file(rt: HostRuntime) {
     for layout in LAYOUTS {
         for kind in [Kind::Offset, Kind::Dictionary] {
             let column = (layout, kind);
-            check_loaded(&rt, &[column], &cells);
-            check_loaded(&rt, &[column, column, column], &cells);
+            for columns in [&[column][..], &[column, column, column]] {
+                check_loaded(&rt, table_of(&rt, columns), column, &cells);
+                check_inserted(&rt, table_of(&rt, columns), column, &cells);
+            }
         }
     }
 }

@@ -3,9 +3,10 @@
 
 use crate::columns::{ALL, Outcome, column_of, side_by_side};
 use crate::random::{LAYOUTS, Random};
+use crate::seen::{see, see_at};
 use bw_code::{CmpOp, Kind, Layout, Meter};
 use bw_column::Column;
-use bw_mask::Mask;
+use bw_mask::{Mask, Truth};
 use std::process::Abort;
 
 const KINDS: [Kind; 2] = [Kind::Offset, Kind::Dictionary];
@@ -29,7 +30,7 @@ fn below<R: Abort + AllocGlobal>(
 ) -> Outcome {
     let left = column_of(rt, values, layout, Kind::Offset);
     let right = column_of(rt, others, other_layout, Kind::Offset);
-    side_by_side(rt, &left, CmpOp::Lt, &right, ALL)
+    side_by_side(rt, left, CmpOp::Lt, right, ALL)
 }
 
 #[test]
@@ -37,7 +38,7 @@ fn other_bases_are_added_plane_by_plane(rt: HostRuntime) {
     let left = [Some(10), Some(12), Some(17)];
     let right = [Some(11), Some(11), Some(20)];
     let outcome = below(&rt, Layout::V, &left, Layout::V, &right);
-    assert_eq!(rt; outcome, (0b101, 0b010, 7));
+    see(&rt, outcome, (0b101, 0b010, 7));
 }
 
 #[test]
@@ -52,7 +53,7 @@ fn equal_encodings_are_scanned_side_by_side(rt: HostRuntime) {
         (Layout::P, Layout::P, 4),
     ] {
         let outcome = below(&rt, layout, &left, other, &right);
-        assert_eq!(rt; outcome, (0b01, 0b10, units));
+        see_at(&rt, (layout, other), outcome, (0b01, 0b10, units));
     }
 }
 
@@ -60,7 +61,7 @@ fn equal_encodings_are_scanned_side_by_side(rt: HostRuntime) {
 fn no_row_no_unit(rt: HostRuntime) {
     for layout in LAYOUTS {
         let outcome = below(&rt, layout, &[None], Layout::V, &[Some(1)]);
-        assert_eq!(rt; outcome, (0, 0, 0));
+        see_at(&rt, layout, outcome, (0, 0, 0));
     }
 }
 
@@ -68,11 +69,11 @@ fn no_row_no_unit(rt: HostRuntime) {
 fn check_worked<R: Abort + AllocGlobal>(rt: &R, layouts: (Layout, Layout), kinds: (Kind, Kind)) {
     let left = [Some(5), Some(-3), None, Some(7)];
     let right = [Some(5), Some(4), Some(1), None];
-    let a = column_of(rt, &left, layouts.0, kinds.0);
-    let b = column_of(rt, &right, layouts.1, kinds.1);
     for (op, trues, falses) in [(CmpOp::Lt, 0b0010, 0b0001), (CmpOp::Eq, 0b0001, 0b0010)] {
-        let (found, missed, _) = side_by_side(rt, &a, op, &b, ALL);
-        assert_eq!(rt; (found, missed), (trues, falses));
+        let a = column_of(rt, &left, layouts.0, kinds.0);
+        let b = column_of(rt, &right, layouts.1, kinds.1);
+        let (found, missed, _) = side_by_side(rt, a, op, b, ALL);
+        see_at(rt, (layouts, kinds), (found, missed), (trues, falses));
     }
 }
 
@@ -149,32 +150,48 @@ fn wanted(op: CmpOp, x: Option<i64>, y: Option<i64>, needed: bool) -> Option<boo
     }
 }
 
-/// Compares two columns at the rows that a word chooses again and again, and each truth with that of the plain values.
-fn check_pair<R: Abort + AllocGlobal>(
+/// So many rows, of which a word chooses some again and again.
+fn chosen_rows<R: Abort + AllocGlobal>(rt: &R, rows: usize, chosen: u64) -> Mask {
+    assert!(rt; rows <= 200);
+    let mut need = Mask::filled(rt.alloc(), rows, false).expect(rt, "memory");
+    for q in 0..rows.div_ceil(64) {
+        need.put_bits(64 * q, 64, chosen);
+    }
+    need
+}
+
+/// The bits of a row where it is true and where it is false.
+fn bits_of(truth: Option<bool>) -> (u64, u64) {
+    match truth {
+        Some(true) => (1, 0),
+        Some(false) => (0, 1),
+        None => (0, 0),
+    }
+}
+
+/// Compares two columns at the needed rows, and each truth with that of the plain values.
+fn check_truths<R: Abort + AllocGlobal>(
     rt: &R,
     left: &Column,
     right: &Column,
     op: CmpOp,
-    chosen: u64,
+    need: &Mask,
 ) {
-    assert!(rt; left.len() == right.len() && left.len() <= 200);
-    let mut need = Mask::filled(rt.alloc(), left.len(), false).expect(rt, "memory");
-    for q in 0..left.len().div_ceil(64) {
-        need.put_bits(64 * q, 64, chosen);
-    }
-    assert!(rt; need.len() == left.len());
-    let mut meter = Meter::new();
+    assert!(rt; left.len() == right.len() && need.len() == left.len());
     let truth = left
-        .compare_column(rt.alloc(), op, right, &need, &mut meter)
+        .compare_column(rt.alloc(), op, right, need, &mut Meter::new())
         .expect(rt, "memory");
     for i in 0..left.len() {
         let truth_at = wanted(op, left.get(i), right.get(i), need.bits(i, 1) == 1);
-        let found = (
-            truth.trues().bits(i, 1) == 1,
-            truth.falses().bits(i, 1) == 1,
-        );
-        assert_eq!(rt; found, (truth_at == Some(true), truth_at == Some(false)));
+        let found = (truth.trues().bits(i, 1), truth.falses().bits(i, 1));
+        see_at(rt, (op, i), found, bits_of(truth_at));
     }
+}
+
+/// Compares two columns at the rows that a word chooses again and again.
+fn check_pair<R: Abort + AllocGlobal>(rt: &R, left: Column, right: Column, op: CmpOp, chosen: u64) {
+    let need = chosen_rows(rt, left.len(), chosen);
+    check_truths(rt, &left, &right, op, &need);
 }
 
 /// All pairs of layouts and kinds of one pair of lists.
@@ -188,7 +205,7 @@ fn check_layouts<R: Abort + AllocGlobal>(
         let left = column_of(rt, values, LAYOUTS[i / 16], KINDS[i / 8 % 2]);
         let right = column_of(rt, others, LAYOUTS[i / 2 % 4], KINDS[i % 2]);
         let op = OPERATORS[(random.next() >> 8) as usize % 6];
-        check_pair(rt, &left, &right, op, random.next() | random.next());
+        check_pair(rt, left, right, op, random.next() | random.next());
     }
 }
 

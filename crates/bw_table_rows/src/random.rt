@@ -1,6 +1,7 @@
 //! Random changes of a table, and the same changes of a plain list of rows beside it.
 
 use crate::harness::{Cell, To, check_rows, delete, insert, set_one, set_two, table_of};
+use crate::seen::see;
 use bw_code::{Kind, Layout};
 use bw_table::{Choice, Table};
 use std::process::Abort;
@@ -141,19 +142,17 @@ fn delete_some<R: Abort + AllocGlobal>(rt: &R, pair: &mut Pair, random: &mut Ran
 fn rebuild_some<R: Abort + AllocGlobal>(rt: &R, pair: &mut Pair, random: &mut Random) {
     let layout = random.layout();
     let kind = random.kind();
-    let kind = if random.next() >> 8 & 1 == 0 {
-        Some(kind)
-    } else {
-        None
-    };
+    let kind = (random.next() >> 8 & 1 == 0).then_some(kind);
     let choices = [(random.column(), Choice { layout, kind })];
-    assert_eq!(rt; pair.table.rebuild(rt.alloc(), &choices), Ok(()));
-    assert_eq!(rt; pair.table.slot_count(), pair.rows.len());
+    pair.table
+        .rebuild(rt.alloc(), &choices)
+        .expect(rt, "memory");
+    see(rt, pair.table.slot_count(), pair.rows.len());
 }
 
 fn compact<R: Abort + AllocGlobal>(rt: &R, pair: &mut Pair) {
-    assert_eq!(rt; pair.table.compact(rt.alloc()), Ok(()));
-    assert_eq!(rt; pair.table.slot_count(), pair.rows.len());
+    pair.table.compact(rt.alloc()).expect(rt, "memory");
+    see(rt, pair.table.slot_count(), pair.rows.len());
 }
 
 fn change<R: Abort + AllocGlobal>(rt: &R, pair: &mut Pair, random: &mut Random) {
@@ -173,7 +172,7 @@ fn check<R: Abort + AllocGlobal>(rt: &R, pair: &Pair) {
             cells.push(cell).expect(rt, "memory");
         }
     }
-    assert_eq!(rt; pair.table.row_count(), pair.rows.len());
+    see(rt, pair.table.row_count(), pair.rows.len());
     check_rows(rt, &pair.table, &cells);
 }
 

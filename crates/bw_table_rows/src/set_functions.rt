@@ -5,6 +5,7 @@ ghost use Rattle.bw_mask.specs.Masks.{len};
 
 use crate::columns::column_of;
 use crate::random::{LAYOUTS, Random};
+use crate::seen::see_at;
 use bw_aggregate::{Asked, count, max, median, min, sum, summarize};
 use bw_code::{Kind, Layout};
 use bw_column::Column;
@@ -220,13 +221,9 @@ fn check_rows<R: Abort + AllocGlobal>(
     let mut known = chosen_values(rt, values, &chosen);
     let wanted = folded(rt, &mut known);
     assert!(rt; rows.len() == column.len());
-    let (layout, kind, length) = (column.layout(), column.kind(), column.len());
-    assert_eq!(rt;
-        answered(rt, column, &rows),
-        wanted,
-        "{layout:?} {kind:?}, {length} rows"
-    );
-    assert_eq!(rt; answered_at_once(rt, column, &rows), wanted);
+    let case = (column.layout(), column.kind(), column.len());
+    see_at(rt, case, answered(rt, column, &rows), wanted);
+    see_at(rt, case, answered_at_once(rt, column, &rows), wanted);
 }
 
 /// Checks a column of this share of known values, whose codes have so many bits if it is an offset.

@@ -2,6 +2,7 @@
 //! of a segment ask for, and of plain codes one unit for each needed row that is not NULL.
 
 use crate::harness::{Cell, insert, table_of};
+use crate::seen::{see, see_at};
 use bw_code::{Kind, Layout, Meter};
 use bw_plan::{Predicate, RowCondition, Source, evaluate};
 use bw_sql::CompareOp;
@@ -25,7 +26,7 @@ fn two_ends<R: Abort + AllocGlobal>(rt: &R, layout: Layout) -> Table<usize> {
 }
 
 /// How many units the condition reads of all slots of the table.
-fn units_of<R: Abort + AllocGlobal>(rt: &R, table: &Table<usize>, condition: &RowCondition) -> u64 {
+fn units_of<R: Abort + AllocGlobal>(rt: &R, table: Table<usize>, condition: &RowCondition) -> u64 {
     let mut meter = Meter::new();
     let truth = evaluate(
         rt.alloc(),
@@ -42,18 +43,27 @@ fn units_of<R: Abort + AllocGlobal>(rt: &R, table: &Table<usize>, condition: &Ro
 fn units<R: Abort + AllocGlobal>(rt: &R, condition: &RowCondition) -> [u64; 4] {
     let mut units = [0; 4];
     for i in 0..4 {
-        units[i] = units_of(rt, &two_ends(rt, LAYOUTS[i]), condition);
+        units[i] = units_of(rt, two_ends(rt, LAYOUTS[i]), condition);
     }
     units
+}
+
+/// Sees how many units the condition reads in each layout.
+fn see_units<R: Abort + AllocGlobal>(rt: &R, condition: RowCondition, wanted: [u64; 4]) {
+    see(rt, units(rt, &condition), wanted);
+}
+
+/// Sees how many units the test of one predicate reads in each layout.
+fn see_predicate<R: Abort + AllocGlobal>(rt: &R, predicate: Predicate, wanted: [u64; 4]) {
+    see_units(rt, RowCondition::Test(predicate), wanted);
 }
 
 fn column() -> Source {
     Source::Place(0)
 }
 
-fn compared(op: CompareOp, number: i64) -> RowCondition {
-    let constant = Source::Constant(Some(number));
-    RowCondition::Test(Predicate::Compare(column(), op, constant))
+fn compared(op: CompareOp, constant: i64) -> RowCondition {
+    RowCondition::Test(Predicate::Compare(column(), op, number(constant)))
 }
 
 fn two<R: Abort + AllocGlobal>(
@@ -69,48 +79,48 @@ fn two<R: Abort + AllocGlobal>(
 
 #[test]
 fn a_comparison_is_one_scan(rt: HostRuntime) {
-    assert_eq!(rt; units(&rt, &compared(CompareOp::Lt, 128)), [32, 4, 9, 1]);
-    let not = RowCondition::Not(Box::new(rt.alloc(), compared(CompareOp::Lt, 128)).expect(
-        &rt, "memory",
-    ));
-    assert_eq!(rt; units(&rt, &not), [32, 4, 9, 1]);
+    let below = compared(CompareOp::Lt, 128);
+    see_units(&rt, below, [32, 4, 9, 1]);
+    let below = Box::new(rt.alloc(), compared(CompareOp::Lt, 128)).expect(&rt, "memory");
+    see_units(&rt, RowCondition::Not(below), [32, 4, 9, 1]);
+}
+
+/// The table with a row of 128 more.
+fn with_128<R: Abort + AllocGlobal>(rt: &R, layout: Layout) -> Table<usize> {
+    let mut table = two_ends(rt, layout);
+    insert(rt, &mut table, &[Some(128)]);
+    table
 }
 
 #[test]
 fn the_row_nearest_to_the_constant_decides(rt: HostRuntime) {
+    let below = compared(CompareOp::Lt, 128);
     let wanted = [33, 8, 9, 2];
     for i in 0..4 {
-        let mut table = two_ends(&rt, LAYOUTS[i]);
-        insert(&rt, &mut table, &[Some(128)]);
-        let units = units_of(&rt, &table, &compared(CompareOp::Lt, 128));
-        assert_eq!(rt; units, wanted[i]);
+        let found = units_of(&rt, with_128(&rt, LAYOUTS[i]), &below);
+        see_at(&rt, LAYOUTS[i], found, wanted[i]);
     }
+}
+
+/// Below 128, and equal to 3.
+fn below_and_equal<R: Abort + AllocGlobal>(rt: &R) -> Vec<RowCondition> {
+    two(rt, compared(CompareOp::Lt, 128), compared(CompareOp::Eq, 3))
 }
 
 #[test]
 fn a_part_of_and_is_needed_where_none_is_false(rt: HostRuntime) {
-    let parts = two(
+    let parts = below_and_equal(&rt);
+    see_units(
         &rt,
-        compared(CompareOp::Lt, 128),
-        compared(CompareOp::Eq, 3),
-    );
-    assert_eq!(rt;
-        units(&rt, &RowCondition::And(parts)),
-        [32 + 16, 4 + 8, 9 + 9, 1 + 1]
+        RowCondition::And(parts),
+        [32 + 16, 4 + 8, 9 + 9, 1 + 1],
     );
 }
 
 #[test]
 fn a_part_of_or_is_needed_where_none_is_true(rt: HostRuntime) {
-    let parts = two(
-        &rt,
-        compared(CompareOp::Lt, 128),
-        compared(CompareOp::Eq, 3),
-    );
-    assert_eq!(rt;
-        units(&rt, &RowCondition::Or(parts)),
-        [32 + 16, 4 + 4, 9 + 9, 1 + 1]
-    );
+    let parts = below_and_equal(&rt);
+    see_units(&rt, RowCondition::Or(parts), [32 + 16, 4 + 4, 9 + 9, 1 + 1]);
 }
 
 #[test]
@@ -119,40 +129,34 @@ fn an_entry_is_looked_for_where_none_before_it_is_found(rt: HostRuntime) {
     for entry in [Some(3), None, Some(250)] {
         entries.push(entry).expect(&rt, "memory");
     }
-    let listed = RowCondition::Test(Predicate::In(column(), entries));
-    assert_eq!(rt; units(&rt, &listed), [32 + 31, 8 + 8, 9 + 9, 1 + 1]);
+    let listed = Predicate::In(column(), entries);
+    see_predicate(&rt, listed, [32 + 31, 8 + 8, 9 + 9, 1 + 1]);
+}
+
+fn number(value: i64) -> Source {
+    Source::Constant(Some(value))
 }
 
 #[test]
 fn a_range_is_one_scan_and_else_two_comparisons(rt: HostRuntime) {
-    let number = |value| Source::Constant(Some(value));
     let range = Predicate::Between(column(), number(3), number(200));
-    assert_eq!(rt; units(&rt, &RowCondition::Test(range)), [32, 8, 9, 1]);
+    see_predicate(&rt, range, [32, 8, 9, 1]);
     // A value is at most itself: both columns are scanned side by side at the 29 rows where it is 3 at least.
     let upto_itself = Predicate::Between(column(), number(3), column());
-    assert_eq!(rt;
-        units(&rt, &RowCondition::Test(upto_itself)),
-        [32 + 2 * 29, 8 + 2 * 8, 9 + 2 * 9, 1 + 2]
-    );
+    let wanted = [32 + 2 * 29, 8 + 2 * 8, 9 + 2 * 9, 1 + 2];
+    see_predicate(&rt, upto_itself, wanted);
 }
 
 #[test]
 fn two_columns_of_one_encoding_are_scanned_side_by_side(rt: HostRuntime) {
     let same = Predicate::Compare(column(), CompareOp::Eq, column());
-    assert_eq!(rt;
-        units(&rt, &RowCondition::Test(same)),
-        [2 * 32, 2 * 8, 2 * 9, 2]
-    );
+    see_predicate(&rt, same, [2 * 32, 2 * 8, 2 * 9, 2]);
 }
 
 #[test]
 fn what_the_encoding_settles_is_not_read(rt: HostRuntime) {
-    assert_eq!(rt; units(&rt, &compared(CompareOp::Lt, 300)), [0; 4]);
-    let one = Source::Constant(Some(1));
-    let null_is_one = Predicate::Compare(Source::Constant(None), CompareOp::Eq, one);
-    assert_eq!(rt; units(&rt, &RowCondition::Test(null_is_one)), [0; 4]);
-    assert_eq!(rt;
-        units(&rt, &RowCondition::Test(Predicate::IsNull(column()))),
-        [0; 4]
-    );
+    see_units(&rt, compared(CompareOp::Lt, 300), [0; 4]);
+    let null_is_one = Predicate::Compare(Source::Constant(None), CompareOp::Eq, number(1));
+    see_predicate(&rt, null_is_one, [0; 4]);
+    see_predicate(&rt, Predicate::IsNull(column()), [0; 4]);
 }
