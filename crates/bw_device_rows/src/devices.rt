@@ -1,13 +1,15 @@
 //! Devices that fail: each read, write, flush and call of a folder in turn, over scripts with files.
 
-ghost use Rattle.std.specs.Prelude.{◌≡◌, ◌<◌, ◌^◌};
+ghost use Rattle.std.specs.Prelude.{◌≡◌, ◌<◌, ◌≤◌, ◌^◌};
 ghost use Rattle.bw_shell.specs.Folders.{IsWriteFault, failures_after};
 
 use crate::harness::{File, folder_of};
+use crate::seen::{see, see_bytes};
 use crate::streams::{FailingReader, FullWriter, UnflushedWriter};
 use bw_engine::FILE_LIMIT;
 use bw_shell::{Folder, FolderFault, HostFolder, MemoryFolder, OnError, RunEnd, run};
 use std::fs::{self, Files};
+use std::io::{Read, Write};
 use std::process::Abort;
 
 // The table of one column A of three rows: 3, NULL, -1, in layout V and of kind OFFSET.
@@ -74,6 +76,18 @@ fn closed_in(script: &[Answered], bytes: usize) -> usize {
     count
 }
 
+/// Runs a script that goes on after errors.
+fn run_all<R: AllocGlobal, I: Read, O: Write, F: Folder>(
+    rt: &R,
+    reader: &mut I,
+    writer: &mut O,
+    folder: &mut F,
+) -> RunEnd
+    requires { F.failure_count folder.old ≤ 2 ^ 62 }
+{
+    run(rt.alloc(), reader, writer, folder, OnError::Continue)
+}
+
 // After any number of bytes, given any number at a time, the reader fails: the statements closed by then are answered.
 #[test]
 fn each_read_fails(rt: HostRuntime) {
@@ -85,25 +99,21 @@ fn check_reads<R: Abort + AllocGlobal>(rt: &R, script: &[Answered]) {
     let text = script_of(rt, script);
     let bytes = text.as_bytes();
     for given in 0..bytes.len() + 1 {
+        let replies = replies_of(rt, script, closed_in(script, given));
         for step in 1..given + 2 {
-            let mut reader = FailingReader {
-                rest: &bytes[..given],
-                step,
-            };
-            let replies = replies_of(rt, script, closed_in(script, given));
-            let mut folder = folder_of(rt, &files());
-            let mut output = Vec::new(rt.alloc());
-            let end = run(
-                rt.alloc(),
-                &mut reader,
-                &mut output,
-                &mut folder,
-                OnError::Continue,
-            );
-            assert_eq!(rt; end, RunEnd::ReadFault);
-            assert_eq!(rt; output.as_slice(), replies.as_bytes());
+            let rest = &bytes[..given];
+            check_read(rt, FailingReader { rest, step }, replies.as_bytes());
         }
     }
+}
+
+/// Checks what was written where the reader fails.
+fn check_read<R: Abort + AllocGlobal>(rt: &R, mut reader: FailingReader<'_>, replies: &[u8]) {
+    let mut output = Vec::new(rt.alloc());
+    let mut folder = folder_of(rt, &files());
+    let end = run_all(rt, &mut reader, &mut output, &mut folder);
+    see(rt, end, RunEnd::ReadFault);
+    see_bytes(rt, &output, replies);
 }
 
 // After any number of bytes, taken any number at a time, the writer takes no more: what it took is a front of the replies,
@@ -121,40 +131,38 @@ fn check_writes<R: Abort + AllocGlobal>(rt: &R, script: &[Answered]) {
     let before = replies_of(rt, script, BEFORE_SAVE);
     let is_saving = script.len() == SAVING.len();
     for room in 0..all.len() {
+        let is_saved = is_saving && room >= before.len();
         for step in 1..room + 2 {
-            let mut writer = FullWriter {
-                taken: Vec::new(rt.alloc()),
-                room,
-                step,
-            };
-            let mut folder = folder_of(rt, &files());
-            let mut reader = text.as_bytes();
-            let end = run(
-                rt.alloc(),
-                &mut reader,
-                &mut writer,
-                &mut folder,
-                OnError::Continue,
-            );
-            assert_eq!(rt; end, RunEnd::WriteFault);
-            assert_eq!(rt; writer.taken.as_slice(), &all[..room]);
-            let is_saved = is_saving && room >= before.len();
-            check_saved(rt, &mut folder, is_saved);
+            check_write(rt, text.as_bytes(), (room, step), &all[..room], is_saved);
         }
     }
 }
 
+/// Checks what was written, and whether the table is saved, where the writer takes so many bytes, so many at a time.
+fn check_write<R: Abort + AllocGlobal>(
+    rt: &R,
+    mut script: &[u8],
+    (room, step): (usize, usize),
+    replies: &[u8],
+    is_saved: bool,
+) {
+    let taken = Vec::new(rt.alloc());
+    let mut writer = FullWriter { taken, room, step };
+    let mut folder = folder_of(rt, &files());
+    let end = run_all(rt, &mut script, &mut writer, &mut folder);
+    see(rt, end, RunEnd::WriteFault);
+    see_bytes(rt, &writer.taken, replies);
+    check_saved(rt, folder, is_saved);
+}
+
 // Checks that the table is saved in this folder, or that there is no such file.
-fn check_saved<R: Abort>(rt: &R, folder: &mut MemoryFolder, is_saved: bool) {
+fn check_saved<R: Abort>(rt: &R, mut folder: MemoryFolder, is_saved: bool) {
     match folder.read("g", 1000) {
         Ok(bytes) => {
-            assert!(rt; is_saved);
-            assert_eq!(rt; bytes.as_slice(), SAVED.as_slice());
+            see(rt, is_saved, true);
+            see_bytes(rt, &bytes, &SAVED);
         }
-        Err(fault) => {
-            assert!(rt; !is_saved);
-            assert_eq!(rt; fault, FolderFault::Missing);
-        }
+        Err(fault) => see(rt, (is_saved, fault), (false, FolderFault::Missing)),
     }
 }
 
@@ -167,29 +175,38 @@ fn each_flush_fails(rt: HostRuntime) {
 
 fn check_flushes<R: Abort + AllocGlobal>(rt: &R, script: &[Answered]) {
     let text = script_of(rt, script);
+    let is_saving = script.len() == SAVING.len();
     for flushes_left in 0..script.len() {
-        let mut writer = UnflushedWriter {
-            taken: Vec::new(rt.alloc()),
-            flushes_left,
-        };
-        let mut folder = folder_of(rt, &files());
-        let mut reader = text.as_bytes();
-        let end = run(
-            rt.alloc(),
-            &mut reader,
-            &mut writer,
-            &mut folder,
-            OnError::Continue,
-        );
         let replies = replies_of(rt, script, flushes_left + 1);
-        assert_eq!(rt; end, RunEnd::WriteFault);
-        assert_eq!(rt; writer.taken.as_slice(), replies.as_bytes());
-        check_saved(
+        let is_saved = is_saving && flushes_left >= BEFORE_SAVE;
+        check_flush(
             rt,
-            &mut folder,
-            script.len() == SAVING.len() && flushes_left >= BEFORE_SAVE,
+            text.as_bytes(),
+            flushes_left,
+            replies.as_bytes(),
+            is_saved,
         );
     }
+}
+
+/// Checks what was written, and whether the table is saved, where a flush after so many fails.
+fn check_flush<R: Abort + AllocGlobal>(
+    rt: &R,
+    mut script: &[u8],
+    flushes_left: usize,
+    replies: &[u8],
+    is_saved: bool,
+) {
+    let taken = Vec::new(rt.alloc());
+    let mut writer = UnflushedWriter {
+        taken,
+        flushes_left,
+    };
+    let mut folder = folder_of(rt, &files());
+    let end = run_all(rt, &mut script, &mut writer, &mut folder);
+    see(rt, end, RunEnd::WriteFault);
+    see_bytes(rt, &writer.taken, replies);
+    check_saved(rt, folder, is_saved);
 }
 
 // A folder in memory of which one call, counted from 1, answers a fault and does nothing. It tells nothing of its files.
@@ -260,6 +277,22 @@ fn count_failure<T>(failures: &mut u64, answer: &Result<T, FolderFault>)
     }
 }
 
+/// A folder whose call of this number answers a fault.
+fn failing_folder<R: Abort + AllocGlobal>(
+    rt: &R,
+    calls_left: u32,
+    fault: FolderFault,
+) -> FailingFolder
+    ensures { result.failures ≡ 0 }
+{
+    FailingFolder {
+        folder: folder_of(rt, &files()),
+        calls_left,
+        fault,
+        failures: 0,
+    }
+}
+
 // Checks what a script answers, and how it ends, where this call of the folder answers a fault.
 fn check_folder<R: Abort + AllocGlobal>(
     rt: &R,
@@ -267,25 +300,13 @@ fn check_folder<R: Abort + AllocGlobal>(
     script: &str,
     replies: &str,
 ) {
-    let mut folder = FailingFolder {
-        folder: folder_of(rt, &files()),
-        calls_left: call,
-        fault,
-        failures: 0,
-    };
-    let mut reader = script.as_bytes();
+    let mut folder = failing_folder(rt, call, fault);
     let mut output = Vec::new(rt.alloc());
-    let end = run(
-        rt.alloc(),
-        &mut reader,
-        &mut output,
-        &mut folder,
-        OnError::Continue,
-    );
-    assert_eq!(rt; end, RunEnd::Done);
-    assert_eq!(rt; output.as_slice(), replies.as_bytes());
+    let mut reader = script.as_bytes();
+    let end = run_all(rt, &mut reader, &mut output, &mut folder);
     let failures = u64::from(fault == FolderFault::Failed);
-    assert_eq!(rt; folder.failures(), failures);
+    see(rt, (end, folder.failures()), (RunEnd::Done, failures));
+    see_bytes(rt, &output, replies.as_bytes());
 }
 
 const LOADS: &str =
@@ -370,12 +391,7 @@ fn a_folder_without_memory(rt: HostRuntime) {
 
 #[test]
 fn a_stop_where_a_folder_fails(rt: HostRuntime) {
-    let mut folder = FailingFolder {
-        folder: folder_of(&rt, &files()),
-        calls_left: 1,
-        fault: FolderFault::Failed,
-        failures: 0,
-    };
+    let mut folder = failing_folder(&rt, 1, FolderFault::Failed);
     let mut reader = LOADS.as_bytes();
     let mut output = Vec::new(rt.alloc());
     let end = run(
@@ -385,11 +401,8 @@ fn a_stop_where_a_folder_fails(rt: HostRuntime) {
         &mut folder,
         OnError::Stop,
     );
-    assert_eq!(rt; end, RunEnd::Stopped);
-    assert_eq!(rt;
-        output.as_slice(),
-        b"ok\nerror 40: file cannot be read\n".as_slice()
-    );
+    see(&rt, end, RunEnd::Stopped);
+    see_bytes(&rt, &output, b"ok\nerror 40: file cannot be read\n");
 }
 
 // What a folder of the host answers to one reading, and how often it failed by then.
@@ -403,43 +416,58 @@ fn host_read<R: AllocGlobal + Files>(
     (answer, folder.failures())
 }
 
-// What a folder of the host answers to one writing, and how often it failed by then.
+// The fault that a folder of the host answers to one reading, if any, and how often it failed by then.
+fn host_fault<R: AllocGlobal + Files>(
+    rt: &R,
+    name: &str,
+    limit: usize,
+) -> (Option<FolderFault>, u64) {
+    let (answer, failures) = host_read(rt, name, limit);
+    (answer.err(), failures)
+}
+
+// The fault that a folder of the host answers to one writing, if any, and how often it failed by then.
 fn host_write<R: AllocGlobal + Files>(
     rt: &R,
     name: &str,
     bytes: &[u8],
-) -> (Result<(), FolderFault>, u64) {
+) -> (Option<FolderFault>, u64) {
     let mut folder = HostFolder::new(rt.alloc(), rt);
     let answer = folder.write(name, bytes);
-    (answer, folder.failures())
+    (answer.err(), folder.failures())
 }
 
 #[test]
 fn files_of_the_host(rt: HostRuntime) {
     let name = "bitcol test file";
-    let (answer, failures) = host_write(&rt, name, b"a longer text");
-    assert_eq!(rt; (answer, failures), (Ok(()), 0));
-    let (answer, failures) = host_write(&rt, name, b"abc");
-    assert_eq!(rt; (answer, failures), (Ok(()), 0));
+    see(&rt, host_write(&rt, name, b"a longer text"), (None, 0));
+    see(&rt, host_write(&rt, name, b"abc"), (None, 0));
     let (answer, failures) = host_read(&rt, name, 3);
-    assert_eq!(rt; answer.expect(&rt, "a file").as_slice(), b"abc".as_slice());
-    assert_eq!(rt; failures, 0);
-    let (answer, failures) = host_read(&rt, name, 2);
-    assert_eq!(rt; (answer.err(), failures), (Some(FolderFault::TooLarge), 0));
+    see_bytes(&rt, &answer.expect(&rt, "a file"), b"abc");
+    see(&rt, failures, 0);
+    see(
+        &rt,
+        host_fault(&rt, name, 2),
+        (Some(FolderFault::TooLarge), 0),
+    );
     fs::remove_file(&rt, name).expect(&rt, "the file is gone");
-    let (answer, failures) = host_read(&rt, name, 3);
-    assert_eq!(rt; (answer.err(), failures), (Some(FolderFault::Missing), 0));
+    see(
+        &rt,
+        host_fault(&rt, name, 3),
+        (Some(FolderFault::Missing), 0),
+    );
 }
 
 // A folder is no file, and a file in a folder that isn't there can't be made.
 #[test]
 fn places_of_the_host_without_a_file(rt: HostRuntime) {
-    let (answer, failures) = host_read(&rt, "no such folder/f", 3);
-    assert_eq!(rt; (answer.err(), failures), (Some(FolderFault::Missing), 0));
-    let (answer, failures) = host_write(&rt, "no such folder/f", b"abc");
-    assert_eq!(rt; (answer, failures), (Err(FolderFault::Failed), 1));
-    let (answer, failures) = host_read(&rt, ".", FILE_LIMIT);
-    assert_eq!(rt; (answer.err(), failures), (Some(FolderFault::Failed), 1));
-    let (answer, failures) = host_write(&rt, ".", b"abc");
-    assert_eq!(rt; (answer, failures), (Err(FolderFault::Failed), 1));
+    let (missing, failed) = (Some(FolderFault::Missing), Some(FolderFault::Failed));
+    see(&rt, host_fault(&rt, "no such folder/f", 3), (missing, 0));
+    see(
+        &rt,
+        host_write(&rt, "no such folder/f", b"abc"),
+        (failed, 1),
+    );
+    see(&rt, host_fault(&rt, ".", FILE_LIMIT), (failed, 1));
+    see(&rt, host_write(&rt, ".", b"abc"), (failed, 1));
 }

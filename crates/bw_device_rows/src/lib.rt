@@ -11,4 +11,6 @@ mod pieces;
 #[cfg(test)]
 mod program_ends;
 #[cfg(test)]
+mod seen;
+#[cfg(test)]
 mod streams;

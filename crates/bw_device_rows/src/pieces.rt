@@ -1,6 +1,7 @@
 //! Scripts that come in pieces: they are answered alike however they are cut, and each statement before more is asked for.
 
 use crate::harness::{Example, joined, run_over};
+use crate::seen::{see, see_bytes};
 use bw_shell::{OnError, RunEnd};
 use std::cell::Cell;
 use std::io;
@@ -66,8 +67,8 @@ impl Read for TwoPieces<'_> {
 fn check_reader<R: Abort + AllocGlobal, I: Read>(rt: &R, reader: &mut I, replies: &str) {
     let mut output = Vec::new(rt.alloc());
     let end = run_over(rt.alloc(), reader, &mut output, OnError::Continue);
-    assert_eq!(rt; end, RunEnd::Done);
-    assert_eq!(rt; output.as_slice(), replies.as_bytes());
+    see(rt, end, RunEnd::Done);
+    see_bytes(rt, &output, replies.as_bytes());
 }
 
 fn check_cut<R: Abort + AllocGlobal>(rt: &R, script: &[u8], at: usize, replies: &str) {
@@ -76,12 +77,15 @@ fn check_cut<R: Abort + AllocGlobal>(rt: &R, script: &[u8], at: usize, replies: 
     check_reader(rt, &mut reader, replies);
 }
 
+fn check_singly<R: Abort + AllocGlobal>(rt: &R, script: &[u8], replies: &str) {
+    check_reader(rt, &mut SingleBytes { rest: script }, replies);
+}
+
 #[test]
 fn however_a_script_is_cut(rt: HostRuntime) {
     for (script, replies) in SCRIPTS {
         let bytes = script.as_bytes();
-        let mut reader = SingleBytes { rest: bytes };
-        check_reader(&rt, &mut reader, replies);
+        check_singly(&rt, bytes, replies);
         for at in 0..bytes.len() + 1 {
             check_cut(&rt, bytes, at, replies);
         }
@@ -91,21 +95,14 @@ fn however_a_script_is_cut(rt: HostRuntime) {
 // A part of 65,536 bytes and one of a byte more, each behind and before another statement.
 #[test]
 fn a_part_that_is_too_long_in_pieces(rt: HostRuntime) {
-    let longest = joined(
-        &rt,
-        &[("TABLES", 1), (" ", 65_530), (";", 1), ("TABLES;", 1)],
-    );
     let told = "TABLE,COLUMNS,ROWS\nrows 0\nTABLE,COLUMNS,ROWS\nrows 0\n";
-    let longer = joined(
-        &rt,
-        &[("TABLES", 1), (" ", 65_531), (";", 1), ("TABLES;", 1)],
-    );
     let refused = "error 11: statement too long\nTABLE,COLUMNS,ROWS\nrows 0\n";
-    for (script, replies) in [(&longest, told), (&longer, refused)] {
-        let mut reader = SingleBytes {
-            rest: script.as_bytes(),
-        };
-        check_reader(&rt, &mut reader, replies);
+    for (blanks, replies) in [(65_530, told), (65_531, refused)] {
+        let script = joined(
+            &rt,
+            &[("TABLES", 1), (" ", blanks), (";", 1), ("TABLES;", 1)],
+        );
+        check_singly(&rt, script.as_bytes(), replies);
         for at in [1, 6, 7, 65_535, 65_536, 65_537, 65_538] {
             check_cut(&rt, script.as_bytes(), at, replies);
         }
@@ -172,7 +169,6 @@ fn each_reply_before_the_next_read(rt: HostRuntime) {
         flushed: &flushed,
     };
     let end = run_over(rt.alloc(), &mut reader, &mut writer, OnError::Continue);
-    assert_eq!(rt; end, RunEnd::Done);
-    assert_eq!(rt; reader.noted.as_slice(), [0, 3, 8, 8, 19, 19].as_slice());
-    assert_eq!(rt; flushed.get(), 42);
+    see(&rt, (end, flushed.get()), (RunEnd::Done, 42));
+    assert!(rt; reader.noted.as_slice() == [0, 3, 8, 8, 19, 19].as_slice());
 }

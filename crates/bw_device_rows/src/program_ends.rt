@@ -2,6 +2,7 @@
 
 ghost use Rattle.std.specs.Io.{WritesAtMost};
 
+use crate::seen::see_bytes;
 use crate::streams::{FailingReader, FullWriter};
 use bw_program::{Ending, Request, WordsFault, end_with, program, request_of};
 use bw_shell::{OnError, RunEnd};
@@ -50,7 +51,7 @@ fn check_status<R: Abort + AllocGlobal>(rt: &R, code: ExitCode, status: u8) {
     let wanted = format!(in rt.alloc(); "ExitCode(unix_exit_status({status}))").expect(
         rt, "memory",
     );
-    assert_eq!(rt; found.as_str(), wanted.as_str());
+    see_bytes(rt, found.as_bytes(), wanted.as_bytes());
 }
 
 // Runs the program over words behind its name, and checks its status and what it says.
@@ -64,7 +65,7 @@ fn check_end<R: Abort + AllocGlobal + Files, I: Read, O: Write + Drop>(
     let mut errors = Vec::new(rt.alloc());
     let code = program(rt.alloc(), &Words { words }, rt, input, output, &mut errors);
     check_status(rt, code, status);
-    assert_eq!(rt; errors.as_slice(), said.as_bytes());
+    see_bytes(rt, &errors, said.as_bytes());
 }
 
 const FAULTY: &[u8] = b"CREATE TABLE t (a INT); SELECT b FROM t; SELECT a FROM t;";
@@ -79,7 +80,7 @@ fn check_faulty<R: Abort + AllocGlobal + Files>(
     let mut input = FAULTY;
     let mut output = Vec::new(rt.alloc());
     check_end(rt, words, &mut input, &mut output, end);
-    assert_eq!(rt; output.as_slice(), replies.as_bytes());
+    see_bytes(rt, &output, replies.as_bytes());
 }
 
 fn asked(script: Option<&str>, on_error: OnError) -> Result<Request<'_>, WordsFault> {
@@ -151,7 +152,7 @@ fn ends_of_a_run(rt: HostRuntime) {
 }
 
 #[test]
-fn ends_of_streams_that_fail(rt: HostRuntime) {
+fn end_of_a_reader_that_fails(rt: HostRuntime) {
     let mut input = FailingReader {
         rest: b"CREATE TABLE t (a INT); SELECT",
         step: 5,
@@ -159,7 +160,11 @@ fn ends_of_streams_that_fail(rt: HostRuntime) {
     let mut output = Vec::new(rt.alloc());
     let end = (2, "bitcol: reading failed\n");
     check_end(&rt, &["bitcol"], &mut input, &mut output, end);
-    assert_eq!(rt; output.as_slice(), b"ok\n".as_slice());
+    see_bytes(&rt, &output, b"ok\n");
+}
+
+#[test]
+fn end_of_a_writer_that_fails(rt: HostRuntime) {
     let mut input = FAULTY;
     let mut output = FullWriter {
         taken: Vec::new(rt.alloc()),
@@ -168,7 +173,7 @@ fn ends_of_streams_that_fail(rt: HostRuntime) {
     };
     let end = (2, "bitcol: writing failed\n");
     check_end(&rt, &["bitcol"], &mut input, &mut output, end);
-    assert_eq!(rt; output.taken.as_slice(), b"ok\ne".as_slice());
+    see_bytes(&rt, &output.taken, b"ok\ne");
 }
 
 #[test]
@@ -201,6 +206,6 @@ fn status_and_line_of_each_end(rt: HostRuntime) {
     ] {
         let mut errors = Vec::new(rt.alloc());
         check_status(&rt, end_with(&mut errors, ending), status);
-        assert_eq!(rt; errors.as_slice(), said.as_bytes());
+        see_bytes(&rt, &errors, said.as_bytes());
     }
 }

@@ -1,6 +1,7 @@
 //! Readers and writers that give or take a few bytes at a time, and fail.
 
 use crate::harness::run_over;
+use crate::seen::{see, see_bytes};
 use bw_shell::{OnError, RunEnd};
 use std::io;
 use std::io::{ErrorKind, Read, Write};
@@ -90,8 +91,8 @@ fn check_reader<R: Abort + AllocGlobal, I: Read>(
 ) {
     let mut output = Vec::new(rt.alloc());
     let found = run_over(rt.alloc(), reader, &mut output, on_error);
-    assert_eq!(rt; found, end);
-    assert_eq!(rt; output.as_slice(), replies);
+    see(rt, found, end);
+    see_bytes(rt, &output, replies);
 }
 
 #[test]
@@ -104,8 +105,8 @@ fn a_writer_that_takes_four_bytes(rt: HostRuntime) {
             step,
         };
         let end = run_over(rt.alloc(), &mut reader, &mut writer, OnError::Continue);
-        assert_eq!(rt; end, RunEnd::WriteFault);
-        assert_eq!(rt; writer.taken.as_slice(), b"ok\no".as_slice());
+        see(&rt, end, RunEnd::WriteFault);
+        see_bytes(&rt, &writer.taken, b"ok\no");
     }
 }
 
@@ -166,7 +167,7 @@ fn a_flush_that_fails_behind_a_reply(rt: HostRuntime) {
             flushes_left,
         };
         let found = run_over(rt.alloc(), &mut reader, &mut writer, OnError::Continue);
-        assert_eq!(rt; found, end);
-        assert_eq!(rt; writer.taken.as_slice(), taken);
+        see(&rt, found, end);
+        see_bytes(&rt, &writer.taken, taken);
     }
 }
