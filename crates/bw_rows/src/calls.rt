@@ -1,13 +1,14 @@
 //! Each call that may want memory, seen answering.
 
 use crate::harness::statement_in;
+use crate::seen::{see, see_at, see_bytes};
 use bw_engine::{Engine, FileAnswer, Outcome};
 use bw_mask::TruthValue;
 use bw_model::{Header, Reply, Row, Table, answer_of, found_rows, truth_at};
 use bw_shell::{Folder, FolderFault, MemoryFolder};
 use bw_sql::{
-    CompareOp, CreateTable, Insert, Part, Select, Span, SqlFault, Statement, Symbol, Token,
-    TokenKind, Value, parts, tokens,
+    CompareOp, Condition, CreateTable, Insert, Part, Select, Span, SqlFault, Statement, Symbol,
+    Token, TokenKind, parts, tokens,
 };
 use std::process::Abort;
 
@@ -33,7 +34,11 @@ fn tokens_of_a_text(rt: HostRuntime) {
         ]
         .as_slice()
     );
-    assert_eq!(rt; tokens(rt.alloc(), b"12a").err(), Some(SqlFault::Syntax));
+    see(
+        &rt,
+        tokens(rt.alloc(), b"12a").err(),
+        Some(SqlFault::Syntax),
+    );
 }
 
 #[test]
@@ -82,53 +87,96 @@ fn statements_of_texts(rt: HostRuntime) {
 fn a_name_is_copied(rt: HostRuntime) {
     let create = create_in(&rt, "create table Visits (day int)");
     let copy = create.table.try_clone(rt.alloc()).expect(&rt, "memory");
-    assert_eq!(rt; copy.as_bytes(), b"VISITS".as_slice());
-    assert_eq!(rt; copy, create.table);
+    see_bytes(&rt, copy.as_bytes(), b"VISITS");
+    assert!(rt; copy == create.table);
 }
 
-/// A table of one column, with rows of these values.
-fn table_of<R: Abort + AllocGlobal>(rt: &R, create: &CreateTable, values: &[Value]) -> Table {
+/// The table of 3, NULL and -1 in one column A.
+fn three_rows<R: Abort + AllocGlobal>(rt: &R) -> Table {
+    let create = create_in(rt, "CREATE TABLE t (a INT)");
     let mut headers = Vec::new(rt.alloc());
     for column in &create.columns {
         let header = Header::new(rt.alloc(), column).expect(rt, "memory");
         headers.push(header).expect(rt, "memory");
     }
-    assert_eq!(rt; headers.len(), 1);
+    assert!(rt; headers.len() == 1);
+    let mut table = Table::new(rt.alloc(), headers);
+    table.append(rows_of_three(rt)).expect(rt, "memory");
+    table
+}
+
+fn rows_of_three<R: Abort + AllocGlobal>(rt: &R) -> Vec<Row> {
     let mut rows = Vec::new(rt.alloc());
-    for value in values {
-        let row = vec![in rt.alloc(); *value].expect(rt, "memory");
+    for value in [Some(3), None, Some(-1)] {
+        let row = vec![in rt.alloc(); value].expect(rt, "memory");
         rows.push(Row::new(row)).expect(rt, "memory");
     }
-    let mut table = Table::new(rt.alloc(), headers);
-    table.append(rows).expect(rt, "memory");
-    table
+    rows
+}
+
+fn select_below_3<R: Abort + AllocGlobal>(rt: &R) -> Select {
+    select_in(rt, "SELECT a FROM t WHERE a < 3")
+}
+
+/// How many rows are found, and how many lines their answer has.
+fn found_and_answered<R: Abort + AllocGlobal>(
+    rt: &R,
+    table: &Table,
+    select: &Select,
+) -> (usize, usize) {
+    let found = found_rows(rt.alloc(), table, &select.condition).expect(rt, "memory");
+    let answer = answer_of(rt.alloc(), table, &select.items, &select.condition).expect(
+        rt, "memory",
+    );
+    (found.len(), answer.line_count())
 }
 
 #[test]
 fn the_plain_program_answers(rt: HostRuntime) {
-    let create = create_in(&rt, "CREATE TABLE t (a INT)");
-    let table = table_of(&rt, &create, &[Some(3), None, Some(-1)]);
-    let select = select_in(&rt, "SELECT a FROM t WHERE a < 3");
-    let found = found_rows(rt.alloc(), &table, &select.condition).expect(&rt, "memory");
-    assert_eq!(rt; found.len(), 1);
-    let answer = answer_of(rt.alloc(), &table, &select.items, &select.condition).expect(
-        &rt, "memory",
-    );
-    assert_eq!(rt; answer.line_count(), 1);
-    let condition = select.condition.as_ref().expect(&rt, "a condition");
-    for (row, truth) in table
-        .rows()
-        .iter()
-        .zip([TruthValue::False, TruthValue::Unknown, TruthValue::True])
-    {
-        assert_eq!(rt; truth_at(table.headers(), row, condition), truth);
+    let found = found_and_answered(&rt, &three_rows(&rt), &select_below_3(&rt));
+    see(&rt, found, (1, 1));
+}
+
+/// Sees the truth of a condition at each of three rows.
+fn see_truths<R: Abort>(rt: &R, table: &Table, condition: &Condition, truths: [TruthValue; 3]) {
+    see(rt, table.rows().len(), 3);
+    for (row, truth) in table.rows().iter().zip(truths) {
+        see(rt, truth_at(table.headers(), row, condition), truth);
     }
 }
 
-/// The reply to a statement without a file.
-fn replied<R: Abort>(rt: &R, engine: &mut Engine, statement: Statement) -> Reply {
+#[test]
+fn truths_by_the_plain_program(rt: HostRuntime) {
+    let select = select_below_3(&rt);
+    let condition = select.condition.as_ref().expect(&rt, "a condition");
+    let truths = [TruthValue::False, TruthValue::Unknown, TruthValue::True];
+    see_truths(&rt, &three_rows(&rt), condition, truths);
+}
+
+/// What kind of reply it is, and how much it counts.
+#[derive(Clone, Copy, Debug, PartialEq)]
+enum ReplyKind {
+    Done,
+    Count(u64),
+    Lines(usize),
+    Refused,
+}
+
+fn kind_of(reply: Reply) -> ReplyKind {
+    match reply {
+        Reply::Done => ReplyKind::Done,
+        Reply::Count(count) => ReplyKind::Count(count),
+        Reply::Rows(answer) => ReplyKind::Lines(answer.line_count()),
+        Reply::Refused(_) => ReplyKind::Refused,
+    }
+}
+
+/// What the engine replies to a statement without a file, which wants none.
+fn replied<R: Abort + AllocGlobal>(rt: &R, engine: &mut Engine, text: &str) -> ReplyKind {
+    let statement = statement_in(rt, text);
+    assert!(rt; engine.wants(&statement).is_none());
     match engine.execute(statement, FileAnswer::NotAsked) {
-        Outcome::Reply(reply) => reply,
+        Outcome::Reply(reply) => kind_of(reply),
         Outcome::Save(_) => panic!(rt; "a SAVE"),
     }
 }
@@ -136,30 +184,23 @@ fn replied<R: Abort>(rt: &R, engine: &mut Engine, statement: Statement) -> Reply
 #[test]
 fn an_engine_executes(rt: HostRuntime) {
     let mut engine = Engine::new(rt.alloc()).expect(&rt, "memory");
-    let create = statement_in(&rt, "CREATE TABLE t (a INT)");
-    assert_eq!(rt; engine.wants(&create), None);
-    assert!(rt; matches!(replied(&rt, &mut engine, create), Reply::Done));
-    let insert = statement_in(&rt, "INSERT INTO t VALUES (1), (NULL)");
-    assert!(rt; matches!(replied(&rt, &mut engine, insert), Reply::Count(2)));
-    let tables = statement_in(&rt, "TABLES");
-    match replied(&rt, &mut engine, tables) {
-        Reply::Rows(answer) => assert_eq!(rt; answer.line_count(), 1),
-        _ => panic!(&rt; "no rows"),
-    }
-    let select = statement_in(&rt, "SELECT a FROM t");
-    match replied(&rt, &mut engine, select) {
-        Reply::Rows(answer) => assert_eq!(rt; answer.line_count(), 2),
-        _ => panic!(&rt; "no rows"),
+    for (text, reply) in [
+        ("CREATE TABLE t (a INT)", ReplyKind::Done),
+        ("INSERT INTO t VALUES (1), (NULL)", ReplyKind::Count(2)),
+        ("TABLES", ReplyKind::Lines(1)),
+        ("SELECT a FROM t", ReplyKind::Lines(2)),
+    ] {
+        see_at(&rt, text, replied(&rt, &mut engine, text), reply);
     }
 }
 
 #[test]
 fn a_folder_keeps_files(rt: HostRuntime) {
     let mut folder = MemoryFolder::new(rt.alloc());
-    assert_eq!(rt; folder.read("f", 10).err(), Some(FolderFault::Missing));
-    assert_eq!(rt; folder.write("f", b"abc"), Ok(()));
-    assert_eq!(rt; folder.read("f", 2).err(), Some(FolderFault::TooLarge));
+    see(&rt, folder.read("f", 10).err(), Some(FolderFault::Missing));
+    folder.write("f", b"abc").expect(&rt, "memory");
+    see(&rt, folder.read("f", 2).err(), Some(FolderFault::TooLarge));
+    see(&rt, folder.failures(), 0);
     let bytes = folder.read("f", 3).expect(&rt, "a file");
-    assert_eq!(rt; bytes.as_slice(), b"abc".as_slice());
-    assert_eq!(rt; folder.failures(), 0);
+    see_bytes(&rt, &bytes, b"abc");
 }

@@ -56,14 +56,13 @@ fn rows_at_which_a_condition_is_unknown_stay(rt: HostRuntime) {
 #[test]
 fn half_of_three_hundred_rows(rt: HostRuntime) {
     let pairs = numbered(&rt, "(", 1..151, ", 1), (0, 0), ");
-    let rows = joined(&rt, &[("1\n", 150)]);
     let replies = joined(
         &rt,
         &[
             ("ok\nok 301\nok 151\nB\n", 1),
-            (rows.as_str(), 1),
+            ("1\n", 150),
             ("rows 150\nok\nB\n", 1),
-            (rows.as_str(), 1),
+            ("1\n", 150),
             ("rows 150\n", 1),
         ],
     );

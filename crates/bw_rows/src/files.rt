@@ -1,6 +1,7 @@
 //! Scripts over files: rows of CSV files, tables that are saved and opened, and files that are refused.
 
 use crate::harness::{File, check_file, check_files, check_layings, folder_of, joined, numbered};
+use crate::seen::{see, see_bytes};
 use bw_shell::{Folder, OnError, RunEnd, run};
 use std::process::Abort;
 
@@ -36,40 +37,47 @@ fn rows_of_a_csv_file(rt: HostRuntime) {
     );
 }
 
+/// Files of two columns, and their faults.
+const FAULTS: [(&[u8], &str); 5] = [
+    (
+        b"\xEF\xBB\xBF\"7\",\r\nnull,-2\r\nx,08\r\n",
+        "error 43: record 3 field 1 is not an integer\n",
+    ),
+    (
+        b"\xEF\xBB\xBF\"7\",\r\n9\r\n+5,08\r\n",
+        "error 42: record 2 has the wrong number of fields\n",
+    ),
+    // The number of fields is looked at before the fields, and a record before those after it.
+    (
+        b"1,2\nx,y,z\n3\n",
+        "error 42: record 2 has the wrong number of fields\n",
+    ),
+    (b"1,2147483648\nx,y\n", "error 26: value out of range\n"),
+    (
+        b"1,y\n2147483648,1\n",
+        "error 43: record 1 field 2 is not an integer\n",
+    ),
+];
+
+fn check_fault<R: Abort + AllocGlobal>(rt: &R, bytes: &[u8], error: &str) {
+    let replies = joined(rt, &[(error, 1), ("A,B\nrows 0\n", 1)]);
+    check_load(
+        rt,
+        bytes,
+        "LOAD t FROM 'f'; SELECT * FROM t;",
+        replies.as_str(),
+    );
+}
+
 #[test]
 fn a_csv_file_with_a_fault_gives_no_row(rt: HostRuntime) {
-    for (bytes, error) in [
-        (
-            b"\xEF\xBB\xBF\"7\",\r\nnull,-2\r\nx,08\r\n".as_slice(),
-            "error 43: record 3 field 1 is not an integer\n",
-        ),
-        (
-            b"\xEF\xBB\xBF\"7\",\r\n9\r\n+5,08\r\n".as_slice(),
-            "error 42: record 2 has the wrong number of fields\n",
-        ),
-        // The number of fields is looked at before the fields, and a record before those behind it.
-        (
-            b"1,2\nx,y,z\n3\n".as_slice(),
-            "error 42: record 2 has the wrong number of fields\n",
-        ),
-        (
-            b"1,2147483648\nx,y\n".as_slice(),
-            "error 26: value out of range\n",
-        ),
-        (
-            b"1,y\n2147483648,1\n".as_slice(),
-            "error 43: record 1 field 2 is not an integer\n",
-        ),
-    ] {
-        let replies = joined(&rt, &[(error, 1), ("A,B\nrows 0\n", 1)]);
-        check_load(
-            &rt,
-            bytes,
-            "LOAD t FROM 'f'; SELECT * FROM t;",
-            replies.as_str(),
-        );
+    for (bytes, error) in FAULTS {
+        check_fault(&rt, bytes, error);
     }
-    // A header is left out unread, and is record 1.
+}
+
+#[test]
+fn a_header_is_left_out_unread_and_is_record_1(rt: HostRuntime) {
     check_load(
         &rt,
         b"x,y,z\n1,-\n",
@@ -78,47 +86,43 @@ fn a_csv_file_with_a_fault_gives_no_row(rt: HostRuntime) {
     );
 }
 
+const NO_INTEGER: &str = "error 43: record 1 field 1 is not an integer\nA\nrows 0\n";
+
+/// Files of one column, and the replies to a LOAD of each and a SELECT of all.
+const FIELDS: [(&[u8], &str); 12] = [
+    (b"\"\"\n4\n", "ok 2\nA\nNULL\n4\nrows 2\n"),
+    (b"nUlL", "ok 1\nA\nNULL\nrows 1\n"),
+    (b"", "ok 0\nA\nrows 0\n"),
+    (b"\xEF\xBB\xBF", "ok 0\nA\nrows 0\n"),
+    (
+        b"99999999999999999999",
+        "error 26: value out of range\nA\nrows 0\n",
+    ),
+    (
+        b"-2147483648\r\n2147483647",
+        "ok 2\nA\n-2147483648\n2147483647\nrows 2\n",
+    ),
+    (
+        b"-2147483649\n",
+        "error 26: value out of range\nA\nrows 0\n",
+    ),
+    (b"+\n", NO_INTEGER),
+    (b"--1", NO_INTEGER),
+    (b"1.0", NO_INTEGER),
+    (b" 7", NO_INTEGER),
+    (b"\xFF", NO_INTEGER),
+];
+
+fn check_field<R: Abort + AllocGlobal>(rt: &R, bytes: &[u8], replies: &str) {
+    let script = "CREATE TABLE t (a INT); LOAD t FROM 'f'; SELECT * FROM t;";
+    let replies = joined(rt, &[("ok\n", 1), (replies, 1)]);
+    check_files(rt, &[("f", bytes)], script, replies.as_str());
+}
+
 #[test]
 fn fields_of_one_column(rt: HostRuntime) {
-    let no_integer = "error 43: record 1 field 1 is not an integer\n";
-    for (bytes, replies) in [
-        (b"\"\"\n4\n".as_slice(), "ok 2\nA\nNULL\n4\nrows 2\n"),
-        (b"nUlL".as_slice(), "ok 1\nA\nNULL\nrows 1\n"),
-        (b"".as_slice(), "ok 0\nA\nrows 0\n"),
-        (b"\xEF\xBB\xBF".as_slice(), "ok 0\nA\nrows 0\n"),
-        (
-            b"99999999999999999999".as_slice(),
-            "error 26: value out of range\nA\nrows 0\n",
-        ),
-        (
-            b"-2147483648\r\n2147483647".as_slice(),
-            "ok 2\nA\n-2147483648\n2147483647\nrows 2\n",
-        ),
-        (
-            b"-2147483649\n".as_slice(),
-            "error 26: value out of range\nA\nrows 0\n",
-        ),
-    ] {
-        check_files(
-            &rt,
-            &[("f", bytes)],
-            "CREATE TABLE t (a INT); LOAD t FROM 'f'; SELECT * FROM t;",
-            joined(&rt, &[("ok\n", 1), (replies, 1)]).as_str(),
-        );
-    }
-    for bytes in [
-        b"+\n".as_slice(),
-        b"--1".as_slice(),
-        b"1.0".as_slice(),
-        b" 7".as_slice(),
-        b"\xFF".as_slice(),
-    ] {
-        check_files(
-            &rt,
-            &[("f", bytes)],
-            "CREATE TABLE t (a INT); LOAD t FROM 'f'; SELECT * FROM t;",
-            joined(&rt, &[("ok\n", 1), (no_integer, 1), ("A\nrows 0\n", 1)]).as_str(),
-        );
+    for (bytes, replies) in FIELDS {
+        check_field(&rt, bytes, replies);
     }
 }
 
@@ -218,12 +222,12 @@ fn check_opened_or_refused<R: Abort + AllocGlobal>(rt: &R, bytes: &[u8]) {
         &mut folder,
         OnError::Continue,
     );
-    assert_eq!(rt; end, RunEnd::Done);
+    see(rt, end, RunEnd::Done);
     if output.as_slice() == b"ok 3\nok 3\n".as_slice() {
         check_file(rt, &mut folder, ("g", bytes));
     } else {
-        let refused = b"error 44: not a table file\nerror 20: no such table\n".as_slice();
-        assert_eq!(rt; output.as_slice(), refused);
+        let refused = b"error 44: not a table file\nerror 20: no such table\n";
+        see_bytes(rt, &output, refused);
     }
 }
 
@@ -236,7 +240,7 @@ fn a_cut_in_the_name_of_a_file(rt: HostRuntime) {
         "ok\nok 0\nerror 10: syntax error\n",
     );
     let file = folder.read("x;y", 18).expect(&rt, "a file");
-    assert_eq!(rt; file.len(), 18);
+    see(&rt, file.len(), 18);
 }
 
 #[test]

@@ -1,6 +1,7 @@
 //! Runs a script over bytes in memory, and by the plain program. Where memory is wanting, a test fails.
 
 use crate::contents::content_for;
+use crate::seen::{see_at, see_bytes};
 use bw_engine::FILE_LIMIT;
 use bw_model::{Refusal, Reply, Store, reply_text, step};
 use bw_shell::{Folder, MemoryFolder, OnError, RunEnd, run};
@@ -76,12 +77,20 @@ fn plain_reply<R: Abort + AllocGlobal>(
         return Reply::Refused(Refusal::Syntax);
     }
     match statement(rt.alloc(), text) {
-        Ok(statement) => {
-            let said = content_for(rt, folder, store, &statement);
-            step(rt.alloc(), store, &said, &statement).expect(rt, "memory")
-        }
+        Ok(statement) => step_over(rt, store, folder, &statement),
         Err(fault) => Reply::Refused(Refusal::from(fault)),
     }
+}
+
+/// The plain program's step for a statement, whose file is read from this folder.
+fn step_over<R: Abort + AllocGlobal>(
+    rt: &R,
+    store: &mut Store,
+    folder: &mut MemoryFolder,
+    statement: &Statement,
+) -> Reply {
+    let content = content_for(rt, folder, store, statement);
+    step(rt.alloc(), store, &content, statement).expect(rt, "memory")
 }
 
 /// Checks that a script gets these replies, from the run and from the plain program.
@@ -99,20 +108,43 @@ pub(crate) fn check_files<R: Abort + AllocGlobal>(
     replies: &str,
 ) -> MemoryFolder {
     let mut folder = folder_of(rt, files);
+    check_run(rt, &mut folder, script, replies);
+    check_plain(rt, &mut folder, script, replies);
+    folder
+}
+
+fn check_run<R: Abort + AllocGlobal>(
+    rt: &R,
+    folder: &mut MemoryFolder,
+    script: &str,
+    replies: &str,
+) {
     let mut reader = script.as_bytes();
     let mut output = Vec::new(rt.alloc());
     let end = run(
         rt.alloc(),
         &mut reader,
         &mut output,
-        &mut folder,
+        folder,
         OnError::Continue,
     );
-    assert_eq!(rt; end, RunEnd::Done, "{script}");
-    assert_eq!(rt; output.as_slice(), replies.as_bytes(), "{script}");
-    let plain = plain_output(rt, &mut folder, script.as_bytes());
-    assert_eq!(rt; plain.as_slice(), replies.as_bytes(), "{script}");
-    folder
+    see_at(rt, script, end, RunEnd::Done);
+    see_replies(rt, &output, script, replies);
+}
+
+fn check_plain<R: Abort + AllocGlobal>(
+    rt: &R,
+    folder: &mut MemoryFolder,
+    script: &str,
+    replies: &str,
+) {
+    let output = plain_output(rt, folder, script.as_bytes());
+    see_replies(rt, &output, script, replies);
+}
+
+/// Sees that these are the replies to a script.
+fn see_replies<R: Abort>(rt: &R, output: &[u8], script: &str, replies: &str) {
+    assert_eq!(rt; output, replies.as_bytes(), "{script}");
 }
 
 /// Checks the bytes of a file in a folder.
@@ -123,7 +155,7 @@ pub(crate) fn check_file<R: Abort + AllocGlobal>(
 ) {
     let (name, bytes) = file;
     let found = folder.read(name, FILE_LIMIT).expect(rt, "a file");
-    assert_eq!(rt; found.as_slice(), bytes);
+    see_bytes(rt, &found, bytes);
 }
 
 /// Checks that each script gets its replies.

@@ -94,32 +94,40 @@ fn literals_at_the_ends_of_64_bits(rt: HostRuntime) {
     );
 }
 
+/// Pieces of conditions of thousands of predicates, and what they find.
+const THOUSANDS: [([(&str, usize); 3], &str); 5] = [
+    (
+        [("a=0", 1), (" OR a=0", 8_999), (" OR a=7", 1)],
+        "7\nrows 1\n",
+    ),
+    (
+        [("a<9", 1), (" AND a<9", 7_999), (" AND a>7", 1)],
+        "8\nrows 1\n",
+    ),
+    (
+        [("a=7", 1), (" AND a=0 OR a=0", 3_999), (" OR a=8", 1)],
+        "8\nrows 1\n",
+    ),
+    (
+        [("NOT a=0", 1), (" AND NOT a=0", 4_999), (" AND NOT a=8", 1)],
+        "7\nrows 1\n",
+    ),
+    (
+        [("a IS NULL", 1), (" OR a IS NULL", 4_000), (" OR a>7", 1)],
+        "8\nNULL\nrows 2\n",
+    ),
+];
+
+// Checks which of three rows a condition finds.
+fn check_three<R: Abort + AllocGlobal>(rt: &R, condition: &[(&str, usize)], found: &str) {
+    let replies = joined(rt, &[("ok\nok 3\nA\n", 1), (found, 1)]);
+    check_found(rt, "(7), (8), (NULL)", condition, replies.as_str());
+}
+
 #[test]
 fn thousands_of_predicates(rt: HostRuntime) {
-    for (condition, found) in [
-        (
-            [("a=0", 1), (" OR a=0", 8_999), (" OR a=7", 1)],
-            "7\nrows 1\n",
-        ),
-        (
-            [("a<9", 1), (" AND a<9", 7_999), (" AND a>7", 1)],
-            "8\nrows 1\n",
-        ),
-        (
-            [("a=7", 1), (" AND a=0 OR a=0", 3_999), (" OR a=8", 1)],
-            "8\nrows 1\n",
-        ),
-        (
-            [("NOT a=0", 1), (" AND NOT a=0", 4_999), (" AND NOT a=8", 1)],
-            "7\nrows 1\n",
-        ),
-        (
-            [("a IS NULL", 1), (" OR a IS NULL", 4_000), (" OR a>7", 1)],
-            "8\nNULL\nrows 2\n",
-        ),
-    ] {
-        let replies = joined(&rt, &[("ok\nok 3\nA\n", 1), (found, 1)]);
-        check_found(&rt, "(7), (8), (NULL)", &condition, replies.as_str());
+    for (condition, found) in &THOUSANDS {
+        check_three(&rt, condition, found);
     }
 }
 
@@ -138,28 +146,45 @@ fn all_depths_at_full_size(rt: HostRuntime) {
             "8\nrows 1\n",
         ),
     ] {
-        let replies = joined(&rt, &[("ok\nok 3\nA\n", 1), (found, 1)]);
-        check_found(&rt, "(7), (8), (NULL)", &condition, replies.as_str());
+        check_three(&rt, &condition, found);
     }
 }
 
 #[test]
 fn sixty_four_tables_with_rows(rt: HostRuntime) {
-    let mut script = numbered(&rt, "CREATE TABLE t", 0..64, " (a INT);");
-    let mut replies = joined(&rt, &[("ok\n", 64), ("ok 3\n", 64)]);
+    let tables = numbered(&rt, "CREATE TABLE t", 0..64, " (a INT);");
+    let filled = filled_tables(&rt);
+    let shown = numbered(&rt, "SELECT a FROM t", 1..64, ";");
+    let rows = rows_of_tables(&rt);
+    check_pieces(
+        &rt,
+        &[
+            (tables.as_str(), 1),
+            (filled.as_str(), 1),
+            (shown.as_str(), 1),
+        ],
+        joined(&rt, &[("ok\n", 64), ("ok 3\n", 64), (rows.as_str(), 1)]).as_str(),
+    );
+}
+
+fn filled_tables<R: Abort + AllocGlobal>(rt: &R) -> String {
+    let mut script = String::new(rt.alloc());
     for table in 0..64 {
         let filled = format!(in rt.alloc();
             "INSERT INTO t{table} VALUES ({table}), (NULL), (-{table});"
-        ).expect(&rt, "memory");
-        script.push_str(filled.as_str()).expect(&rt, "memory");
+        ).expect(rt, "memory");
+        script.push_str(filled.as_str()).expect(rt, "memory");
     }
+    script
+}
+
+fn rows_of_tables<R: Abort + AllocGlobal>(rt: &R) -> String {
+    let mut replies = String::new(rt.alloc());
     for table in 1..64 {
-        let shown = format!(in rt.alloc(); "SELECT a FROM t{table};").expect(&rt, "memory");
-        script.push_str(shown.as_str()).expect(&rt, "memory");
         let rows = format!(in rt.alloc(); "A\n{table}\nNULL\n-{table}\nrows 3\n").expect(
-            &rt, "memory",
+            rt, "memory",
         );
-        replies.push_str(rows.as_str()).expect(&rt, "memory");
+        replies.push_str(rows.as_str()).expect(rt, "memory");
     }
-    check_script(&rt, script.as_str(), replies.as_str());
+    replies
 }

@@ -23,6 +23,8 @@ mod limits;
 #[cfg(test)]
 mod refusals;
 #[cfg(test)]
+mod seen;
+#[cfg(test)]
 mod selects;
 #[cfg(test)]
 mod splitting;

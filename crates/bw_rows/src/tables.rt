@@ -1,6 +1,7 @@
 //! Tables dropped and listed.
 
 use crate::harness::{check_examples, check_pieces, run_over};
+use crate::seen::{see, see_bytes};
 use bw_shell::{OnError, RunEnd};
 
 #[test]
@@ -23,8 +24,8 @@ fn a_run_stops_at_a_table_that_is_not_there(rt: HostRuntime) {
         &mut output,
         OnError::Stop,
     );
-    assert_eq!(rt; end, RunEnd::Stopped);
-    assert_eq!(rt; output.as_slice(), b"error 20: no such table\n".as_slice());
+    see(&rt, end, RunEnd::Stopped);
+    see_bytes(&rt, &output, b"error 20: no such table\n");
 }
 
 #[test]
