@@ -1,10 +1,11 @@
-//! Codes of every size, and columns of them in any layout.
+//! Codes of every size, tests on them, and columns of them in any layout.
 
 ghost use Rattle.std.specs.Prelude.{length, vec_len, ◌+◌, ◌<◌, ◌^◌, ◌≡◌, ◌≤◌};
 ghost use Rattle.bw_mask.specs.Masks.{len};
 ghost use Rattle.bw_code.specs.Columns.{Fit};
+ghost use Rattle.bw_code.specs.Tests.{TestFits};
 
-use bw_code::{CmpOp, CodeColumn};
+use bw_code::{CmpOp, CodeColumn, CodeTest};
 use bw_mask::Mask;
 use std::process::Abort;
 
@@ -93,12 +94,33 @@ pub(crate) fn column_of<C: CodeColumn + Drop, R: Abort + AllocGlobal>(
     column
 }
 
+/// The test, of codes of so many bits.
+pub(crate) fn fitted(test: CodeTest, width: u32) -> CodeTest
+    requires { width ≤ 32 }
+    ensures { TestFits width result }
+{
+    let codes = 1 << width;
+    match test {
+        CodeTest::Cmp(op, constant) => CodeTest::Cmp(op, constant % codes),
+        CodeTest::Range(low, high) => CodeTest::Range(low % codes, high % codes),
+        other => other,
+    }
+}
+
+/// So many rows, all of them in or all out.
+pub(crate) fn filled<R: Abort + AllocGlobal>(rt: &R, rows: usize, bit: bool) -> Mask
+    requires { rows ≤ 2000 }
+    ensures { len result ≡ rows }
+{
+    Mask::filled(rt.alloc(), rows, bit).expect(rt, "memory")
+}
+
 /// Rows of which one of three is not needed.
 pub(crate) fn need_of<R: Abort + AllocGlobal>(rt: &R, rows: usize) -> Mask
     requires { rows ≤ 2000 }
     ensures { len result ≡ rows }
 {
-    let mut need = Mask::filled(rt.alloc(), rows, false).expect(rt, "memory");
+    let mut need = filled(rt, rows, false);
     for row in 0..rows {
         need.set(row, row % 3 != 1);
     }

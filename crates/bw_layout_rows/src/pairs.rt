@@ -2,8 +2,10 @@
 
 ghost use Rattle.std.specs.Prelude.{length, ◌<◌, ◌≡◌, ◌≤◌};
 ghost use Rattle.bw_mask.specs.Masks.{len};
+ghost use Rattle.bw_code.specs.Columns.{Fit};
 
-use crate::codes::{OPERATORS, codes_of, column_of, need_of, other_codes};
+use crate::codes::{OPERATORS, codes_of, column_of, filled, need_of, other_codes};
+use crate::seen::{see, see_at};
 use bw_byteslice::SliceColumn;
 use bw_code::{CmpOp, CodeColumn, Meter, PlainColumn};
 use bw_horizontal::HorizontalColumn;
@@ -26,8 +28,34 @@ fn check_found<R: Abort + AllocGlobal>(
 {
     for row in 0..codes.len() {
         let wanted = need.get(row) && op.compares(codes[row], others[row]);
-        assert_eq!(rt; found.get(row), wanted, "row {row}");
+        see_at(rt, (op, row), found.get(row), wanted);
     }
+}
+
+/// The needed rows whose codes compare so, into a mask in which all rows were in.
+fn found_of<C: CodeColumn + Drop, R: Abort + AllocGlobal>(
+    rt: &R,
+    width: u32,
+    codes: &[u64],
+    others: &[u64],
+    op: CmpOp,
+    need: &Mask,
+) -> Mask
+    requires some { 1 ≤ width }
+    requires narrow { width ≤ 32 }
+    requires wide { 32 ≤ C.WIDEST }
+    requires few { length codes.now ≤ 1000 }
+    requires fit { Fit width codes.now }
+    requires others_fit { Fit width others.now }
+    requires others { length others.now ≡ length codes.now }
+    requires need { len need.now ≡ length codes.now }
+    ensures { len result ≡ length codes.now }
+{
+    let column: C = column_of(rt, width, codes);
+    let other: C = column_of(rt, width, others);
+    let mut found = filled(rt, codes.len(), true);
+    column.scan_pair(&other, op, need, &mut found, &mut Meter::new());
+    found
 }
 
 fn check_pairs<C: CodeColumn + Drop, R: Abort + AllocGlobal>(rt: &R, width: u32, rows: usize)
@@ -38,12 +66,9 @@ fn check_pairs<C: CodeColumn + Drop, R: Abort + AllocGlobal>(rt: &R, width: u32,
 {
     let codes = codes_of(rt, width, rows);
     let others = other_codes(rt, width, rows);
-    let column: C = column_of(rt, width, &codes);
-    let other: C = column_of(rt, width, &others);
     let need = need_of(rt, rows);
     for op in OPERATORS {
-        let mut found = Mask::filled(rt.alloc(), rows, true).expect(rt, "memory");
-        column.scan_pair(&other, op, &need, &mut found, &mut Meter::new());
+        let found = found_of::<C, R>(rt, width, &codes, &others, op, &need);
         check_found(rt, op, &codes, &others, &need, &found);
     }
 }
@@ -66,8 +91,8 @@ fn units_of_two_rows<C: CodeColumn + Drop, R: Abort + AllocGlobal>(rt: &R) -> (u
 {
     let column: C = column_of(rt, 2, &[0, 3]);
     let other: C = column_of(rt, 2, &[3, 0]);
-    let need = Mask::filled(rt.alloc(), 2, true).expect(rt, "memory");
-    let mut found = Mask::filled(rt.alloc(), 2, true).expect(rt, "memory");
+    let need = filled(rt, 2, true);
+    let mut found = filled(rt, 2, true);
     let mut meter = Meter::new();
     column.scan_pair(&other, CmpOp::Lt, &need, &mut found, &mut meter);
     (found.bits(0, 2), meter.units())
@@ -77,8 +102,12 @@ fn units_of_two_rows<C: CodeColumn + Drop, R: Abort + AllocGlobal>(rt: &R) -> (u
 #[test]
 fn units_of_a_pair(rt: HostRuntime) {
     let found = 0b01;
-    assert_eq!(&rt; units_of_two_rows::<PlainColumn, _>(&rt), (found, 4));
-    assert_eq!(&rt; units_of_two_rows::<VerticalColumn, _>(&rt), (found, 4));
-    assert_eq!(&rt; units_of_two_rows::<HorizontalColumn, _>(&rt), (found, 6));
-    assert_eq!(&rt; units_of_two_rows::<SliceColumn, _>(&rt), (found, 2));
+    see(&rt, units_of_two_rows::<PlainColumn, _>(&rt), (found, 4));
+    see(&rt, units_of_two_rows::<VerticalColumn, _>(&rt), (found, 4));
+    see(
+        &rt,
+        units_of_two_rows::<HorizontalColumn, _>(&rt),
+        (found, 6),
+    );
+    see(&rt, units_of_two_rows::<SliceColumn, _>(&rt), (found, 2));
 }
