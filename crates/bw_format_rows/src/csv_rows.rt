@@ -1,6 +1,6 @@
 //! Files of comma-separated values, and the rows that they spell or their first fault.
 
-use crate::seen::{see, see_at, see_list};
+use crate::seen::{see, see_at};
 use bw_csvload::FirstRecord::{Header, Row};
 use bw_csvload::{CsvFault, FirstRecord, rows};
 use std::process::Abort;
@@ -20,7 +20,7 @@ fn see_rows<R: Abort + AllocGlobal>(
 ) {
     let found = rows(rt.alloc(), file, columns, first).expect(rt, "rows");
     see(rt, found.len(), count);
-    see_list(rt, found.cells(), cells);
+    see(rt, found.cells(), cells);
 }
 
 /// Sees that this is the fault of a file.
@@ -39,9 +39,9 @@ fn see_fault<R: Abort + AllocGlobal>(
 fn three_records(rt: HostRuntime) {
     let found = rows(rt.alloc(), THREE_RECORDS, 2, Row).expect(&rt, "rows");
     assert!(rt; found.len() == 3);
-    see_list(&rt, found.row(0), &[Some(7), None]);
-    see_list(&rt, found.row(1), &[None, Some(-2)]);
-    see_list(&rt, found.row(2), &[Some(5), Some(8)]);
+    see(&rt, found.row(0), &[Some(7), None]);
+    see(&rt, found.row(1), &[None, Some(-2)]);
+    see(&rt, found.row(2), &[Some(5), Some(8)]);
     see_rows(
         &rt,
         THREE_RECORDS,
@@ -91,8 +91,8 @@ const FAULTS: [(&[u8], CsvFault); 8] = [
 
 #[test]
 fn the_first_fault(rt: HostRuntime) {
-    for (file, wanted) in FAULTS {
-        see_fault(&rt, file, 2, Row, wanted);
+    for (file, wanted) in &FAULTS {
+        see_fault(&rt, file, 2, Row, *wanted);
     }
 }
 
@@ -101,7 +101,7 @@ const NO_ROWS: [&[u8]; 3] = [b"", b"\xEF\xBB\xBF", b"\n\r\n\n"];
 
 #[test]
 fn files_without_rows(rt: HostRuntime) {
-    for file in NO_ROWS {
+    for file in &NO_ROWS {
         for first in [Row, Header] {
             see_rows(&rt, file, 2, first, 0, &[]);
         }
@@ -137,8 +137,8 @@ const CELLS: [(&[u8], Option<i32>); 9] = [
 #[test]
 fn cells_of_one_column(rt: HostRuntime) {
     see_rows(&rt, b"\"\"\n4\n", 1, Row, 2, &[None, Some(4)]);
-    for (file, cell) in CELLS {
-        see_rows(&rt, file, 1, Row, 1, &[cell]);
+    for (file, cell) in &CELLS {
+        see_rows(&rt, file, 1, Row, 1, &[*cell]);
     }
 }
 
@@ -149,7 +149,7 @@ const NO_INTEGERS: [&[u8]; 12] = [
 
 #[test]
 fn fields_that_are_no_integer(rt: HostRuntime) {
-    for file in NO_INTEGERS {
+    for file in &NO_INTEGERS {
         see_fault(&rt, file, 1, Row, CsvFault::NotInteger(1, 1));
     }
 }
@@ -174,7 +174,7 @@ const OUTSIDE: [&[u8]; 5] = [
 
 #[test]
 fn numbers_outside_integer(rt: HostRuntime) {
-    for file in OUTSIDE {
+    for file in &OUTSIDE {
         see_fault(&rt, file, 1, Row, CsvFault::Range);
     }
 }

@@ -1,6 +1,6 @@
 //! How far cells lie above a base: cells in memory, and those of a table file.
 
-use crate::seen::{see_at, see_list_at};
+use crate::seen::see_at;
 use crate::table_files::{NINE_ROWS, table_of};
 use bw_cells::Measured;
 use std::process::Abort;
@@ -17,7 +17,7 @@ fn check_distances<R: Abort, C: Measured>(
     let mut numbers = [1; 64];
     let run = &mut numbers[..distances.len()];
     see_at(rt, base, cells.distances(0, base, run), present);
-    see_list_at(rt, base, run, distances);
+    see_at(rt, base, &*run, distances);
 }
 
 // Those below the base lie 2^64 less above it.

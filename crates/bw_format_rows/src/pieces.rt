@@ -3,7 +3,7 @@
 ghost use Rattle.std.specs.Prelude.{length, ◌≡◌, ◌≤◌};
 ghost use Rattle.bw_split.specs.declared.progress.Stage.TheVariants as stage;
 
-use crate::seen::{see, see_list};
+use crate::seen::see;
 use bw_lex::{SqlFault, parts};
 use bw_split::{LONGEST_PART, Splitter};
 use std::fmt::Debug;
@@ -137,7 +137,7 @@ fn check_script<R: Abort + AllocGlobal>(rt: &R, script: &[u8], want: &[u8]) {
 
 #[test]
 fn however_it_is_cut(rt: HostRuntime) {
-    for (script, want) in SCRIPTS {
+    for (script, want) in &SCRIPTS {
         check_script(&rt, script, want);
     }
 }
@@ -160,7 +160,7 @@ fn stands<R: Abort>(rt: &R, splitter: &mut Splitter, piece: &[u8], want: usize, 
         panic!(rt; "no part stands");
     };
     see(rt, taken, want);
-    see_list(rt, splitter.text().expect(rt, "a short part"), text);
+    see(rt, splitter.text().expect(rt, "a short part"), text);
     splitter.clear();
 }
 

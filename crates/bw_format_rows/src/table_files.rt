@@ -1,9 +1,9 @@
 //! Tables as the bytes of table files: examples byte by byte, and bytes that spell no table.
 
-ghost use Rattle.std.specs.Prelude.{length, ◌+◌, ◌≡◌, ◌≤◌};
+ghost use Rattle.std.specs.Prelude.{length, ◌+◌, ◌<◌, ◌≡◌, ◌≤◌};
 ghost use Rattle.bw_file.specs.Table.{AreHeaders};
 
-use crate::seen::{see, see_at, see_list};
+use crate::seen::{see, see_at};
 use bw_cells::{Cells, Measured};
 use bw_file::{ColumnHeader, FileColumn, FileFault, TableFile, decode, encode, file_length};
 use bw_sql::{KindWord, LayoutWord, Name, is_name};
@@ -41,7 +41,7 @@ fn check_no_table<R: Abort + AllocGlobal>(rt: &R, bytes: &[u8]) {
 
 fn check_spelled<R: Abort + AllocGlobal>(rt: &R, table: &TableFile<'_>, bytes: &[u8]) {
     let spelled = encode(rt.alloc(), table.headers(), table.rows(), table.columns());
-    see_list(rt, &spelled.expect(rt, "bytes"), bytes);
+    see(rt, spelled.expect(rt, "bytes").as_slice(), bytes);
 }
 
 // The table of so many rows and columns that these bytes spell. It is spelled so.
@@ -68,7 +68,7 @@ fn see_run<R: Abort>(rt: &R, column: &FileColumn<'_>, at: usize, cells: &[Option
     let mut cells_read = [None; 16];
     let run = &mut cells_read[..cells.len()];
     column.read(at, run);
-    see_list(rt, run, cells);
+    see(rt, &*run, cells);
 }
 
 // Sees that these are the cells of the column, read all at once and in two runs.
@@ -97,7 +97,7 @@ struct Column<'a> {
 }
 
 fn check_header<R: Abort>(rt: &R, header: &ColumnHeader, wanted: &Column<'_>) {
-    see_list(rt, header.name.as_bytes(), wanted.name);
+    see(rt, header.name.as_bytes(), wanted.name);
     see(
         rt,
         (header.layout, header.kind),
@@ -105,14 +105,24 @@ fn check_header<R: Abort>(rt: &R, header: &ColumnHeader, wanted: &Column<'_>) {
     );
 }
 
-// Sees that a table has these columns.
-fn check_columns<R: Abort>(rt: &R, table: TableFile<'_>, wanted: &[Column<'_>]) {
-    let (headers, columns) = table.into_headers_and_columns();
+// Sees that these are the headers and the cells of these columns.
+fn check_columns<R: Abort>(
+    rt: &R,
+    headers: &[ColumnHeader],
+    columns: &[FileColumn<'_>],
+    wanted: &[Column<'_>],
+) {
     assert!(rt; headers.len() == wanted.len() && columns.len() == wanted.len());
     for i in 0..wanted.len() {
         check_header(rt, &headers[i], &wanted[i]);
         check_cells(rt, &columns[i], wanted[i].cells);
     }
+}
+
+// Sees that a table has these columns.
+fn check_table<R: Abort>(rt: &R, table: TableFile<'_>, wanted: &[Column<'_>]) {
+    let (headers, columns) = table.into_headers_and_columns();
+    check_columns(rt, &headers, &columns, wanted);
 }
 
 // The example with another byte in one place.
@@ -145,7 +155,7 @@ fn the_example_from_its_table(rt: HostRuntime) {
     see(&rt, file_length(&headers, 3), 31);
     let columns = [&[Some(3), None, Some(-1)][..]];
     let spelled = encode(rt.alloc(), &headers, 3, &columns).expect(&rt, "bytes");
-    see_list(&rt, &spelled, &EXAMPLE);
+    see(&rt, spelled.as_slice(), &EXAMPLE);
 }
 
 #[test]
@@ -156,7 +166,7 @@ fn the_example_to_its_table(rt: HostRuntime) {
         kind: KindWord::Offset,
         cells: &[Some(3), None, Some(-1)],
     };
-    check_columns(&rt, table_of(&rt, &EXAMPLE, 3, 1), &[wanted]);
+    check_table(&rt, table_of(&rt, &EXAMPLE, 3, 1), &[wanted]);
 }
 
 #[test]
@@ -258,7 +268,7 @@ const NINE_ROWS_COLUMNS: [Column<'static>; 2] = [
 fn two_columns_of_nine_rows(rt: HostRuntime) {
     let table = table_of(&rt, &NINE_ROWS, 9, 2);
     see(&rt, file_length(table.headers(), 9), 100);
-    check_columns(&rt, table, &NINE_ROWS_COLUMNS);
+    check_table(&rt, table, &NINE_ROWS_COLUMNS);
 }
 
 #[test]
@@ -304,6 +314,19 @@ fn many_rows_cell(i: u32) -> Option<i64> {
     }
 }
 
+// Eight of the presence bits of many rows.
+fn many_rows_present(k: u32) -> u8
+    requires { k < 1_000 }
+{
+    let mut byte = 0;
+    for j in 0..8_u32 {
+        if 8 * k + j < 2_051 && many_rows_cell(8 * k + j).is_some() {
+            byte |= 1 << j;
+        }
+    }
+    byte
+}
+
 // A table of one column A in layout P, OFFSET, of 2,051 rows, byte by byte.
 fn many_rows<R: Abort + AllocGlobal>(rt: &R) -> Vec<u8> {
     let front = [
@@ -312,13 +335,7 @@ fn many_rows<R: Abort + AllocGlobal>(rt: &R) -> Vec<u8> {
     ];
     let mut bytes = Vec::from_slice(rt.alloc(), &front).expect(rt, "front");
     for k in 0..257_u32 {
-        let mut byte: u8 = 0;
-        for j in 0..8_u32 {
-            if 8 * k + j < 2_051 && many_rows_cell(8 * k + j).is_some() {
-                byte |= 1 << j;
-            }
-        }
-        bytes.push(byte).expect(rt, "bits");
+        bytes.push(many_rows_present(k)).expect(rt, "bits");
     }
     for i in 0..2_051 {
         let number = many_rows_cell(i).unwrap_or(0);

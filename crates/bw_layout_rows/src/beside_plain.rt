@@ -4,7 +4,7 @@ ghost use Rattle.std.specs.Prelude.{length, ◌+◌, ◌<◌, ◌^◌, ◌≡◌
 ghost use Rattle.bw_code.specs.Tests.{TestFits};
 
 use crate::codes::{FREQUENT, code_at, codes_of, column_of, filled, fitted, need_of};
-use crate::seen::{see, see_at, see_list_at};
+use crate::seen::{see, see_at};
 use bw_byteslice::SliceColumn;
 use bw_code::{CmpOp, CodeColumn, CodeTest, Meter, PlainColumn};
 use bw_horizontal::HorizontalColumn;
@@ -54,7 +54,7 @@ fn check_scan<C: CodeColumn, R: Abort + AllocGlobal>(
 {
     let rows = found(rt, column, test);
     let wanted = found(rt, plain, test);
-    see_list_at(rt, test, rows.words(), wanted.words());
+    see_at(rt, test, rows.words(), wanted.words());
 }
 
 fn check_scans<C: CodeColumn, R: Abort + AllocGlobal>(
@@ -92,11 +92,11 @@ fn check_codes<C: CodeColumn, R: Abort + AllocGlobal>(rt: &R, column: &C, plain:
         see_at(rt, row, column.get(row), plain.get(row));
     }
     let at = rows / 5;
-    see_list_at(
+    see_at(
         rt,
         at,
-        &codes_from(rt, column, at),
-        &codes_from(rt, plain, at),
+        codes_from(rt, column, at).as_slice(),
+        codes_from(rt, plain, at).as_slice(),
     );
 }
 
@@ -124,7 +124,7 @@ fn check_plane<C: CodeColumn, R: Abort + AllocGlobal>(
 {
     let plane = plane_of(rt, column, bit);
     let wanted = plane_of(rt, plain, bit);
-    see_list_at(rt, bit, plane.words(), wanted.words());
+    see_at(rt, bit, plane.words(), wanted.words());
 }
 
 fn check_planes<C: CodeColumn, R: Abort + AllocGlobal>(

@@ -58,6 +58,26 @@ fn found_of<C: CodeColumn + Drop, R: Abort + AllocGlobal>(
     found
 }
 
+fn check_pair<C: CodeColumn + Drop, R: Abort + AllocGlobal>(
+    rt: &R,
+    width: u32,
+    codes: &[u64],
+    others: &[u64],
+    op: CmpOp,
+)
+    requires some { 1 ≤ width }
+    requires narrow { width ≤ 32 }
+    requires wide { 32 ≤ C.WIDEST }
+    requires few { length codes.now ≤ 1000 }
+    requires fit { Fit width codes.now }
+    requires others_fit { Fit width others.now }
+    requires others { length others.now ≡ length codes.now }
+{
+    let need = need_of(rt, codes.len());
+    let found = found_of::<C, R>(rt, width, codes, others, op, &need);
+    check_found(rt, op, codes, others, &need, &found);
+}
+
 fn check_pairs<C: CodeColumn + Drop, R: Abort + AllocGlobal>(rt: &R, width: u32, rows: usize)
     requires some { 1 ≤ width }
     requires narrow { width ≤ 32 }
@@ -66,23 +86,27 @@ fn check_pairs<C: CodeColumn + Drop, R: Abort + AllocGlobal>(rt: &R, width: u32,
 {
     let codes = codes_of(rt, width, rows);
     let others = other_codes(rt, width, rows);
-    let need = need_of(rt, rows);
     for op in OPERATORS {
-        let found = found_of::<C, R>(rt, width, &codes, &others, op, &need);
-        check_found(rt, op, &codes, &others, &need, &found);
+        check_pair::<C, R>(rt, width, &codes, &others, op);
+    }
+}
+
+fn check_all_pairs<C: CodeColumn + Drop, R: Abort + AllocGlobal>(rt: &R)
+    requires wide { 32 ≤ C.WIDEST }
+{
+    for width in [1, 5, 8, 9, 17, 31, 32] {
+        for rows in [1, 32, 33, 64, 65, 255, 257] {
+            check_pairs::<C, R>(rt, width, rows);
+        }
     }
 }
 
 #[test]
 fn beside_their_codes(rt: HostRuntime) {
-    for width in [1, 5, 8, 9, 17, 31, 32] {
-        for rows in [1, 32, 33, 64, 65, 255, 257] {
-            check_pairs::<PlainColumn, _>(&rt, width, rows);
-            check_pairs::<VerticalColumn, _>(&rt, width, rows);
-            check_pairs::<HorizontalColumn, _>(&rt, width, rows);
-            check_pairs::<SliceColumn, _>(&rt, width, rows);
-        }
-    }
+    check_all_pairs::<PlainColumn, _>(&rt);
+    check_all_pairs::<VerticalColumn, _>(&rt);
+    check_all_pairs::<HorizontalColumn, _>(&rt);
+    check_all_pairs::<SliceColumn, _>(&rt);
 }
 
 /// The rows where 0, 3 is below 3, 0, and the units that are read to tell.

@@ -5,7 +5,7 @@ ghost use Rattle.bw_mask.specs.Masks.{len};
 ghost use Rattle.bw_code.specs.Columns.{Fit};
 
 use crate::codes::{OPERATORS, codes_of, column_of, filled, other_codes};
-use crate::seen::{see, see_at, see_list};
+use crate::seen::{see, see_at};
 use bw_code::{CmpOp, Offset, Source};
 use bw_mask::Mask;
 use bw_vertical::{VerticalColumn, add_from};
@@ -90,7 +90,7 @@ fn other_bases(rt: HostRuntime) {
     let need = filled(&rt, 3, true);
     let mut out = filled(&rt, 3, false);
     let reads = compared(&rt, &left, &right, CmpOp::Lt, &need, &mut out);
-    see_list(&rt, out.words(), &[0b101]);
+    see(&rt, out.words(), &[0b101]);
     see(&rt, reads, (3, 4));
 }
 

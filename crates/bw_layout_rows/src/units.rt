@@ -121,18 +121,26 @@ fn two_of_64<R: Abort + AllocGlobal>(rt: &R, first: usize, last: usize) -> Mask
     need
 }
 
+fn check_two_of_64<R: Abort + AllocGlobal>(
+    rt: &R,
+    column: &HorizontalColumn,
+    first: usize,
+    last: usize,
+    units: u64,
+)
+    requires width { column.now.width ≡ 2 }
+    requires count { length column.now.codes ≡ 64 }
+{
+    let need = two_of_64(rt, first, last);
+    let found = scanned(rt, column, CodeTest::Cmp(CmpOp::Lt, 0), &need);
+    see_at(rt, (first, last), found, (0, units));
+}
+
 /// A segment of codes of two bits is 63 rows and three words, so the 64th row lies in the second segment.
 #[test]
 fn words(rt: HostRuntime) {
     let column: HorizontalColumn = column_of(&rt, 2, &codes_of(&rt, 2, 64));
-    let test = CodeTest::Cmp(CmpOp::Lt, 0);
-    for (first, last, units) in [(0, 62, 3), (63, 63, 3), (5, 63, 6)] {
-        let need = two_of_64(&rt, first, last);
-        see_at(
-            &rt,
-            (first, last),
-            scanned(&rt, &column, test, &need),
-            (0, units),
-        );
-    }
+    check_two_of_64(&rt, &column, 0, 62, 3);
+    check_two_of_64(&rt, &column, 63, 63, 3);
+    check_two_of_64(&rt, &column, 5, 63, 6);
 }
