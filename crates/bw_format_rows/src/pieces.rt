@@ -3,7 +3,7 @@
 ghost use Rattle.std.specs.Prelude.{length, ◌≡◌, ◌≤◌};
 ghost use Rattle.bw_split.specs.declared.progress.Stage.TheVariants as stage;
 
-use crate::seen::see;
+use crate::seen::{see, see_at};
 use bw_lex::{SqlFault, parts};
 use bw_split::{LONGEST_PART, Splitter};
 use std::fmt::Debug;
@@ -124,7 +124,7 @@ fn told_of_parts<R: Abort + AllocGlobal>(rt: &R, script: &[u8]) -> Vec<u8> {
 
 // Sees that this is what a script tells, cut in this way.
 fn see_told<C: Debug + Copy, R: Abort>(rt: &R, cut: C, told: Vec<u8>, want: &[u8]) {
-    assert!(rt; told.as_slice() == want, "cut {cut:?}");
+    see_at(rt, cut, told.as_slice() == want, true);
 }
 
 fn check_script<R: Abort + AllocGlobal>(rt: &R, script: &[u8], want: &[u8]) {

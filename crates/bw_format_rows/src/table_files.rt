@@ -79,30 +79,38 @@ fn check_cells<R: Abort>(rt: &R, column: &FileColumn<'_>, cells: &[Option<i64>])
     see_run(rt, column, half, &cells[half..]);
 }
 
-// Sees that these are the least and the greatest of the integers.
-fn check_ends<R: Abort, C: Measured>(rt: &R, cells: &C, least: i64, greatest: i64) {
-    let Some(ends) = cells.ends() else {
-        panic!(rt; "there is an integer")
-    };
-    see(rt, (ends.least, ends.greatest), (least, greatest));
+// The least and the greatest of the integers, if there are any.
+fn ends_of<C: Measured>(cells: &C) -> Option<(i64, i64)> {
+    match cells.ends() {
+        Some(ends) => Some((ends.least, ends.greatest)),
+        None => None,
+    }
 }
 
-// A column of a table: its name, layout, kind and cells.
+// A column of a table: its name, layout, kind, cells, and the least and the greatest of its integers.
 #[derive(Clone, Copy)]
 struct Column<'a> {
     name: &'a [u8],
     layout: LayoutWord,
     kind: KindWord,
     cells: &'a [Option<i64>],
+    ends: Option<(i64, i64)>,
 }
 
-fn check_header<R: Abort>(rt: &R, header: &ColumnHeader, wanted: &Column<'_>) {
+fn check_column<R: Abort>(
+    rt: &R,
+    header: &ColumnHeader,
+    column: &FileColumn<'_>,
+    wanted: &Column<'_>,
+) {
     see(rt, header.name.as_bytes(), wanted.name);
     see(
         rt,
         (header.layout, header.kind),
         (wanted.layout, wanted.kind),
     );
+    see(rt, ends_of(column), wanted.ends);
+    check_cells(rt, column, wanted.cells);
 }
 
 // Sees that these are the headers and the cells of these columns.
@@ -114,8 +122,7 @@ fn check_columns<R: Abort>(
 ) {
     assert!(rt; headers.len() == wanted.len() && columns.len() == wanted.len());
     for i in 0..wanted.len() {
-        check_header(rt, &headers[i], &wanted[i]);
-        check_cells(rt, &columns[i], wanted[i].cells);
+        check_column(rt, &headers[i], &columns[i], &wanted[i]);
     }
 }
 
@@ -165,6 +172,7 @@ fn the_example_to_its_table(rt: HostRuntime) {
         layout: LayoutWord::V,
         kind: KindWord::Offset,
         cells: &[Some(3), None, Some(-1)],
+        ends: Some((-1, 3)),
     };
     check_table(&rt, table_of(&rt, &EXAMPLE, 3, 1), &[wanted]);
 }
@@ -174,8 +182,9 @@ fn a_part_of_the_example_is_no_table(rt: HostRuntime) {
     for end in 0..31 {
         check_no_table(&rt, &EXAMPLE[..end]);
     }
-    let mut longer = Vec::from_slice(rt.alloc(), &EXAMPLE).expect(&rt, "bytes");
-    longer.push(0).expect(&rt, "a byte more");
+    // Nor is the example with a byte more.
+    let mut longer = [0; 32];
+    longer[..31].copy_from_slice(&EXAMPLE);
     check_no_table(&rt, &longer);
 }
 
@@ -245,6 +254,7 @@ const NINE_ROWS_COLUMNS: [Column<'static>; 2] = [
             None,
             Some(9),
         ],
+        ends: Some((1, 9)),
     },
     Column {
         name: b"X_",
@@ -261,6 +271,7 @@ const NINE_ROWS_COLUMNS: [Column<'static>; 2] = [
             None,
             Some(2_147_483_647),
         ],
+        ends: Some((-2_147_483_648, 2_147_483_647)),
     },
 ];
 
@@ -360,7 +371,8 @@ fn check_many_cells<R: Abort>(rt: &R, column: &FileColumn<'_>)
     }
 }
 
-// More rows than are written in one run, the last of them not a whole byte of bits.
+// More rows than are written in one run, the last of them not a whole byte of bits. The first row has the least, the last but
+// one the greatest: the last is null.
 #[test]
 fn rows_in_runs(rt: HostRuntime) {
     let bytes = many_rows(&rt);
@@ -368,22 +380,7 @@ fn rows_in_runs(rt: HostRuntime) {
     let column = &table.columns()[0];
     assert!(rt; column.rows() == 2_051);
     check_many_cells(&rt, column);
-}
-
-#[test]
-fn ends_of_nine_rows(rt: HostRuntime) {
-    let table = table_of(&rt, &NINE_ROWS, 9, 2);
-    let columns = table.columns();
-    check_ends(&rt, &columns[0], 1, 9);
-    check_ends(&rt, &columns[1], -2_147_483_648, 2_147_483_647);
-}
-
-// The first row has the least, the last but one the greatest: the last is null.
-#[test]
-fn ends_of_many_rows(rt: HostRuntime) {
-    let bytes = many_rows(&rt);
-    let table = table_of(&rt, &bytes, 2_051, 1);
-    check_ends(&rt, &table.columns()[0], -1_000_000, 1_049_000);
+    see(&rt, ends_of(column), Some((-1_000_000, 1_049_000)));
 }
 
 // The front and the header of the example, and three nulls.
@@ -395,19 +392,24 @@ fn nulls() -> [u8; 31] {
 
 #[test]
 fn no_ends_of_nulls(rt: HostRuntime) {
-    let bytes = nulls();
-    let table = table_of(&rt, &bytes, 3, 1);
-    see(&rt, table.columns()[0].ends().is_none(), true);
+    let wanted = Column {
+        name: b"A",
+        layout: LayoutWord::V,
+        kind: KindWord::Offset,
+        cells: &[None, None, None],
+        ends: None,
+    };
+    check_table(&rt, table_of(&rt, &nulls(), 3, 1), &[wanted]);
 }
 
 // The least is in the last of three runs of 64, the greatest in the first.
 #[test]
 fn ends_of_a_list(rt: HostRuntime) {
     let mut cells = [None; 130];
-    see(&rt, cells.as_slice().ends().is_none(), true);
+    see(&rt, ends_of(&cells.as_slice()), None);
     cells[129] = Some(-5);
-    check_ends(&rt, &cells.as_slice(), -5, -5);
+    see(&rt, ends_of(&cells.as_slice()), Some((-5, -5)));
     cells[63] = Some(7);
     cells[64] = Some(0);
-    check_ends(&rt, &cells.as_slice(), -5, 7);
+    see(&rt, ends_of(&cells.as_slice()), Some((-5, 7)));
 }

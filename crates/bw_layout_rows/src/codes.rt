@@ -72,6 +72,19 @@ pub(crate) fn other_codes<R: Abort + AllocGlobal>(rt: &R, width: u32, rows: usiz
     codes
 }
 
+/// Adds codes at the end, in two parts.
+fn extend<C: CodeColumn>(column: &mut C, codes: &[u64])
+    requires fit { Fit (C.seen column.old).width codes.now }
+    requires few { length (C.seen column.old).codes + length codes.now ≤ 1000 }
+    requires room { length (C.seen column.old).codes + length codes.now ≤ (C.seen column.old).room }
+    ensures width { (C.seen column.new).width ≡ (C.seen column.old).width }
+    ensures count { length (C.seen column.new).codes ≡ length (C.seen column.old).codes + length codes.now }
+{
+    let (first, rest) = codes.split_at(codes.len() / 3);
+    column.extend(first);
+    column.extend(rest);
+}
+
 /// A column of these codes, put in two parts.
 pub(crate) fn column_of<C: CodeColumn + Drop, R: Abort + AllocGlobal>(
     rt: &R,
@@ -88,9 +101,7 @@ pub(crate) fn column_of<C: CodeColumn + Drop, R: Abort + AllocGlobal>(
 {
     let mut column = C::with_width(rt.alloc(), width).expect(rt, "memory");
     column.reserve(codes.len()).expect(rt, "memory");
-    let third = codes.len() / 3;
-    column.extend(&codes[..third]);
-    column.extend(&codes[third..]);
+    extend(&mut column, codes);
     column
 }
 

@@ -32,15 +32,16 @@ fn check_found<R: Abort + AllocGlobal>(
     }
 }
 
-/// The needed rows whose codes compare so, into a mask in which all rows were in.
-fn found_of<C: CodeColumn + Drop, R: Abort + AllocGlobal>(
+/// Fills `found` with the needed rows whose codes compare so, and tells how many units that read.
+fn units_of_scan<C: CodeColumn + Drop, R: Abort + AllocGlobal>(
     rt: &R,
     width: u32,
     codes: &[u64],
     others: &[u64],
     op: CmpOp,
     need: &Mask,
-) -> Mask
+    found: &mut Mask,
+) -> u64
     requires some { 1 ≤ width }
     requires narrow { width ≤ 32 }
     requires wide { 32 ≤ C.WIDEST }
@@ -49,13 +50,14 @@ fn found_of<C: CodeColumn + Drop, R: Abort + AllocGlobal>(
     requires others_fit { Fit width others.now }
     requires others { length others.now ≡ length codes.now }
     requires need { len need.now ≡ length codes.now }
-    ensures { len result ≡ length codes.now }
+    requires found { len found.old ≡ length codes.now }
+    ensures { len found.new ≡ length codes.now }
 {
     let column: C = column_of(rt, width, codes);
     let other: C = column_of(rt, width, others);
-    let mut found = filled(rt, codes.len(), true);
-    column.scan_pair(&other, op, need, &mut found, &mut Meter::new());
-    found
+    let mut meter = Meter::new();
+    column.scan_pair(&other, op, need, found, &mut meter);
+    meter.units()
 }
 
 fn check_pair<C: CodeColumn + Drop, R: Abort + AllocGlobal>(
@@ -74,7 +76,8 @@ fn check_pair<C: CodeColumn + Drop, R: Abort + AllocGlobal>(
     requires others { length others.now ≡ length codes.now }
 {
     let need = need_of(rt, codes.len());
-    let found = found_of::<C, R>(rt, width, codes, others, op, &need);
+    let mut found = filled(rt, codes.len(), true);
+    units_of_scan::<C, R>(rt, width, codes, others, op, &need, &mut found);
     check_found(rt, op, codes, others, &need, &found);
 }
 
@@ -113,13 +116,10 @@ fn beside_their_codes(rt: HostRuntime) {
 fn units_of_two_rows<C: CodeColumn + Drop, R: Abort + AllocGlobal>(rt: &R) -> (u64, u64)
     requires { 32 ≤ C.WIDEST }
 {
-    let column: C = column_of(rt, 2, &[0, 3]);
-    let other: C = column_of(rt, 2, &[3, 0]);
     let need = filled(rt, 2, true);
     let mut found = filled(rt, 2, true);
-    let mut meter = Meter::new();
-    column.scan_pair(&other, CmpOp::Lt, &need, &mut found, &mut meter);
-    (found.bits(0, 2), meter.units())
+    let units = units_of_scan::<C, R>(rt, 2, &[0, 3], &[3, 0], CmpOp::Lt, &need, &mut found);
+    (found.bits(0, 2), units)
 }
 
 // Of each column two codes, two planes, the three words of a segment, or one slice.

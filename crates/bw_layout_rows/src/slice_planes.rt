@@ -21,21 +21,28 @@ fn check_plane<R: Abort>(rt: &R, column: &SliceColumn, plane: &[u64; 4], q: usiz
     }
 }
 
+/// A plane by the number of its unit.
+fn check_unit<R: Abort>(rt: &R, column: &SliceColumn, plane: &[u64; 4], unit: usize)
+    requires { unit < 1000 }
+{
+    let k = column.width() as usize;
+    check_plane(rt, column, plane, unit / k, (unit % k) as u32);
+}
+
 /// All planes in the order of their units, and the first once more.
 fn check_planes<R: Abort>(rt: &R, column: &SliceColumn)
     requires narrow { column.now.width ≤ 32 }
     requires some_rows { 1 ≤ length column.now.codes }
     requires few { length column.now.codes ≤ 1000 }
 {
-    let k = column.width() as usize;
-    let units = column.len().div_ceil(256) * k;
+    let units = column.len().div_ceil(256) * column.width() as usize;
     let mut planes = column.planes();
     for unit in 0..units {
         let plane = planes.read(unit);
-        check_plane(rt, column, &plane, unit / k, (unit % k) as u32);
+        check_unit(rt, column, &plane, unit);
     }
     let first = planes.read(0);
-    check_plane(rt, column, &first, 0, 0);
+    check_unit(rt, column, &first, 0);
     see(rt, planes.reads(), units as u64 + 1);
 }
 

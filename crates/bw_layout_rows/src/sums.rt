@@ -41,7 +41,32 @@ impl<'a> Side<'a> {
     }
 }
 
-/// Compares the values of two sides over the planes of their columns, and tells how often planes of each were read.
+/// Compares the values of two columns over their planes, and tells how often planes of each were read.
+fn reads_of(
+    column: &VerticalColumn,
+    left: Offset,
+    other: &VerticalColumn,
+    right: Offset,
+    op: CmpOp,
+    need: &Mask,
+    out: &mut Mask,
+) -> (u64, u64)
+    requires narrow { left.width ≤ 32 }
+    requires other_narrow { right.width ≤ 32 }
+    requires width { column.now.width ≡ left.width }
+    requires other_width { other.now.width ≡ right.width }
+    requires few { len need.now ≤ 1000 }
+    requires codes { length column.now.codes ≡ len need.now }
+    requires others { length other.now.codes ≡ len need.now }
+    requires out { len out.old ≡ len need.now }
+    ensures { len out.new ≡ len need.now }
+{
+    let (mut planes, mut others) = (column.planes(), other.planes());
+    add_from(&mut planes, left, &mut others, right, op, need, out);
+    (planes.reads(), others.reads())
+}
+
+/// The same of the values of two sides.
 fn compared<R: Abort + AllocGlobal>(
     rt: &R,
     left: &Side<'_>,
@@ -60,19 +85,9 @@ fn compared<R: Abort + AllocGlobal>(
     requires out { len out.old ≡ len need.now }
     ensures { len out.new ≡ len need.now }
 {
-    let column: VerticalColumn = column_of(rt, left.offset.width, left.codes);
-    let other: VerticalColumn = column_of(rt, right.offset.width, right.codes);
-    let (mut planes, mut others) = (column.planes(), other.planes());
-    add_from(
-        &mut planes,
-        left.offset,
-        &mut others,
-        right.offset,
-        op,
-        need,
-        out,
-    );
-    (planes.reads(), others.reads())
+    let column = column_of(rt, left.offset.width, left.codes);
+    let other = column_of(rt, right.offset.width, right.codes);
+    reads_of(&column, left.offset, &other, right.offset, op, need, out)
 }
 
 /// 10, 12, 17 by the base 10 in 3 bits, beside 11, 11, 20 by the base 11 in 4: the first is below the second in rows 0
