@@ -1,6 +1,6 @@
 //! The planes of slices, beside the bits of the codes.
 
-ghost use Rattle.std.specs.Prelude.{length, ◌<◌, ◌≤◌};
+ghost use Rattle.std.specs.Prelude.{length, ◌*◌, ◌+◌, ◌/◌, ◌<◌, ◌≡◌, ◌≤◌};
 
 use crate::codes::{codes_of, column_of};
 use crate::seen::{see, see_at};
@@ -29,13 +29,25 @@ fn check_unit<R: Abort>(rt: &R, column: &SliceColumn, plane: &[u64; 4], unit: us
     check_plane(rt, column, plane, unit / k, (unit % k) as u32);
 }
 
+/// How many planes the segments of a column have.
+fn count_of_planes(column: &SliceColumn) -> usize
+    requires narrow { column.now.width ≤ 32 }
+    requires some_rows { 1 ≤ length column.now.codes }
+    requires few_rows { length column.now.codes ≤ 1000 }
+    ensures planes { result ≡ (length column.now.codes + 255) / 256 * column.now.width }
+    ensures some { 1 ≤ result }
+    ensures few { result ≤ 128 }
+{
+    column.len().div_ceil(256) * column.width() as usize
+}
+
 /// All planes in the order of their units, and the first once more.
 fn check_planes<R: Abort>(rt: &R, column: &SliceColumn)
     requires narrow { column.now.width ≤ 32 }
     requires some_rows { 1 ≤ length column.now.codes }
     requires few { length column.now.codes ≤ 1000 }
 {
-    let units = column.len().div_ceil(256) * column.width() as usize;
+    let units = count_of_planes(column);
     let mut planes = column.planes();
     for unit in 0..units {
         let plane = planes.read(unit);
