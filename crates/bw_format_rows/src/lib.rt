@@ -8,4 +8,6 @@ mod measured;
 #[cfg(test)]
 mod pieces;
 #[cfg(test)]
+mod seen;
+#[cfg(test)]
 mod table_files;

@@ -1,8 +1,8 @@
 //! How far cells lie above a base: cells in memory, and those of a table file.
 
-use crate::table_files::NINE_ROWS;
+use crate::seen::see_at;
+use crate::table_files::{NINE_ROWS, table_of};
 use bw_cells::Measured;
-use bw_file::decode;
 use std::process::Abort;
 
 // Sees how far each of the cells lies above the base, and which of them are integers.
@@ -13,12 +13,11 @@ fn check_distances<R: Abort, C: Measured>(
     distances: &[u64],
     present: u64,
 ) {
-    assert_eq!(rt; cells.len(), distances.len());
-    assert!(rt; distances.len() <= 64);
+    assert!(rt; cells.len() == distances.len() && distances.len() <= 64);
     let mut numbers = [1; 64];
     let run = &mut numbers[..distances.len()];
-    assert_eq!(rt; cells.distances(0, base, run), present);
-    assert_eq!(rt; &numbers[..distances.len()], distances);
+    see_at(rt, base, cells.distances(0, base, run), present);
+    see_at(rt, base, &*run, distances);
 }
 
 // Those below the base lie 2^64 less above it.
@@ -45,7 +44,7 @@ fn distances_in_memory(rt: HostRuntime) {
 
 #[test]
 fn distances_of_nine_rows(rt: HostRuntime) {
-    let table = decode(rt.alloc(), &NINE_ROWS).expect(&rt, "a table");
+    let table = table_of(&rt, &NINE_ROWS, 9, 2);
     let columns = table.columns();
     let odd = [0, 0, 2, 0, 4, 0, 6, 0, 8];
     let odd_from_9 = [

@@ -3,8 +3,10 @@
 ghost use Rattle.std.specs.Prelude.{length, ◌≡◌, ◌≤◌};
 ghost use Rattle.bw_split.specs.declared.progress.Stage.TheVariants as stage;
 
+use crate::seen::{see, see_at};
 use bw_lex::{SqlFault, parts};
 use bw_split::{LONGEST_PART, Splitter};
+use std::fmt::Debug;
 use std::process::Abort;
 
 // Scripts, and their parts by the definition: each with a `;` behind it where a cut closes it, else with a `|`.
@@ -120,17 +122,23 @@ fn told_of_parts<R: Abort + AllocGlobal>(rt: &R, script: &[u8]) -> Vec<u8> {
     told
 }
 
+// Sees that this is what a script tells, cut in this way.
+fn see_told<C: Debug + Copy, R: Abort>(rt: &R, cut: C, told: Vec<u8>, want: &[u8]) {
+    see_at(rt, cut, told.as_slice() == want, true);
+}
+
+fn check_script<R: Abort + AllocGlobal>(rt: &R, script: &[u8], want: &[u8]) {
+    see_told(rt, "nowhere", told_of_parts(rt, script), want);
+    see_told(rt, "everywhere", told_singly(rt, script), want);
+    for at in 0..script.len() + 1 {
+        see_told(rt, at, told_in_two(rt, script, at), want);
+    }
+}
+
 #[test]
 fn however_it_is_cut(rt: HostRuntime) {
-    for (script, want) in SCRIPTS {
-        assert!(rt; told_of_parts(&rt, script).as_slice() == want, "at once");
-        assert!(rt; told_singly(&rt, script).as_slice() == want, "singly");
-        for at in 0..script.len() + 1 {
-            assert!(rt;
-                told_in_two(&rt, script, at).as_slice() == want,
-                "cut at {at}"
-            );
-        }
+    for (script, want) in &SCRIPTS {
+        check_script(&rt, script, want);
     }
 }
 
@@ -151,8 +159,8 @@ fn stands<R: Abort>(rt: &R, splitter: &mut Splitter, piece: &[u8], want: usize, 
     let Some(taken) = splitter.feed(piece) else {
         panic!(rt; "no part stands");
     };
-    assert!(rt; taken == want);
-    assert!(rt; splitter.text().expect(rt, "a short part") == text);
+    see(rt, taken, want);
+    see(rt, splitter.text().expect(rt, "a short part"), text);
     splitter.clear();
 }
 
@@ -174,7 +182,9 @@ fn long_part<R: Abort + AllocGlobal>(rt: &R, len: usize) -> Vec<u8> {
 #[test]
 fn parts_as_long_as_may_be(rt: HostRuntime) {
     let longest = long_part(&rt, LONGEST_PART);
-    assert!(rt; told_singly(&rt, &longest) == longest);
-    let longer = long_part(&rt, LONGEST_PART + 1);
-    assert!(rt; told_singly(&rt, &longer).as_slice() == b"too long;".as_slice());
+    let told = told_singly(&rt, &longest);
+    see_told(&rt, LONGEST_PART, told, &longest);
+    let longer = LONGEST_PART + 1;
+    let told = told_singly(&rt, &long_part(&rt, longer));
+    see_told(&rt, longer, told, b"too long;");
 }

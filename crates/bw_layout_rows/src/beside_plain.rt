@@ -3,7 +3,8 @@
 ghost use Rattle.std.specs.Prelude.{length, ◌+◌, ◌<◌, ◌^◌, ◌≡◌, ◌≤◌};
 ghost use Rattle.bw_code.specs.Tests.{TestFits};
 
-use crate::codes::{FREQUENT, code_at, codes_of, column_of, need_of};
+use crate::codes::{FREQUENT, code_at, codes_of, column_of, filled, fitted, need_of};
+use crate::seen::{see, see_at};
 use bw_byteslice::SliceColumn;
 use bw_code::{CmpOp, CodeColumn, CodeTest, Meter, PlainColumn};
 use bw_horizontal::HorizontalColumn;
@@ -28,28 +29,32 @@ const TESTS: [CodeTest; 13] = [
     CodeTest::Range(0xffff_ffff, 0),
 ];
 
-/// The test, of codes of so many bits.
-fn fitted(test: CodeTest, width: u32) -> CodeTest
-    requires { width ≤ 32 }
-    ensures { TestFits width result }
-{
-    let codes = 1 << width;
-    match test {
-        CodeTest::Cmp(op, constant) => CodeTest::Cmp(op, constant % codes),
-        CodeTest::Range(low, high) => CodeTest::Range(low % codes, high % codes),
-        other => other,
-    }
-}
-
 /// The rows that a scan finds, into a mask in which all rows were in.
 fn found<C: CodeColumn, R: Abort + AllocGlobal>(rt: &R, column: &C, test: CodeTest) -> Mask
     requires test { TestFits (C.seen column.now).width test }
     requires few { length (C.seen column.now).codes ≤ 2000 }
 {
     let need = need_of(rt, column.len());
-    let mut out = Mask::filled(rt.alloc(), column.len(), true).expect(rt, "memory");
+    let mut out = filled(rt, column.len(), true);
     column.scan(test, &need, &mut out, &mut Meter::new());
     out
+}
+
+/// A scan finds the rows that it finds of plain codes.
+fn check_scan<C: CodeColumn, R: Abort + AllocGlobal>(
+    rt: &R,
+    column: &C,
+    plain: &PlainColumn,
+    test: CodeTest,
+)
+    requires test { TestFits (C.seen column.now).width test }
+    requires width { plain.now.width ≡ (C.seen column.now).width }
+    requires few { length (C.seen column.now).codes ≤ 2000 }
+    requires others { length plain.now.codes ≤ 2000 }
+{
+    let rows = found(rt, column, test);
+    let wanted = found(rt, plain, test);
+    see_at(rt, test, rows.words(), wanted.words());
 }
 
 fn check_scans<C: CodeColumn, R: Abort + AllocGlobal>(
@@ -65,11 +70,17 @@ fn check_scans<C: CodeColumn, R: Abort + AllocGlobal>(
     requires others { length plain.now.codes ≤ 2000 }
 {
     for test in TESTS {
-        let test = fitted(test, width);
-        let rows = found(rt, column, test);
-        let wanted = found(rt, plain, test);
-        assert_eq!(rt; rows.words(), wanted.words(), "{width} bits");
+        check_scan(rt, column, plain, fitted(test, width));
     }
+}
+
+/// The codes from a row on.
+fn codes_from<C: CodeColumn, R: Abort + AllocGlobal>(rt: &R, column: &C, at: usize) -> Vec<u64>
+    requires { at ≤ length (C.seen column.now).codes }
+{
+    let mut codes = Vec::from_elem(rt.alloc(), 0, column.len() - at).expect(rt, "memory");
+    column.read(at, &mut codes);
+    codes
 }
 
 /// `get` and `read` answer what plain codes answer.
@@ -78,14 +89,15 @@ fn check_codes<C: CodeColumn, R: Abort + AllocGlobal>(rt: &R, column: &C, plain:
 {
     let rows = column.len();
     for row in 0..rows {
-        assert_eq!(rt; column.get(row), plain.get(row), "row {row}");
+        see_at(rt, row, column.get(row), plain.get(row));
     }
     let at = rows / 5;
-    let mut codes = Vec::from_elem(rt.alloc(), 0, rows - at).expect(rt, "memory");
-    let mut wanted = Vec::from_elem(rt.alloc(), 0, rows - at).expect(rt, "memory");
-    column.read(at, &mut codes);
-    plain.read(at, &mut wanted);
-    assert_eq!(rt; codes, wanted);
+    see_at(
+        rt,
+        at,
+        codes_from(rt, column, at).as_slice(),
+        codes_from(rt, plain, at).as_slice(),
+    );
 }
 
 /// The rows with a bit, into a mask in which all rows were in.
@@ -93,9 +105,26 @@ fn plane_of<C: CodeColumn, R: Abort + AllocGlobal>(rt: &R, column: &C, bit: u32)
     requires bit { bit < (C.seen column.now).width }
     requires few { length (C.seen column.now).codes ≤ 2000 }
 {
-    let mut plane = Mask::filled(rt.alloc(), column.len(), true).expect(rt, "memory");
+    let mut plane = filled(rt, column.len(), true);
     column.plane(bit, &mut plane);
     plane
+}
+
+/// The rows with a bit are those of plain codes.
+fn check_plane<C: CodeColumn, R: Abort + AllocGlobal>(
+    rt: &R,
+    column: &C,
+    plain: &PlainColumn,
+    bit: u32,
+)
+    requires bit { bit < (C.seen column.now).width }
+    requires width { plain.now.width ≡ (C.seen column.now).width }
+    requires few { length (C.seen column.now).codes ≤ 2000 }
+    requires others { length plain.now.codes ≤ 2000 }
+{
+    let plane = plane_of(rt, column, bit);
+    let wanted = plane_of(rt, plain, bit);
+    see_at(rt, bit, plane.words(), wanted.words());
 }
 
 fn check_planes<C: CodeColumn, R: Abort + AllocGlobal>(
@@ -110,9 +139,7 @@ fn check_planes<C: CodeColumn, R: Abort + AllocGlobal>(
     requires others { length plain.now.codes ≤ 2000 }
 {
     for bit in 0..width {
-        let plane = plane_of(rt, column, bit);
-        let wanted = plane_of(rt, plain, bit);
-        assert_eq!(rt; plane.words(), wanted.words(), "bit {bit}");
+        check_plane(rt, column, plain, bit);
     }
 }
 
@@ -128,6 +155,24 @@ fn change<C: CodeColumn>(column: &mut C, code: u64)
     }
 }
 
+/// A column of so many codes, of which that in the middle was put in place of another.
+fn changed_column<C: CodeColumn + Drop, R: Abort + AllocGlobal>(
+    rt: &R,
+    width: u32,
+    rows: usize,
+) -> C
+    requires some { 1 ≤ width }
+    requires narrow { width ≤ 32 }
+    requires wide { 32 ≤ C.WIDEST }
+    requires few { rows ≤ 1000 }
+    ensures width { (C.seen result).width ≡ width }
+    ensures count { length (C.seen result).codes ≡ rows }
+{
+    let mut column: C = column_of(rt, width, &codes_of(rt, width, rows));
+    change(&mut column, code_at(width, 4));
+    column
+}
+
 /// Every call answers what it answers of plain codes.
 fn check_calls<C: CodeColumn + Drop, R: Abort + AllocGlobal>(rt: &R, width: u32, rows: usize)
     requires some { 1 ≤ width }
@@ -135,12 +180,9 @@ fn check_calls<C: CodeColumn + Drop, R: Abort + AllocGlobal>(rt: &R, width: u32,
     requires wide { 32 ≤ C.WIDEST }
     requires few { rows ≤ 1000 }
 {
-    let codes = codes_of(rt, width, rows);
-    let mut column: C = column_of(rt, width, &codes);
-    let mut plain: PlainColumn = column_of(rt, width, &codes);
-    change(&mut column, code_at(width, 4));
-    change(&mut plain, code_at(width, 4));
-    assert_eq!(rt; (column.len(), column.width()), (rows, width));
+    let column: C = changed_column(rt, width, rows);
+    let plain: PlainColumn = changed_column(rt, width, rows);
+    see(rt, (column.len(), column.width()), (rows, width));
     check_codes(rt, &column, &plain);
     check_planes(rt, width, &column, &plain);
     check_scans(rt, width, &column, &plain);

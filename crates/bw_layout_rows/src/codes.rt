@@ -1,10 +1,11 @@
-//! Codes of every size, and columns of them in any layout.
+//! Codes of every size, tests on them, and columns of them in any layout.
 
 ghost use Rattle.std.specs.Prelude.{length, vec_len, ◌+◌, ◌<◌, ◌^◌, ◌≡◌, ◌≤◌};
 ghost use Rattle.bw_mask.specs.Masks.{len};
 ghost use Rattle.bw_code.specs.Columns.{Fit};
+ghost use Rattle.bw_code.specs.Tests.{TestFits};
 
-use bw_code::{CmpOp, CodeColumn};
+use bw_code::{CmpOp, CodeColumn, CodeTest};
 use bw_mask::Mask;
 use std::process::Abort;
 
@@ -71,6 +72,19 @@ pub(crate) fn other_codes<R: Abort + AllocGlobal>(rt: &R, width: u32, rows: usiz
     codes
 }
 
+/// Adds codes at the end, in two parts.
+fn extend<C: CodeColumn>(column: &mut C, codes: &[u64])
+    requires fit { Fit (C.seen column.old).width codes.now }
+    requires few { length (C.seen column.old).codes + length codes.now ≤ 1000 }
+    requires room { length (C.seen column.old).codes + length codes.now ≤ (C.seen column.old).room }
+    ensures width { (C.seen column.new).width ≡ (C.seen column.old).width }
+    ensures count { length (C.seen column.new).codes ≡ length (C.seen column.old).codes + length codes.now }
+{
+    let (first, rest) = codes.split_at(codes.len() / 3);
+    column.extend(first);
+    column.extend(rest);
+}
+
 /// A column of these codes, put in two parts.
 pub(crate) fn column_of<C: CodeColumn + Drop, R: Abort + AllocGlobal>(
     rt: &R,
@@ -87,10 +101,29 @@ pub(crate) fn column_of<C: CodeColumn + Drop, R: Abort + AllocGlobal>(
 {
     let mut column = C::with_width(rt.alloc(), width).expect(rt, "memory");
     column.reserve(codes.len()).expect(rt, "memory");
-    let third = codes.len() / 3;
-    column.extend(&codes[..third]);
-    column.extend(&codes[third..]);
+    extend(&mut column, codes);
     column
+}
+
+/// The test, of codes of so many bits.
+pub(crate) fn fitted(test: CodeTest, width: u32) -> CodeTest
+    requires { width ≤ 32 }
+    ensures { TestFits width result }
+{
+    let codes = 1 << width;
+    match test {
+        CodeTest::Cmp(op, constant) => CodeTest::Cmp(op, constant % codes),
+        CodeTest::Range(low, high) => CodeTest::Range(low % codes, high % codes),
+        other => other,
+    }
+}
+
+/// So many rows, all of them in or all out.
+pub(crate) fn filled<R: Abort + AllocGlobal>(rt: &R, rows: usize, bit: bool) -> Mask
+    requires { rows ≤ 2000 }
+    ensures { len result ≡ rows }
+{
+    Mask::filled(rt.alloc(), rows, bit).expect(rt, "memory")
 }
 
 /// Rows of which one of three is not needed.
@@ -98,7 +131,7 @@ pub(crate) fn need_of<R: Abort + AllocGlobal>(rt: &R, rows: usize) -> Mask
     requires { rows ≤ 2000 }
     ensures { len result ≡ rows }
 {
-    let mut need = Mask::filled(rt.alloc(), rows, false).expect(rt, "memory");
+    let mut need = filled(rt, rows, false);
     for row in 0..rows {
         need.set(row, row % 3 != 1);
     }

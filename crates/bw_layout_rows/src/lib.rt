@@ -8,6 +8,8 @@ mod codes;
 #[cfg(test)]
 mod pairs;
 #[cfg(test)]
+mod seen;
+#[cfg(test)]
 mod slice_planes;
 #[cfg(test)]
 mod storage;

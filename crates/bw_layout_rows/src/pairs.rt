@@ -2,8 +2,10 @@
 
 ghost use Rattle.std.specs.Prelude.{length, ◌<◌, ◌≡◌, ◌≤◌};
 ghost use Rattle.bw_mask.specs.Masks.{len};
+ghost use Rattle.bw_code.specs.Columns.{Fit};
 
-use crate::codes::{OPERATORS, codes_of, column_of, need_of, other_codes};
+use crate::codes::{OPERATORS, codes_of, column_of, filled, need_of, other_codes};
+use crate::seen::{see, see_at};
 use bw_byteslice::SliceColumn;
 use bw_code::{CmpOp, CodeColumn, Meter, PlainColumn};
 use bw_horizontal::HorizontalColumn;
@@ -26,8 +28,57 @@ fn check_found<R: Abort + AllocGlobal>(
 {
     for row in 0..codes.len() {
         let wanted = need.get(row) && op.compares(codes[row], others[row]);
-        assert_eq!(rt; found.get(row), wanted, "row {row}");
+        see_at(rt, (op, row), found.get(row), wanted);
     }
+}
+
+/// Fills `found` with the needed rows whose codes compare so, and tells how many units that read.
+fn units_of_scan<C: CodeColumn + Drop, R: Abort + AllocGlobal>(
+    rt: &R,
+    width: u32,
+    codes: &[u64],
+    others: &[u64],
+    op: CmpOp,
+    need: &Mask,
+    found: &mut Mask,
+) -> u64
+    requires some { 1 ≤ width }
+    requires narrow { width ≤ 32 }
+    requires wide { 32 ≤ C.WIDEST }
+    requires few { length codes.now ≤ 1000 }
+    requires fit { Fit width codes.now }
+    requires others_fit { Fit width others.now }
+    requires others { length others.now ≡ length codes.now }
+    requires need { len need.now ≡ length codes.now }
+    requires found { len found.old ≡ length codes.now }
+    ensures { len found.new ≡ length codes.now }
+{
+    let column: C = column_of(rt, width, codes);
+    let other: C = column_of(rt, width, others);
+    let mut meter = Meter::new();
+    column.scan_pair(&other, op, need, found, &mut meter);
+    meter.units()
+}
+
+fn check_pair<C: CodeColumn + Drop, R: Abort + AllocGlobal>(
+    rt: &R,
+    width: u32,
+    codes: &[u64],
+    others: &[u64],
+    op: CmpOp,
+)
+    requires some { 1 ≤ width }
+    requires narrow { width ≤ 32 }
+    requires wide { 32 ≤ C.WIDEST }
+    requires few { length codes.now ≤ 1000 }
+    requires fit { Fit width codes.now }
+    requires others_fit { Fit width others.now }
+    requires others { length others.now ≡ length codes.now }
+{
+    let need = need_of(rt, codes.len());
+    let mut found = filled(rt, codes.len(), true);
+    units_of_scan::<C, R>(rt, width, codes, others, op, &need, &mut found);
+    check_found(rt, op, codes, others, &need, &found);
 }
 
 fn check_pairs<C: CodeColumn + Drop, R: Abort + AllocGlobal>(rt: &R, width: u32, rows: usize)
@@ -38,47 +89,49 @@ fn check_pairs<C: CodeColumn + Drop, R: Abort + AllocGlobal>(rt: &R, width: u32,
 {
     let codes = codes_of(rt, width, rows);
     let others = other_codes(rt, width, rows);
-    let column: C = column_of(rt, width, &codes);
-    let other: C = column_of(rt, width, &others);
-    let need = need_of(rt, rows);
     for op in OPERATORS {
-        let mut found = Mask::filled(rt.alloc(), rows, true).expect(rt, "memory");
-        column.scan_pair(&other, op, &need, &mut found, &mut Meter::new());
-        check_found(rt, op, &codes, &others, &need, &found);
+        check_pair::<C, R>(rt, width, &codes, &others, op);
+    }
+}
+
+fn check_all_pairs<C: CodeColumn + Drop, R: Abort + AllocGlobal>(rt: &R)
+    requires wide { 32 ≤ C.WIDEST }
+{
+    for width in [1, 5, 8, 9, 17, 31, 32] {
+        for rows in [1, 32, 33, 64, 65, 255, 257] {
+            check_pairs::<C, R>(rt, width, rows);
+        }
     }
 }
 
 #[test]
 fn beside_their_codes(rt: HostRuntime) {
-    for width in [1, 5, 8, 9, 17, 31, 32] {
-        for rows in [1, 32, 33, 64, 65, 255, 257] {
-            check_pairs::<PlainColumn, _>(&rt, width, rows);
-            check_pairs::<VerticalColumn, _>(&rt, width, rows);
-            check_pairs::<HorizontalColumn, _>(&rt, width, rows);
-            check_pairs::<SliceColumn, _>(&rt, width, rows);
-        }
-    }
+    check_all_pairs::<PlainColumn, _>(&rt);
+    check_all_pairs::<VerticalColumn, _>(&rt);
+    check_all_pairs::<HorizontalColumn, _>(&rt);
+    check_all_pairs::<SliceColumn, _>(&rt);
 }
 
 /// The rows where 0, 3 is below 3, 0, and the units that are read to tell.
 fn units_of_two_rows<C: CodeColumn + Drop, R: Abort + AllocGlobal>(rt: &R) -> (u64, u64)
     requires { 32 ≤ C.WIDEST }
 {
-    let column: C = column_of(rt, 2, &[0, 3]);
-    let other: C = column_of(rt, 2, &[3, 0]);
-    let need = Mask::filled(rt.alloc(), 2, true).expect(rt, "memory");
-    let mut found = Mask::filled(rt.alloc(), 2, true).expect(rt, "memory");
-    let mut meter = Meter::new();
-    column.scan_pair(&other, CmpOp::Lt, &need, &mut found, &mut meter);
-    (found.bits(0, 2), meter.units())
+    let need = filled(rt, 2, true);
+    let mut found = filled(rt, 2, true);
+    let units = units_of_scan::<C, R>(rt, 2, &[0, 3], &[3, 0], CmpOp::Lt, &need, &mut found);
+    (found.bits(0, 2), units)
 }
 
 // Of each column two codes, two planes, the three words of a segment, or one slice.
 #[test]
 fn units_of_a_pair(rt: HostRuntime) {
     let found = 0b01;
-    assert_eq!(&rt; units_of_two_rows::<PlainColumn, _>(&rt), (found, 4));
-    assert_eq!(&rt; units_of_two_rows::<VerticalColumn, _>(&rt), (found, 4));
-    assert_eq!(&rt; units_of_two_rows::<HorizontalColumn, _>(&rt), (found, 6));
-    assert_eq!(&rt; units_of_two_rows::<SliceColumn, _>(&rt), (found, 2));
+    see(&rt, units_of_two_rows::<PlainColumn, _>(&rt), (found, 4));
+    see(&rt, units_of_two_rows::<VerticalColumn, _>(&rt), (found, 4));
+    see(
+        &rt,
+        units_of_two_rows::<HorizontalColumn, _>(&rt),
+        (found, 6),
+    );
+    see(&rt, units_of_two_rows::<SliceColumn, _>(&rt), (found, 2));
 }

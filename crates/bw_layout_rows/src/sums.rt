@@ -2,8 +2,10 @@
 
 ghost use Rattle.std.specs.Prelude.{length, ◌<◌, ◌≡◌, ◌≤◌};
 ghost use Rattle.bw_mask.specs.Masks.{len};
+ghost use Rattle.bw_code.specs.Columns.{Fit};
 
-use crate::codes::{OPERATORS, codes_of, column_of, other_codes};
+use crate::codes::{OPERATORS, codes_of, column_of, filled, other_codes};
+use crate::seen::{see, see_at};
 use bw_code::{CmpOp, Offset, Source};
 use bw_mask::Mask;
 use bw_vertical::{VerticalColumn, add_from};
@@ -11,29 +13,6 @@ use std::process::Abort;
 
 // More than one segment.
 const ROWS: usize = 300;
-
-/// 10, 12, 17 by the base 10 in 3 bits, beside 11, 11, 20 by the base 11 in 4: the first is below the second in rows 0
-/// and 2, and each plane is read once.
-#[test]
-fn other_bases(rt: HostRuntime) {
-    let left: VerticalColumn = column_of(&rt, 3, &[0, 2, 7]);
-    let right: VerticalColumn = column_of(&rt, 4, &[0, 0, 9]);
-    let need = Mask::filled(rt.alloc(), 3, true).expect(&rt, "memory");
-    let mut out = Mask::filled(rt.alloc(), 3, false).expect(&rt, "memory");
-    let (mut planes, mut others) = (left.planes(), right.planes());
-    let (offset, other) = (Offset { base: 10, width: 3 }, Offset { base: 11, width: 4 });
-    add_from(
-        &mut planes,
-        offset,
-        &mut others,
-        other,
-        CmpOp::Lt,
-        &need,
-        &mut out,
-    );
-    assert_eq!(rt; out.words(), [0b101].as_slice());
-    assert_eq!(rt; (planes.reads(), others.reads()), (3, 4));
-}
 
 /// Whether two numbers compare so, in the words of the operators.
 fn holds(op: CmpOp, x: i64, y: i64) -> bool {
@@ -62,6 +41,74 @@ impl<'a> Side<'a> {
     }
 }
 
+/// Compares the values of two columns over their planes, and tells how often planes of each were read.
+fn reads_of(
+    column: &VerticalColumn,
+    left: Offset,
+    other: &VerticalColumn,
+    right: Offset,
+    op: CmpOp,
+    need: &Mask,
+    out: &mut Mask,
+) -> (u64, u64)
+    requires narrow { left.width ≤ 32 }
+    requires other_narrow { right.width ≤ 32 }
+    requires width { column.now.width ≡ left.width }
+    requires other_width { other.now.width ≡ right.width }
+    requires few { len need.now ≤ 1000 }
+    requires codes { length column.now.codes ≡ len need.now }
+    requires others { length other.now.codes ≡ len need.now }
+    requires out { len out.old ≡ len need.now }
+    ensures { len out.new ≡ len need.now }
+{
+    let (mut planes, mut others) = (column.planes(), other.planes());
+    add_from(&mut planes, left, &mut others, right, op, need, out);
+    (planes.reads(), others.reads())
+}
+
+/// The same of the values of two sides.
+fn compared<R: Abort + AllocGlobal>(
+    rt: &R,
+    left: &Side<'_>,
+    right: &Side<'_>,
+    op: CmpOp,
+    need: &Mask,
+    out: &mut Mask,
+) -> (u64, u64)
+    requires narrow { left.now.offset.width ≤ 32 }
+    requires other_narrow { right.now.offset.width ≤ 32 }
+    requires fit { Fit left.now.offset.width left.now.codes.now }
+    requires other_fit { Fit right.now.offset.width right.now.codes.now }
+    requires few { len need.now ≤ 1000 }
+    requires codes { length left.now.codes.now ≡ len need.now }
+    requires others { length right.now.codes.now ≡ len need.now }
+    requires out { len out.old ≡ len need.now }
+    ensures { len out.new ≡ len need.now }
+{
+    let column = column_of(rt, left.offset.width, left.codes);
+    let other = column_of(rt, right.offset.width, right.codes);
+    reads_of(&column, left.offset, &other, right.offset, op, need, out)
+}
+
+/// 10, 12, 17 by the base 10 in 3 bits, beside 11, 11, 20 by the base 11 in 4: the first is below the second in rows 0
+/// and 2, and each plane is read once.
+#[test]
+fn other_bases(rt: HostRuntime) {
+    let left = Side {
+        offset: Offset { base: 10, width: 3 },
+        codes: &[0, 2, 7],
+    };
+    let right = Side {
+        offset: Offset { base: 11, width: 4 },
+        codes: &[0, 0, 9],
+    };
+    let need = filled(&rt, 3, true);
+    let mut out = filled(&rt, 3, false);
+    let reads = compared(&rt, &left, &right, CmpOp::Lt, &need, &mut out);
+    see(&rt, out.words(), &[0b101]);
+    see(&rt, reads, (3, 4));
+}
+
 /// The needed rows that were found are those whose values compare so.
 fn check_found<R: Abort>(
     rt: &R,
@@ -78,11 +125,37 @@ fn check_found<R: Abort>(
 {
     for row in 0..ROWS {
         let compares = holds(op, left.value(row), right.value(row));
-        assert_eq!(rt; found.get(row), need.get(row) && compares, "row {row}");
+        see_at(rt, (op, row), found.get(row), need.get(row) && compares);
     }
 }
 
-/// Compares values of two offsets over several segments, and each plane is read once for it.
+/// The rows that are needed of more than one segment.
+fn need_of_segments<R: Abort + AllocGlobal>(rt: &R) -> Mask
+    ensures { len result ≡ 300 }
+{
+    let mut need = filled(rt, ROWS, true);
+    need.put_bits(64, 64, 0x0123_4567_89ab_cdef);
+    need
+}
+
+/// Compares values over several segments, and each plane is read once for it.
+fn check_comparison<R: Abort + AllocGlobal>(rt: &R, left: &Side<'_>, right: &Side<'_>, op: CmpOp)
+    requires narrow { left.now.offset.width ≤ 32 }
+    requires other_narrow { right.now.offset.width ≤ 32 }
+    requires fit { Fit left.now.offset.width left.now.codes.now }
+    requires other_fit { Fit right.now.offset.width right.now.codes.now }
+    requires codes { length left.now.codes.now ≡ 300 }
+    requires others { length right.now.codes.now ≡ 300 }
+{
+    let need = need_of_segments(rt);
+    let mut found = filled(rt, ROWS, true);
+    let (reads, others) = compared(rt, left, right, op, &need, &mut found);
+    see_at(rt, op, reads, 2 * u64::from(left.offset.width));
+    see_at(rt, op, others, 2 * u64::from(right.offset.width));
+    check_found(rt, op, left, right, &need, &found);
+}
+
+/// Compares values of two offsets by each operator.
 fn check_addition<R: Abort + AllocGlobal>(rt: &R, left: Offset, right: Offset)
     requires some { 1 ≤ left.width }
     requires other_some { 1 ≤ right.width }
@@ -91,27 +164,16 @@ fn check_addition<R: Abort + AllocGlobal>(rt: &R, left: Offset, right: Offset)
 {
     let codes = codes_of(rt, left.width, ROWS);
     let others = other_codes(rt, right.width, ROWS);
-    let column: VerticalColumn = column_of(rt, left.width, &codes);
-    let other: VerticalColumn = column_of(rt, right.width, &others);
-    let (first, second) = (
-        Side {
-            offset: left,
-            codes: &codes,
-        },
-        Side {
-            offset: right,
-            codes: &others,
-        },
-    );
-    let mut need = Mask::filled(rt.alloc(), ROWS, true).expect(rt, "memory");
-    need.put_bits(64, 64, 0x0123_4567_89ab_cdef);
+    let first = Side {
+        offset: left,
+        codes: &codes,
+    };
+    let second = Side {
+        offset: right,
+        codes: &others,
+    };
     for op in OPERATORS {
-        let mut found = Mask::filled(rt.alloc(), ROWS, true).expect(rt, "memory");
-        let (mut planes, mut beside) = (column.planes(), other.planes());
-        add_from(&mut planes, left, &mut beside, right, op, &need, &mut found);
-        check_found(rt, op, &first, &second, &need, &found);
-        assert_eq!(rt; planes.reads(), 2 * u64::from(left.width));
-        assert_eq!(rt; beside.reads(), 2 * u64::from(right.width));
+        check_comparison(rt, &first, &second, op);
     }
 }
 
