@@ -1,12 +1,12 @@
-//! What the tests see: what was found, held against what is wanted. An assertion of its own in a test costs the prover three to
-//! six times what such a call does.
+//! What the tests see: what was found, a value or a list, held against what is wanted. An assertion of its own in a test costs
+//! the prover three to six times what such a call does.
 
 use std::fmt::Debug;
 use std::process::Abort;
 
 /// Sees that what was found is what is wanted.
 pub(crate) fn see<T: PartialEq + Debug + Copy, R: Abort>(rt: &R, found: T, wanted: T) {
-    assert_eq!(rt; found, wanted);
+    see_at(rt, (), found, wanted);
 }
 
 /// Sees that what was found in some case is what is wanted there.
