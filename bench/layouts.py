@@ -15,7 +15,7 @@ from common import HERE, built
 
 LAYOUTS = {"P": "#777777", "V": "#1b6ca8", "H": "#c2571a", "S": "#2e8b57"}
 WORKS = ("extend", "read", "scan")
-SHOWN = (1, 4, 8, 12, 16, 20, 24, 28, 32)
+SHOWN = (1, 4, 8, 12, 16, 20, 24, 28, 32, 40, 48, 56, 64)
 FIGURE = re.compile(r"^([PVHS]) (\d+) (\w+) (\d+) ns", re.MULTILINE)
 COUNT = re.compile(r"^count (\d+) ns", re.MULTILINE)
 
@@ -26,7 +26,7 @@ MOST = 2.5
 
 def place(width, time):
     """Where a time at a width is drawn."""
-    across = LEFT + (width - 1) / 31 * (WIDE - LEFT - 60)
+    across = LEFT + (width - 1) / 63 * (WIDE - LEFT - 60)
     up = HIGH - BOTTOM - min(time, MOST) / MOST * (HIGH - BOTTOM - TOP)
     return across, up
 
@@ -35,25 +35,36 @@ def text(across, up, words, anchor="middle", colour="#333333"):
     return f'<text x="{across:.1f}" y="{up:.1f}" text-anchor="{anchor}" fill="{colour}">{words}</text>'
 
 
+def scans_of(times, layout):
+    """The widths at which a layout was scanned, each with its time."""
+    return sorted((width, time) for (name, width, what), time in times.items() if (name, what) == (layout, "scan"))
+
+
+def shown(times, layout, width, what):
+    """A figure, or a dash where the layout has no codes of that width."""
+    time = times.get((layout, width, what))
+    return f"{'-':>6}" if time is None else f"{time:6.2f}"
+
+
 def plot(times, plain):
     """An SVG of the scans: nanoseconds a row over the width, a line for each layout and one for the plain pass."""
     marks = [f'<svg xmlns="http://www.w3.org/2000/svg" viewBox="0 0 {WIDE} {HIGH}" font-family="sans-serif" font-size="12">']
     marks.append(f'<rect width="{WIDE}" height="{HIGH}" fill="white"/>')
     for step in range(6):
         time = MOST * step / 5
-        (left, up), (right, _) = place(1, time), place(32, time)
+        (left, up), (right, _) = place(1, time), place(64, time)
         marks.append(f'<line x1="{left}" y1="{up:.1f}" x2="{right}" y2="{up:.1f}" stroke="#dddddd"/>')
         marks.append(text(left - 8, up + 4, f"{time:.1f}", "end"))
     for width in SHOWN:
         marks.append(text(place(width, 0)[0], HIGH - BOTTOM + 18, width))
     marks.append(text((WIDE + LEFT) / 2, HIGH - 8, "bits of a code"))
     marks.append(text(LEFT, TOP - 4, "ns a row", "end"))
-    lines = {layout: ([times[layout, width, "scan"] for width in range(1, 33)], colour) for layout, colour in LAYOUTS.items()}
-    lines["a plain pass"] = ([plain] * 32, "#bbbbbb")
+    lines = {layout: (scans_of(times, layout), colour) for layout, colour in LAYOUTS.items()}
+    lines["a plain pass"] = ([(1, plain), (64, plain)], "#bbbbbb")
     for name, (heights, colour) in lines.items():
-        points = " ".join(f"{x:.1f},{y:.1f}" for x, y in (place(i + 1, time) for i, time in enumerate(heights)))
+        points = " ".join(f"{x:.1f},{y:.1f}" for x, y in (place(width, time) for width, time in heights))
         marks.append(f'<polyline points="{points}" fill="none" stroke="{colour}" stroke-width="2"/>')
-        x, y = place(32, heights[-1])
+        x, y = place(*heights[-1])
         if name in LAYOUTS:
             marks.append(text(x + 8, y + 4, name, "start", colour))
         else:
@@ -75,7 +86,7 @@ def main():
     for what in WORKS:
         print(f"\n{what:6} " + " ".join(f"{width:>6}" for width in SHOWN))
         for layout in LAYOUTS:
-            print(f"{layout:6} " + " ".join(f"{times[layout, width, what]:6.2f}" for width in SHOWN))
+            print(f"{layout:6} " + " ".join(shown(times, layout, width, what) for width in SHOWN))
     with open(target, "w", encoding="utf-8") as file:
         file.write(plot(times, plain))
 

@@ -9,7 +9,7 @@ use Rattle.bw_mask.proofs.Views.{rows_clean, rows_len}
 use Rattle.bw_code.specs.Encodings.{IsCode, IsEncoding, value_of, width}
 use Rattle.bw_code.specs.declared.encoding.Encoding.{Encoding}
 use Rattle.bw_column.specs.Codes.{IsCoded, code_for}
-use Rattle.bw_column.specs.Values.{IsNullOrInteger, value_at}
+use Rattle.bw_column.specs.Values.{IsNullOrStorable, value_at}
 use Rattle.bw_model.specs.SetFunctions.{known, sorted}
 use Rattle.bw_aggregate.specs.Descents.{IsNthCode, end_of}
 use Rattle.bw_aggregate.specs.Ends.{IsNearest, distance}
@@ -19,7 +19,7 @@ use Rattle.bw_aggregate.proofs.Nearest.{is_there, nearest_code, nearest_in}
 use Rattle.bw_aggregate.proofs.SortedValues.{is_code, nth_is}
 use Rattle.bw_aggregate.proofs.Told.{many_codes}
 
-module _ (e : Encoding) (sound : IsEncoding e) (narrow : width e ≤ 32) (rows : List Bool) (values : List (Option ℤ)) (same : length rows ≡ length values) (all : All (IsCoded e) values) (some : 0 < length (known (items_where_true rows values))) where
+module _ (e : Encoding) (sound : IsEncoding e) (narrow : width e ≤ 64) (rows : List Bool) (values : List (Option ℤ)) (same : length rows ≡ length values) (all : All (IsCoded e) values) (some : 0 < length (known (items_where_true rows values))) where
   abbrev in_and_known : ℕ → Bool
   in_and_known r = get_or rows r false && is_some (value_at values r)
 
@@ -47,26 +47,26 @@ module _ (e : Encoding) (sound : IsEncoding e) (narrow : width e ≤ 32) (rows :
   low : All (λ c. c ≤ top) codes
   low i d h = let small = codes_low e sound values all i d h in omega (arith, small)
 
-  beyond : top < 2 ^ 32
-  beyond = let most : 2 ^ width e ≤ 2 ^ 32 = pow-le-pow_right {n = 2} (omega arith) {i = width e} {j = 32} narrow in omega (arith, most, pow_pos (width e))
+  beyond : top ≤ 2 ^ 64 - 1
+  beyond = let most : 2 ^ width e ≤ 2 ^ 64 = pow-le-pow_right {n = 2} (omega arith) {i = width e} {j = 64} narrow in omega (arith, most, pow_pos (width e))
 
   lined : length keep ≡ length codes
   lined = keep_len ∙ sym (length-map values (code_for e))
 
-  module _ (end : End) (nearest : ℕ) (is : IsNearest (length codes) in_and_known (λ r. get_or codes r 0) end top (2 ^ 32) nearest) where
-    near : IsNearest (length codes) (λ r. get_or keep r false) (λ r. get_or codes r 0) end top (2 ^ 32) nearest
-    near = nearest_in (length codes) in_and_known (λ r. get_or keep r false) (λ r. get_or codes r 0) end top (2 ^ 32) nearest (λ j. sym (keep_at j)) is
+  module _ (end : End) (nearest : ℕ) (is : IsNearest (length codes) in_and_known (λ r. get_or codes r 0) end top (2 ^ 64 - 1) nearest) where
+    near : IsNearest (length codes) (λ r. get_or keep r false) (λ r. get_or codes r 0) end top (2 ^ 64 - 1) nearest
+    near = nearest_in (length codes) in_and_known (λ r. get_or keep r false) (λ r. get_or codes r 0) end top (2 ^ 64 - 1) nearest (λ j. sym (keep_at j)) is
 
     pub is_within : nearest ≤ top
-    is_within = is_there keep codes lined top low end (2 ^ 32) nearest beyond near (omega (arith, some, many))
+    is_within = is_there keep codes lined top low end (2 ^ 64 - 1) nearest beyond near (omega (arith, some, many))
 
     nth : IsNthCode held (end_of end (length held)) (distance end top nearest)
-    nth = nearest_code keep codes lined top low end (2 ^ 32) nearest beyond near (omega (arith, some, many))
+    nth = nearest_code keep codes lined top low end (2 ^ 64 - 1) nearest beyond near (omega (arith, some, many))
 
     pub end_is : slice_get (sorted (known (items_where_true rows values))) (end_of end (length (known (items_where_true rows values)))) ≡ Some (value_of e (distance end top nearest))
     end_is =
         ap (λ n. slice_get (sorted (known (items_where_true rows values))) (end_of end n)) (sym many)
         ∙ nth_is e sound keep rows values keep_len same keep_at all _ (distance end top nearest) nth
 
-    pub end_is_code : All IsNullOrInteger values → IsCode e (distance end top nearest)
+    pub end_is_code : All IsNullOrStorable values → IsCode e (distance end top nearest)
     end_is_code integers = is_code e sound keep rows values keep_len same keep_at all integers _ (distance end top nearest) nth

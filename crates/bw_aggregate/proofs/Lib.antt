@@ -2,6 +2,7 @@ pub mod Counting
 pub mod Descents
 pub mod Distances
 pub mod Fronts
+pub mod Halves
 pub mod KnownEnds
 pub mod KnownValues
 pub mod LeftRows

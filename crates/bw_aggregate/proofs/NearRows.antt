@@ -1,6 +1,6 @@
 -- Rows of a segment whose distance begins with the bits found so far, one plane further.
-use Rattle.std.proofs.Common.{Bool, List, ap, arith, cond, false, get_or, if◌then◌else◌, inl, inr, length, nat_lt, not, pow_pos, refl, subst, sym, true, ℕ, ◌&&◌, ◌*◌, ◌+◌, ◌-◌, ◌<◌, ◌==◌, ◌^◌, ◌≡◌, ◌≤◌, ◌∙◌}
-use Rattle.std.proofs.Math.Nat.{div-eq_of_lt, div-one, pow-le-pow_right}
+use Rattle.std.proofs.Common.{Bool, List, ap, arith, cond, false, get_or, if◌then◌else◌, inl, inr, length, nat_lt, not, pow_pos, refl, subst, sym, true, ℕ, ◌&&◌, ◌*◌, ◌+◌, ◌-◌, ◌/◌, ◌<◌, ◌==◌, ◌^◌, ◌≡◌, ◌≤◌, ◌∙◌}
+use Rattle.std.proofs.Math.Nat.{div-eq_of_lt, div-lt_iff_lt-mul, div-one, mul-le-mul_left, pow-le-pow_right}
 use Rattle.std.proofs.lemmas.Nat.{le-div}
 use Rattle.std.proofs.lemmas.Bool.{cases_eq, cases_lt, true≢false}
 use Rattle.std.proofs.lemmas.Bool.Decides.{nat_tests}
@@ -166,3 +166,11 @@ left_near m rows left code end top best near none = record {
   within = near.within;
   out = λ j h r t. omega (arith, below_first m best none, near.out j h r t);
 }
+
+-- the first bits of a word, without the last one at least
+pub small_front : (best found k : ℕ) → best < 2 ^ 64 → 1 ≤ k → found ≤ front k best → found < 2 ^ 63
+small_front best found k fits some few =
+    let two : 2 ^ 1 ≤ 2 ^ k = pow-le-pow_right {n = 2} (omega arith) {i = 1} {j = k} some in
+    let most : 2 ^ 63 * 2 ^ 1 ≤ 2 ^ 63 * 2 ^ k = mul-le-mul_left (2 ^ 63) two in
+    let low : best / 2 ^ k < 2 ^ 63 = (div-lt_iff_lt-mul {k = 2 ^ k} {x = best} {y = 2 ^ 63} (pow_pos k)).1 (omega (arith, fits, most)) in
+    omega (arith, few, low)

@@ -156,7 +156,11 @@ module _ (rows : List Bool) (codes : List ℕ) (same : length rows ≡ length co
   low_at : (r : ℕ) → r < length codes → get_or codes r 0 ≤ top
   low_at r h = low r 0 h
 
-  module _ (end : End) (start nearest : ℕ) (beyond : top < start) (is : IsNearest (length codes) (λ r. get_or rows r false) (λ r. get_or codes r 0) end top start nearest) (some : 0 < length held) where
+  near : (e : End) (c : ℕ) → c ≤ top → distance e top c ≤ top
+  near Least c h = h
+  near Greatest c h = omega arith
+
+  module _ (end : End) (start nearest : ℕ) (beyond : top ≤ start) (is : IsNearest (length codes) (λ r. get_or rows r false) (λ r. get_or codes r 0) end top start nearest) (some : 0 < length held) where
     pub is_there : nearest ≤ top
     is_there =
         elim (cases_lt nearest (top + 1)) [
@@ -165,15 +169,22 @@ module _ (rows : List Bool) (codes : List ℕ) (same : length rows ≡ length co
               let none : count_by (λ c. true) held ≡ 0 = no_codes (λ c. true) (λ r h t. absurd (omega (arith, is.none r h t, far, near end (get_or codes r 0) (low_at r h)))) in
               absurd (omega (arith, some, none, count_all held))
         ]
-      where
-        near : (e : End) (c : ℕ) → c ≤ top → distance e top c ≤ top
-        near Least c h = h
-        near Greatest c h = omega arith
 
+    -- where no row is nearer than the start, each is as far as a code can be
     near_there : 0 < count_by (λ c. distance end top c == nearest) held
-    near_there = omega (arith, is.there (omega (arith, is_there, beyond)), counted (λ c. distance end top c == nearest))
+    near_there =
+        elim (cases_lt nearest start) [
+          | inl less ↦ omega (arith, is.there less, counted (λ c. distance end top c == nearest))
+          | inr far ↦
+              let each = alike (λ c. distance end top c == nearest) (λ c. true) (λ r h t.
+              let least = is.none r h t in
+              let most = near end (get_or codes r 0) (low_at r h) in
+              let same : distance end top (get_or codes r 0) ≡ nearest = omega (arith, least, most, far, beyond, is_there) in
+              grind (arith, nat_tests, same)) in
+              omega (arith, each, count_all held, some)
+        ]
 
-  pub nearest_code : (end : End) (start nearest : ℕ) → top < start → IsNearest (length codes) (λ r. get_or rows r false) (λ r. get_or codes r 0) end top start nearest → 0 < length held
+  pub nearest_code : (end : End) (start nearest : ℕ) → top ≤ start → IsNearest (length codes) (λ r. get_or rows r false) (λ r. get_or codes r 0) end top start nearest → 0 < length held
       → IsNthCode held (end_of end (length held)) (distance end top nearest)
   nearest_code Least start nearest beyond is some =
       let there = near_there Least start nearest beyond is some in

@@ -1,5 +1,5 @@
 -- Sums of rows by runs: a row more, and a run of which no row is in.
-use Rattle.std.proofs.Common.{Bool, List, None, Option, [], ap, arith, drop, false, get_or, if◌then◌else◌, length, length-drop, ltb, pos, refl, suc, sum, sym, take, true, w32, w64, zero, ℕ, ℤ, ◌&&◌, ◌*◌, ◌+◌, ◌+ℤ◌, ◌-◌, ◌<◌, ◌^◌, ◌≡◌, ◌≤◌, ◌∙◌, ◌∷◌}
+use Rattle.std.proofs.Common.{Bool, List, None, Option, [], ap, arith, drop, false, get_or, if◌then◌else◌, length, length-drop, ltb, pos, refl, suc, sum, sym, take, true, w64, zero, ℕ, ℤ, ◌&&◌, ◌*◌, ◌+◌, ◌+ℤ◌, ◌-◌, ◌<◌, ◌^◌, ◌≡◌, ◌≤◌, ◌∙◌, ◌∷◌}
 use Rattle.std.proofs.lemmas.Int.{ints}
 use Rattle.std.proofs.lemmas.Bool.Decides.{nat_tests}
 use Rattle.std.proofs.lemmas.List.{get_or-drop, get_or-take}
@@ -106,23 +106,23 @@ pub few_in : (b : Bool) (code : ℕ) → code < 2 ^ 32 → (if b then code else 
 few_in true code h = omega (arith, h)
 few_in false code h = omega arith
 
--- one value of 32 bits more in a run does not wrap
-pub added_in : (sum value : ℤ) (i : ℕ) → unsigned_abs sum ≤ i * 2 ^ 31 → i < 64 → FitsSigned w32 value
-    → (to_z w64 (of_z w64 (sum +ℤ to_z w64 (of_z w64 value))) ≡ sum +ℤ value) × (unsigned_abs (sum +ℤ value) ≤ (i + 1) * 2 ^ 31)
+-- one value of 64 bits more in a run does not wrap
+pub added_in : (sum value : ℤ) (i : ℕ) → unsigned_abs sum ≤ i * 2 ^ 63 → i < 64 → FitsSigned w64 value
+    → (to_z w128 (of_z w128 (sum +ℤ to_z w128 (of_z w128 (to_z w64 (of_z w64 value))))) ≡ sum +ℤ value) × (unsigned_abs (sum +ℤ value) ≤ (i + 1) * 2 ^ 63)
 added_in sum value i small few fits =
     let first : to_z w64 (of_z w64 value) ≡ value = omega (arith, ints, fits) in
-    let most : unsigned_abs value ≤ 2 ^ 31 = omega (arith, ints, fits) in
-    let whole : unsigned_abs sum ≤ 2 ^ 37 = omega (arith, small, few) in
-    (rw first (omega (arith, ints, most, whole)), omega (arith, ints, most, small))
+    let second : to_z w128 (of_z w128 value) ≡ value = omega (arith, ints, fits) in
+    let most : unsigned_abs value ≤ 2 ^ 63 = omega (arith, ints, fits) in
+    let whole : unsigned_abs sum ≤ 2 ^ 69 = omega (arith, small, few) in
+    (rw (first, second) (omega (arith, ints, most, whole)), omega (arith, ints, most, small))
 
 -- one run more does not wrap
-pub run_added : (sum run : ℤ) (q : ℕ) → unsigned_abs sum ≤ q * (64 * 2 ^ 31) → q < 2 ^ 24 → unsigned_abs run ≤ 64 * 2 ^ 31
-    → (to_z w128 (of_z w128 (sum +ℤ to_z w128 (of_z w128 (to_z w64 (of_z w64 run))))) ≡ sum +ℤ run) × (unsigned_abs (sum +ℤ run) ≤ (q + 1) * (64 * 2 ^ 31))
+pub run_added : (sum run : ℤ) (q : ℕ) → unsigned_abs sum ≤ q * (64 * 2 ^ 63) → q < 2 ^ 24 → unsigned_abs run ≤ 64 * 2 ^ 63
+    → (to_z w128 (of_z w128 (sum +ℤ to_z w128 (of_z w128 run))) ≡ sum +ℤ run) × (unsigned_abs (sum +ℤ run) ≤ (q + 1) * (64 * 2 ^ 63))
 run_added sum run q small few most =
-    let first : to_z w64 (of_z w64 run) ≡ run = omega (arith, ints, most) in
-    let second : to_z w128 (of_z w128 run) ≡ run = omega (arith, ints, most) in
-    let whole : unsigned_abs sum ≤ 2 ^ 61 = omega (arith, small, few) in
-    (rw (first, second) (omega (arith, ints, most, whole)), omega (arith, ints, most, small))
+    let first : to_z w128 (of_z w128 run) ≡ run = omega (arith, ints, most) in
+    let whole : unsigned_abs sum ≤ 2 ^ 93 = omega (arith, small, few) in
+    (rw first (omega (arith, ints, most, whole)), omega (arith, ints, most, small))
 
 -- the bits of a mask from a place on are a run of its rows
 pub run_of_bits : (rows : List Bool) (at n word : ℕ) → at + n ≤ length rows → n ≤ 64 → ((i : ℕ) → bit_of word i ≡ (ltb i 64 && get_or rows (at + i) false)) → IsRun rows at n word

@@ -1,5 +1,5 @@
 -- Sums of the codes and of the values of the rows in front of a place, and runs of rows behind it.
-use Rattle.std.specs.Prelude.{Bool, List, Option, false, length, slice_index_or, sum, take, ℕ, ℤ, ◌+◌, ◌<◌, ◌≡◌, ◌≤◌}
+use Rattle.std.specs.Prelude.{Bool, List, Option, false, length, slice_index_or, sum, take, ℕ, ℤ, ◌%◌, ◌+◌, ◌/◌, ◌<◌, ◌^◌, ◌≡◌, ◌≤◌}
 use Rattle.std.specs.List.{items_where_true}
 use Rattle.bw_mask.specs.Masks.{bit_of}
 use Rattle.bw_model.specs.SetFunctions.{known, total}
@@ -11,6 +11,13 @@ code_sum rows codes n = sum (items_where_true (take n rows) (take n codes))
 -- the sum of the values of these rows
 abbrev pub value_total : List Bool → List (Option ℤ) → ℕ → ℤ
 value_total rows values n = total (known (items_where_true (take n rows) (take n values)))
+
+-- a code as two numbers of 32 bits
+abbrev pub lower_half : ℕ → ℕ
+lower_half code = code % 2 ^ 32
+
+abbrev pub upper_half : ℕ → ℕ
+upper_half code = code / 2 ^ 32
 
 -- of so many rows, n from a place on are there, and the bits of a word say which of them are in
 pub record IsRun (rows : List Bool) (at n word : ℕ) : Type 0 where

@@ -34,8 +34,8 @@ impl Distances {
     }
 }
 
-/// Farther than any code is.
-pub(crate) const FARTHEST: u64 = 1 << 32;
+/// As far as any code can be.
+pub(crate) const FARTHEST: u64 = u64::MAX;
 
 /// How far a code is from the end: from 0, or from the greatest code that there may be.
 pub(crate) fn distance(end: End, top: u64, code: u64) -> u64
@@ -51,9 +51,9 @@ pub(crate) fn distance(end: End, top: u64, code: u64) -> u64
 
 /// The greatest code of so many bits.
 pub(crate) fn greatest_code(bits: u32) -> u64
-    requires { bits ≤ 32 }
-    ensures is { result ≡ 2 ^ bits - 1 }
-    ensures few { result < 2 ^ 32 }
+    requires some { 1 ≤ bits }
+    requires few { bits ≤ 64 }
+    ensures { result ≡ 2 ^ bits - 1 }
 {
-    (1 << bits) - 1
+    u64::MAX >> (64 - bits)
 }

@@ -4,7 +4,7 @@ ghost use Rattle.std.specs.Prelude.{All, Some, is_some, length, slice_get, slice
 ghost use Rattle.bw_mask.specs.Masks.{len, row_at};
 ghost use Rattle.bw_code.specs.Encodings.{width};
 ghost use Rattle.bw_column.specs.Codes.{codes_for};
-ghost use Rattle.bw_column.specs.Values.{IsNullOrInteger, value_at};
+ghost use Rattle.bw_column.specs.Values.{IsNullOrHeld, value_at};
 ghost use Rattle.bw_model.specs.SetFunctions.{sorted};
 ghost use Rattle.bw_aggregate.specs.Chosen.{chosen};
 ghost use Rattle.bw_aggregate.specs.Descents.{end_of};
@@ -17,10 +17,9 @@ use bw_mask::Mask;
 /// The least value of the rows that are not null, or the greatest, by the least distance of their codes. There is one.
 fn end_value(column: &Column, rows: &Mask, end: End, nearest: u64) -> i64
     requires len { len rows.now ≡ length column.now.values }
-    requires integers { All IsNullOrInteger column.now.values }
+    requires held { All (IsNullOrHeld column.now.layout) column.now.values }
     requires some { 0 < length (chosen column.now rows.now) }
-    requires narrow { width column.now.encoding ≤ 32 }
-    requires nearest { IsNearest (length (codes_for column.now.encoding column.now.values)) (λ r. row_at rows.now r && is_some (value_at column.now.values r)) (slice_index (codes_for column.now.encoding column.now.values)) end (2 ^ width column.now.encoding - 1) (2 ^ 32) nearest }
+    requires nearest { IsNearest (length (codes_for column.now.encoding column.now.values)) (λ r. row_at rows.now r && is_some (value_at column.now.values r)) (slice_index (codes_for column.now.encoding column.now.values)) end (2 ^ width column.now.encoding - 1) (2 ^ 64 - 1) nearest }
     ensures { Some result ≡ slice_get (sorted (chosen column.now rows.now)) (end_of end (length (chosen column.now rows.now))) }
 {
     let encoding = column.encoding();
@@ -37,10 +36,9 @@ pub(crate) fn end_told(
     asked: bool,
 ) -> Option<i64>
     requires len { len rows.now ≡ length column.now.values }
-    requires integers { All IsNullOrInteger column.now.values }
+    requires held { All (IsNullOrHeld column.now.layout) column.now.values }
     requires some { 0 < length (chosen column.now rows.now) }
-    requires narrow { width column.now.encoding ≤ 32 }
-    requires nearest { asked ≡ true → IsNearest (length (codes_for column.now.encoding column.now.values)) (λ r. row_at rows.now r && is_some (value_at column.now.values r)) (slice_index (codes_for column.now.encoding column.now.values)) end (2 ^ width column.now.encoding - 1) (2 ^ 32) nearest }
+    requires nearest { asked ≡ true → IsNearest (length (codes_for column.now.encoding column.now.values)) (λ r. row_at rows.now r && is_some (value_at column.now.values r)) (slice_index (codes_for column.now.encoding column.now.values)) end (2 ^ width column.now.encoding - 1) (2 ^ 64 - 1) nearest }
     ensures { asked ≡ true → result ≡ slice_get (sorted (chosen column.now rows.now)) (end_of end (length (chosen column.now rows.now))) }
 {
     if asked {

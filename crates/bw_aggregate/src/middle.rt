@@ -6,7 +6,7 @@ ghost use Rattle.bw_mask.specs.Masks.{len};
 ghost use Rattle.bw_code.specs.Columns.{Fit};
 ghost use Rattle.bw_code.specs.Encodings.{width};
 ghost use Rattle.bw_column.specs.Codes.{codes_for};
-ghost use Rattle.bw_column.specs.Values.{IsNullOrInteger};
+ghost use Rattle.bw_column.specs.Values.{IsNullOrHeld};
 ghost use Rattle.bw_model.specs.SetFunctions.{median};
 ghost use Rattle.bw_aggregate.specs.Chosen.{AreKnownRows, chosen};
 ghost use Rattle.bw_aggregate.specs.Descending.{IsDescent};
@@ -23,7 +23,7 @@ use std::alloc::{AllocError, Global};
 
 /// Takes the descent down all planes where they lie, from the top.
 fn descend_in_place(codes: &VerticalColumn, descent: &mut Descent)
-    requires { codes.now.width ≤ 32 }
+    requires { codes.now.width ≤ 64 }
     ensures { (held : List ℕ) (n : ℕ) → IsDescent codes.now.codes held n codes.now.width descent.old → IsDescent codes.now.codes held n 0 descent.new }
 {
     let width = codes.width();
@@ -104,7 +104,7 @@ pub(crate) fn median_of(
     requires count { count ≡ length (chosen column.now known.now) }
     requires some { 0 < count }
     requires few { length column.now.values ≤ 2 ^ 24 }
-    requires integers { All IsNullOrInteger column.now.values }
+    requires held { All (IsNullOrHeld column.now.layout) column.now.values }
     requires segments { segments ≡ (length column.now.values + 255) / 256 }
     ensures { IfOk result (λ value. Some value ≡ median (chosen column.now known.now)) }
 {

@@ -36,7 +36,7 @@ fn rows_that_may_be_nearer(
 ) -> [u64; 4]
     requires there { q < segments_of (count codes.now) }
     requires few { count codes.now ≤ 2 ^ 24 }
-    requires narrow { codes.now.width ≤ 32 }
+    requires narrow { codes.now.width ≤ 64 }
     requires fit { Fit codes.now.width codes.now.codes }
     ensures left { (j : ℕ) → j < 256 → row_in result j ≡ true → row_in rows.now j ≡ true }
     ensures out { (j : ℕ) → j < 256 → row_in rows.now j ≡ true → row_in result j ≡ false → best ≤ distance end (2 ^ codes.now.width - 1) (code_at codes.now (256 * q + j)) }
@@ -66,10 +66,9 @@ fn nearer_or_all(some: bool, nearer: [u64; 4], all: [u64; 4]) -> [u64; 4]
 fn nearest_of(codes: &VerticalColumn, q: usize, rows: &[u64; 4], end: End, best: u64) -> u64
     requires there { q < segments_of (count codes.now) }
     requires few { count codes.now ≤ 2 ^ 24 }
-    requires narrow { codes.now.width ≤ 32 }
+    requires narrow { codes.now.width ≤ 64 }
     requires fit { Fit codes.now.width codes.now.codes }
     requires some { nat_lt 0 (marked 256 (row_in rows.now)) ≡ true }
-    requires small { best ≤ 2 ^ 32 }
     ensures { IsNearest 256 (row_in rows.now) (λ j. code_at codes.now (256 * q + j)) end (2 ^ codes.now.width - 1) best result }
 {
     let k = codes.width() as usize;
@@ -92,9 +91,8 @@ fn nearest_of(codes: &VerticalColumn, q: usize, rows: &[u64; 4], end: End, best:
 fn nearest_in_segment(codes: &VerticalColumn, q: usize, rows: &[u64; 4], end: End, best: u64) -> u64
     requires there { q < segments_of (count codes.now) }
     requires few { count codes.now ≤ 2 ^ 24 }
-    requires narrow { codes.now.width ≤ 32 }
+    requires narrow { codes.now.width ≤ 64 }
     requires fit { Fit codes.now.width codes.now.codes }
-    requires small { best ≤ 2 ^ 32 }
     ensures { IsNearest 256 (row_in rows.now) (λ j. code_at codes.now (256 * q + j)) end (2 ^ codes.now.width - 1) best result }
 {
     let left = rows_that_may_be_nearer(codes, q, rows, end, best);
@@ -111,8 +109,9 @@ const FIRST_GROUPS: usize = 3;
 
 /// As many of the first groups as there are, of codes of so many bits.
 fn first_groups(width: u32) -> usize
-    requires { width ≤ 32 }
-    ensures { 4 * result ≤ width }
+    requires { width ≤ 64 }
+    ensures within { 4 * result ≤ width }
+    ensures some { width < 4 * result + 64 }
 {
     (width as usize / 4).min(FIRST_GROUPS)
 }
@@ -128,7 +127,7 @@ struct NearRows {
 fn near_rows(codes: &VerticalColumn, q: usize, rows: &[u64; 4], groups: usize) -> NearRows
     requires there { q < segments_of (count codes.now) }
     requires few { count codes.now ≤ 2 ^ 24 }
-    requires narrow { codes.now.width ≤ 32 }
+    requires narrow { codes.now.width ≤ 64 }
     requires fit { Fit codes.now.width codes.now.codes }
     requires within { 4 * groups ≤ codes.now.width }
     ensures least { MayBeNearer (row_in rows.now) (row_in result.least) (λ j. code_at codes.now (256 * q + j)) Least (2 ^ codes.now.width - 1) (2 ^ (codes.now.width - 4 * groups)) }
@@ -158,11 +157,11 @@ fn nearest_among(
 ) -> u64
     requires there { q < segments_of (count codes.now) }
     requires few { count codes.now ≤ 2 ^ 24 }
-    requires narrow { codes.now.width ≤ 32 }
+    requires narrow { codes.now.width ≤ 64 }
     requires fit { Fit codes.now.width codes.now.codes }
     requires within { 4 * groups ≤ codes.now.width }
+    requires some { codes.now.width < 4 * groups + 64 }
     requires near { MayBeNearer (row_in rows.now) (row_in near.now) (λ j. code_at codes.now (256 * q + j)) end (2 ^ codes.now.width - 1) (2 ^ (codes.now.width - 4 * groups)) }
-    requires small { best ≤ 2 ^ 32 }
     ensures { IsNearest 256 (row_in rows.now) (λ j. code_at codes.now (256 * q + j)) end (2 ^ codes.now.width - 1) best result }
 {
     if best == 0 {
@@ -188,10 +187,8 @@ pub(crate) fn nearest_to_ends(
 ) -> Distances
     requires there { q < segments_of (count codes.now) }
     requires few { count codes.now ≤ 2 ^ 24 }
-    requires narrow { codes.now.width ≤ 32 }
+    requires narrow { codes.now.width ≤ 64 }
     requires fit { Fit codes.now.width codes.now.codes }
-    requires least { best.least ≤ 2 ^ 32 }
-    requires greatest { best.greatest ≤ 2 ^ 32 }
     ensures { AreNearest 256 (row_in rows.now) (λ j. code_at codes.now (256 * q + j)) (2 ^ codes.now.width - 1) best result }
 {
     if best.are_none() {

@@ -30,7 +30,7 @@ impl<'a> GroupPlane<'a> {
     /// Plane i of a column, counted from the highest.
     pub(crate) fn of(codes: &'a VerticalColumn, i: usize) -> GroupPlane<'a>
         requires within { i < codes.now.width }
-        requires narrow { codes.now.width ≤ 32 }
+        requires narrow { codes.now.width ≤ 64 }
         ensures { IsGroupPlane codes.now i result }
     {
         let i = i as u32;
@@ -71,7 +71,7 @@ pub(crate) fn plane_at(codes: &VerticalColumn, q: usize, i: usize) -> &[u64; 4]
     requires there { q < segments_of (count codes.now) }
     requires within { i < codes.now.width }
     requires few { count codes.now ≤ 2 ^ 24 }
-    requires narrow { codes.now.width ≤ 32 }
+    requires narrow { codes.now.width ≤ 64 }
     ensures { (j : ℕ) → j < 256 → row_in result.now j ≡ bit_of (code_at codes.now (256 * q + j)) (codes.now.width - 1 - i) }
 {
     let GroupPlane { group, count, at } = GroupPlane::of(codes, i);

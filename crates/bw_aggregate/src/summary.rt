@@ -1,8 +1,8 @@
 //! What set functions say of a column's values in some rows.
 
-ghost use Rattle.std.specs.Prelude.{All, IfOk, if◌then◌else◌, length, true, ◌+◌, ◌/◌, ◌<◌, ◌≡◌, ◌≤◌, ◌^◌};
+ghost use Rattle.std.specs.Prelude.{All, IfOk, if◌then◌else◌, length, true, ◌+◌, ◌-◌, ◌/◌, ◌<◌, ◌≡◌, ◌≤◌, ◌^◌};
 ghost use Rattle.bw_mask.specs.Masks.{len};
-ghost use Rattle.bw_column.specs.Values.{IsNullOrInteger};
+ghost use Rattle.bw_column.specs.Values.{IsNullOrHeld};
 ghost use Rattle.bw_model.specs.SetFunctions.{median};
 ghost use Rattle.bw_aggregate.specs.Chosen.{chosen};
 ghost use Rattle.bw_aggregate.specs.Summaries.{IsSummary};
@@ -34,10 +34,10 @@ impl Asked {
         median: false,
     };
 
-    /// The distances to begin with: at an end that is asked for farther than any code is.
+    /// The distances to begin with: at an end that is asked for as far as any code can be.
     fn farthest(&self) -> Distances
-        ensures least { result.least ≡ (if self.now.least then 2 ^ 32 else 0) }
-        ensures greatest { result.greatest ≡ (if self.now.greatest then 2 ^ 32 else 0) }
+        ensures least { result.least ≡ (if self.now.least then 2 ^ 64 - 1 else 0) }
+        ensures greatest { result.greatest ≡ (if self.now.greatest then 2 ^ 64 - 1 else 0) }
     {
         Distances {
             least: if self.least { FARTHEST } else { 0 },
@@ -114,7 +114,7 @@ fn median_told(
     requires count { count ≡ length (chosen column.now rows.now) }
     requires some { 0 < count }
     requires few { length column.now.values ≤ 2 ^ 24 }
-    requires integers { All IsNullOrInteger column.now.values }
+    requires held { All (IsNullOrHeld column.now.layout) column.now.values }
     requires segments { segments ≡ (length column.now.values + 255) / 256 }
     ensures { IfOk result (λ value. asked ≡ true → value ≡ median (chosen column.now rows.now)) }
 {

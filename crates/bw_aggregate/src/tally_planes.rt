@@ -1,7 +1,7 @@
 //! The sum of codes and both their ends by their planes, in one pass over the segments: what each tells while its planes are at
 //! hand.
 
-ghost use Rattle.std.specs.Prelude.{Bool, List, length, sum, true, ◌&&◌, ◌*◌, ◌+◌, ◌-◌, ◌<◌, ◌^◌, ◌≡◌, ◌≤◌};
+ghost use Rattle.std.specs.Prelude.{Bool, List, false, length, sum, true, ◌&&◌, ◌*◌, ◌+◌, ◌-◌, ◌<◌, ◌^◌, ◌≡◌, ◌≤◌};
 ghost use Rattle.bw_mask.specs.Masks.{len, row_at};
 ghost use Rattle.bw_code.specs.Columns.{Fit, count};
 ghost use Rattle.bw_vertical.specs.Planes.{segments_of};
@@ -19,12 +19,14 @@ use bw_mask::Mask;
 use bw_vertical::VerticalColumn;
 
 /// The sum of the codes of those rows of segment q that are in, where it is asked for.
-fn sum_if(asked: bool, codes: &VerticalColumn, q: usize, rows: &[u64; 4]) -> u64
+fn sum_if(asked: bool, codes: &VerticalColumn, q: usize, rows: &[u64; 4]) -> u128
     requires there { q < segments_of (count codes.now) }
     requires few { count codes.now ≤ 2 ^ 24 }
-    requires narrow { codes.now.width ≤ 32 }
+    requires narrow { codes.now.width ≤ 64 }
     requires fit { Fit codes.now.width codes.now.codes }
-    ensures { asked ≡ true → (need : List Bool) → length need ≡ count codes.now → AreRows need q rows.now → result ≡ sum (codes_between need codes.now.codes (256 * q) (256 * q + 256)) }
+    ensures sum { asked ≡ true → (need : List Bool) → length need ≡ count codes.now → AreRows need q rows.now → result ≡ sum (codes_between need codes.now.codes (256 * q) (256 * q + 256)) }
+    ensures unasked { asked ≡ false → result ≡ 0 }
+    ensures small { result ≤ 2 ^ 97 }
 {
     if asked {
         segment_sum(codes, q, rows)
@@ -44,10 +46,8 @@ pub(crate) fn tally_by_planes(
 ) -> Tally
     requires len { len rows.now ≡ count codes.now }
     requires nonnull_len { len nonnull.now ≡ count codes.now }
-    requires narrow { codes.now.width ≤ 32 }
+    requires narrow { codes.now.width ≤ 64 }
     requires fit { Fit codes.now.width codes.now.codes }
-    requires least { far.least ≤ 2 ^ 32 }
-    requires greatest { far.greatest ≤ 2 ^ 32 }
     ensures { IsTally sum rows.now.rows (λ r. row_at rows.now r && row_at nonnull.now r) codes.now.codes (2 ^ codes.now.width - 1) far result }
 {
     let words = rows.words();
@@ -57,7 +57,7 @@ pub(crate) fn tally_by_planes(
     'segments: for q in 0..codes.len().div_ceil(256) {
         let rows = rows_at(words, q as u32);
         let known = rows_with(&rows, &rows_at(nonnull_words, q as u32), true);
-        total += u128::from(sum_if(sum, codes, q, &rows));
+        total += sum_if(sum, codes, q, &rows);
         best = nearest_to_ends(codes, q, &known, best);
     }
     Tally {

@@ -26,25 +26,26 @@ struct Run {
 /// What the codes of a run tell.
 #[derive(Clone, Copy)]
 struct RunTally {
-    sum: u64,
+    sum: u128,
     nearest: Distances,
 }
 
 /// The sum of the codes of a run's rows that are in, where it is asked for.
-fn sum_if(asked: bool, codes: &[u64], rows: u64) -> u64
+fn sum_if(asked: bool, codes: &[u64], bits: u32, rows: u64) -> u128
     requires few { length codes.now ≤ 64 }
-    requires narrow { All (λ code. code < 2 ^ 32) codes.now }
+    requires fit { All (λ code. code < 2 ^ bits) codes.now }
+    requires narrow { bits ≤ 64 }
     ensures sum { asked ≡ true → (need : List Bool) (all : List ℕ) (at : ℕ) → length need ≡ length all → codes.now ≡ take (length codes.now) (drop at all) → IsRun need at (length codes.now) rows
         → code_sum need all (at + length codes.now) ≡ code_sum need all at + result }
-    ensures small { result ≤ 64 * 2 ^ 32 }
+    ensures small { result ≤ 65 * 2 ^ 64 }
 {
-    if asked { run_sum(codes, rows) } else { 0 }
+    if asked { run_sum(codes, bits, rows) } else { 0 }
 }
 
 /// What the codes of a run tell: their sum, where it is asked for, and the least distances from both ends, or `best` where none
 /// is nearer. Where no row is in, no code is read.
 fn run_tally<C: CodeColumn>(column: &C, run: Run, sum: bool, top: u64, best: Distances) -> RunTally
-    requires narrow { (C.seen column.now).width ≤ 32 }
+    requires narrow { (C.seen column.now).width ≤ 64 }
     requires few { run.n ≤ 64 }
     requires inside { run.at + run.n ≤ count (C.seen column.now) }
     requires fit { Fit (C.seen column.now).width (C.seen column.now).codes }
@@ -52,7 +53,7 @@ fn run_tally<C: CodeColumn>(column: &C, run: Run, sum: bool, top: u64, best: Dis
     requires known { (i : ℕ) → bit_of run.known i ≡ true → bit_of run.rows i ≡ true }
     ensures sum { sum ≡ true → (need : List Bool) → length need ≡ count (C.seen column.now) → IsRun need run.at run.n run.rows
         → code_sum need (C.seen column.now).codes (run.at + run.n) ≡ code_sum need (C.seen column.now).codes run.at + result.sum }
-    ensures small { result.sum ≤ 64 * 2 ^ 32 }
+    ensures small { result.sum ≤ 65 * 2 ^ 64 }
     ensures nearest { AreNearest run.n (bit_of run.known) (λ i. code_at (C.seen column.now) (run.at + i)) top best result.nearest }
 {
     if run.rows == 0 {
@@ -65,7 +66,7 @@ fn run_tally<C: CodeColumn>(column: &C, run: Run, sum: bool, top: u64, best: Dis
     let codes = &mut codes[..run.n];
     column.read(run.at, codes);
     RunTally {
-        sum: sum_if(sum, codes, run.rows),
+        sum: sum_if(sum, codes, column.width(), run.rows),
         nearest: run_nearest_to_ends(codes, run.known, top, best),
     }
 }
@@ -81,7 +82,7 @@ pub(crate) fn tally_in_runs<C: CodeColumn>(
 ) -> Tally
     requires len { len rows.now ≡ count (C.seen column.now) }
     requires nonnull_len { len nonnull.now ≡ count (C.seen column.now) }
-    requires narrow { (C.seen column.now).width ≤ 32 }
+    requires narrow { (C.seen column.now).width ≤ 64 }
     requires fit { Fit (C.seen column.now).width (C.seen column.now).codes }
     ensures { IsTally sum rows.now.rows (λ r. row_at rows.now r && row_at nonnull.now r) (C.seen column.now).codes (2 ^ (C.seen column.now).width - 1) far result }
 {
@@ -95,7 +96,7 @@ pub(crate) fn tally_in_runs<C: CodeColumn>(
         let known = rows & nonnull.bits(at, 64);
         let run = Run { at, n, rows, known };
         let RunTally { sum: more, nearest } = run_tally(column, run, sum, top, best);
-        total += u128::from(more);
+        total += more;
         best = nearest;
     }
     Tally {

@@ -32,10 +32,7 @@ pub(crate) struct Told {
 fn code_tally(column: &Column, rows: &Mask, sum: bool, far: Distances) -> Tally
     requires len { len rows.now ≡ length column.now.values }
     requires fit { Fit (width column.now.encoding) (codes_for column.now.encoding column.now.values) }
-    requires least { far.least ≤ 2 ^ 32 }
-    requires greatest { far.greatest ≤ 2 ^ 32 }
-    ensures narrow { width column.now.encoding ≤ 32 }
-    ensures tally { IsTally sum rows.now.rows (λ r. row_at rows.now r && is_some (value_at column.now.values r)) (codes_for column.now.encoding column.now.values) (2 ^ width column.now.encoding - 1) far result }
+    ensures { IsTally sum rows.now.rows (λ r. row_at rows.now r && is_some (value_at column.now.values r)) (codes_for column.now.encoding column.now.values) (2 ^ width column.now.encoding - 1) far result }
 {
     let (storage, nonnull) = (column.storage(), column.nonnull());
     if !sum && far.are_none() {
@@ -77,10 +74,7 @@ pub(crate) fn tell(column: &Column, rows: &Mask, count: usize, sum: bool, far: D
     requires few { count ≤ 2 ^ 24 }
     requires count { count ≡ length (chosen column.now rows.now) }
     requires some { 0 < count }
-    requires least { far.least ≤ 2 ^ 32 }
-    requires greatest { far.greatest ≤ 2 ^ 32 }
-    ensures narrow { width column.now.encoding ≤ 32 }
-    ensures told { IsTold column.now rows.now sum far result }
+    ensures { IsTold column.now rows.now sum far result }
 {
     match column.encoding() {
         Encoding::Offset(offset) => {

@@ -19,23 +19,39 @@ const RUN: usize = 1_024;
 // The most codes of a column.
 const ROW_LIMIT: usize = 16_777_216;
 
-/// Times every layout at every width over so many codes, so many times.
+/// Times every layout over so many codes, so many times: at every width to 32, and at every eighth one above, where BitWeaving/H
+/// has no codes.
 pub(crate) fn time_layouts(rt: &HostRuntime, rounds: u32, count: usize) -> io::Result<()> {
     let count = count.min(ROW_LIMIT);
     for width in 1..=32 {
         let codes = codes_of(rt.alloc(), width, count)?;
-        time_column::<PlainColumn>(rt, Timed { layout: "P", width }, rounds, &codes)?;
-        time_column::<VerticalColumn>(rt, Timed { layout: "V", width }, rounds, &codes)?;
         time_column::<HorizontalColumn>(rt, Timed { layout: "H", width }, rounds, &codes)?;
-        time_column::<SliceColumn>(rt, Timed { layout: "S", width }, rounds, &codes)?;
+        time_others(rt, width, rounds, &codes)?;
+    }
+    for eighths in 5..=8 {
+        let width = 8 * eighths;
+        let codes = codes_of(rt.alloc(), width, count)?;
+        time_others(rt, width, rounds, &codes)?;
     }
     Ok(())
+}
+
+// Times the layouts that have codes of any width.
+fn time_others(rt: &HostRuntime, width: u32, rounds: u32, codes: &[u64]) -> io::Result<()>
+    requires some { 1 ≤ width }
+    requires narrow { width ≤ 64 }
+    requires fit { Fit width codes.now }
+    requires few { length codes.now ≤ 2 ^ 24 }
+{
+    time_column::<PlainColumn>(rt, Timed { layout: "P", width }, rounds, codes)?;
+    time_column::<VerticalColumn>(rt, Timed { layout: "V", width }, rounds, codes)?;
+    time_column::<SliceColumn>(rt, Timed { layout: "S", width }, rounds, codes)
 }
 
 // Random codes of so many bits.
 fn codes_of(alloc: Global, width: u32, count: usize) -> Result<Vec<u64>, AllocError>
     requires some { 1 ≤ width }
-    requires narrow { width ≤ 32 }
+    requires narrow { width ≤ 64 }
     ensures count { IfOk result (λ codes. vec_len codes ≡ count) }
     ensures fit { IfOk result (λ codes. Fit width codes.items) }
 {
@@ -55,7 +71,7 @@ fn mixed(row: u64) -> u64 {
 // The upper bits of a word: a number of so many bits.
 fn upper_bits(word: u64, width: u32) -> u64
     requires some { 1 ≤ width }
-    requires narrow { width ≤ 32 }
+    requires narrow { width ≤ 64 }
     ensures { result < 2 ^ width }
 {
     word >> (64 - width)
@@ -87,7 +103,7 @@ fn time_column<C: CodeColumn + Drop>(
     codes: &[u64],
 ) -> io::Result<()>
     requires some { 1 ≤ timed.width }
-    requires narrow { timed.width ≤ 32 }
+    requires narrow { timed.width ≤ 64 }
     requires wide { timed.width ≤ C.WIDEST }
     requires fit { Fit timed.width codes.now }
     requires few { length codes.now ≤ 2 ^ 24 }
@@ -113,7 +129,7 @@ fn time_scan<C: CodeColumn>(
     column: &C,
 ) -> io::Result<()>
     requires some { 1 ≤ timed.width }
-    requires narrow { timed.width ≤ 32 }
+    requires narrow { timed.width ≤ 64 }
     requires width { (C.seen column.now).width ≡ timed.width }
 {
     let need = Mask::filled(rt.alloc(), column.len(), true)?;
@@ -132,7 +148,6 @@ fn column_of<C: CodeColumn + Drop>(
     codes: &[u64],
 ) -> Result<C, AllocError>
     requires some { 1 ≤ width }
-    requires narrow { width ≤ 32 }
     requires wide { width ≤ C.WIDEST }
     requires fit { Fit width codes.now }
     requires few { length codes.now ≤ 2 ^ 24 }
@@ -160,7 +175,7 @@ fn read_all<C: CodeColumn>(column: &C) -> u64 {
 // Finds the codes below a tenth of the greatest, and says how many they are.
 fn scan_once<C: CodeColumn>(column: &C, width: u32, need: &Mask, found: &mut Mask) -> u64
     requires some { 1 ≤ width }
-    requires narrow { width ≤ 32 }
+    requires narrow { width ≤ 64 }
     requires width { (C.seen column.now).width ≡ width }
     requires need { len need.now ≡ count (C.seen column.now) }
     requires found { len found.old ≡ count (C.seen column.now) }

@@ -122,7 +122,7 @@ pub codes_more : (k n : ℕ) (codes : List ℕ) (before after : List (List ℕ))
 codes_more k n codes before after new old = made_more n (code_of k before) (code_of k after) codes 0 old new
 
 -- no slices at first
-pub slices_none : (k : ℕ) (slices : List (List ℕ)) → 1 ≤ k → k ≤ 32 → length slices ≡ slices_of k → ((i : ℕ) → get_or slices i [] ≡ []) → AreSlices k 0 slices
+pub slices_none : (k : ℕ) (slices : List (List ℕ)) → 1 ≤ k → k ≤ 64 → length slices ≡ slices_of k → ((i : ℕ) → get_or slices i [] ≡ []) → AreSlices k 0 slices
 slices_none k slices some narrow count none =
     let zero_at : (j i : ℕ) → byte_of slices j i ≡ 0 = λ j i. ap (λ xs. get_or xs j 0) (none i) in
     let number_none : (j : ℕ) → number_at (slices_of k) slices j ≡ 0 = λ j. number_zero (slices_of k) (byte_of slices j) (λ i _. zero_at j i) in

@@ -14,6 +14,22 @@ pub number_more : (n : ℕ) (byte : ℕ → ℕ) → number_of (n + 1) byte ≡ 
 unfolding number_of
 number_more n byte = rw add-one refl
 
+pub number_of_one : (byte : ℕ → ℕ) → number_of 1 byte ≡ byte 0
+unfolding number_of
+number_of_one byte = omega arith
+
+pub number_of_two : (byte : ℕ → ℕ) → number_of 2 byte ≡ byte 0 * 256 + byte 1
+unfolding number_of
+number_of_two byte = omega arith
+
+pub number_of_three : (byte : ℕ → ℕ) → number_of 3 byte ≡ (byte 0 * 256 + byte 1) * 256 + byte 2
+unfolding number_of
+number_of_three byte = omega arith
+
+pub number_of_four : (byte : ℕ → ℕ) → number_of 4 byte ≡ ((byte 0 * 256 + byte 1) * 256 + byte 2) * 256 + byte 3
+unfolding number_of
+number_of_four byte = omega arith
+
 pub number_same : (n : ℕ) (f g : ℕ → ℕ) → ((i : ℕ) → i < n → f i ≡ g i) → number_of n f ≡ number_of n g
 unfolding number_of
 number_same zero f g same = refl
@@ -55,9 +71,9 @@ module _ (byte : ℕ → ℕ) (fits : (i : ℕ) → byte i < 256) where
       ∙ ap (λ y. y % 256) (front_of d (i + 1) ∙ number_more i byte)
       ∙ omega (arith, fits i)
 
-pub number_small : (byte : ℕ → ℕ) → ((i : ℕ) → byte i < 256) → (n : ℕ) → n ≤ 4 → number_of n byte < 2 ^ 32
+pub number_small : (byte : ℕ → ℕ) → ((i : ℕ) → byte i < 256) → (n : ℕ) → n ≤ 7 → number_of n byte < 2 ^ 56
 number_small byte fits n few =
-    let top : 2 ^ (8 * n) ≤ 2 ^ 32 = pow_mono {i = 8 * n} {j = 32} (omega arith) in
+    let top : 2 ^ (8 * n) ≤ 2 ^ 56 = pow_mono {i = 8 * n} {j = 56} (omega arith) in
     omega (arith, number_fits byte fits n, pow_bytes n, top)
 
 -- the number that its own digits make
@@ -78,3 +94,18 @@ pub number_of_digits : (m x : ℕ) → x < 256 ^ m → number_of m (λ i. digit 
 number_of_digits m x h =
     let all : m ≡ m + 0 = omega arith in
     ap (λ e. number_of m (λ i. digit 256 e x i)) all ∙ number_of_front x m 0 (subst (λ e. x < 256 ^ e) all h) ∙ ap (λ p. x / p) (pow-zero 256) ∙ div-one x
+
+-- a number by its upper bytes and its four lowest
+pub number_join : (m : ℕ) (byte f g : ℕ → ℕ) → ((i : ℕ) → i < m → f i ≡ byte i) → ((i : ℕ) → i < 4 → g i ≡ byte (m + i)) → number_of (m + 4) byte ≡ 2 ^ 32 * number_of m f + number_of 4 g
+number_join m byte f g upper lower =
+    let first : number_of (m + 0 + 1) byte ≡ number_of (m + 0) byte * 256 + byte (m + 0) = number_more (m + 0) byte in
+    let second : number_of (m + 1 + 1) byte ≡ number_of (m + 1) byte * 256 + byte (m + 1) = number_more (m + 1) byte in
+    let third : number_of (m + 2 + 1) byte ≡ number_of (m + 2) byte * 256 + byte (m + 2) = number_more (m + 2) byte in
+    let fourth : number_of (m + 3 + 1) byte ≡ number_of (m + 3) byte * 256 + byte (m + 3) = number_more (m + 3) byte in
+    let none : m + 0 ≡ m = omega arith in
+    let start : number_of (m + 0) byte ≡ number_of m f = ap (λ n. number_of n byte) none ∙ sym (number_same m f byte upper) in
+    let one : number_of (m + 1) byte ≡ number_of (m + 0 + 1) byte = ap (λ n. number_of n byte) (omega arith) in
+    let two : number_of (m + 2) byte ≡ number_of (m + 1 + 1) byte = ap (λ n. number_of n byte) (omega arith) in
+    let three : number_of (m + 3) byte ≡ number_of (m + 2 + 1) byte = ap (λ n. number_of n byte) (omega arith) in
+    let four : number_of (m + 4) byte ≡ number_of (m + 3 + 1) byte = ap (λ n. number_of n byte) (omega arith) in
+    omega (arith, first, second, third, fourth, start, one, two, three, four, number_of_four g, lower 0 (omega arith), lower 1 (omega arith), lower 2 (omega arith), lower 3 (omega arith))

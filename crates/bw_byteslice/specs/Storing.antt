@@ -50,7 +50,7 @@ pub record IsInPlace (slices : List (List ℕ)) (q start : ℕ) : Type 0 where
 -- the slices of n codes
 pub record AreSlices (k n : ℕ) (slices : List (List ℕ)) : Type 0 where
   pub some : 1 ≤ k
-  pub narrow : k ≤ 32
+  pub narrow : k ≤ 64
   pub few : n ≤ 2 ^ 24
   pub count : length slices ≡ slices_of k
   pub long : (i : ℕ) → i < slices_of k → length (slice_index_or slices i []) ≡ 32 * segments_of n

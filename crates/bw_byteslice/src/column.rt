@@ -18,7 +18,7 @@ use bw_mask::Mask;
 use std::alloc::{AllocError, Global};
 use std::marker::Model;
 
-/// A column of codes of at most 32 bits as slices of bytes. Each code is shifted up until its highest bit is the
+/// A column of codes of at most 64 bits as slices of bytes. Each code is shifted up until its highest bit is the
 /// highest of a byte; slice j holds byte j of each code, the highest byte first (ByteSlice: Feng and others, SIGMOD
 /// 2015).
 #[derive(Drop)]
@@ -79,11 +79,11 @@ impl SliceColumn {
 impl CodeColumn for SliceColumn {
     ghost layout = { layouts.S };
 
-    ghost WIDEST = { 32 };
+    ghost WIDEST = { 64 };
 
     ghost seen = { λ c. c };
 
-    const WIDEST: u32 = 32;
+    const WIDEST: u32 = 64;
 
     fn with_width(alloc: Global, width: u32) -> Result<SliceColumn, AllocError> {
         let slices = storage::no_bytes(alloc, slices_of(width))?;

@@ -21,7 +21,7 @@ fn compare<A: Source<[u8; 32]>, B: Source<[u8; 32]>>(
     q: usize,
     need: u32,
 ) -> (u32, u32)
-    requires narrow { m ≤ 4 }
+    requires narrow { m ≤ 8 }
     requires small { q < 2 ^ 32 }
     requires there { (q + 1) * m ≤ length (A.units a.old) }
     requires other_there { (q + 1) * m ≤ length (B.units b.old) }
@@ -60,7 +60,7 @@ fn segment<A: Source<[u8; 32]>, B: Source<[u8; 32]>>(
     op: CmpOp,
     need: u32,
 ) -> u32
-    requires narrow { m ≤ 4 }
+    requires narrow { m ≤ 8 }
     requires small { q < 2 ^ 32 }
     requires there { some_below 32 (bit_of need) ≡ true → (q + 1) * m ≤ length (A.units a.old) }
     requires other_there { some_below 32 (bit_of need) ≡ true → (q + 1) * m ≤ length (B.units b.old) }
@@ -92,7 +92,7 @@ fn pair_numbers<A: Source<[u8; 32]>, B: Source<[u8; 32]>>(
     need: &Mask,
     out: &mut Mask,
 )
-    requires narrow { m ≤ 4 }
+    requires narrow { m ≤ 8 }
     requires few { len need.now ≤ 2 ^ 24 }
     requires out { len out.old ≡ len need.now }
     requires units { length (A.units a.old) ≡ segments_of (len need.now) * m }
@@ -128,7 +128,7 @@ pub fn pair_from<A: Source<[u8; 32]>, B: Source<[u8; 32]>>(
     need: &Mask,
     out: &mut Mask,
 )
-    requires narrow { width ≤ 32 }
+    requires narrow { width ≤ 64 }
     requires few { len need.now ≤ 2 ^ 24 }
     requires out { len out.old ≡ len need.now }
     requires units { length (A.units a.old) ≡ segments_of (len need.now) * slices_of width }

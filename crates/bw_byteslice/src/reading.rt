@@ -2,7 +2,7 @@
 
 ghost use Rattle.std.specs.Prelude.{[], length, slice_index, slice_index_or, ℕ, ◌*◌, ◌+◌, ◌/◌, ◌<◌, ◌^◌, ◌≡◌, ◌≤◌};
 ghost use Rattle.bw_byteslice.specs.Slices.{slices_of};
-ghost use Rattle.bw_byteslice.specs.Storing.{byte_of, bytes_of, code_of};
+ghost use Rattle.bw_byteslice.specs.Storing.{byte_of, bytes_of, code_of, number_at};
 
 use crate::shift::shift_of;
 
@@ -11,7 +11,7 @@ const RUN: usize = 64;
 
 /// The code of row j.
 pub(crate) fn code_at(slices: &[Vec<u8>], width: u32, j: usize) -> u64
-    requires narrow { width ≤ 32 }
+    requires narrow { width ≤ 64 }
     requires count { length slices.now ≡ slices_of width }
     requires bytes { (i j : ℕ) → byte_of (bytes_of slices.now) j i < 256 }
     requires there { (i : ℕ) → i < slices_of width → j < length (slice_index_or (bytes_of slices.now) i []) }
@@ -97,16 +97,15 @@ fn read_four(
     }
 }
 
-/// Fills `out` with the codes from row `at` on. A register takes twice as many numbers of 32 bits as of 64.
-fn read_narrow(slices: &[Vec<u8>], width: u32, at: usize, out: &mut [u32])
-    requires narrow { width ≤ 32 }
-    requires count { length slices.now ≡ slices_of width }
-    requires bytes { (i j : ℕ) → byte_of (bytes_of slices.now) j i < 256 }
-    requires there { (i : ℕ) → i < slices_of width → at + length out.old ≤ length (slice_index_or (bytes_of slices.now) i []) }
+/// Fills `out` with the numbers that the bytes of at most four slices make from row `at` on, without their lowest bits. A
+/// register takes twice as many numbers of 32 bits as of 64.
+fn read_numbers(slices: &[Vec<u8>], spare: u32, at: usize, out: &mut [u32])
+    requires few { length slices.now ≤ 4 }
+    requires spare { spare < 8 }
+    requires there { (i : ℕ) → i < length slices.now → at + length out.old ≤ length (slice_index_or (bytes_of slices.now) i []) }
     ensures len { length out.new ≡ length out.old }
-    ensures codes { (r : ℕ) → r < length out.old → slice_index out.new r ≡ code_of width (bytes_of slices.now) (at + r) }
+    ensures numbers { (r : ℕ) → r < length out.old → slice_index out.new r ≡ number_at (length slices.now) (bytes_of slices.now) (at + r) / 2 ^ spare }
 {
-    let spare = shift_of(width);
     match slices {
         [] => out.fill(0),
         [first] => read_one(first, at, spare, out),
@@ -115,6 +114,55 @@ fn read_narrow(slices: &[Vec<u8>], width: u32, at: usize, out: &mut [u32])
         [first, second, third, fourth] => read_four(first, second, third, fourth, at, spare, out),
         _ => unreachable!(),
     }
+}
+
+/// Fills `out` with the numbers of 64 bits that have these halves, without their lowest bits.
+fn join(high: &[u32], low: &[u32], spare: u32, out: &mut [u64])
+    requires high { length out.old ≡ length high.now }
+    requires low { length out.old ≡ length low.now }
+    requires spare { spare < 8 }
+    ensures len { length out.new ≡ length out.old }
+    ensures same { (r : ℕ) → r < length out.old → slice_index out.new r ≡ (2 ^ 32 * slice_index high.now r + slice_index low.now r) / 2 ^ spare }
+{
+    for r in 0..out.len() {
+        let number = 0x1_0000_0000 * u64::from(high[r]) + u64::from(low[r]);
+        out[r] = number >> spare;
+    }
+}
+
+/// Fills `out` with the numbers of more than 32 bits that the bytes of some slices and of four slices below them make from row
+/// `at` on, without their lowest bits.
+fn read_halves(upper: &[Vec<u8>], lower: &[Vec<u8>], spare: u32, at: usize, out: &mut [u64])
+    requires few { length out.old ≤ 64 }
+    requires upper { length upper.now ≤ 4 }
+    requires lower { length lower.now ≡ 4 }
+    requires spare { spare < 8 }
+    requires there { (i : ℕ) → i < length upper.now → at + length out.old ≤ length (slice_index_or (bytes_of upper.now) i []) }
+    requires lower_there { (i : ℕ) → i < length lower.now → at + length out.old ≤ length (slice_index_or (bytes_of lower.now) i []) }
+    ensures len { length out.new ≡ length out.old }
+    ensures numbers { (r : ℕ) → r < length out.old → slice_index out.new r
+        ≡ (2 ^ 32 * number_at (length upper.now) (bytes_of upper.now) (at + r) + number_at (length lower.now) (bytes_of lower.now) (at + r)) / 2 ^ spare }
+{
+    let n = out.len();
+    let mut high = [0; RUN];
+    let mut low = [0; RUN];
+    read_numbers(upper, 0, at, &mut high[..n]);
+    read_numbers(lower, 0, at, &mut low[..n]);
+    join(&high[..n], &low[..n], spare, out);
+}
+
+/// Fills `out` with the codes of more than 32 bits from row `at` on, of which there are few.
+fn read_wide(slices: &[Vec<u8>], width: u32, at: usize, out: &mut [u64])
+    requires wide { 32 < width }
+    requires narrow { width ≤ 64 }
+    requires count { length slices.now ≡ slices_of width }
+    requires few { length out.old ≤ 64 }
+    requires there { (i : ℕ) → i < slices_of width → at + length out.old ≤ length (slice_index_or (bytes_of slices.now) i []) }
+    ensures len { length out.new ≡ length out.old }
+    ensures codes { (r : ℕ) → r < length out.old → slice_index out.new r ≡ code_of width (bytes_of slices.now) (at + r) }
+{
+    let m = slices.len() - 4;
+    read_halves(&slices[..m], &slices[m..], shift_of(width), at, out);
 }
 
 /// Fills `out` with the numbers.
@@ -130,7 +178,7 @@ fn widen(numbers: &[u32], out: &mut [u64])
 
 /// Fills `out` with the codes from row `at` on, of which there are few.
 fn read_run(slices: &[Vec<u8>], width: u32, at: usize, out: &mut [u64])
-    requires narrow { width ≤ 32 }
+    requires narrow { width ≤ 64 }
     requires count { length slices.now ≡ slices_of width }
     requires bytes { (i j : ℕ) → byte_of (bytes_of slices.now) j i < 256 }
     requires few { length out.old ≤ 64 }
@@ -138,15 +186,18 @@ fn read_run(slices: &[Vec<u8>], width: u32, at: usize, out: &mut [u64])
     ensures len { length out.new ≡ length out.old }
     ensures codes { (r : ℕ) → r < length out.old → slice_index out.new r ≡ code_of width (bytes_of slices.now) (at + r) }
 {
+    if width > 32 {
+        return read_wide(slices, width, at, out);
+    }
     let mut run = [0; RUN];
     let codes = &mut run[..out.len()];
-    read_narrow(slices, width, at, codes);
+    read_numbers(slices, shift_of(width), at, codes);
     widen(codes, out);
 }
 
 /// Fills `out` with the codes from row `at` on.
 pub(crate) fn read(slices: &[Vec<u8>], width: u32, at: usize, out: &mut [u64])
-    requires narrow { width ≤ 32 }
+    requires narrow { width ≤ 64 }
     requires count { length slices.now ≡ slices_of width }
     requires few { at + length out.old ≤ 2 ^ 24 }
     requires bytes { (i j : ℕ) → byte_of (bytes_of slices.now) j i < 256 }

@@ -20,7 +20,7 @@ fn compare<S: Source<[u8; 32]>>(
     constant: u64,
     need: u32,
 ) -> (u32, u32)
-    requires narrow { m ≤ 4 }
+    requires narrow { m ≤ 8 }
     requires constant { constant < 256 ^ m }
     requires small { q < 2 ^ 32 }
     requires there { (q + 1) * m ≤ length (S.units source.old) }
@@ -59,7 +59,7 @@ fn between<S: Source<[u8; 32]>>(
     high: u64,
     need: u32,
 ) -> u32
-    requires narrow { m ≤ 4 }
+    requires narrow { m ≤ 8 }
     requires low { low < 256 ^ m }
     requires high { high < 256 ^ m }
     requires small { q < 2 ^ 32 }
@@ -96,7 +96,7 @@ fn segment<S: Source<[u8; 32]>>(
     test: CodeTest,
     need: u32,
 ) -> u32
-    requires narrow { m ≤ 4 }
+    requires narrow { m ≤ 8 }
     requires test { IsBelow (256 ^ m) test }
     requires small { q < 2 ^ 32 }
     requires there { some_below 32 (bit_of need) ≡ true → (q + 1) * m ≤ length (S.units source.old) }
@@ -129,7 +129,7 @@ fn scan_numbers<S: Source<[u8; 32]>>(
     need: &Mask,
     out: &mut Mask,
 )
-    requires narrow { m ≤ 4 }
+    requires narrow { m ≤ 8 }
     requires test { IsBelow (256 ^ m) test }
     requires few { len need.now ≤ 2 ^ 24 }
     requires out { len out.old ≡ len need.now }
@@ -160,7 +160,7 @@ pub fn scan_from<S: Source<[u8; 32]>>(
     need: &Mask,
     out: &mut Mask,
 )
-    requires narrow { width ≤ 32 }
+    requires narrow { width ≤ 64 }
     requires test { TestFits width test }
     requires few { len need.now ≤ 2 ^ 24 }
     requires out { len out.old ≡ len need.now }

@@ -1,6 +1,6 @@
 //! Codes shifted up until their highest bit is the highest of a byte, and their bytes.
 
-ghost use Rattle.std.specs.Prelude.{◌*◌, ◌<◌, ◌^◌, ◌≡◌, ◌≤◌};
+ghost use Rattle.std.specs.Prelude.{◌*◌, ◌<◌, ◌^◌, ◌≡◌, ◌≤◌, ◌/◌, ◌%◌};
 ghost use Rattle.bw_code.specs.Tests.{TestFits};
 ghost use Rattle.bw_code.specs.Units.{digit};
 ghost use Rattle.bw_byteslice.specs.Slices.{IsBelow, raised, shift_of, slices_of};
@@ -9,7 +9,7 @@ use bw_code::CodeTest;
 
 /// How many slices codes of `width` bits take.
 pub(crate) fn slices_of(width: u32) -> usize
-    requires { width ≤ 32 }
+    requires { width ≤ 64 }
     ensures { result ≡ slices_of width }
 {
     width.div_ceil(8) as usize
@@ -17,7 +17,7 @@ pub(crate) fn slices_of(width: u32) -> usize
 
 /// By how many bits codes of `width` bits are shifted up.
 pub(crate) fn shift_of(width: u32) -> u32
-    requires { width ≤ 32 }
+    requires { width ≤ 64 }
     ensures { result ≡ shift_of width }
 {
     8 * width.div_ceil(8) - width
@@ -25,7 +25,7 @@ pub(crate) fn shift_of(width: u32) -> u32
 
 /// A code of `width` bits shifted up.
 pub(crate) fn raise(code: u64, width: u32) -> u64
-    requires narrow { width ≤ 32 }
+    requires narrow { width ≤ 64 }
     requires fits { code < 2 ^ width }
     ensures value { result ≡ code * 2 ^ shift_of width }
     ensures fits { result < 256 ^ slices_of width }
@@ -42,9 +42,19 @@ pub(crate) fn raise_narrow(code: u64, width: u32) -> u32
     (code as u32) << shift_of(width)
 }
 
+/// 32 bits of a code of `width` bits shifted up, from bit `down` on.
+pub(crate) fn raise_part(code: u64, width: u32, down: u32) -> u32
+    requires narrow { width ≤ 64 }
+    requires down { down < 64 }
+    requires fits { code < 2 ^ width }
+    ensures { result ≡ code * 2 ^ shift_of width / 2 ^ down % 2 ^ 32 }
+{
+    ((raise(code, width) >> down) % 0x1_0000_0000) as u32
+}
+
 /// The same test of the shifted codes.
 pub(crate) fn raise_test(test: CodeTest, width: u32) -> CodeTest
-    requires narrow { width ≤ 32 }
+    requires narrow { width ≤ 64 }
     requires fits { TestFits width test }
     ensures value { result ≡ raised (shift_of width) test }
     ensures fits { IsBelow (256 ^ slices_of width) result }
@@ -59,7 +69,7 @@ pub(crate) fn raise_test(test: CodeTest, width: u32) -> CodeTest
 
 /// Byte i, from the highest, of a number of m bytes.
 pub(crate) fn byte_at(number: u64, m: usize, i: usize) -> u8
-    requires narrow { m ≤ 4 }
+    requires narrow { m ≤ 8 }
     requires below { i < m }
     ensures { result ≡ digit 256 m number i }
 {

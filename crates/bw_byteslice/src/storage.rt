@@ -1,12 +1,12 @@
 //! Slices in memory: byte j of each slice is of row j.
 
-ghost use Rattle.std.specs.Prelude.{[], IfOk, OnOk, length, slice_index, slice_index_or, vec_capacity, vec_len, ℕ, ◌*◌, ◌+◌, ◌<◌, ◌^◌, ◌≡◌, ◌≤◌};
+ghost use Rattle.std.specs.Prelude.{[], IfOk, OnOk, length, slice_index, slice_index_or, vec_capacity, vec_len, ℕ, ◌*◌, ◌+◌, ◌<◌, ◌^◌, ◌≡◌, ◌≤◌, ◌/◌, ◌%◌};
 ghost use Rattle.bw_code.specs.Columns.{Fit};
 ghost use Rattle.bw_code.specs.Units.{digit};
 ghost use Rattle.bw_byteslice.specs.Slices.{shift_of, slices_of};
 ghost use Rattle.bw_byteslice.specs.Storing.{byte_of, bytes_of, capacities_of};
 
-use crate::shift::{narrow_byte_at, raise_narrow};
+use crate::shift::{narrow_byte_at, raise_narrow, raise_part};
 use std::alloc::{AllocError, Global};
 use std::simd::prelude::*;
 
@@ -139,27 +139,43 @@ fn put_in_slice(slice: &mut Vec<u8>, m: usize, i: usize, at: usize, numbers: &[u
     put_bytes(&mut slice[at..at + numbers.len()], m, i, numbers);
 }
 
-/// The rows from `at` on get these numbers, of as many bytes as there are slices, slice by slice.
-fn put_numbers(slices: &mut Vec<Vec<u8>>, at: usize, numbers: &[u32])
-    requires narrow { vec_len slices.old ≤ 4 }
+/// The rows from `at` on get these numbers of m bytes, slice by slice from slice `first` on.
+fn put_numbers(slices: &mut Vec<Vec<u8>>, first: usize, m: usize, at: usize, numbers: &[u32])
+    requires narrow { m ≤ 4 }
+    requires slices { first + m ≤ vec_len slices.old }
     requires there { (i : ℕ) → i < vec_len slices.old → at + length numbers.now ≤ length (slice_index_or (bytes_of slices.old.items) i []) }
     ensures count { vec_len slices.new ≡ vec_len slices.old }
     ensures capacities { capacities_of slices.new.items ≡ capacities_of slices.old.items }
     ensures len { (i : ℕ) → length (slice_index_or (bytes_of slices.new.items) i []) ≡ length (slice_index_or (bytes_of slices.old.items) i []) }
-    ensures inside { (i r : ℕ) → i < vec_len slices.old → r < length numbers.now
-        → byte_of (bytes_of slices.new.items) (at + r) i ≡ digit 256 (vec_len slices.old) (slice_index numbers.now r) i }
+    ensures inside { (i r : ℕ) → i < m → r < length numbers.now
+        → byte_of (bytes_of slices.new.items) (at + r) (first + i) ≡ digit 256 m (slice_index numbers.now r) i }
+    ensures others { (i j : ℕ) → (first ≤ i → first + m ≤ i) → byte_of (bytes_of slices.new.items) j i ≡ byte_of (bytes_of slices.old.items) j i }
     ensures outside { (i j : ℕ) → (at ≤ j → at + length numbers.now ≤ j) → byte_of (bytes_of slices.new.items) j i ≡ byte_of (bytes_of slices.old.items) j i }
 {
-    let m = slices.len();
     for i in 0..m {
-        let slice = &mut slices[i];
+        let slice = &mut slices[first + i];
         put_in_slice(slice, m, i, at, numbers);
     }
 }
 
-/// The rows from `at` on get these codes, of which there are few. They are shifted up once for all slices.
+/// 32 bits of each code shifted up, from bit `down` on.
+fn raise_parts(codes: &[u64], width: u32, down: u32, numbers: &mut [u32])
+    requires narrow { width ≤ 64 }
+    requires down { down < 64 }
+    requires fit { Fit width codes.now }
+    requires long { length numbers.old ≡ length codes.now }
+    ensures len { length numbers.new ≡ length numbers.old }
+    ensures numbers { (r : ℕ) → r < length codes.now → slice_index numbers.new r ≡ slice_index codes.now r * 2 ^ shift_of width / 2 ^ down % 2 ^ 32 }
+{
+    for r in 0..numbers.len() {
+        numbers[r] = raise_part(codes[r], width, down);
+    }
+}
+
+/// The rows from `at` on get these codes, of which there are few. They are shifted up once for all slices, or, of more than 32
+/// bits, once for the upper slices and once for the last four.
 fn put_block(slices: &mut Vec<Vec<u8>>, width: u32, at: usize, codes: &[u64])
-    requires narrow { width ≤ 32 }
+    requires narrow { width ≤ 64 }
     requires count { vec_len slices.old ≡ slices_of width }
     requires few { length codes.now ≤ 64 }
     requires fit { Fit width codes.now }
@@ -173,13 +189,21 @@ fn put_block(slices: &mut Vec<Vec<u8>>, width: u32, at: usize, codes: &[u64])
 {
     let mut list = [0; BLOCK];
     let numbers = &mut list[..codes.len()];
-    raise_codes(codes, width, numbers);
-    put_numbers(slices, at, numbers);
+    let m = slices.len();
+    if width <= 32 {
+        raise_codes(codes, width, numbers);
+        put_numbers(slices, 0, m, at, numbers);
+    } else {
+        raise_parts(codes, width, 32, numbers);
+        put_numbers(slices, 0, m - 4, at, numbers);
+        raise_parts(codes, width, 0, numbers);
+        put_numbers(slices, m - 4, 4, at, numbers);
+    }
 }
 
 /// The rows from `at` on get these codes, a block at a time.
 pub(crate) fn put(slices: &mut Vec<Vec<u8>>, width: u32, at: usize, codes: &[u64])
-    requires narrow { width ≤ 32 }
+    requires narrow { width ≤ 64 }
     requires count { vec_len slices.old ≡ slices_of width }
     requires fit { Fit width codes.now }
     requires few { at + length codes.now ≤ 2 ^ 24 }

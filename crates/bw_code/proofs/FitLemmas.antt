@@ -22,6 +22,13 @@ code_fits width le codes fit i =
       | inr h ↦ omega (arith, get_or_past codes i 0 h)
     ]
 
+pub code_fits_64 : (width : ℕ) → width ≤ 64 → (codes : List ℕ) → Fit width codes → (i : ℕ) → get_or codes i 0 < 2 ^ 64
+code_fits_64 width le codes fit i =
+    elim (cases_lt i (length codes)) [
+      | inl h ↦ wider width 64 le (get_or codes i 0) (All-get_or (λ code. code < 2 ^ width) codes i 0 h fit)
+      | inr h ↦ omega (arith, get_or_past codes i 0 h)
+    ]
+
 pub test_wider : (narrow wide : ℕ) → narrow ≤ wide → (test : CodeTest) → TestFits narrow test → TestFits wide test
 test_wider narrow wide le None h = tt
 test_wider narrow wide le Each h = tt

@@ -1,5 +1,5 @@
 -- What 64 lanes say of the codes in them.
-use Rattle.std.proofs.Common.{Bool, List, ap, arith, bit_and, cond, false, get_or, inl, inr, leb, length, map, not, refl, replicate, take, true, w32, ℕ, ◌%◌, ◌&&◌, ◌*◌, ◌+◌, ◌-◌, ◌<◌, ◌==◌, ◌^◌, ◌≡◌, ◌≤◌, ◌∙◌}
+use Rattle.std.proofs.Common.{Bool, List, ap, arith, bit_and, cond, false, get_or, inl, inr, leb, length, map, not, refl, replicate, take, true, w32, w64, ℕ, ◌%◌, ◌&&◌, ◌*◌, ◌+◌, ◌-◌, ◌<◌, ◌==◌, ◌^◌, ◌≡◌, ◌≤◌, ◌∙◌}
 use Rattle.std.specs.Int.{bit_at}
 use Rattle.std.proofs.Math.Nat.{one-le-pow}
 use Rattle.std.proofs.Math.Pow.{pow_mono}
@@ -55,6 +55,22 @@ moved_down x low span h l =
       | inr p ↦ let here : (x + (2 ^ 32 - low)) % 2 ^ 32 ≡ x - low = omega arith in rw here (grind (arith, nat_tests))
     ]
 
+-- the same of 64 bits
+pub both_firsts_64 : (test : ℕ → ℕ → Bool) (xs ys : List ℕ) (i : ℕ) → 64 ≤ length xs → 64 ≤ length ys → i < 64
+    → bit_of (mask_l (map (top (hbits w64)) (zip2 (λ a b. cond (test a b) (2 ^ bits w64 - 1) 0) (take 64 xs) (take 64 ys))) % 2 ^ 64) i ≡ test (get_or xs i 0) (get_or ys i 0)
+both_firsts_64 test xs ys i long other h =
+    let x_first : length (take 64 xs) ≡ 64 = omega (arith, length-take 64 xs) in
+    let y_first : length (take 64 ys) ≡ 64 = omega (arith, length-take 64 ys) in
+    lane_bit w64 test (take 64 xs) (take 64 ys) i x_first y_first h
+    ∙ ap (λ x. test x (get_or (take 64 ys) i 0)) (get_or-take 64 xs i 0 h) ∙ ap (test (get_or xs i 0)) (get_or-take 64 ys i 0 h)
+
+pub moved_down_64 : (x low span : ℕ) → x < 2 ^ 64 → low + span < 2 ^ 64 → leb ((x + (2 ^ 64 - low)) % 2 ^ 64) span ≡ (leb low x && leb x (low + span))
+moved_down_64 x low span h l =
+    elim (cases_lt x low) [
+      | inl p ↦ let here : (x + (2 ^ 64 - low)) % 2 ^ 64 ≡ x + (2 ^ 64 - low) = omega arith in rw here (grind (arith, nat_tests))
+      | inr p ↦ let here : (x + (2 ^ 64 - low)) % 2 ^ 64 ≡ x - low = omega arith in rw here (grind (arith, nat_tests))
+    ]
+
 -- the test `x & (1 << i) != 0`
 pub bit_tested : (x i : ℕ) → not (bit_and x (2 ^ i) == 0) ≡ bit_of x i
 bit_tested x i = ap (λ y. not (y == 0)) (and_pow x i) ∙ by_bit (bit_at x i) (bit_at-lt x i)
@@ -67,6 +83,12 @@ one_moved i h = let low = pow_below i h in omega arith
   where
     pow_below : (j : ℕ) → j < 32 → 2 ^ j < 2 ^ 32
     pow_below j p = omega (arith, pow_mono {i = j} {j = 31} (omega arith))
+
+pub one_moved_64 : (i : ℕ) → i < 64 → 1 * 2 ^ i % 2 ^ 64 ≡ 2 ^ i
+one_moved_64 i h = let low = pow_below i h in omega arith
+  where
+    pow_below : (j : ℕ) → j < 64 → 2 ^ j < 2 ^ 64
+    pow_below j p = omega (arith, pow_mono {i = j} {j = 63} (omega arith))
 
 pub zeros : (n i : ℕ) → get_or {A = ℕ} (replicate n 0) i 0 ≡ 0
 zeros n i =

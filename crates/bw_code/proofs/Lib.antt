@@ -11,6 +11,7 @@ pub mod LaneLemmas
 pub mod Least
 pub mod Lists
 pub mod Meeting
+pub mod Moving
 pub mod Offsets
 pub mod Parts
 pub mod Reach

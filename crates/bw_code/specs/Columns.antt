@@ -24,9 +24,16 @@ pub record KeepsShape (new old : CodeList) : Type 0 where
   pub width : new.width ≡ old.width
   pub room : old.room ≤ new.room
 
--- a plain list of codes
+-- a plain list of codes of at most 32 bits
 pub record ArePlain (width : ℕ) (codes : List ℕ) : Type 0 where
   pub some : 1 ≤ width
   pub narrow : width ≤ 32
+  pub few : length codes ≤ 2 ^ 24
+  pub fit : Fit width codes
+
+-- a plain list of codes of at most 64 bits
+pub record AreWide (width : ℕ) (codes : List ℕ) : Type 0 where
+  pub some : 1 ≤ width
+  pub narrow : width ≤ 64
   pub few : length codes ≤ 2 ^ 24
   pub fit : Fit width codes

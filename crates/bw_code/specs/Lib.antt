@@ -6,7 +6,9 @@ pub mod Fittings
 pub mod Intervals
 pub mod Lists
 pub mod Meters
+pub mod Plain
 pub mod Sameness
 pub mod Shifts
 pub mod Tests
+pub mod Types
 pub mod Units

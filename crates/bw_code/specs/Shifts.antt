@@ -1,5 +1,5 @@
 -- Codes counted from another base: those of some rows get so much more, and the others stay.
-use Rattle.std.specs.Prelude.{Bool, false, pos, true, ℕ, ℤ, ◌+ℤ◌, ◌<ℤ◌, ◌≤ℤ◌}
+use Rattle.std.specs.Prelude.{Bool, false, if◌then◌else◌, pos, true, ℕ, ℤ, ◌%◌, ◌+ℤ◌, ◌+◌, ◌<ℤ◌, ◌<◌, ◌^◌, ◌≡◌, ◌≤ℤ◌}
 
 abbrev pub shifted : ℤ → Bool → ℕ → ℤ
 shifted by true code = pos code +ℤ by
@@ -8,3 +8,11 @@ shifted by false code = pos code
 -- from 0 up to below the bound
 abbrev pub StaysBelow : ℕ → ℤ → Type 0
 StaysBelow bound x = (pos 0 ≤ℤ x) × (x <ℤ pos bound)
+
+-- a number that is added modulo 2^64 where it is to be
+abbrev pub moved : ℕ → Bool → ℕ → ℕ
+moved word there code = (code + (if there then word else 0)) % 2 ^ 64
+
+-- what is added modulo 2^64 to add an integer
+abbrev pub IsWord : ℤ → ℕ → Type 0
+IsWord by word = (code sum : ℕ) → code < 2 ^ 64 → sum < 2 ^ 64 → pos sum ≡ pos code +ℤ by → (code + word) % 2 ^ 64 ≡ sum

@@ -9,6 +9,15 @@ pub enum Kind {
     Dictionary,
 }
 
+/// Which integers a column holds, beside NULL.
+#[derive(Clone, Copy, Debug, PartialEq, Eq)]
+pub enum ColumnType {
+    /// Those of 32 bits.
+    Integer,
+    /// Those of 64 bits.
+    BigInt,
+}
+
 /// How the codes of a column lie in memory.
 #[derive(Clone, Copy, Debug, PartialEq, Eq)]
 pub enum Layout {

@@ -11,6 +11,7 @@ mod kind;
 mod lanes;
 mod laws;
 mod meter;
+mod narrow_codes;
 mod offset;
 mod plain;
 mod plain_pair;
@@ -18,6 +19,9 @@ mod ranks;
 mod shift;
 mod source;
 mod unit_laws;
+mod wide_codes;
+mod wide_lanes;
+mod wide_pair;
 mod width;
 
 pub use column::CodeColumn;
@@ -26,12 +30,13 @@ pub use dictionary::Dictionary;
 pub use encoding::{Encoding, fit};
 pub use ends::Ends;
 pub use fitting::Fitting;
-pub use kind::{Kind, Layout};
+pub use kind::{ColumnType, Kind, Layout};
 pub use laws::{
     bits_of_numbers, codes_keep_order, codes_of_values, equal_encodings, fits_of_values,
 };
 pub use meter::Meter;
 pub use offset::Offset;
 pub use plain::PlainColumn;
+pub use shift::word_between;
 pub use source::Source;
 pub use unit_laws::{units_of_scans, units_of_segments};

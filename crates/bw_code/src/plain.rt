@@ -1,109 +1,128 @@
 //! The plain layout: a list of codes.
 
-ghost use Rattle.std.specs.Prelude.{All, List, length, slice_index, vec_capacity, vec_len, ℕ, ◌&&◌, ◌++◌, ◌+◌, ◌<◌, ◌^◌, ◌≡◌, ◌≤◌};
-ghost use Rattle.bw_mask.specs.Masks.{bit_of, len, row_at, SameShape};
-ghost use Rattle.bw_code.specs.Intervals.{is_in};
-ghost use Rattle.bw_code.specs.Units.{units_of_scan};
+ghost use Rattle.std.specs.Prelude.{pos, ℕ, ◌-ℤ◌, ◌<◌, ◌^◌, ◌↔◌, ◌≡◌, ◌≤◌};
+ghost use Rattle.bw_mask.specs.Masks.{row_at};
 ghost use Rattle.bw_code.specs.declared.kind.Layout.TheVariants as layouts;
 
 use crate::column::CodeColumn;
 use crate::compare::{CmpOp, CodeTest};
-use crate::lanes::{self, Interval, filled_up};
 use crate::meter::Meter;
-use crate::plain_pair;
-use crate::shift::shift_codes;
+use crate::narrow_codes::NarrowCodes;
+use crate::wide_codes::WideCodes;
 use bw_mask::Mask;
 use std::alloc::{AllocError, Global};
 use std::marker::Model;
 
-/// A plain list of codes of at most 32 bits.
+/// Codes of 4 bytes each, or of 8.
+#[derive(Drop)]
+pub(crate) enum PlainCodes {
+    Narrow(NarrowCodes),
+    Wide(WideCodes),
+}
+
+/// A plain list of codes: of 4 bytes each where they have at most 32 bits, and else of 8.
 #[derive(Drop)]
 pub struct PlainColumn {
-    width: u32,
-    codes: Vec<u32>,
+    codes: PlainCodes,
 }
 
 impl Model for PlainColumn {
-    ghost use Rattle.std.specs.Prelude.{vec_capacity};
-    ghost use Rattle.bw_code.specs.Columns.{CodeList, ArePlain};
+    ghost use Rattle.bw_code.specs.Columns.{CodeList};
+    ghost use Rattle.bw_code.specs.Plain.{plain_list, ArePlainCodes};
 
     ghost Value = { CodeList };
 
-    ghost view = { λ p. record { width = p.width; codes = p.codes.items; room = vec_capacity p.codes } };
+    ghost view = { λ p. plain_list p.codes };
 
-    ghost invariant = { λ p. ArePlain p.width p.codes.items };
+    ghost invariant = { λ p. ArePlainCodes p.codes };
 }
 
 impl CodeColumn for PlainColumn {
     ghost layout = { layouts.P };
 
-    ghost WIDEST = { 32 };
+    ghost WIDEST = { 64 };
 
     ghost seen = { λ p. p };
 
-    const WIDEST: u32 = 32;
+    const WIDEST: u32 = 64;
 
     fn with_width(alloc: Global, width: u32) -> Result<PlainColumn, AllocError> {
-        Ok(PlainColumn {
-            width,
-            codes: Vec::new(alloc),
-        })
+        let codes = if width <= 32 {
+            PlainCodes::Narrow(NarrowCodes::with_width(alloc, width)?)
+        } else {
+            PlainCodes::Wide(WideCodes::with_width(alloc, width)?)
+        };
+        Ok(PlainColumn { codes })
     }
 
     fn reserve(&mut self, more: usize) -> Result<(), AllocError> {
-        self.codes.reserve(more)
+        match &mut self.codes {
+            PlainCodes::Narrow(codes) => codes.reserve(more),
+            PlainCodes::Wide(codes) => codes.reserve(more),
+        }
     }
 
     fn push(&mut self, code: u64) {
-        let Ok(()) = self.codes.push(code as u32) else {
-            unreachable!()
-        };
+        match &mut self.codes {
+            PlainCodes::Narrow(codes) => codes.push(code),
+            PlainCodes::Wide(codes) => codes.push(code),
+        }
     }
 
     fn extend(&mut self, codes: &[u64]) {
-        append(&mut self.codes, codes);
+        match &mut self.codes {
+            PlainCodes::Narrow(own) => own.extend(codes),
+            PlainCodes::Wide(own) => own.extend(codes),
+        }
     }
 
     fn len(&self) -> usize {
-        self.codes.len()
+        match &self.codes {
+            PlainCodes::Narrow(codes) => codes.len(),
+            PlainCodes::Wide(codes) => codes.len(),
+        }
     }
 
     fn width(&self) -> u32 {
-        self.width
+        match &self.codes {
+            PlainCodes::Narrow(codes) => codes.width(),
+            PlainCodes::Wide(codes) => codes.width(),
+        }
     }
 
     fn get(&self, i: usize) -> u64 {
-        u64::from(self.codes[i])
+        match &self.codes {
+            PlainCodes::Narrow(codes) => codes.get(i),
+            PlainCodes::Wide(codes) => codes.get(i),
+        }
     }
 
     fn set(&mut self, i: usize, code: u64) {
-        let codes = &mut self.codes;
-        codes[i] = code as u32;
+        match &mut self.codes {
+            PlainCodes::Narrow(codes) => codes.set(i, code),
+            PlainCodes::Wide(codes) => codes.set(i, code),
+        }
     }
 
     fn read(&self, at: usize, out: &mut [u64]) {
-        lanes::widen(&self.codes[at..], out);
+        match &self.codes {
+            PlainCodes::Narrow(codes) => codes.read(at, out),
+            PlainCodes::Wide(codes) => codes.read(at, out),
+        }
     }
 
     fn plane(&self, i: u32, out: &mut Mask) {
-        rows_with_bit(&self.codes, i, out);
+        match &self.codes {
+            PlainCodes::Narrow(codes) => codes.plane(i, out),
+            PlainCodes::Wide(codes) => codes.plane(i, out),
+        }
     }
 
     fn scan(&self, test: CodeTest, need: &Mask, out: &mut Mask, meter: &mut Meter) {
-        match test {
-            CodeTest::None => {
-                out.and_in(need);
-                out.andnot_in(need);
-            }
-            CodeTest::All => {
-                out.or_in(need);
-                out.and_in(need);
-            }
-            CodeTest::Cmp(..) | CodeTest::Range(..) => {
-                rows_in(&self.codes, Interval::of(test), need, out);
-            }
+        match &self.codes {
+            PlainCodes::Narrow(codes) => codes.scan(test, need, out, meter),
+            PlainCodes::Wide(codes) => codes.scan(test, need, out, meter),
         }
-        meter.add(units(test, need));
     }
 
     fn scan_pair(
@@ -114,97 +133,33 @@ impl CodeColumn for PlainColumn {
         out: &mut Mask,
         meter: &mut Meter,
     ) {
-        plain_pair::compare_rows(op, &self.codes, &other.codes, need, out);
-        meter.add(plain_pair::units(need));
+        match (&self.codes, &other.codes) {
+            (PlainCodes::Narrow(a), PlainCodes::Narrow(b)) => a.scan_pair(b, op, need, out, meter),
+            (PlainCodes::Wide(a), PlainCodes::Wide(b)) => a.scan_pair(b, op, need, out, meter),
+            _ => unreachable!(),
+        }
     }
 }
 
 impl PlainColumn {
-    ghost use Rattle.std.specs.Prelude.{pos};
     ghost use Rattle.bw_code.specs.Columns.{code_at, count};
     ghost use Rattle.bw_code.specs.Shifts.{shifted, StaysBelow};
 
-    /// Adds so much to the code of each of the rows, and makes all codes ones of so many bits. Takes no memory.
-    pub fn shift(&mut self, rows: &Mask, by: i64, width: u32)
+    /// Counts the code of each of the rows from another base, and makes all codes ones of so many bits, which take as many bytes as
+    /// before. Takes no memory.
+    pub fn shift(&mut self, rows: &Mask, from: i64, to: i64, width: u32)
         requires some { 1 ≤ width }
-        requires narrow { width ≤ 32 }
-        requires fit { (i : ℕ) → i < count self.old → StaysBelow (2 ^ width) (shifted by (row_at rows.now i) (code_at self.old i)) }
+        requires narrow { width ≤ 64 }
+        requires bytes { (width ≤ 32) ↔ (self.old.width ≤ 32) }
+        requires fit { (i : ℕ) → i < count self.old → StaysBelow (2 ^ width) (shifted (from -ℤ to) (row_at rows.now i) (code_at self.old i)) }
         ensures width { self.new.width ≡ width }
         ensures count { count self.new ≡ count self.old }
-        ensures codes { (i : ℕ) → i < count self.old → pos (code_at self.new i) ≡ shifted by (row_at rows.now i) (code_at self.old i) }
+        ensures codes { (i : ℕ) → i < count self.old → pos (code_at self.new i) ≡ shifted (from -ℤ to) (row_at rows.now i) (code_at self.old i) }
         ensures room { self.old.room ≤ self.new.room }
     {
-        shift_codes(&mut self.codes, rows, by);
-        self.width = width;
+        match &mut self.codes {
+            PlainCodes::Narrow(codes) => codes.shift(rows, from, to, width),
+            PlainCodes::Wide(codes) => codes.shift(rows, from, to, width),
+        }
     }
-}
-
-/// Puts codes last, within the capacity.
-fn append(kept: &mut Vec<u32>, codes: &[u64])
-    requires fit { All (λ code. code < 2 ^ 32) codes.now }
-    requires room { vec_len kept.old + length codes.now ≤ vec_capacity kept.old }
-    ensures capacity { vec_capacity kept.old ≤ vec_capacity kept.new }
-    ensures items { kept.new.items ≡ kept.old.items ++ codes.now }
-{
-    let len = kept.len();
-    let Ok(()) = kept.resize(len + codes.len(), 0) else {
-        unreachable!()
-    };
-    lanes::narrow(codes, &mut kept[len..]);
-}
-
-/// The units of a scan: one for each needed row, where codes are looked at.
-fn units(test: CodeTest, need: &Mask) -> u64
-    ensures { (width : ℕ) (codes : List ℕ) → length codes ≡ len need.now → result ≡ units_of_scan layouts.P width test (row_at need.now) codes }
-{
-    match test {
-        CodeTest::None | CodeTest::All => 0,
-        CodeTest::Cmp(..) | CodeTest::Range(..) => need.count() as u64,
-    }
-}
-
-/// The needed ones of 64 rows whose codes are in the interval.
-fn chosen(codes: &[u32], interval: Interval, needed: u64) -> u64
-    requires { 64 ≤ length codes.now }
-    ensures { (i : ℕ) → i < 64 → bit_of result i ≡ (bit_of needed i && is_in interval (slice_index codes.now i)) }
-{
-    if needed == 0 {
-        0
-    } else {
-        needed & interval.rows(codes)
-    }
-}
-
-/// `out` becomes the needed rows whose codes are in the interval.
-fn rows_in(codes: &[u32], interval: Interval, need: &Mask, out: &mut Mask)
-    requires few { length codes.now ≤ 2 ^ 24 }
-    requires need { len need.now ≡ length codes.now }
-    requires out { len out.old ≡ length codes.now }
-    ensures shape { SameShape out.new out.old }
-    ensures rows { (r : ℕ) → row_at out.new r ≡ (row_at need.now r && is_in interval (slice_index codes.now r)) }
-{
-    let blocks = codes.len() / 64;
-    for q in 0..blocks {
-        let found = chosen(&codes[64 * q..], interval, need.bits(64 * q, 64));
-        out.put_word(q, found);
-    }
-    let at = 64 * blocks;
-    let found = chosen(&filled_up(&codes[at..]), interval, need.bits(at, 64));
-    out.put_word(blocks, found);
-}
-
-/// `out` becomes the rows whose code has bit i.
-fn rows_with_bit(codes: &[u32], i: u32, out: &mut Mask)
-    requires few { length codes.now ≤ 2 ^ 24 }
-    requires bit { i < 32 }
-    requires out { len out.old ≡ length codes.now }
-    ensures shape { SameShape out.new out.old }
-    ensures rows { (r : ℕ) → row_at out.new r ≡ bit_of (slice_index codes.now r) i }
-{
-    let blocks = codes.len() / 64;
-    for q in 0..blocks {
-        out.put_word(q, lanes::rows_with_bit(&codes[64 * q..], i));
-    }
-    let rest = filled_up(&codes[64 * blocks..]);
-    out.put_word(blocks, lanes::rows_with_bit(&rest, i));
 }

@@ -1,10 +1,18 @@
 //! Codes counted from another base.
 
-ghost use Rattle.std.specs.Prelude.{Bool, length, pos, slice_index, ℕ, ◌<◌, ◌<ℤ◌, ◌^◌, ◌≡◌, ◌≤◌, ◌≤ℤ◌};
+ghost use Rattle.std.specs.Prelude.{length, pos, slice_index, ℕ, ◌-ℤ◌, ◌<◌, ◌^◌, ◌≡◌, ◌≤◌};
 ghost use Rattle.bw_mask.specs.Masks.{bit_of, row_at};
-ghost use Rattle.bw_code.specs.Shifts.{shifted, StaysBelow};
+ghost use Rattle.bw_code.specs.Columns.{Fit};
+ghost use Rattle.bw_code.specs.Shifts.{moved, shifted, IsWord, StaysBelow};
 
 use bw_mask::Mask;
+
+/// What is added modulo 2^64 to count a code from another base.
+pub fn word_between(from: i64, to: i64) -> u64
+    ensures { IsWord (from -ℤ to) result }
+{
+    from.cast_unsigned().wrapping_sub(to.cast_unsigned())
+}
 
 /// Whether bit i is set.
 #[tactic(auto, using(bw_mask::proofs::Bits::bit_test))]
@@ -15,37 +23,81 @@ fn has_bit(word: u64, i: usize) -> bool
     word >> i & 1 == 1
 }
 
-/// The code, and so much more where it is to move.
-fn moved(code: u32, moves: bool, by: i64) -> u32
-    requires { StaysBelow (2 ^ 32) (shifted by moves code) }
-    ensures { pos result ≡ shifted by moves code }
+/// The code, and so much more where it is to move, modulo 2^64.
+fn moved(code: u64, moves: bool, by: u64) -> u64
+    ensures { result ≡ moved by moves code }
 {
-    let more = if moves { by } else { 0 };
-    (i64::from(code) + more) as u32
+    code.wrapping_add(if moves { by } else { 0 })
 }
 
 /// Adds so much to each of at most 64 codes whose bit is set.
-fn shift_block(codes: &mut [u32], rows: u64, by: i64)
+fn shift_block(codes: &mut [u32], rows: u64, by: u64)
     requires few { length codes.old ≤ 64 }
-    requires fit { (i : ℕ) → i < length codes.old → StaysBelow (2 ^ 32) (shifted by (bit_of rows i) (slice_index codes.old i)) }
+    requires fit { (i : ℕ) → i < length codes.old → moved by (bit_of rows i) (slice_index codes.old i) < 2 ^ 32 }
     ensures len { length codes.new ≡ length codes.old }
-    ensures codes { (i : ℕ) → i < length codes.old → pos (slice_index codes.new i) ≡ shifted by (bit_of rows i) (slice_index codes.old i) }
+    ensures codes { (i : ℕ) → i < length codes.old → slice_index codes.new i ≡ moved by (bit_of rows i) (slice_index codes.old i) }
 {
     for i in 0..codes.len() {
-        codes[i] = moved(codes[i], has_bit(rows, i), by);
+        codes[i] = moved(u64::from(codes[i]), has_bit(rows, i), by) as u32;
     }
 }
 
-/// Adds so much to the code of each of the rows.
-pub(crate) fn shift_codes(codes: &mut [u32], rows: &Mask, by: i64)
+/// Adds so much to the code of each of the rows, modulo 2^64.
+fn shift_blocks(codes: &mut [u32], rows: &Mask, by: u64)
     requires few { length codes.old ≤ 2 ^ 24 }
-    requires fit { (i : ℕ) → i < length codes.old → StaysBelow (2 ^ 32) (shifted by (row_at rows.now i) (slice_index codes.old i)) }
+    requires fit { (i : ℕ) → i < length codes.old → moved by (row_at rows.now i) (slice_index codes.old i) < 2 ^ 32 }
     ensures len { length codes.new ≡ length codes.old }
-    ensures codes { (i : ℕ) → i < length codes.old → pos (slice_index codes.new i) ≡ shifted by (row_at rows.now i) (slice_index codes.old i) }
+    ensures codes { (i : ℕ) → i < length codes.old → slice_index codes.new i ≡ moved by (row_at rows.now i) (slice_index codes.old i) }
 {
     for q in 0..codes.len().div_ceil(64) {
         let end = (64 * q + 64).min(codes.len());
         let block = &mut codes[64 * q..end];
         shift_block(block, rows.bits(64 * q, 64), by);
     }
+}
+
+/// Adds so much to each of at most 64 codes of 64 bits whose bit is set.
+fn shift_wide_block(codes: &mut [u64], rows: u64, by: u64)
+    requires few { length codes.old ≤ 64 }
+    ensures len { length codes.new ≡ length codes.old }
+    ensures codes { (i : ℕ) → i < length codes.old → slice_index codes.new i ≡ moved by (bit_of rows i) (slice_index codes.old i) }
+{
+    for i in 0..codes.len() {
+        codes[i] = moved(codes[i], has_bit(rows, i), by);
+    }
+}
+
+/// Adds so much to the code of 64 bits of each of the rows, modulo 2^64.
+fn shift_wide_blocks(codes: &mut [u64], rows: &Mask, by: u64)
+    requires few { length codes.old ≤ 2 ^ 24 }
+    ensures len { length codes.new ≡ length codes.old }
+    ensures codes { (i : ℕ) → i < length codes.old → slice_index codes.new i ≡ moved by (row_at rows.now i) (slice_index codes.old i) }
+{
+    for q in 0..codes.len().div_ceil(64) {
+        let end = (64 * q + 64).min(codes.len());
+        let block = &mut codes[64 * q..end];
+        shift_wide_block(block, rows.bits(64 * q, 64), by);
+    }
+}
+
+/// Counts the code of each of the rows from another base.
+pub(crate) fn shift_codes(codes: &mut [u32], rows: &Mask, from: i64, to: i64)
+    requires few { length codes.old ≤ 2 ^ 24 }
+    requires low { Fit 64 codes.old }
+    requires fit { (i : ℕ) → i < length codes.old → StaysBelow (2 ^ 32) (shifted (from -ℤ to) (row_at rows.now i) (slice_index codes.old i)) }
+    ensures len { length codes.new ≡ length codes.old }
+    ensures codes { (i : ℕ) → i < length codes.old → pos (slice_index codes.new i) ≡ shifted (from -ℤ to) (row_at rows.now i) (slice_index codes.old i) }
+{
+    shift_blocks(codes, rows, word_between(from, to));
+}
+
+/// Counts the code of 64 bits of each of the rows from another base.
+pub(crate) fn shift_wide_codes(codes: &mut [u64], rows: &Mask, from: i64, to: i64)
+    requires few { length codes.old ≤ 2 ^ 24 }
+    requires low { Fit 64 codes.old }
+    requires fit { (i : ℕ) → i < length codes.old → StaysBelow (2 ^ 64) (shifted (from -ℤ to) (row_at rows.now i) (slice_index codes.old i)) }
+    ensures len { length codes.new ≡ length codes.old }
+    ensures codes { (i : ℕ) → i < length codes.old → pos (slice_index codes.new i) ≡ shifted (from -ℤ to) (row_at rows.now i) (slice_index codes.old i) }
+{
+    shift_wide_blocks(codes, rows, word_between(from, to));
 }

@@ -12,3 +12,5 @@ mod plain_codes;
 mod seen;
 #[cfg(test)]
 mod units;
+#[cfg(test)]
+mod worked_units;

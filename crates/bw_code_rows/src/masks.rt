@@ -56,7 +56,7 @@ enum Pairing {
     AndNot,
 }
 
-/// AND or OR, at the last of 70 rows.
+/// AND, OR, or AND of the NOT of the right, at the last of 70 rows.
 fn of_rows<R: Abort + AllocGlobal>(
     rt: &R,
     pairing: Pairing,
@@ -64,11 +64,15 @@ fn of_rows<R: Abort + AllocGlobal>(
     right: TruthValue,
 ) -> Option<TruthValue> {
     let mut truths = rows_of(rt, left);
-    let other = rows_of(rt, right);
+    let mut other = rows_of(rt, right);
     assert!(rt; truths.len() == other.len());
     match pairing {
+        Pairing::And => truths.and_in(&other),
         Pairing::Or => truths.or_in(&other),
-        _ => truths.and_in(&other),
+        Pairing::AndNot => {
+            other.not_in();
+            truths.and_in(&other);
+        }
     }
     at_row(&truths, 69)
 }
@@ -120,6 +124,12 @@ fn and_and_or_of_rows(rt: HostRuntime) {
             (left, right),
             of_rows(&rt, Pairing::Or, left, right),
             Some(or),
+        );
+        see_at(
+            &rt,
+            (left, right),
+            of_rows(&rt, Pairing::AndNot, left, right.not()),
+            Some(and),
         );
     }
 }

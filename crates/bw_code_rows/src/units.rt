@@ -1,19 +1,16 @@
-//! Units of scans by a plain program, which computes the definitions row by row, held against worked figures.
+//! Units of scans by a plain program, which computes the definitions row by row.
 
 ghost use Rattle.std.specs.Prelude.{IfOk, length, slice_index, vec_len, if◌then◌else◌, max, ℕ, ◌*◌, ◌+◌, ◌<◌, ◌^◌, ◌≡◌, ◌≤◌};
 ghost use Rattle.bw_mask.specs.Masks.{len, row_at};
-ghost use Rattle.bw_code.specs.Tests.{TestFits};
 ghost use Rattle.bw_code.specs.declared.compare.CodeTest.TheVariants.{Range};
 ghost use Rattle.bw_code.specs.Units.{agreement, cost_of, segmentation, segments_of, some_below, sum_below, units_of_addition, units_of_fetches, units_of_pair, units_of_scan};
 
-use crate::seen::{see, see_at};
-use bw_code::{CmpOp, CodeTest, Layout};
+use bw_code::{CodeTest, Layout};
 use bw_mask::Mask;
 use std::alloc::{AllocError, Global};
-use std::process::Abort;
 
 /// In how many leading digits of so many two numbers are equal.
-fn agreement(base: u64, digits: u32, x: u64, y: u64) -> u64
+fn agreement(base: u128, digits: u32, x: u128, y: u128) -> u64
     requires { 0 < base }
     ensures agreement { result ≡ agreement base digits x y }
     ensures most { result ≤ digits }
@@ -33,11 +30,10 @@ fn agreement(base: u64, digits: u32, x: u64, y: u64) -> u64
 
 /// The agreement of two codes in a layout.
 fn agree(layout: Layout, width: u32, x: u64, y: u64) -> u64
-    requires width { width ≤ 32 }
-    requires x { x < 2 ^ 32 }
-    requires y { y < 2 ^ 32 }
+    requires { width ≤ 64 }
     ensures { result ≡ (segmentation layout width).agree x y }
 {
+    let (x, y) = (u128::from(x), u128::from(y));
     match layout {
         Layout::P | Layout::H => 0,
         Layout::V => agreement(2, width, x, y),
@@ -50,10 +46,9 @@ fn agree(layout: Layout, width: u32, x: u64, y: u64) -> u64
 }
 
 /// The rows of a segment.
-fn rows_of(layout: Layout, width: u32) -> usize
-    requires { width ≤ 32 }
+pub(crate) fn rows_of(layout: Layout, width: u32) -> usize
+    requires { width ≤ 64 }
     ensures rows { result ≡ (segmentation layout width).rows }
-    ensures some { 1 ≤ result }
     ensures few { result ≤ 256 }
 {
     match layout {
@@ -66,9 +61,9 @@ fn rows_of(layout: Layout, width: u32) -> usize
 
 /// The units of a segment with a needed row, by the greatest agreement.
 fn cost(layout: Layout, width: u32, agreed: u64) -> u64
-    requires { width ≤ 32 }
+    requires { width ≤ 64 }
     ensures cost { result ≡ (segmentation layout width).cost agreed }
-    ensures most { result ≤ 33 }
+    ensures most { result ≤ 65 }
 {
     let width = u64::from(width);
     match layout {
@@ -106,11 +101,11 @@ fn greater(a: u64, b: u64) -> u64
 
 /// The units of segment q, by the agreements of its rows.
 fn segment_units(layout: Layout, width: u32, need: &Mask, agreed: &[u64], q: usize) -> u64
-    requires width { width ≤ 32 }
+    requires width { width ≤ 64 }
     requires few { q < 2 ^ 32 }
     requires agreed { length agreed.now < 2 ^ 32 }
     ensures units { result ≡ (let cut = segmentation layout width in cost_of cut (λ j. row_at need.now (cut.rows * q + j)) (λ j. slice_index agreed.now (cut.rows * q + j))) }
-    ensures most { result ≤ 33 }
+    ensures most { result ≤ 65 }
 {
     let rows = rows_of(layout, width);
     let mut is_some = false;
@@ -129,7 +124,8 @@ fn segment_units(layout: Layout, width: u32, need: &Mask, agreed: &[u64], q: usi
 
 /// The units of all segments, by the agreements of the rows.
 fn column_units(layout: Layout, width: u32, need: &Mask, agreed: &[u64]) -> u64
-    requires width { width ≤ 32 }
+    requires width { width ≤ 64 }
+    requires rows { 1 ≤ (segmentation layout width).rows }
     requires few { len need.now ≤ 2 ^ 24 }
     requires agreed { length agreed.now ≡ len need.now }
     ensures units { result ≡ (let cut = segmentation layout width in sum_below (segments_of cut (len need.now)) (λ q. cost_of cut (λ j. row_at need.now (cut.rows * q + j)) (λ j. slice_index agreed.now (cut.rows * q + j)))) }
@@ -147,22 +143,19 @@ fn agreements(
     alloc: Global,
     layout: Layout,
     width: u32,
-    codes: &[u32],
+    codes: &[u64],
     low: u64,
     high: u64,
 ) -> Result<Vec<u64>, AllocError>
-    requires width { width ≤ 32 }
-    requires low { low < 2 ^ 32 }
-    requires high { high < 2 ^ 32 }
+    requires width { width ≤ 64 }
     ensures count { IfOk result (λ agreed. vec_len agreed ≡ length codes.now) }
     ensures agreed { IfOk result (λ agreed. (i : ℕ) → i < length codes.now → slice_index agreed.items i ≡
         max ((segmentation layout width).agree (slice_index codes.now i) low) ((segmentation layout width).agree (slice_index codes.now i) high)) }
 {
     let mut agreed = Vec::new(alloc);
     for code in codes {
-        let code = u64::from(*code);
-        let with_low = agree(layout, width, code, low);
-        agreed.push(with_low.max(agree(layout, width, code, high)))?;
+        let with_low = agree(layout, width, *code, low);
+        agreed.push(with_low.max(agree(layout, width, *code, high)))?;
     }
     Ok(agreed)
 }
@@ -172,18 +165,17 @@ fn pair_agreements(
     alloc: Global,
     layout: Layout,
     width: u32,
-    codes: &[u32],
-    others: &[u32],
+    codes: &[u64],
+    others: &[u64],
 ) -> Result<Vec<u64>, AllocError>
-    requires width { width ≤ 32 }
+    requires width { width ≤ 64 }
     requires count { length others.now ≡ length codes.now }
     ensures count { IfOk result (λ agreed. vec_len agreed ≡ length codes.now) }
     ensures agreed { IfOk result (λ agreed. (i : ℕ) → i < length codes.now → slice_index agreed.items i ≡ (segmentation layout width).agree (slice_index codes.now i) (slice_index others.now i)) }
 {
     let mut agreed = Vec::new(alloc);
     for i in 0..codes.len() {
-        let (code, other) = (u64::from(codes[i]), u64::from(others[i]));
-        agreed.push(agree(layout, width, code, other))?;
+        agreed.push(agree(layout, width, codes[i], others[i]))?;
     }
     Ok(agreed)
 }
@@ -196,11 +188,10 @@ fn range_units(
     low: u64,
     high: u64,
     need: &Mask,
-    codes: &[u32],
+    codes: &[u64],
 ) -> Result<u64, AllocError>
-    requires width { width ≤ 32 }
-    requires low { low < 2 ^ 32 }
-    requires high { high < 2 ^ 32 }
+    requires width { width ≤ 64 }
+    requires rows { 1 ≤ (segmentation layout width).rows }
     requires few { len need.now ≤ 2 ^ 24 }
     requires count { length codes.now ≡ len need.now }
     ensures { IfOk result (λ units. units ≡ units_of_scan layout width (Range low high) (row_at need.now) codes.now) }
@@ -210,16 +201,16 @@ fn range_units(
 }
 
 /// The units of one scan.
-fn scan_units(
+pub(crate) fn scan_units(
     alloc: Global,
     layout: Layout,
     width: u32,
     test: CodeTest,
     need: &Mask,
-    codes: &[u32],
+    codes: &[u64],
 ) -> Result<u64, AllocError>
-    requires width { width ≤ 32 }
-    requires test { TestFits 32 test }
+    requires width { width ≤ 64 }
+    requires rows { 1 ≤ (segmentation layout width).rows }
     requires few { len need.now ≤ 2 ^ 24 }
     requires count { length codes.now ≡ len need.now }
     ensures { IfOk result (λ units. units ≡ units_of_scan layout width test (row_at need.now) codes.now) }
@@ -234,15 +225,16 @@ fn scan_units(
 }
 
 /// The units of a scan of two columns.
-fn pair_units(
+pub(crate) fn pair_units(
     alloc: Global,
     layout: Layout,
     width: u32,
     need: &Mask,
-    codes: &[u32],
-    others: &[u32],
+    codes: &[u64],
+    others: &[u64],
 ) -> Result<u64, AllocError>
-    requires width { width ≤ 32 }
+    requires width { width ≤ 64 }
+    requires rows { 1 ≤ (segmentation layout width).rows }
     requires few { len need.now ≤ 2 ^ 24 }
     requires count { length codes.now ≡ len need.now }
     requires others_count { length others.now ≡ len need.now }
@@ -264,9 +256,9 @@ fn is_some_needed(need: &Mask) -> bool
 }
 
 /// The units of comparing two columns by adding their bases.
-fn addition_units(width: u32, other_width: u32, need: &Mask) -> u64
-    requires width { width ≤ 32 }
-    requires other_width { other_width ≤ 32 }
+pub(crate) fn addition_units(width: u32, other_width: u32, need: &Mask) -> u64
+    requires width { width ≤ 64 }
+    requires other_width { other_width ≤ 64 }
     ensures { result ≡ units_of_addition width other_width (row_at need.now) (len need.now) }
 {
     if is_some_needed(need) {
@@ -283,7 +275,7 @@ fn one_if(is_needed: bool) -> u64
 }
 
 /// The units of comparing two columns by fetching their values.
-fn fetch_units(need: &Mask) -> u64
+pub(crate) fn fetch_units(need: &Mask) -> u64
     ensures { result ≡ units_of_fetches (row_at need.now) (len need.now) }
 {
     let mut count = 0;
@@ -291,132 +283,4 @@ fn fetch_units(need: &Mask) -> u64
         count += one_if(is_needed(need, row));
     }
     2 * count
-}
-
-/// The codes 0 to 15 and 240 to 255, and 128.
-const ENDS: [u32; 33] = [
-    0, 1, 2, 3, 4, 5, 6, 7, 8, 9, 10, 11, 12, 13, 14, 15, 240, 241, 242, 243, 244, 245, 246, 247,
-    248, 249, 250, 251, 252, 253, 254, 255, 128,
-];
-
-/// So many rows, of which those are needed whose bits are set.
-fn needed<R: Abort + AllocGlobal>(rt: &R, rows: usize, bits: u64) -> Mask
-    ensures { len result ≡ rows }
-{
-    assert!(rt; rows < 1000);
-    let mut need = Mask::filled(rt.alloc(), rows, false).expect(rt, "memory");
-    need.put_bits(0, 64, bits);
-    need
-}
-
-/// The test, of codes of 32 bits.
-fn fitted(test: CodeTest) -> CodeTest
-    ensures { TestFits 32 result }
-{
-    match test {
-        CodeTest::Cmp(op, constant) => CodeTest::Cmp(op, constant % (1 << 32)),
-        CodeTest::Range(low, high) => CodeTest::Range(low % (1 << 32), high % (1 << 32)),
-        other => other,
-    }
-}
-
-fn units_of<R: Abort + AllocGlobal>(
-    rt: &R,
-    layout: Layout,
-    width: u32,
-    test: CodeTest,
-    bits: u64,
-    codes: &[u32],
-) -> u64 {
-    assert!(rt; width <= 32);
-    let need = needed(rt, codes.len(), bits);
-    assert!(rt; need.len() <= 1000);
-    scan_units(rt.alloc(), layout, width, fitted(test), &need, codes).expect(rt, "memory")
-}
-
-// Segments whose first digits settle all rows stop there; those with a row that agrees farther go on.
-#[test]
-fn units_of_one_scan(rt: HostRuntime) {
-    let below = CodeTest::Cmp(CmpOp::Lt, 256);
-    for (layout, units) in [
-        (Layout::S, 1),
-        (Layout::V, 4),
-        (Layout::H, 10),
-        (Layout::P, 2),
-    ] {
-        let found = units_of(&rt, layout, 9, below, u64::MAX, &[0, 300]);
-        see_at(&rt, layout, found, units);
-    }
-}
-
-#[test]
-fn units_with_a_row_that_agrees_farther(rt: HostRuntime) {
-    let below = CodeTest::Cmp(CmpOp::Lt, 128);
-    for (layout, units, with_128) in [
-        (Layout::V, 4, 8),
-        (Layout::H, 9, 9),
-        (Layout::S, 1, 2),
-        (Layout::P, 32, 33),
-    ] {
-        for (codes, units) in [(&ENDS[..32], units), (&ENDS, with_128)] {
-            let found = units_of(&rt, layout, 8, below, u64::MAX, codes);
-            see_at(&rt, layout, found, units);
-        }
-    }
-}
-
-// Of the codes without 128: the first 16 rows, the last 16, all but that of the code 3, all, none.
-#[test]
-fn units_by_needed_rows(rt: HostRuntime) {
-    for (test, bits, units) in [
-        (CodeTest::Cmp(CmpOp::Eq, 3), 0xffff, 8),
-        (CodeTest::Cmp(CmpOp::Eq, 3), 0xffff_0000, 4),
-        (CodeTest::Cmp(CmpOp::Eq, 250), 0xffff_fff7, 8),
-        (CodeTest::Range(3, 200), 0xffff_ffff, 8),
-        (CodeTest::All, 0xffff_ffff, 0),
-        (CodeTest::None, 0xffff_ffff, 0),
-        (CodeTest::Cmp(CmpOp::Eq, 3), 0, 0),
-    ] {
-        let found = units_of(&rt, Layout::V, 8, test, bits, &ENDS[..32]);
-        see_at(&rt, test, found, units);
-    }
-}
-
-fn units_of_two<R: Abort + AllocGlobal>(
-    rt: &R,
-    layout: Layout,
-    width: u32,
-    codes: &[u32],
-    others: &[u32],
-) -> u64 {
-    assert!(rt; width <= 32 && codes.len() == others.len());
-    let need = needed(rt, codes.len(), u64::MAX);
-    assert!(rt; need.len() <= 1000);
-    pair_units(rt.alloc(), layout, width, &need, codes, others).expect(rt, "memory")
-}
-
-#[test]
-fn units_of_a_pair(rt: HostRuntime) {
-    for (layout, units) in [
-        (Layout::V, 4),
-        (Layout::H, 6),
-        (Layout::S, 2),
-        (Layout::P, 4),
-    ] {
-        let found = units_of_two(&rt, layout, 2, &[0, 3], &[3, 0]);
-        see_at(&rt, layout, found, units);
-    }
-    let found = units_of_two(&rt, Layout::V, 8, &ENDS[..32], &ENDS[..32]);
-    see(&rt, found, 16);
-}
-
-#[test]
-fn units_of_additions_and_fetches(rt: HostRuntime) {
-    see(&rt, addition_units(3, 4, &needed(&rt, 3, 0b111)), 7);
-    see(&rt, addition_units(2, 2, &needed(&rt, 2, 0b11)), 4);
-    see(&rt, addition_units(1, 1, &needed(&rt, 1, 0)), 0);
-    see(&rt, addition_units(3, 4, &needed(&rt, 257, 1)), 14);
-    see(&rt, fetch_units(&needed(&rt, 2, 0b11)), 4);
-    see(&rt, fetch_units(&needed(&rt, 32, u64::MAX)), 64);
-    see(&rt, fetch_units(&needed(&rt, 32, 0)), 0);
 }

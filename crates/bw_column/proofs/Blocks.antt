@@ -9,9 +9,9 @@ use Rattle.bw_code.specs.Lists.{made}
 use Rattle.bw_code.specs.declared.encoding.Encoding.{Encoding}
 use Rattle.bw_code.proofs.Lists.{made_at, made_is, made_len}
 use Rattle.bw_column.specs.Codes.{IsCoded, IsRowCode, code_for, codes_for, value_from}
-use Rattle.bw_column.specs.Values.{IsNullOrInteger}
+use Rattle.bw_column.specs.Values.{IsNullOrStorable}
 use Rattle.bw_column.proofs.Changed.{codes_fit}
-use Rattle.bw_column.proofs.Rows.{back, code_again, has_code, integer, there}
+use Rattle.bw_column.proofs.Rows.{back, code_again, has_code, there}
 
 -- the values of such rows
 abbrev pub row : Encoding → List ℕ → ℕ → ℕ → Option ℤ
@@ -25,11 +25,6 @@ module _ (e : Encoding) (sound : IsEncoding e) (codes : List ℕ) (word : ℕ) (
   rows_coded k d h =
       let low : k < length codes = omega (arith, made_len (length codes) (row e codes word)) in
       rw (made_at (length codes) (row e codes word) k d low) (has_code e sound (get_or codes k 0) (bit_of word k) (each k low))
-
-  pub rows_integers : All IsNullOrInteger (rows e codes word)
-  rows_integers k d h =
-      let low : k < length codes = omega (arith, made_len (length codes) (row e codes word)) in
-      rw (made_at (length codes) (row e codes word) k d low) (integer e (get_or codes k 0) (bit_of word k) (each k low))
 
   pub rows_codes : codes ≡ codes_for e (rows e codes word)
   rows_codes =
@@ -48,7 +43,7 @@ module _ (e : Encoding) (sound : IsEncoding e) (codes : List ℕ) (word : ℕ) (
   rows_fit = rw rows_codes (codes_fit e sound (rows e codes word) rows_coded)
 
 -- rows of values by their own codes
-module _ (e : Encoding) (sound : IsEncoding e) (values : List (Option ℤ)) (codes : List ℕ) (word : ℕ) (held : All (IsCoded e) values) (ints : All IsNullOrInteger values) (are : codes ≡ codes_for e values) (present : (i : ℕ) → bit_of word i ≡ is_some (get_or values i None)) where
+module _ (e : Encoding) (sound : IsEncoding e) (values : List (Option ℤ)) (codes : List ℕ) (word : ℕ) (held : All (IsCoded e) values) (ints : All IsNullOrStorable values) (are : codes ≡ codes_for e values) (present : (i : ℕ) → bit_of word i ≡ is_some (get_or values i None)) where
   many : length codes ≡ length values
   many = ap length are ∙ length-map values (code_for e)
 

@@ -2,16 +2,26 @@
 use Rattle.std.proofs.Common.{◌≡◌, ◌≢◌, ℕ, ℤ, ◌+◌, ◌-◌, ◌<◌, ◌≤◌, ◌^◌, false, List, ◌++◌, length, get_or, map, set, inl, inr, sym, ap, ◌∙◌, arith, length-append, length-set, pow_pos, refl, Option, Some, None, is_some}
 use Rattle.std.specs.List.{All}
 use Rattle.std.proofs.lemmas.Bool.{cases_lt, cases_eq}
+use Rattle.std.proofs.lemmas.List.Elements.{All-append}
 use Rattle.std.proofs.lemmas.List.{length-map, get_or-append_right, get_or-map, get_or-set_same, get_or-set_other, get_or_append_left}
 use Rattle.bw_mask.specs.Masks.{MaskRows, row_at}
 use Rattle.bw_code.specs.Columns.{CodeList, Fit, count, code_at}
 use Rattle.bw_code.specs.Encodings.{IsEncoding, width}
 use Rattle.bw_code.specs.declared.encoding.Encoding.{Encoding}
+use Rattle.bw_code.specs.declared.kind.Layout.{Layout}
 use Rattle.bw_code.proofs.Codes.{code_low}
 use Rattle.bw_column.specs.Codes.{AreRowCodes, IsCoded, code_for, codes_for, value_from, values_from}
-use Rattle.bw_column.specs.Values.{IsNullOrInteger, value_at}
-use Rattle.bw_code.proofs.Lists.{made_more, made_set}
+use Rattle.bw_column.specs.Values.{IsNullOrHeld, IsNullOrStorable, value_at}
+use Rattle.bw_code.proofs.Lists.{made_len, made_more, made_set}
+use Rattle.bw_column.proofs.Held.{all_storable, storable}
 use Rattle.bw_column.proofs.Rows.{back, code_is}
+
+all_set : {A : Type 0} (P : A → Type 0) (xs : List A) (at : ℕ) (x : A) → at < length xs → All P xs → P x → All P (set xs at x)
+all_set P xs at x inside all here k d h =
+    elim (cases_eq k at) [
+      | inl same ↦ rw (same, get_or-set_same xs at x d inside) here
+      | inr apart ↦ rw (get_or-set_other xs at k x d apart) (all k d (omega (arith, h, length-set xs at x)))
+    ]
 
 pub code_fits : (e : Encoding) → IsEncoding e → (value : Option ℤ) → IsCoded e value → code_for e value < 2 ^ width e
 code_fits e sound None h = search (arith, pow_pos)
@@ -22,8 +32,11 @@ codes_fit e sound values h k d l =
     let low : k < length values = omega (arith, length-map values (code_for e)) in
     rw (get_or-map (code_for e) values k None d low) (code_fits e sound (get_or values k None) (h k None low))
 
-module _ (e : Encoding) (codes new_codes : CodeList) (rows new_rows : MaskRows) (are : AreRowCodes e codes rows) (width_stays : new_codes.width ≡ codes.width) where
-  module _ (values : List (Option ℤ)) (held : All (IsCoded e) values) (ints : All IsNullOrInteger values) (few : count codes + length values ≤ 2 ^ 24) (codes_are : new_codes.codes ≡ codes.codes ++ codes_for e values) (rows_are : new_rows.rows ≡ rows.rows ++ map is_some values) where
+module _ {l : Layout} (e : Encoding) (codes new_codes : CodeList) (rows new_rows : MaskRows) (are : AreRowCodes l e codes rows) (width_stays : new_codes.width ≡ codes.width) where
+  module _ (values : List (Option ℤ)) (held : All (IsCoded e) values) (kept : All (IsNullOrHeld l) values) (few : count codes + length values ≤ 2 ^ 24) (codes_are : new_codes.codes ≡ codes.codes ++ codes_for e values) (rows_are : new_rows.rows ≡ rows.rows ++ map is_some values) where
+    fits : All IsNullOrStorable values
+    fits = all_storable l values kept
+
     many : count new_codes ≡ count codes + length values
     many = ap length codes_are ∙ length-append codes.codes (codes_for e values) ∙ ap (λ k. count codes + k) (length-map values (code_for e))
 
@@ -46,7 +59,13 @@ module _ (e : Encoding) (codes new_codes : CodeList) (rows new_rows : MaskRows) 
         ap (λ xs. get_or xs (count codes + i) false) rows_are ∙ get_or-append_right rows.rows (map is_some values) (count codes) (count codes + i) false are.len (omega arith)
         ∙ ap (λ k. get_or (map is_some values) k false) (here i) ∙ get_or-map is_some values i None false h
 
-    pub rows_extended : AreRowCodes e new_codes new_rows
+    pub values_extended : values_from e new_codes new_rows ≡ values_from e codes rows ++ values
+    values_extended =
+        rw many (made_more (count codes) (λ i. value_from e (code_at codes i) (row_at rows i)) (λ i. value_from e (code_at new_codes i) (row_at new_rows i)) values None
+        (λ i h. rw (old_code i h, old_row i h) refl)
+        (λ i h. rw (new_code i h, new_row i h) (back e are.sound (value_at values i) (held i None h) (fits i None h)).0))
+
+    pub rows_extended : AreRowCodes l e new_codes new_rows
     rows_extended = record {
       sound = are.sound;
       len = ap length rows_are ∙ length-append rows.rows (map is_some values) ∙ omega (arith, are.len, many, length-map values is_some);
@@ -59,17 +78,12 @@ module _ (e : Encoding) (codes new_codes : CodeList) (rows new_rows : MaskRows) 
             | inr l ↦
                 let low : i - count codes < length values = omega (arith, many) in
                 let at : i ≡ count codes + (i - count codes) = omega arith in
-                rw (at, new_code (i - count codes) low, new_row (i - count codes) low) (back e are.sound (value_at values (i - count codes)) (held (i - count codes) None low) (ints (i - count codes) None low)).1
+                rw (at, new_code (i - count codes) low, new_row (i - count codes) low) (back e are.sound (value_at values (i - count codes)) (held (i - count codes) None low) (fits (i - count codes) None low)).1
           ];
+      held = rw values_extended (All-append (IsNullOrHeld l) (values_from e codes rows) values are.held kept);
     }
 
-    pub values_extended : values_from e new_codes new_rows ≡ values_from e codes rows ++ values
-    values_extended =
-        rw many (made_more (count codes) (λ i. value_from e (code_at codes i) (row_at rows i)) (λ i. value_from e (code_at new_codes i) (row_at new_rows i)) values None
-        (λ i h. rw (old_code i h, old_row i h) refl)
-        (λ i h. rw (new_code i h, new_row i h) (back e are.sound (value_at values i) (held i None h) (ints i None h)).0))
-
-  module _ (value : Option ℤ) (held : IsCoded e value) (int : IsNullOrInteger value) (at : ℕ) (inside : at < count codes) (codes_are : new_codes.codes ≡ set codes.codes at (code_for e value)) (rows_are : new_rows.rows ≡ set rows.rows at (is_some value)) where
+  module _ (value : Option ℤ) (held : IsCoded e value) (kept : IsNullOrHeld l value) (at : ℕ) (inside : at < count codes) (codes_are : new_codes.codes ≡ set codes.codes at (code_for e value)) (rows_are : new_rows.rows ≡ set rows.rows at (is_some value)) where
     code_there : code_at new_codes at ≡ code_for e value
     code_there = ap (λ xs. get_or xs at 0) codes_are ∙ get_or-set_same codes.codes at (code_for e value) 0 inside
 
@@ -85,7 +99,13 @@ module _ (e : Encoding) (codes new_codes : CodeList) (rows new_rows : MaskRows) 
     as_many : count new_codes ≡ count codes
     as_many = ap length codes_are ∙ length-set codes.codes at (code_for e value)
 
-    pub rows_put : AreRowCodes e new_codes new_rows
+    pub values_put : values_from e new_codes new_rows ≡ set (values_from e codes rows) at value
+    values_put =
+        rw as_many (made_set (count codes) (λ i. value_from e (code_at codes i) (row_at rows i)) (λ i. value_from e (code_at new_codes i) (row_at new_rows i)) at value inside
+        (rw (code_there, row_there) (back e are.sound value held (storable l value kept)).0)
+        (λ i h d. rw (other_code i d, other_row i d) refl))
+
+    pub rows_put : AreRowCodes l e new_codes new_rows
     rows_put = record {
       sound = are.sound;
       len = ap length rows_are ∙ length-set rows.rows at (is_some value) ∙ are.len ∙ sym as_many;
@@ -94,13 +114,8 @@ module _ (e : Encoding) (codes new_codes : CodeList) (rows new_rows : MaskRows) 
       few = omega (arith, as_many, are.few);
       each = λ i h.
           elim (cases_eq i at) [
-            | inl same ↦ rw (same, code_there, row_there) (back e are.sound value held int).1
+            | inl same ↦ rw (same, code_there, row_there) (back e are.sound value held (storable l value kept)).1
             | inr d ↦ rw (other_code i d, other_row i d) (are.each i (omega (arith, as_many)))
           ];
+      held = rw values_put (all_set (IsNullOrHeld l) (values_from e codes rows) at value (omega (arith, inside, made_len (count codes) (λ i. value_from e (code_at codes i) (row_at rows i)))) are.held kept);
     }
-
-    pub values_put : values_from e new_codes new_rows ≡ set (values_from e codes rows) at value
-    values_put =
-        rw as_many (made_set (count codes) (λ i. value_from e (code_at codes i) (row_at rows i)) (λ i. value_from e (code_at new_codes i) (row_at new_rows i)) at value inside
-        (rw (code_there, row_there) (back e are.sound value held int).0)
-        (λ i h d. rw (other_code i d, other_row i d) refl))

@@ -3,6 +3,7 @@ pub mod Blocks
 pub mod Changed
 pub mod Extremes
 pub mod Flat
+pub mod Held
 pub mod Known
 pub mod Listed
 pub mod Narrow

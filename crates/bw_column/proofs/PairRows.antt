@@ -16,6 +16,7 @@ use Rattle.bw_code.proofs.Codes.{code_less, code_low}
 use Rattle.bw_code.proofs.Meeting.{and_both, same_order}
 use Rattle.std.proofs.lemmas.Bool.{cases_lt}
 use Rattle.std.proofs.lemmas.List.{get_or_past}
+use Rattle.bw_code.specs.declared.kind.Layout.{Layout}
 use Rattle.bw_column.specs.Codes.{AreRowCodes, IsRowCode, value_from, values_from}
 use Rattle.bw_column.specs.Comparisons.{compare_so}
 use Rattle.bw_column.specs.PlaneSources.{HoldsCodes, units_in}
@@ -36,7 +37,7 @@ codes_compare e sound op i j h k =
     some_same : (a b : ℕ) → Some a ≡ Some b → a ≡ b
     some_same a b p = cc
 
-module _ (e : Encoding) (codes : CodeList) (nonnull : MaskRows) (are : AreRowCodes e codes nonnull) (i : ℕ) where
+module _ {l : Layout} (e : Encoding) (codes : CodeList) (nonnull : MaskRows) (are : AreRowCodes l e codes nonnull) (i : ℕ) where
   -- a row at which the value is known
   pub record IsKnown : Type 0 where
     pub inside : i < count codes
@@ -56,7 +57,7 @@ module _ (e : Encoding) (codes : CodeList) (nonnull : MaskRows) (are : AreRowCod
         | inr l ↦ absurd (let away : row_at nonnull i ≡ false = get_or_past nonnull.rows i false (omega (arith, are.len)) in cc)
       ]
 
-module _ (op : CmpOp) (e d : Encoding) (codes others : CodeList) (nonnull nonnull_others : MaskRows) (are : AreRowCodes e codes nonnull) (others_are : AreRowCodes d others nonnull_others) (i : ℕ) where
+module _ {l m : Layout} (op : CmpOp) (e d : Encoding) (codes others : CodeList) (nonnull nonnull_others : MaskRows) (are : AreRowCodes l e codes nonnull) (others_are : AreRowCodes m d others nonnull_others) (i : ℕ) where
   abbrev value : Option ℤ
   value = value_at (values_from e codes nonnull) i
 
@@ -97,7 +98,7 @@ module _ (op : CmpOp) (e d : Encoding) (codes others : CodeList) (nonnull nonnul
       ((known_at e codes nonnull are i both.0).inside, (known_at d others nonnull_others others_are i both.1).inside)
 
 -- the codes of planes that hold the codes of a column
-module _ (e : Encoding) (codes : CodeList) (nonnull : MaskRows) (are : AreRowCodes e codes nonnull) (source : ColumnPlanes) (holds : HoldsCodes codes source) where
+module _ {l : Layout} (e : Encoding) (codes : CodeList) (nonnull : MaskRows) (are : AreRowCodes l e codes nonnull) (source : ColumnPlanes) (holds : HoldsCodes codes source) where
   low : (code : ℕ) (there : Bool) → IsRowCode e code there → code < 2 ^ width e
   low code true h = code_low e are.sound (value_of e code) code h.0
   low code false h = let some = pow_pos (width e) in omega (arith, h)

@@ -8,9 +8,10 @@ use Rattle.bw_mask.specs.Masks.{MaskRows, row_at}
 use Rattle.bw_code.specs.Columns.{CodeList, count, code_at}
 use Rattle.bw_code.specs.Encodings.{HasCode, IsEncoding, code_of, value_of}
 use Rattle.bw_code.specs.declared.encoding.Encoding.{Encoding}
+use Rattle.bw_code.specs.declared.kind.Layout.{Layout}
 use Rattle.bw_code.proofs.Codes.{coded, code_back}
 use Rattle.bw_column.specs.Codes.{AreRowCodes, IsCoded, IsRowCode, code_for, value_from, values_from}
-use Rattle.bw_column.specs.Values.{IsNullOrInteger, value_at}
+use Rattle.bw_column.specs.Values.{IsNullOrHeld, IsNullOrStorable, value_at}
 use Rattle.bw_code.proofs.Lists.{made_at, made_len}
 
 -- a value that has a code comes back from it
@@ -25,12 +26,12 @@ module _ (e : Encoding) (sound : IsEncoding e) where
   pub code_is : (x : ℤ) → HasCode e x → code_of e x ≡ Some (code_for e (Some x))
   code_is x h = back_some x (code_of e x) refl ((coded e sound x).1 h)
 
-  pub back : (value : Option ℤ) → IsCoded e value → IsNullOrInteger value → IsBack e value
-  back None h int = (refl, refl)
-  back (Some x) h int =
+  pub back : (value : Option ℤ) → IsCoded e value → IsNullOrStorable value → IsBack e value
+  back None h fits = (refl, refl)
+  back (Some x) h fits =
       let code = code_for e (Some x) in
       let is : value_of e code ≡ x = code_back e sound x code (code_is x h) in
-      (ap Some is, (rw is (code_is x h), rw is int))
+      (ap Some is, (rw is (code_is x h), rw is fits))
 
 -- what a row's code says of its value
 module _ (e : Encoding) where
@@ -42,15 +43,11 @@ module _ (e : Encoding) where
   code_again code true h = sym (ap (λ (o : Option ℕ). unwrap_or o 0) h.0)
   code_again code false h = h
 
-  pub integer : (code : ℕ) (b : Bool) → IsRowCode e code b → IsNullOrInteger (value_from e code b)
-  integer code true h = h.1
-  integer code false h = tt
-
   pub has_code : IsEncoding e → (code : ℕ) (b : Bool) → IsRowCode e code b → IsCoded e (value_from e code b)
   has_code sound code true h = (coded e sound (value_of e code)).0 (rw h.0 refl)
   has_code sound code false h = tt
 
-module _ (e : Encoding) (codes : CodeList) (nonnull : MaskRows) (are : AreRowCodes e codes nonnull) where
+module _ {l : Layout} (e : Encoding) (codes : CodeList) (nonnull : MaskRows) (are : AreRowCodes l e codes nonnull) where
   -- the value of any row
   pub value_of_row : (i : ℕ) → value_at (values_from e codes nonnull) i ≡ value_from e (code_at codes i) (row_at nonnull i)
   value_of_row i =
@@ -73,10 +70,8 @@ module _ (e : Encoding) (codes : CodeList) (nonnull : MaskRows) (are : AreRowCod
             get_or_past codes.codes i 0 h ∙ ap (code_for e) (sym none)
       ]
 
-  pub row_integers : All IsNullOrInteger (values_from e codes nonnull)
-  row_integers k d h =
-      let low : k < count codes = omega (arith, made_len (count codes) (λ j. value_from e (code_at codes j) (row_at nonnull j))) in
-      rw (made_at (count codes) (λ j. value_from e (code_at codes j) (row_at nonnull j)) k d low) (integer e (code_at codes k) (row_at nonnull k) (are.each k low))
+  pub row_held : All (IsNullOrHeld l) (values_from e codes nonnull)
+  row_held = are.held
 
   pub row_coded : All (IsCoded e) (values_from e codes nonnull)
   row_coded k d h =

@@ -14,6 +14,7 @@ use Rattle.bw_code.specs.Tests.{int_compares, meets}
 use Rattle.bw_code.specs.declared.compare.CmpOp.{CmpOp}
 use Rattle.bw_code.specs.declared.compare.CodeTest.{CodeTest}
 use Rattle.bw_code.specs.declared.encoding.Encoding.{Encoding}
+use Rattle.bw_code.specs.declared.kind.Layout.{Layout}
 use Rattle.bw_column.specs.Codes.{AreRowCodes, IsRowCode, code_for, codes_for, value_from, values_from}
 use Rattle.bw_column.specs.Comparisons.{compare_so, compared, holds_of, truth_of}
 use Rattle.bw_column.specs.Values.{value_at}
@@ -26,7 +27,7 @@ use Rattle.std.proofs.lemmas.List.{get_or_past, take_all}
 pub same_rows : {X : Type 0} (f g : ℕ → X) → ((i : ℕ) → f i ≡ g i) → f ≡ g
 same_rows f g h = λ t i. h i t
 
-module _ (e : Encoding) (codes : CodeList) (nonnull : MaskRows) (are : AreRowCodes e codes nonnull) where
+module _ {l : Layout} (e : Encoding) (codes : CodeList) (nonnull : MaskRows) (are : AreRowCodes l e codes nonnull) where
   pub all_codes : codes.codes ≡ codes_for e (values_from e codes nonnull)
   all_codes =
       let long = made_len (count codes) (λ i. value_from e (code_at codes i) (row_at nonnull i)) in

@@ -1,45 +1,43 @@
 -- Codes that are distances from a base, counted from another one: the same values.
-use Rattle.std.proofs.Common.{All, Bool, FitsSigned, List, None, Option, Some, ap, arith, false, pos, refl, subst, sym, true, w64, ℕ, ℤ, ◌+ℤ◌, ◌-ℤ◌, ◌<◌, ◌^◌, ◌∙◌, ◌≡◌, ◌≤◌}
+use Rattle.std.proofs.Common.{All, Bool, List, None, Option, Some, ap, arith, false, pos, refl, subst, sym, true, ℕ, ℤ, ◌+ℤ◌, ◌-ℤ◌, ◌<◌, ◌^◌, ◌∙◌, ◌≡◌, ◌≤◌}
 use Rattle.std.proofs.lemmas.Int.{ints}
-use Rattle.std.proofs.Math.Pow.{pow_mono}
 use Rattle.std.proofs.lemmas.Nat.{pow_pos}
 use Rattle.bw_mask.specs.Masks.{MaskRows, row_at}
 use Rattle.bw_code.specs.Columns.{CodeList, code_at, count}
-use Rattle.bw_code.specs.Encodings.{distance, value_of}
+use Rattle.bw_code.specs.Encodings.{distance}
 use Rattle.bw_code.specs.Shifts.{StaysBelow, shifted}
 use Rattle.bw_code.specs.declared.encoding.Encoding.{Encoding}
 use Rattle.bw_code.specs.declared.encoding.Encoding.TheVariants as by
 use Rattle.bw_code.specs.declared.offset.Offset.{Offset}
-use Rattle.bw_code.proofs.Codes.{offset_code_is, offset_coded}
+use Rattle.bw_code.specs.declared.kind.Layout.{Layout}
+use Rattle.bw_code.proofs.Codes.{offset_coded}
 use Rattle.bw_code.proofs.Lists.{made_at, made_is, made_len}
 use Rattle.bw_column.specs.Codes.{AreRowCodes, IsCoded, IsRowCode, value_from, values_from}
+use Rattle.bw_column.specs.Values.{IsNullOrHeld, widest}
 
-module _ (own o : Offset) (shift : ℤ) (few : own.width ≤ 32) (narrow : o.width ≤ 32) (is_shift : FitsSigned w64 (own.base -ℤ o.base) → shift ≡ own.base -ℤ o.base) where
-  -- where a row has a value, the bases are near each other
-  shift_of : (code : ℕ) → IsRowCode (by.Offset own) code true → IsCoded (by.Offset o) (Some (value_of (by.Offset own) code)) → shift ≡ own.base -ℤ o.base
-  shift_of code is held =
-      let f = offset_code_is own (own.base +ℤ pos code) code is.0 in
-      let low : code < 2 ^ 32 = omega (arith, f.low, pow_mono {i = own.width} {j = 32} few) in
-      let span : 2 ^ o.width ≤ 2 ^ 32 = pow_mono {i = o.width} {j = 32} narrow in
-      is_shift (omega (arith, ints, is.1, held.0, held.1, low, span))
-
-  pub row_fits : (code : ℕ) (there : Bool) → IsRowCode (by.Offset own) code there → IsCoded (by.Offset o) (value_from (by.Offset own) code there) → StaysBelow (2 ^ o.width) (shifted shift there code)
-  row_fits code true is held = let s = shift_of code is held in (omega (arith, ints, s, held.0), omega (arith, ints, s, held.1, pow_pos o.width))
+module _ (own o : Offset) where
+  pub row_fits : (code : ℕ) (there : Bool) → IsRowCode (by.Offset own) code there → IsCoded (by.Offset o) (value_from (by.Offset own) code there) → StaysBelow (2 ^ o.width) (shifted (own.base -ℤ o.base) there code)
+  row_fits code true is held = (omega (arith, ints, held.0), omega (arith, ints, held.1, pow_pos o.width))
   row_fits code false is held = (omega (arith, ints), omega (arith, ints, is, pow_pos o.width))
 
-  row_same : (code new : ℕ) (there : Bool) → IsRowCode (by.Offset own) code there → IsCoded (by.Offset o) (value_from (by.Offset own) code there) → pos new ≡ shifted shift there code
+  row_same : (code new : ℕ) (there : Bool) → IsRowCode (by.Offset own) code there → IsCoded (by.Offset o) (value_from (by.Offset own) code there) → pos new ≡ shifted (own.base -ℤ o.base) there code
       → (value_from (by.Offset o) new there ≡ value_from (by.Offset own) code there) × IsRowCode (by.Offset o) new there
   row_same code new true is held here =
-      let s = shift_of code is held in
       let x = own.base +ℤ pos code in
-      let back : o.base +ℤ pos new ≡ x = omega (arith, ints, s, here) in
-      let far : distance x o.base ≡ new = omega (arith, ints, s, here) in
+      let back : o.base +ℤ pos new ≡ x = omega (arith, ints, here) in
+      let far : distance x o.base ≡ new = omega (arith, ints, here) in
       (ap Some back, (rw back (offset_coded o x held.0 held.1 ∙ ap Some far), rw back is.1))
   row_same code new false is held here = (refl, omega (arith, ints, here, is))
 
-  module _ (codes new : CodeList) (nonnull : MaskRows) (are : AreRowCodes (by.Offset own) codes nonnull) (held : (i : ℕ) → i < count codes → IsCoded (by.Offset o) (value_from (by.Offset own) (code_at codes i) (row_at nonnull i)))
-      (width_is : new.width ≡ o.width) (count_is : count new ≡ count codes) (each : (i : ℕ) → i < count codes → pos (code_at new i) ≡ shifted shift (row_at nonnull i) (code_at codes i)) where
-    pub rows_shifted : AreRowCodes (by.Offset o) new nonnull
+  module _ {l : Layout} (narrow : o.width ≤ widest l) (codes new : CodeList) (nonnull : MaskRows) (are : AreRowCodes l (by.Offset own) codes nonnull) (held : (i : ℕ) → i < count codes → IsCoded (by.Offset o) (value_from (by.Offset own) (code_at codes i) (row_at nonnull i)))
+      (width_is : new.width ≡ o.width) (count_is : count new ≡ count codes) (each : (i : ℕ) → i < count codes → pos (code_at new i) ≡ shifted (own.base -ℤ o.base) (row_at nonnull i) (code_at codes i)) where
+    pub values_shifted : values_from (by.Offset o) new nonnull ≡ values_from (by.Offset own) codes nonnull
+    values_shifted =
+        let f : ℕ → Option ℤ = λ i. value_from (by.Offset o) (code_at new i) (row_at nonnull i) in
+        made_is (count codes) (λ i. value_from (by.Offset own) (code_at codes i) (row_at nonnull i)) (values_from (by.Offset o) new nonnull) None (made_len (count new) f ∙ count_is) (λ i h.
+        made_at (count new) f i None (omega (arith, count_is, h)) ∙ (row_same (code_at codes i) (code_at new i) (row_at nonnull i) (are.each i h) (held i h) (each i h)).0)
+
+    pub rows_shifted : AreRowCodes l (by.Offset o) new nonnull
     rows_shifted = record {
       sound = tt;
       len = are.len ∙ sym count_is;
@@ -47,19 +45,14 @@ module _ (own o : Offset) (shift : ℤ) (few : own.width ≤ 32) (narrow : o.wid
       width = width_is;
       few = omega (arith, count_is, are.few);
       each = λ i h. let l : i < count codes = omega (arith, count_is, h) in (row_same (code_at codes i) (code_at new i) (row_at nonnull i) (are.each i l) (held i l) (each i l)).1;
+      held = subst (All (IsNullOrHeld l)) (sym values_shifted) are.held;
     }
 
-    pub values_shifted : values_from (by.Offset o) new nonnull ≡ values_from (by.Offset own) codes nonnull
-    values_shifted =
-        let f : ℕ → Option ℤ = λ i. value_from (by.Offset o) (code_at new i) (row_at nonnull i) in
-        made_is (count codes) (λ i. value_from (by.Offset own) (code_at codes i) (row_at nonnull i)) (values_from (by.Offset o) new nonnull) None (made_len (count new) f ∙ count_is) (λ i h.
-        made_at (count new) f i None (omega (arith, count_is, h)) ∙ (row_same (code_at codes i) (code_at new i) (row_at nonnull i) (are.each i h) (held i h) (each i h)).0)
-
 -- a column whose values all have codes from the other base
-module _ (e : Encoding) (own o : Offset) (codes : CodeList) (nonnull : MaskRows) (values : List (Option ℤ)) (shift : ℤ) (e_is : e ≡ by.Offset own) (are : AreRowCodes e codes nonnull)
-    (view_is : values_from e codes nonnull ≡ values) (all : All (IsCoded (by.Offset o)) values) (narrow : o.width ≤ 32) (is_shift : FitsSigned w64 (own.base -ℤ o.base) → shift ≡ own.base -ℤ o.base) where
-  rows : AreRowCodes (by.Offset own) codes nonnull
-  rows = subst (λ (x : Encoding). AreRowCodes x codes nonnull) e_is are
+module _ {l : Layout} (e : Encoding) (own o : Offset) (codes : CodeList) (nonnull : MaskRows) (values : List (Option ℤ)) (e_is : e ≡ by.Offset own) (are : AreRowCodes l e codes nonnull)
+    (view_is : values_from e codes nonnull ≡ values) (all : All (IsCoded (by.Offset o)) values) (narrow : o.width ≤ widest l) where
+  rows : AreRowCodes l (by.Offset own) codes nonnull
+  rows = subst (λ (x : Encoding). AreRowCodes l x codes nonnull) e_is are
 
   same : values_from (by.Offset own) codes nonnull ≡ values
   same = subst (λ (x : Encoding). values_from x codes nonnull ≡ values) e_is view_is
@@ -70,12 +63,12 @@ module _ (e : Encoding) (own o : Offset) (codes : CodeList) (nonnull : MaskRows)
       let all_here = subst (λ xs. All (IsCoded (by.Offset o)) xs) (sym same) all in
       subst (IsCoded (by.Offset o)) (made_at (count codes) f i None h) (all_here i None (omega (arith, h, made_len (count codes) f)))
 
-  pub column_fits : (i : ℕ) → i < count codes → StaysBelow (2 ^ o.width) (shifted shift (row_at nonnull i) (code_at codes i))
-  column_fits i h = row_fits own o shift rows.narrow narrow is_shift (code_at codes i) (row_at nonnull i) (rows.each i h) (held i h)
+  pub column_fits : (i : ℕ) → i < count codes → StaysBelow (2 ^ o.width) (shifted (own.base -ℤ o.base) (row_at nonnull i) (code_at codes i))
+  column_fits i h = row_fits own o (code_at codes i) (row_at nonnull i) (rows.each i h) (held i h)
 
-  module _ (new : CodeList) (width_is : new.width ≡ o.width) (count_is : count new ≡ count codes) (each : (i : ℕ) → i < count codes → pos (code_at new i) ≡ shifted shift (row_at nonnull i) (code_at codes i)) where
-    pub column_shifted : AreRowCodes (by.Offset o) new nonnull
-    column_shifted = rows_shifted own o shift rows.narrow narrow is_shift codes new nonnull rows held width_is count_is each
+  module _ (new : CodeList) (width_is : new.width ≡ o.width) (count_is : count new ≡ count codes) (each : (i : ℕ) → i < count codes → pos (code_at new i) ≡ shifted (own.base -ℤ o.base) (row_at nonnull i) (code_at codes i)) where
+    pub column_shifted : AreRowCodes l (by.Offset o) new nonnull
+    column_shifted = rows_shifted own o narrow codes new nonnull rows held width_is count_is each
 
     pub column_same : values_from (by.Offset o) new nonnull ≡ values
-    column_same = values_shifted own o shift rows.narrow narrow is_shift codes new nonnull rows held width_is count_is each ∙ same
+    column_same = values_shifted own o narrow codes new nonnull rows held width_is count_is each ∙ same

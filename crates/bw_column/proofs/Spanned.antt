@@ -10,6 +10,7 @@ use Rattle.bw_code.specs.Encodings.{IsCode, IsGreatest, IsLeast, kind_of, value_
 use Rattle.bw_code.specs.declared.encoding.Encoding.{Encoding}
 use Rattle.bw_code.specs.declared.encoding.Encoding.TheVariants as by
 use Rattle.bw_code.specs.declared.kind.Kind.TheVariants as kind
+use Rattle.bw_code.specs.declared.kind.Layout.{Layout}
 use Rattle.bw_column.specs.Codes.{AreRowCodes, IsRowCode, value_from, values_from}
 use Rattle.bw_column.specs.Extremes.{IsGreatestFrom, IsLeastFrom, IsReached}
 use Rattle.bw_column.specs.Values.{known, value_at}
@@ -28,7 +29,7 @@ value_there : (e : Encoding) (code : ℕ) (there : Bool) (x : ℤ) → value_fro
 value_there e code true x is = (refl, ap (λ (o : Option ℤ). unwrap_or o x) is)
 value_there e code false x is = absurd cc
 
-module _ (e : Encoding) (codes : CodeList) (nonnull : MaskRows) (are : AreRowCodes e codes nonnull) where
+module _ {l : Layout} (e : Encoding) (codes : CodeList) (nonnull : MaskRows) (are : AreRowCodes l e codes nonnull) where
   abbrev values : List (Option ℤ)
   values = values_from e codes nonnull
 

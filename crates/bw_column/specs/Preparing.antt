@@ -9,7 +9,7 @@ use Rattle.bw_column.specs.Codes.{IsCoded, codes_for}
 use Rattle.bw_column.specs.Columns.{ColumnView}
 use Rattle.bw_column.specs.Keeping.{AreKept}
 use Rattle.bw_column.specs.Storing.{ShiftsTo}
-use Rattle.bw_column.specs.Values.{IsNullOrInteger, known}
+use Rattle.bw_column.specs.Values.{IsNullOrHeld, known, widest}
 use Rattle.bw_column.specs.declared.kept.KeptCodes.{KeptCodes}
 use Rattle.bw_column.specs.declared.step.Step.{Step}
 use Rattle.bw_column.specs.declared.step.Step.TheVariants.{Replace, Shift, Stay}
@@ -31,10 +31,10 @@ after column Stay = column
 after column (Shift offset) = record { values = column.values; layout = column.layout; encoding = by.Offset offset; room = column.room }
 after column (Replace other) = other
 
--- codes can be counted from another base where their layout lets them, they are distances, and each value has a code of at most
--- 32 bits from there
+-- codes can be counted from another base where their layout lets them, they are distances, and each value has a code from there
+-- that the layout holds
 abbrev pub CanTake : ColumnView → Step → Type 0
-CanTake column (Shift offset) = ShiftsTo column.layout (width column.encoding) offset.width × (kind_of column.encoding ≡ kind.Offset) × All (IsCoded (by.Offset offset)) column.values × (offset.width ≤ 32)
+CanTake column (Shift offset) = ShiftsTo column.layout (width column.encoding) offset.width × (kind_of column.encoding ≡ kind.Offset) × All (IsCoded (by.Offset offset)) column.values × (offset.width ≤ widest column.layout)
 CanTake column other = ⊤
 
 -- how many values a column gets more
@@ -49,6 +49,6 @@ pub record IsPreparedFor (column : ColumnView) (values : List (Option ℤ)) (gro
   pub encoding : IsEncodingFor column.values column.encoding values (after column prepared.step).encoding
   pub coded : All (IsCoded (after column prepared.step).encoding) values
   pub codes : AreKept (codes_for (after column prepared.step).encoding values) prepared.codes
-  pub integers : All IsNullOrInteger values
+  pub held : All (IsNullOrHeld column.layout) values
   pub few : length column.values + more grow values ≤ 2 ^ 24
   pub room : length column.values + more grow values ≤ (after column prepared.step).room

@@ -1,16 +1,44 @@
 -- The values of a column: integers and nulls.
 use Rattle.std.specs.Prelude.{FitsSigned, List, None, Option, Some, slice_index_or, ⊤, ℕ, ℤ}
-use Rattle.std.specs.Int.{w32}
+use Rattle.std.specs.Int.{w32, w64}
+use Rattle.bw_code.specs.declared.kind.Layout.{Layout}
+use Rattle.bw_code.specs.declared.kind.Layout.TheVariants as layouts
 -- those of the values that are not null
 pub use Rattle.bw_cells.specs.Known.{known}
 
--- the integers that a column may hold
+-- the integers of the type INTEGER, which every layout holds
 abbrev pub IsInteger : ℤ → Type 0
 IsInteger x = FitsSigned w32 x
 
 abbrev pub IsNullOrInteger : Option ℤ → Type 0
 IsNullOrInteger None = ⊤
 IsNullOrInteger (Some x) = IsInteger x
+
+-- the integers that some layout holds: those of 64 bits
+abbrev pub IsStorable : ℤ → Type 0
+IsStorable x = FitsSigned w64 x
+
+abbrev pub IsNullOrStorable : Option ℤ → Type 0
+IsNullOrStorable None = ⊤
+IsNullOrStorable (Some x) = IsStorable x
+
+-- the integers that a column in a layout may hold: BitWeaving/H takes those of 32 bits, the others those of 64
+abbrev pub IsHeld : Layout → ℤ → Type 0
+IsHeld layouts.P x = FitsSigned w64 x
+IsHeld layouts.V x = FitsSigned w64 x
+IsHeld layouts.H x = FitsSigned w32 x
+IsHeld layouts.S x = FitsSigned w64 x
+
+abbrev pub IsNullOrHeld : Layout → Option ℤ → Type 0
+IsNullOrHeld layout None = ⊤
+IsNullOrHeld layout (Some x) = IsHeld layout x
+
+-- how many bits a code has at most
+abbrev pub widest : Layout → ℕ
+widest layouts.P = 64
+widest layouts.V = 64
+widest layouts.H = 32
+widest layouts.S = 64
 
 -- the value of a row; null past the last
 abbrev pub value_at : List (Option ℤ) → ℕ → Option ℤ

@@ -4,7 +4,7 @@ ghost use Rattle.std.specs.Prelude.{[], All, IfOk, OnOk, is_some, length, map, �
 ghost use Rattle.bw_code.specs.Encodings.{IsFit, kind_of, width};
 ghost use Rattle.bw_column.specs.Codes.{IsCoded, codes_for};
 ghost use Rattle.bw_column.specs.Columns.{Keeps};
-ghost use Rattle.bw_column.specs.Values.{IsNullOrInteger, known};
+ghost use Rattle.bw_column.specs.Values.{IsNullOrHeld, known, widest};
 
 use crate::column::Column;
 use crate::storage::Codes;
@@ -16,12 +16,10 @@ use std::alloc::{AllocError, Global};
 
 /// The encoding of a kind that fits the values which are not null.
 fn encoding_of<C: Measured>(alloc: Global, values: &C, kind: Kind) -> Result<Encoding, AllocError>
-    requires integers { All IsNullOrInteger (C.cells values.now) }
     requires few { length (C.cells values.now) ≤ 2 ^ 24 }
     ensures fits { IfOk result (IsFit (known (C.cells values.now))) }
     ensures kind { IfOk result (λ e. kind_of e ≡ kind) }
     ensures coded { IfOk result (λ e. All (IsCoded e) (C.cells values.now)) }
-    ensures narrow { IfOk result (λ e. width e ≤ 32) }
 {
     let mut fitting = Fitting::new(alloc, kind, values.len())?;
     tell_cells(&mut fitting, values)?;
@@ -36,7 +34,7 @@ impl Column {
         encoding: Encoding,
         room: usize,
     ) -> Result<Column, AllocError>
-        requires narrow { width encoding ≤ 32 }
+        requires narrow { width encoding ≤ widest layout }
         requires few { room ≤ 2 ^ 24 }
         ensures values { IfOk result (λ c. c.values ≡ []) }
         ensures layout { IfOk result (λ c. c.layout ≡ layout) }
@@ -61,7 +59,7 @@ impl Column {
         layout: Layout,
         kind: Kind,
     ) -> Result<Column, AllocError>
-        requires integers { All IsNullOrInteger (C.cells values.now) }
+        requires held { All (IsNullOrHeld layout) (C.cells values.now) }
         requires few { length (C.cells values.now) ≤ 2 ^ 24 }
         ensures values { IfOk result (λ c. c.values ≡ C.cells values.now) }
         ensures layout { IfOk result (λ c. c.layout ≡ layout) }

@@ -8,7 +8,7 @@ ghost use Rattle.bw_column.specs.Columns.{Keeps};
 ghost use Rattle.bw_column.specs.Keeping.{AreKept};
 ghost use Rattle.bw_column.specs.Places.{overwritten};
 ghost use Rattle.bw_column.specs.Preparing.{IsEncodingFor, IsPreparedFor, more};
-ghost use Rattle.bw_column.specs.Values.{IsNullOrInteger, known};
+ghost use Rattle.bw_column.specs.Values.{IsNullOrHeld, known};
 
 use crate::column::Column;
 use crate::kept::{KeptCodes, find_codes, keep_codes};
@@ -51,7 +51,7 @@ impl Column {
         values: &C,
         grow: bool,
     ) -> Result<Prepared, AllocError>
-        requires integers { All IsNullOrInteger (C.cells values.now) }
+        requires held { All (IsNullOrHeld self.old.layout) (C.cells values.now) }
         requires some { length (C.cells values.now) ≤ 2 ^ 24 }
         requires few { length self.old.values + more grow (C.cells values.now) ≤ 2 ^ 24 }
         ensures prepared { IfOk result (IsPreparedFor self.new (C.cells values.now) grow) }
@@ -88,7 +88,7 @@ impl Column {
     fn put_all(&mut self, places: &Mask, values: &[Option<i64>], codes: &KeptCodes)
         requires coded { All (IsCoded self.old.encoding) values.now }
         requires codes { AreKept (codes_for self.old.encoding values.now) codes.now }
-        requires integers { All IsNullOrInteger values.now }
+        requires held { All (IsNullOrHeld self.old.layout) values.now }
         requires few { length self.old.values ≤ 2 ^ 24 }
         requires places { len places.now ≡ length self.old.values }
         requires count { count_by (λ row. row) places.now.rows ≡ length values.now }

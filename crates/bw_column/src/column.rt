@@ -5,7 +5,7 @@ ghost use Rattle.bw_mask.specs.Masks.{SameShape, bit_of, len, row_at};
 ghost use Rattle.bw_code.specs.Encodings.{IsEncoding, kind_of, width};
 ghost use Rattle.bw_column.specs.Codes.{IsCoded, code_for, codes_for};
 ghost use Rattle.bw_column.specs.Storing.{lent_layout, lent_list};
-ghost use Rattle.bw_column.specs.Values.{IsNullOrInteger, value_at};
+ghost use Rattle.bw_column.specs.Values.{IsNullOrHeld, value_at, widest};
 
 use crate::reading::value;
 use crate::storage::{Codes, Storage};
@@ -31,16 +31,16 @@ impl Model for Column {
 
     ghost view = { λ c. record { values = values_from c.encoding (list_of c.codes) c.nonnull; layout = layout_of c.codes; encoding = c.encoding; room = min (list_of c.codes).room c.nonnull.room } };
 
-    ghost invariant = { λ c. AreRowCodes c.encoding (list_of c.codes) c.nonnull };
+    ghost invariant = { λ c. AreRowCodes (layout_of c.codes) c.encoding (list_of c.codes) c.nonnull };
 }
 
 impl Column {
-    /// How many values there are. Each is null or one of the integers that a column may hold.
-    #[tactic(auto, using(bw_code::proofs::Lists::made_len, crate::proofs::Rows::row_integers))]
+    /// How many values there are. Each is null or one of the integers that the layout holds.
+    #[tactic(auto, using(bw_code::proofs::Lists::made_len, crate::proofs::Rows::row_held))]
     pub fn len(&self) -> usize
         ensures count { result ≡ length self.now.values }
         ensures few { result ≤ 2 ^ 24 }
-        ensures integers { All IsNullOrInteger self.now.values }
+        ensures held { All (IsNullOrHeld self.now.layout) self.now.values }
     {
         self.codes.len()
     }
@@ -60,7 +60,6 @@ impl Column {
     }
 
     /// The encoding of the values that are not null. Each of them has its code.
-    #[tactic(auto, using(crate::proofs::Rows::row_coded))]
     pub fn encoding(&self) -> &Encoding
         ensures is { result.now ≡ self.now.encoding }
         ensures sound { IsEncoding self.now.encoding }
@@ -70,7 +69,7 @@ impl Column {
     }
 
     /// The rows whose value is not null.
-    #[tactic(auto, using(crate::proofs::Rows::known_rows, bw_code::proofs::Lists::made_len))]
+    #[tactic(auto, using(bw_code::proofs::Lists::made_len))]
     pub fn nonnull(&self) -> &Mask
         ensures len { len result.now ≡ length self.now.values }
         ensures few { len result.now ≤ 2 ^ 24 }
@@ -84,13 +83,13 @@ impl Column {
     pub fn get(&self, i: usize) -> Option<i64>
         requires { i < length self.now.values }
         ensures is { result ≡ value_at self.now.values i }
-        ensures integer { IsNullOrInteger result }
+        ensures held { IsNullOrHeld self.now.layout result }
     {
         value(&self.encoding, self.codes.get(i), self.nonnull.get(i))
     }
 
     /// `out` becomes the rows whose code has bit i. Bit 0 is the lowest. A null's code is 0.
-    #[tactic(auto, using(crate::proofs::Rows::row_codes, bw_code::proofs::Lists::made_len))]
+    #[tactic(auto, using(bw_code::proofs::Lists::made_len))]
     pub fn plane(&self, i: u32, out: &mut Mask)
         requires bit { i < width self.now.encoding }
         requires out { len out.old ≡ length self.now.values }
@@ -104,7 +103,7 @@ impl Column {
     pub fn storage(&self) -> Storage<'_>
         ensures layout { lent_layout result ≡ self.now.layout }
         ensures width { (lent_list result).width ≡ width self.now.encoding }
-        ensures narrow { (lent_list result).width ≤ 32 }
+        ensures narrow { (lent_list result).width ≤ widest self.now.layout }
         ensures codes { (lent_list result).codes ≡ codes_for self.now.encoding self.now.values }
     {
         self.codes.lent()
@@ -116,7 +115,7 @@ impl Column {
         requires inside { i < length self.old.values }
         requires coded { IsCoded self.old.encoding value }
         requires code { code ≡ code_for self.old.encoding value }
-        requires integer { IsNullOrInteger value }
+        requires held { IsNullOrHeld self.old.layout value }
         ensures values { self.new.values ≡ slice_set self.old.values i value }
         ensures layout { self.new.layout ≡ self.old.layout }
         ensures encoding { self.new.encoding ≡ self.old.encoding }

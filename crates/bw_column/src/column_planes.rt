@@ -8,6 +8,7 @@ ghost use Rattle.bw_vertical.specs.Planes.{code_in, segments_of};
 ghost use Rattle.bw_column.specs.Costs.{is_plain};
 ghost use Rattle.bw_column.specs.PlaneSources.{HoldsCodes, reads_in, units_in};
 ghost use Rattle.bw_column.specs.Storing.{layout_of, list_of};
+ghost use Rattle.bw_column.specs.Values.{widest};
 
 use crate::planes::CodePlanes;
 use crate::storage::Codes;
@@ -59,8 +60,8 @@ fn add_beside<A: Source<[u64; 4]>>(
     need: &Mask,
     out: &mut Mask,
 )
-    requires narrow { left.width ≤ 32 }
-    requires other_narrow { right.width ≤ 32 }
+    requires narrow { left.width ≤ 64 }
+    requires other_narrow { right.width ≤ 64 }
     requires few { len need.now ≤ 2 ^ 24 }
     requires out { len out.old ≡ len need.now }
     requires units { length (A.units a.old) ≡ segments_of (len need.now) * left.width }
@@ -92,8 +93,8 @@ pub(crate) fn add_planes(
     need: &Mask,
     out: &mut Mask,
 )
-    requires narrow { left.width ≤ 32 }
-    requires other_narrow { right.width ≤ 32 }
+    requires narrow { left.width ≤ 64 }
+    requires other_narrow { right.width ≤ 64 }
     requires few { len need.now ≤ 2 ^ 24 }
     requires out { len out.old ≡ len need.now }
     requires units { length (units_in planes.old) ≡ segments_of (len need.now) * left.width }
@@ -118,7 +119,7 @@ pub(crate) fn add_planes(
 impl Codes {
     /// The planes, none of them read. A plain list has none at hand.
     pub(crate) fn planes(&self) -> Option<ColumnPlanes<'_>>
-        requires narrow { (list_of self.now).width ≤ 32 }
+        requires narrow { (list_of self.now).width ≤ widest (layout_of self.now) }
         ensures some { IsSome result ↔ (is_plain (layout_of self.now) ≡ false) }
         ensures planes { IfSome result (HoldsCodes (list_of self.now)) }
     {

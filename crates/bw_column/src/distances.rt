@@ -6,7 +6,7 @@ ghost use Rattle.bw_cells.specs.Distances.{distance_from};
 ghost use Rattle.bw_code.specs.Columns.{count};
 ghost use Rattle.bw_code.specs.declared.encoding.Encoding.TheVariants as by;
 ghost use Rattle.bw_column.specs.Codes.{AreRowCodes, values_from};
-ghost use Rattle.bw_column.specs.Storing.{list_of};
+ghost use Rattle.bw_column.specs.Storing.{layout_of, list_of};
 
 use crate::bits::has_bit;
 use crate::column::Column;
@@ -38,7 +38,7 @@ fn distances_by_offset(
     base: i64,
     out: &mut [u64],
 ) -> u64
-    requires rows { AreRowCodes (by.Offset offset) (list_of codes.now) nonnull.now }
+    requires rows { AreRowCodes (layout_of codes.now) (by.Offset offset) (list_of codes.now) nonnull.now }
     requires few { length out.old ≤ 64 }
     requires there { at + length out.old ≤ count (list_of codes.now) }
     ensures distances { out.new ≡ map (distance_from base) (take (length out.old) (drop at (values_from (by.Offset offset) (list_of codes.now) nonnull.now))) }

@@ -5,7 +5,7 @@ ghost use Rattle.bw_mask.specs.Masks.{bit_of};
 ghost use Rattle.bw_code.specs.Lists.{made};
 ghost use Rattle.bw_code.specs.declared.encoding.Encoding.TheVariants as by;
 ghost use Rattle.bw_column.specs.Codes.{IsCoded, IsRowCode, codes_for, value_from};
-ghost use Rattle.bw_column.specs.Values.{IsNullOrInteger};
+ghost use Rattle.bw_column.specs.Values.{IsNullOrHeld};
 
 use crate::codes::encode_all;
 use crate::column::Column;
@@ -18,6 +18,7 @@ impl Column {
     fn extend_rows(&mut self, codes: &[u64], present: u64)
         requires block { length codes.now ≤ 64 }
         requires rows { (k : ℕ) → k < length codes.now → IsRowCode self.old.encoding (slice_index codes.now k) (bit_of present k) }
+        requires held { All (IsNullOrHeld self.old.layout) (made (length codes.now) (λ k. value_from self.old.encoding (slice_index codes.now k) (bit_of present k))) }
         requires room { length self.old.values + length codes.now ≤ self.old.room }
         requires few { length self.old.values + length codes.now ≤ 2 ^ 24 }
         ensures values { self.new.values ≡ self.old.values ++ made (length codes.now) (λ k. value_from self.old.encoding (slice_index codes.now k) (bit_of present k)) }
@@ -34,7 +35,7 @@ impl Column {
         requires block { length values.now ≤ 64 }
         requires coded { All (IsCoded self.old.encoding) values.now }
         requires codes { codes.now ≡ codes_for self.old.encoding values.now }
-        requires integers { All IsNullOrInteger values.now }
+        requires held { All (IsNullOrHeld self.old.layout) values.now }
         requires room { length self.old.values + length values.now ≤ self.old.room }
         requires few { length self.old.values + length values.now ≤ 2 ^ 24 }
         ensures values { self.new.values ≡ self.old.values ++ values.now }
@@ -50,7 +51,7 @@ impl Column {
     fn extend_block(&mut self, values: &[Option<i64>])
         requires block { length values.now ≤ 64 }
         requires coded { All (IsCoded self.old.encoding) values.now }
-        requires integers { All IsNullOrInteger values.now }
+        requires held { All (IsNullOrHeld self.old.layout) values.now }
         requires room { length self.old.values + length values.now ≤ self.old.room }
         requires few { length self.old.values + length values.now ≤ 2 ^ 24 }
         ensures values { self.new.values ≡ self.old.values ++ values.now }
@@ -69,7 +70,7 @@ impl Column {
     /// Adds cells at the end, within the room, each by the code that is looked for.
     fn extend_each<C: Cells>(&mut self, cells: &C)
         requires coded { All (IsCoded self.old.encoding) (C.cells cells.now) }
-        requires integers { All IsNullOrInteger (C.cells cells.now) }
+        requires held { All (IsNullOrHeld self.old.layout) (C.cells cells.now) }
         requires room { length self.old.values + length (C.cells cells.now) ≤ self.old.room }
         requires few { length self.old.values + length (C.cells cells.now) ≤ 2 ^ 24 }
         ensures values { self.new.values ≡ self.old.values ++ C.cells cells.now }
@@ -91,7 +92,7 @@ impl Column {
     fn extend_measured<C: Measured>(&mut self, offset: Offset, cells: &C)
         requires encoding { self.old.encoding ≡ by.Offset offset }
         requires coded { All (IsCoded self.old.encoding) (C.cells cells.now) }
-        requires integers { All IsNullOrInteger (C.cells cells.now) }
+        requires held { All (IsNullOrHeld self.old.layout) (C.cells cells.now) }
         requires room { length self.old.values + length (C.cells cells.now) ≤ self.old.room }
         requires few { length self.old.values + length (C.cells cells.now) ≤ 2 ^ 24 }
         ensures values { self.new.values ≡ self.old.values ++ C.cells cells.now }
@@ -113,7 +114,7 @@ impl Column {
     /// Adds cells at the end, within the room.
     pub(crate) fn extend_from<C: Measured>(&mut self, cells: &C)
         requires coded { All (IsCoded self.old.encoding) (C.cells cells.now) }
-        requires integers { All IsNullOrInteger (C.cells cells.now) }
+        requires held { All (IsNullOrHeld self.old.layout) (C.cells cells.now) }
         requires room { length self.old.values + length (C.cells cells.now) ≤ self.old.room }
         requires few { length self.old.values + length (C.cells cells.now) ≤ 2 ^ 24 }
         ensures values { self.new.values ≡ self.old.values ++ C.cells cells.now }
@@ -131,7 +132,7 @@ impl Column {
     pub(crate) fn extend_with<C: Cells>(&mut self, cells: &C, codes: &[u64])
         requires coded { All (IsCoded self.old.encoding) (C.cells cells.now) }
         requires codes { codes.now ≡ codes_for self.old.encoding (C.cells cells.now) }
-        requires integers { All IsNullOrInteger (C.cells cells.now) }
+        requires held { All (IsNullOrHeld self.old.layout) (C.cells cells.now) }
         requires room { length self.old.values + length (C.cells cells.now) ≤ self.old.room }
         requires few { length self.old.values + length (C.cells cells.now) ≤ 2 ^ 24 }
         ensures values { self.new.values ≡ self.old.values ++ C.cells cells.now }

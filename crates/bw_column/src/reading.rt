@@ -5,8 +5,8 @@ ghost use Rattle.bw_mask.specs.Masks.{bit_of};
 ghost use Rattle.bw_code.specs.Columns.{count};
 ghost use Rattle.bw_code.specs.declared.encoding.Encoding.TheVariants as by;
 ghost use Rattle.bw_column.specs.Codes.{AreRowCodes, IsRowCode, value_from, values_from};
-ghost use Rattle.bw_column.specs.Storing.{list_of};
-ghost use Rattle.bw_column.specs.Values.{IsNullOrInteger, value_at};
+ghost use Rattle.bw_column.specs.Storing.{layout_of, list_of};
+ghost use Rattle.bw_column.specs.Values.{value_at};
 
 use crate::bits::has_bit;
 use crate::column::Column;
@@ -18,8 +18,7 @@ use bw_mask::Mask;
 /// The value of a row, by its code and by whether it is there.
 pub(crate) fn value(encoding: &Encoding, code: u64, there: bool) -> Option<i64>
     requires { IsRowCode encoding.now code there }
-    ensures is { result ≡ value_from encoding.now code there }
-    ensures integer { IsNullOrInteger result }
+    ensures { result ≡ value_from encoding.now code there }
 {
     if there {
         Some(encoding.decode(code))
@@ -83,7 +82,7 @@ fn read_block(
     at: usize,
     out: &mut [Option<i64>],
 )
-    requires rows { AreRowCodes encoding.now (list_of codes.now) nonnull.now }
+    requires rows { AreRowCodes (layout_of codes.now) encoding.now (list_of codes.now) nonnull.now }
     requires few { length out.old ≤ 64 }
     requires there { at + length out.old ≤ count (list_of codes.now) }
     ensures { (k : ℕ) → k < length out.old → value_at out.new k ≡ value_at (values_from encoding.now (list_of codes.now) nonnull.now) (at + k) }

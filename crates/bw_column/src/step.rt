@@ -1,8 +1,7 @@
 //! How a column comes to have a code for each of some values.
 
 ghost use Rattle.std.specs.Bool.{OnTrue};
-ghost use Rattle.std.specs.Int.{w64};
-ghost use Rattle.std.specs.Prelude.{All, FitsSigned, IfOk, length, ◌++◌, ◌+◌, ◌-ℤ◌, ◌^◌, ◌≡◌, ◌≤◌};
+ghost use Rattle.std.specs.Prelude.{All, IfOk, length, ◌++◌, ◌+◌, ◌^◌, ◌≡◌, ◌≤◌};
 ghost use Rattle.bw_code.specs.Encodings.{IsFit, kind_of, width};
 ghost use Rattle.bw_code.specs.Fittings.{AreTold, told_kind};
 ghost use Rattle.bw_code.specs.declared.encoding.Encoding.TheVariants as by;
@@ -11,7 +10,7 @@ ghost use Rattle.bw_column.specs.Codes.{IsCoded};
 ghost use Rattle.bw_column.specs.Columns.{Keeps};
 ghost use Rattle.bw_column.specs.Preparing.{CanTake, after};
 ghost use Rattle.bw_column.specs.Storing.{ShiftsTo};
-ghost use Rattle.bw_column.specs.Values.{IsNullOrInteger, known};
+ghost use Rattle.bw_column.specs.Values.{IsNullOrHeld, known, widest};
 
 use crate::column::Column;
 use crate::telling::{tell_cells, tell_runs};
@@ -28,13 +27,6 @@ pub(crate) enum Step {
     Shift(Offset),
     /// Another column takes its place: the same values, encoded anew.
     Replace(Column),
-}
-
-/// How much a code gets more where the base goes from one to the other. It is of use only where it fits.
-fn shift_between(from: Offset, to: Offset) -> i64
-    ensures { FitsSigned w64 (from.base -ℤ to.base) → result ≡ from.base -ℤ to.base }
-{
-    from.base.wrapping_sub(to.base)
 }
 
 impl Column {
@@ -60,13 +52,13 @@ impl Column {
         alloc: Global,
         values: &C,
     ) -> Result<Encoding, AllocError>
-        requires integers { All IsNullOrInteger (C.cells values.now) }
+        requires held { All (IsNullOrHeld self.now.layout) (C.cells values.now) }
         requires some { length (C.cells values.now) ≤ 2 ^ 24 }
         ensures fits { IfOk result (IsFit (known (self.now.values ++ C.cells values.now))) }
         ensures kind { IfOk result (λ e. kind_of e ≡ kind_of self.now.encoding) }
         ensures own { IfOk result (λ e. All (IsCoded e) self.now.values) }
         ensures coded { IfOk result (λ e. All (IsCoded e) (C.cells values.now)) }
-        ensures narrow { IfOk result (λ e. width e ≤ 32) }
+        ensures narrow { IfOk result (λ e. width e ≤ widest self.now.layout) }
     {
         let mut fitting = self.told(alloc, self.len() + values.len())?;
         tell_cells(&mut fitting, values)?;
@@ -76,7 +68,7 @@ impl Column {
     /// The same values in another encoding, and room for so many values more.
     fn anew(&self, alloc: Global, encoding: Encoding, more: usize) -> Result<Column, AllocError>
         requires coded { All (IsCoded encoding) self.now.values }
-        requires narrow { width encoding ≤ 32 }
+        requires narrow { width encoding ≤ widest self.now.layout }
         requires few { length self.now.values + more ≤ 2 ^ 24 }
         ensures values { IfOk result (λ c. c.values ≡ self.now.values) }
         ensures layout { IfOk result (λ c. c.layout ≡ self.now.layout) }
@@ -93,7 +85,7 @@ impl Column {
         ensures { OnTrue result (ShiftsTo self.now.layout (width self.now.encoding) bits) }
     {
         match self.layout() {
-            Layout::P => true,
+            Layout::P => (bits <= 32) == (self.encoding.width() <= 32),
             Layout::V => bits == self.encoding.width(),
             Layout::H | Layout::S => false,
         }
@@ -109,7 +101,7 @@ impl Column {
     ) -> Result<Step, AllocError>
         requires kind { kind_of encoding ≡ kind_of self.old.encoding }
         requires coded { All (IsCoded encoding) self.old.values }
-        requires narrow { width encoding ≤ 32 }
+        requires narrow { width encoding ≤ widest self.old.layout }
         requires few { length self.old.values + more ≤ 2 ^ 24 }
         ensures can { IfOk result (CanTake self.new) }
         ensures values { IfOk result (λ step. (after self.new step).values ≡ self.old.values) }
@@ -138,8 +130,8 @@ impl Column {
         let Encoding::Offset(own) = self.encoding else {
             unreachable!()
         };
-        let by = shift_between(own, offset);
-        self.codes.shift(&self.nonnull, by, offset.width);
+        self.codes
+            .shift(&self.nonnull, own.base, offset.base, offset.width);
         self.encoding = Encoding::Offset(offset);
     }
 

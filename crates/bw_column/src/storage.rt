@@ -1,6 +1,6 @@
 //! The codes of a column, each layout in its own type.
 
-ghost use Rattle.std.specs.Prelude.{[], IfOk, OnOk, drop, length, slice_set, take, ℕ, ◌&&◌, ◌++◌, ◌+◌, ◌<◌, ◌^◌, ◌≡◌, ◌≤◌, pos};
+ghost use Rattle.std.specs.Prelude.{[], IfOk, OnOk, drop, length, slice_set, take, ℕ, ◌&&◌, ◌++◌, ◌+◌, ◌<◌, ◌^◌, ◌≡◌, ◌≤◌, pos, ◌-ℤ◌};
 ghost use Rattle.bw_mask.specs.Masks.{SameShape, bit_of, len, row_at};
 ghost use Rattle.bw_code.specs.Columns.{Fit, KeepsShape, code_at, count};
 ghost use Rattle.bw_code.specs.Meters.{raised};
@@ -8,6 +8,7 @@ ghost use Rattle.bw_code.specs.Shifts.{StaysBelow, shifted};
 ghost use Rattle.bw_code.specs.Tests.{TestFits, code_compares, meets};
 ghost use Rattle.bw_code.specs.Units.{units_of_pair, units_of_scan};
 ghost use Rattle.bw_column.specs.Storing.{ShiftsTo, layout_of, lent_layout, lent_list, list_of};
+ghost use Rattle.bw_column.specs.Values.{widest};
 
 use bw_byteslice::SliceColumn;
 use bw_code::{CmpOp, CodeColumn, CodeTest, Layout, Meter, PlainColumn};
@@ -38,7 +39,7 @@ impl Codes {
     /// No codes.
     pub(crate) fn with_width(alloc: Global, layout: Layout, width: u32) -> Result<Codes, AllocError>
         requires some { 1 ≤ width }
-        requires narrow { width ≤ 32 }
+        requires narrow { width ≤ widest layout }
         ensures layout { IfOk result (λ codes. layout_of codes ≡ layout) }
         ensures width { IfOk result (λ codes. (list_of codes).width ≡ width) }
         ensures codes { IfOk result (λ codes. (list_of codes).codes ≡ []) }
@@ -215,22 +216,22 @@ impl Codes {
         }
     }
 
-    /// Adds so much to the code of each of the rows, and makes all codes ones of so many bits, where they lie.
-    pub(crate) fn shift(&mut self, rows: &Mask, by: i64, width: u32)
+    /// Counts the code of each of the rows from another base, and makes all codes ones of so many bits, where they lie.
+    pub(crate) fn shift(&mut self, rows: &Mask, from: i64, to: i64, width: u32)
         requires here { ShiftsTo (layout_of self.old) (list_of self.old).width width }
         requires some { 1 ≤ width }
-        requires narrow { width ≤ 32 }
+        requires narrow { width ≤ widest (layout_of self.old) }
         requires rows { len rows.now ≡ count (list_of self.old) }
-        requires fit { (i : ℕ) → i < count (list_of self.old) → StaysBelow (2 ^ width) (shifted by (row_at rows.now i) (code_at (list_of self.old) i)) }
+        requires fit { (i : ℕ) → i < count (list_of self.old) → StaysBelow (2 ^ width) (shifted (from -ℤ to) (row_at rows.now i) (code_at (list_of self.old) i)) }
         ensures layout { layout_of self.new ≡ layout_of self.old }
         ensures width { (list_of self.new).width ≡ width }
         ensures count { count (list_of self.new) ≡ count (list_of self.old) }
-        ensures codes { (i : ℕ) → i < count (list_of self.old) → pos (code_at (list_of self.new) i) ≡ shifted by (row_at rows.now i) (code_at (list_of self.old) i) }
+        ensures codes { (i : ℕ) → i < count (list_of self.old) → pos (code_at (list_of self.new) i) ≡ shifted (from -ℤ to) (row_at rows.now i) (code_at (list_of self.old) i) }
         ensures room { (list_of self.old).room ≤ (list_of self.new).room }
     {
         match self {
-            Codes::P(codes) => codes.shift(rows, by, width),
-            Codes::V(codes) => codes.shift(rows, by),
+            Codes::P(codes) => codes.shift(rows, from, to, width),
+            Codes::V(codes) => codes.shift(rows, from, to),
             Codes::H(_) | Codes::S(_) => unreachable!(),
         }
     }

@@ -76,7 +76,6 @@ fn live_column<'a>(alloc: Global, table: &'a Table, k: usize) -> Result<LiveCell
 {
     let stored = table.stored();
     let column = stored.column(k);
-    // The values of a column are integers and nulls.
     let slots = column.len();
     if stored.row_count() == slots {
         return Ok(LiveCells::Whole(column));

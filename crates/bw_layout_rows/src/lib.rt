@@ -1,16 +1,23 @@
-//! The layouts as tests: worked examples of what a column keeps and what a scan reads, and every call beside plain codes.
+//! The layouts as tests: worked examples of what a column keeps and what a scan reads, and every call compared with
+//! plain codes.
 #![tactic(auto)]
 
 #[cfg(test)]
-mod beside_plain;
+mod against_plain;
 #[cfg(test)]
 mod codes;
+#[cfg(test)]
+mod kernels;
 #[cfg(test)]
 mod pairs;
 #[cfg(test)]
 mod seen;
 #[cfg(test)]
+mod shifts;
+#[cfg(test)]
 mod slice_planes;
+#[cfg(test)]
+mod sources;
 #[cfg(test)]
 mod storage;
 #[cfg(test)]

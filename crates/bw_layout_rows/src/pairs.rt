@@ -1,10 +1,12 @@
-//! Two columns side by side, beside their codes compared one by one.
+//! Two columns of one layout, compared row by row, against their codes compared one by one.
 
-ghost use Rattle.std.specs.Prelude.{length, ◌<◌, ◌≡◌, ◌≤◌};
+ghost use Rattle.std.specs.Prelude.{length, ◌≡◌, ◌≤◌};
 ghost use Rattle.bw_mask.specs.Masks.{len};
 ghost use Rattle.bw_code.specs.Columns.{Fit};
 
-use crate::codes::{OPERATORS, codes_of, column_of, filled, need_of, other_codes};
+use crate::codes::{
+    OPERATORS, codes_of, column_of, filled, holds, need_of, other_codes, segment_rows,
+};
 use crate::seen::{see, see_at};
 use bw_byteslice::SliceColumn;
 use bw_code::{CmpOp, CodeColumn, Meter, PlainColumn};
@@ -13,7 +15,7 @@ use bw_mask::Mask;
 use bw_vertical::VerticalColumn;
 use std::process::Abort;
 
-/// The needed rows that a scan found, beside those whose codes compare so.
+/// The needed rows that a scan found are those whose codes compare so.
 fn check_found<R: Abort + AllocGlobal>(
     rt: &R,
     op: CmpOp,
@@ -27,12 +29,12 @@ fn check_found<R: Abort + AllocGlobal>(
     requires found { len found.now ≡ length codes.now }
 {
     for row in 0..codes.len() {
-        let wanted = need.get(row) && op.compares(codes[row], others[row]);
-        see_at(rt, (op, row), found.get(row), wanted);
+        let compares = holds(op, i128::from(codes[row]), i128::from(others[row]));
+        see_at(rt, (op, row), found.get(row), need.get(row) && compares);
     }
 }
 
-/// Fills `found` with the needed rows whose codes compare so, and tells how many units that read.
+/// Fills `found` with the needed rows whose codes compare so, and returns how many units that read.
 fn units_of_scan<C: CodeColumn + Drop, R: Abort + AllocGlobal>(
     rt: &R,
     width: u32,
@@ -43,8 +45,7 @@ fn units_of_scan<C: CodeColumn + Drop, R: Abort + AllocGlobal>(
     found: &mut Mask,
 ) -> u64
     requires some { 1 ≤ width }
-    requires narrow { width ≤ 32 }
-    requires wide { 32 ≤ C.WIDEST }
+    requires narrow { width ≤ C.WIDEST }
     requires few { length codes.now ≤ 1000 }
     requires fit { Fit width codes.now }
     requires others_fit { Fit width others.now }
@@ -68,8 +69,7 @@ fn check_pair<C: CodeColumn + Drop, R: Abort + AllocGlobal>(
     op: CmpOp,
 )
     requires some { 1 ≤ width }
-    requires narrow { width ≤ 32 }
-    requires wide { 32 ≤ C.WIDEST }
+    requires narrow { width ≤ C.WIDEST }
     requires few { length codes.now ≤ 1000 }
     requires fit { Fit width codes.now }
     requires others_fit { Fit width others.now }
@@ -83,8 +83,8 @@ fn check_pair<C: CodeColumn + Drop, R: Abort + AllocGlobal>(
 
 fn check_pairs<C: CodeColumn + Drop, R: Abort + AllocGlobal>(rt: &R, width: u32, rows: usize)
     requires some { 1 ≤ width }
-    requires narrow { width ≤ 32 }
-    requires wide { 32 ≤ C.WIDEST }
+    requires narrow { width ≤ 64 }
+    requires widest { width ≤ C.WIDEST }
     requires few { rows ≤ 1000 }
 {
     let codes = codes_of(rt, width, rows);
@@ -95,26 +95,35 @@ fn check_pairs<C: CodeColumn + Drop, R: Abort + AllocGlobal>(rt: &R, width: u32,
 }
 
 fn check_all_pairs<C: CodeColumn + Drop, R: Abort + AllocGlobal>(rt: &R)
-    requires wide { 32 ≤ C.WIDEST }
+    requires { 64 ≤ C.WIDEST }
 {
-    for width in [1, 5, 8, 9, 17, 31, 32] {
-        for rows in [1, 32, 33, 64, 65, 255, 257] {
+    for width in 1..=64 {
+        for rows in [1, 31, 32, 33, 63, 64, 65, 255, 256, 257] {
             check_pairs::<C, R>(rt, width, rows);
         }
     }
 }
 
 #[test]
-fn beside_their_codes(rt: HostRuntime) {
+fn against_their_codes(rt: HostRuntime) {
     check_all_pairs::<PlainColumn, _>(&rt);
     check_all_pairs::<VerticalColumn, _>(&rt);
-    check_all_pairs::<HorizontalColumn, _>(&rt);
     check_all_pairs::<SliceColumn, _>(&rt);
 }
 
-/// The rows where 0, 3 is below 3, 0, and the units that are read to tell.
+#[test]
+fn words_against_their_codes(rt: HostRuntime) {
+    for width in 1..=32 {
+        let rows = segment_rows(width);
+        for rows in [1, rows - 1, rows, rows + 1, 200] {
+            check_pairs::<HorizontalColumn, _>(&rt, width, rows);
+        }
+    }
+}
+
+/// The rows where 0, 3 is below 3, 0, and the units that are read to decide.
 fn units_of_two_rows<C: CodeColumn + Drop, R: Abort + AllocGlobal>(rt: &R) -> (u64, u64)
-    requires { 32 ≤ C.WIDEST }
+    requires { 2 ≤ C.WIDEST }
 {
     let need = filled(rt, 2, true);
     let mut found = filled(rt, 2, true);
@@ -134,4 +143,38 @@ fn units_of_a_pair(rt: HostRuntime) {
         (found, 6),
     );
     see(&rt, units_of_two_rows::<SliceColumn, _>(&rt), (found, 2));
+}
+
+/// The same of two rows of 40 bits: in the first the codes agree in their 21 highest bits, and in the second in 4.
+fn units_of_two_wide_rows<C: CodeColumn + Drop, R: Abort + AllocGlobal>(rt: &R) -> (u64, u64)
+    requires { 40 ≤ C.WIDEST }
+{
+    let need = filled(rt, 2, true);
+    let mut found = filled(rt, 2, true);
+    let codes = [0x96_0000_00a5, 0x90_0000_0000];
+    let others = [0x96_0004_00a5, 0x98_0000_0000];
+    let units = units_of_scan::<C, R>(rt, 40, &codes, &others, CmpOp::Lt, &need, &mut found);
+    (found.bits(0, 2), units)
+}
+
+// Of each column two codes, the first six groups of four planes, which end with the plane that settles the first row, or the
+// first three slices.
+#[test]
+fn units_of_a_wide_pair(rt: HostRuntime) {
+    let found = 0b11;
+    see(
+        &rt,
+        units_of_two_wide_rows::<PlainColumn, _>(&rt),
+        (found, 4),
+    );
+    see(
+        &rt,
+        units_of_two_wide_rows::<VerticalColumn, _>(&rt),
+        (found, 48),
+    );
+    see(
+        &rt,
+        units_of_two_wide_rows::<SliceColumn, _>(&rt),
+        (found, 6),
+    );
 }

@@ -1,22 +1,23 @@
-//! The planes of slices, beside the bits of the codes.
+//! The planes of slices, compared with the bits of the codes.
 
 ghost use Rattle.std.specs.Prelude.{length, ◌*◌, ◌+◌, ◌/◌, ◌<◌, ◌≡◌, ◌≤◌};
 
-use crate::codes::{codes_of, column_of};
+use crate::codes::{code_at, codes_of, column_of};
 use crate::seen::{see, see_at};
 use bw_byteslice::SliceColumn;
 use bw_code::{CodeColumn, Source};
 use std::process::Abort;
 
-/// The rows of a plane, beside the bits of the codes.
+/// The rows of a plane, compared with the bits of the codes.
 fn check_plane<R: Abort>(rt: &R, column: &SliceColumn, plane: &[u64; 4], q: usize, i: u32)
     requires segment { q < 1000 }
     requires plane { i < column.now.width }
 {
-    let bit = column.width() - 1 - i;
+    let width = column.width();
+    let bit = width - 1 - i;
     for r in 0..256 {
         let row = 256 * q + r;
-        let wanted = row < column.len() && column.get(row) >> bit & 1 == 1;
+        let wanted = row < column.len() && code_at(width, row) >> bit & 1 == 1;
         see_at(rt, (row, bit), plane[r / 64] >> (r % 64) & 1 == 1, wanted);
     }
 }
@@ -31,19 +32,19 @@ fn check_unit<R: Abort>(rt: &R, column: &SliceColumn, plane: &[u64; 4], unit: us
 
 /// How many planes the segments of a column have.
 fn count_of_planes(column: &SliceColumn) -> usize
-    requires narrow { column.now.width ≤ 32 }
+    requires narrow { column.now.width ≤ 64 }
     requires some_rows { 1 ≤ length column.now.codes }
     requires few_rows { length column.now.codes ≤ 1000 }
     ensures planes { result ≡ (length column.now.codes + 255) / 256 * column.now.width }
     ensures some { 1 ≤ result }
-    ensures few { result ≤ 128 }
+    ensures few { result ≤ 256 }
 {
     column.len().div_ceil(256) * column.width() as usize
 }
 
 /// All planes in the order of their units, and the first once more.
 fn check_planes<R: Abort>(rt: &R, column: &SliceColumn)
-    requires narrow { column.now.width ≤ 32 }
+    requires narrow { column.now.width ≤ 64 }
     requires some_rows { 1 ≤ length column.now.codes }
     requires few { length column.now.codes ≤ 1000 }
 {
@@ -60,7 +61,7 @@ fn check_planes<R: Abort>(rt: &R, column: &SliceColumn)
 
 fn check_codes<R: Abort + AllocGlobal>(rt: &R, width: u32, rows: usize)
     requires some { 1 ≤ width }
-    requires narrow { width ≤ 32 }
+    requires narrow { width ≤ 64 }
     requires some_rows { 1 ≤ rows }
     requires few { rows ≤ 1000 }
 {
@@ -68,8 +69,8 @@ fn check_codes<R: Abort + AllocGlobal>(rt: &R, width: u32, rows: usize)
 }
 
 #[test]
-fn planes_beside_codes(rt: HostRuntime) {
-    for width in [1, 5, 8, 9, 17, 32] {
+fn planes_against_codes(rt: HostRuntime) {
+    for width in 1..=64 {
         for rows in [1, 32, 33, 65, 256, 257, 301] {
             check_codes(&rt, width, rows);
         }

@@ -1,10 +1,11 @@
-//! Two columns with different bases, compared over their planes, beside a plain comparison of their values.
+//! Two columns with different bases, compared over their planes, against a plain comparison of their values, which are
+//! integers of 128 bits.
 
 ghost use Rattle.std.specs.Prelude.{length, ◌<◌, ◌≡◌, ◌≤◌};
 ghost use Rattle.bw_mask.specs.Masks.{len};
 ghost use Rattle.bw_code.specs.Columns.{Fit};
 
-use crate::codes::{OPERATORS, codes_of, column_of, filled, other_codes};
+use crate::codes::{OPERATORS, codes_of, column_of, filled, holds, other_codes};
 use crate::seen::{see, see_at};
 use bw_code::{CmpOp, Offset, Source};
 use bw_mask::Mask;
@@ -14,18 +15,6 @@ use std::process::Abort;
 // More than one segment.
 const ROWS: usize = 300;
 
-/// Whether two numbers compare so, in the words of the operators.
-fn holds(op: CmpOp, x: i64, y: i64) -> bool {
-    match op {
-        CmpOp::Eq => x == y,
-        CmpOp::Ne => x != y,
-        CmpOp::Lt => x < y,
-        CmpOp::Le => x <= y,
-        CmpOp::Gt => x > y,
-        CmpOp::Ge => x >= y,
-    }
-}
-
 /// Codes of values.
 #[derive(Clone, Copy)]
 struct Side<'a> {
@@ -34,14 +23,14 @@ struct Side<'a> {
 }
 
 impl<'a> Side<'a> {
-    fn value(&self, row: usize) -> i64
+    fn value(&self, row: usize) -> i128
         requires { row < length self.now.codes.now }
     {
-        self.offset.base.wrapping_add(self.codes[row].cast_signed())
+        i128::from(self.offset.base) + i128::from(self.codes[row])
     }
 }
 
-/// Compares the values of two columns over their planes, and tells how often planes of each were read.
+/// Compares the values of two columns over their planes, and returns how often planes of each were read.
 fn reads_of(
     column: &VerticalColumn,
     left: Offset,
@@ -51,8 +40,8 @@ fn reads_of(
     need: &Mask,
     out: &mut Mask,
 ) -> (u64, u64)
-    requires narrow { left.width ≤ 32 }
-    requires other_narrow { right.width ≤ 32 }
+    requires narrow { left.width ≤ 64 }
+    requires other_narrow { right.width ≤ 64 }
     requires width { column.now.width ≡ left.width }
     requires other_width { other.now.width ≡ right.width }
     requires few { len need.now ≤ 1000 }
@@ -75,8 +64,8 @@ fn compared<R: Abort + AllocGlobal>(
     need: &Mask,
     out: &mut Mask,
 ) -> (u64, u64)
-    requires narrow { left.now.offset.width ≤ 32 }
-    requires other_narrow { right.now.offset.width ≤ 32 }
+    requires narrow { left.now.offset.width ≤ 64 }
+    requires other_narrow { right.now.offset.width ≤ 64 }
     requires fit { Fit left.now.offset.width left.now.codes.now }
     requires other_fit { Fit right.now.offset.width right.now.codes.now }
     requires few { len need.now ≤ 1000 }
@@ -90,7 +79,7 @@ fn compared<R: Abort + AllocGlobal>(
     reads_of(&column, left.offset, &other, right.offset, op, need, out)
 }
 
-/// 10, 12, 17 by the base 10 in 3 bits, beside 11, 11, 20 by the base 11 in 4: the first is below the second in rows 0
+/// 10, 12, 17 by the base 10 in 3 bits, compared with 11, 11, 20 by the base 11 in 4: the first is below the second in rows 0
 /// and 2, and each plane is read once.
 #[test]
 fn other_bases(rt: HostRuntime) {
@@ -140,8 +129,8 @@ fn need_of_segments<R: Abort + AllocGlobal>(rt: &R) -> Mask
 
 /// Compares values over several segments, and each plane is read once for it.
 fn check_comparison<R: Abort + AllocGlobal>(rt: &R, left: &Side<'_>, right: &Side<'_>, op: CmpOp)
-    requires narrow { left.now.offset.width ≤ 32 }
-    requires other_narrow { right.now.offset.width ≤ 32 }
+    requires narrow { left.now.offset.width ≤ 64 }
+    requires other_narrow { right.now.offset.width ≤ 64 }
     requires fit { Fit left.now.offset.width left.now.codes.now }
     requires other_fit { Fit right.now.offset.width right.now.codes.now }
     requires codes { length left.now.codes.now ≡ 300 }
@@ -159,8 +148,8 @@ fn check_comparison<R: Abort + AllocGlobal>(rt: &R, left: &Side<'_>, right: &Sid
 fn check_addition<R: Abort + AllocGlobal>(rt: &R, left: Offset, right: Offset)
     requires some { 1 ≤ left.width }
     requires other_some { 1 ≤ right.width }
-    requires narrow { left.width ≤ 32 }
-    requires other_narrow { right.width ≤ 32 }
+    requires narrow { left.width ≤ 64 }
+    requires other_narrow { right.width ≤ 64 }
 {
     let codes = codes_of(rt, left.width, ROWS);
     let others = other_codes(rt, right.width, ROWS);
@@ -180,33 +169,47 @@ fn check_addition<R: Abort + AllocGlobal>(rt: &R, left: Offset, right: Offset)
 fn check_both_ways<R: Abort + AllocGlobal>(rt: &R, left: Offset, right: Offset)
     requires some { 1 ≤ left.width }
     requires other_some { 1 ≤ right.width }
-    requires narrow { left.width ≤ 32 }
-    requires other_narrow { right.width ≤ 32 }
+    requires narrow { left.width ≤ 64 }
+    requires other_narrow { right.width ≤ 64 }
 {
     check_addition(rt, left, right);
     check_addition(rt, right, left);
 }
 
-/// Bases that are near, that are apart by as much as the codes reach or more, and that are the same.
+/// Bases that are near, that are the same, that are apart by as much as codes of some widths reach or more, and that lie at the
+/// ends of i64, where they are apart by 2^64 - 1.
+const BASES: [(i64, i64); 12] = [
+    (-3, -1),
+    (-3, -3),
+    (-3, 5),
+    (-1, 0),
+    (-2_147_483_648, 0),
+    (-2_147_483_648, 0x7fff_ffff_ffff),
+    (0, 0x100_0000_0000),
+    (i64::MIN, i64::MIN),
+    (i64::MIN, 0),
+    (0, i64::MAX),
+    (i64::MAX - 1, i64::MAX),
+    (i64::MIN, i64::MAX),
+];
+
+/// Compares values by two bases, of codes of many widths each.
+fn check_bases<R: Abort + AllocGlobal>(rt: &R, left: i64, right: i64) {
+    for width in [1, 3, 13, 32, 33, 40, 63, 64] {
+        for other in [1, 31, 33, 40, 64] {
+            let near = Offset { base: left, width };
+            let far = Offset {
+                base: right,
+                width: other,
+            };
+            check_both_ways(rt, near, far);
+        }
+    }
+}
+
 #[test]
-fn sums_beside_values(rt: HostRuntime) {
-    let narrow = Offset { base: -3, width: 3 };
-    check_both_ways(&rt, narrow, Offset { base: -1, width: 4 });
-    check_both_ways(&rt, narrow, Offset { base: -3, width: 5 });
-    check_both_ways(&rt, narrow, Offset { base: 5, width: 3 });
-    check_both_ways(&rt, narrow, Offset { base: 3, width: 1 });
-    let wide = Offset {
-        base: -2_147_483_648,
-        width: 32,
-    };
-    check_both_ways(&rt, wide, narrow);
-    check_both_ways(&rt, wide, Offset { base: 0, width: 32 });
-    check_both_ways(
-        &rt,
-        wide,
-        Offset {
-            base: 0x7fff_ffff_ffff,
-            width: 13,
-        },
-    );
+fn sums_against_values(rt: HostRuntime) {
+    for (left, right) in &BASES {
+        check_bases(&rt, *left, *right);
+    }
 }

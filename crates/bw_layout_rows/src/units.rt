@@ -4,7 +4,7 @@ ghost use Rattle.std.specs.Prelude.{length, ◌≡◌, ◌≤◌};
 ghost use Rattle.bw_mask.specs.Masks.{len};
 ghost use Rattle.bw_code.specs.Tests.{TestFits};
 
-use crate::codes::{codes_of, column_of, filled, fitted};
+use crate::codes::{codes_of, column_of, cut, filled, fitted};
 use crate::seen::see_at;
 use bw_byteslice::SliceColumn;
 use bw_code::{CmpOp, CodeColumn, CodeTest, Meter};
@@ -37,7 +37,7 @@ fn check_units<C: CodeColumn, R: Abort + AllocGlobal>(
     width: u32,
     cases: &[(CodeTest, u64)],
 )
-    requires narrow { width ≤ 32 }
+    requires narrow { width ≤ 64 }
     requires width { (C.seen column.now).width ≡ width }
     requires few { length (C.seen column.now).codes ≤ 1000 }
 {
@@ -48,7 +48,7 @@ fn check_units<C: CodeColumn, R: Abort + AllocGlobal>(
     }
 }
 
-/// Four codes 3 of eight bits, of which the first group of planes tells that they are below 128.
+/// Four codes 3 of eight bits: the first group of planes shows that they are below 128.
 #[test]
 fn planes(rt: HostRuntime) {
     let four: VerticalColumn = column_of(&rt, 8, &[3; 4]);
@@ -65,9 +65,9 @@ fn planes(rt: HostRuntime) {
     );
 }
 
-/// Those codes, and a code 128 behind them.
+/// Those codes, and a code 128 after them.
 #[test]
-fn planes_with_a_code_behind(rt: HostRuntime) {
+fn planes_with_a_code_after_them(rt: HostRuntime) {
     let mut five: VerticalColumn = column_of(&rt, 8, &[3; 4]);
     five.reserve(1).expect(&rt, "memory");
     five.push(128);
@@ -143,4 +143,90 @@ fn words(rt: HostRuntime) {
     check_two_of_64(&rt, &column, 0, 62, 3);
     check_two_of_64(&rt, &column, 63, 63, 3);
     check_two_of_64(&rt, &column, 5, 63, 6);
+}
+
+/// Tests of the code 0x96_0000_00a5 of 40 bits, which is 1001 0110, twenty-four zeros and 1010 0101, and the planes that are
+/// read: the groups of four up to that of the first bit in which the two differ.
+const PLANES_OF_40: [(CodeTest, u64); 9] = [
+    (CodeTest::Cmp(CmpOp::Lt, 0x16_0000_00a5), 4),
+    (CodeTest::Cmp(CmpOp::Lt, 0x80_0000_0000), 4),
+    (CodeTest::Cmp(CmpOp::Ge, 0x97_0000_0000), 8),
+    (CodeTest::Cmp(CmpOp::Ne, 0x96_0080_0000), 20),
+    (CodeTest::Cmp(CmpOp::Lt, 0x96_0000_0100), 32),
+    (CodeTest::Cmp(CmpOp::Le, 0x96_0000_00b5), 36),
+    (CodeTest::Cmp(CmpOp::Gt, 0x96_0000_00a4), 40),
+    (CodeTest::Cmp(CmpOp::Eq, 0x96_0000_00a5), 40),
+    (CodeTest::Range(0x90_0000_0000, 0x96_0000_0100), 32),
+];
+
+/// The same of 33 ones, whose last plane is a group by itself.
+const PLANES_OF_33: [(CodeTest, u64); 4] = [
+    (CodeTest::Cmp(CmpOp::Lt, 0x1_0000_0000), 4),
+    (CodeTest::Cmp(CmpOp::Gt, 0x1_ffff_fffd), 32),
+    (CodeTest::Cmp(CmpOp::Gt, 0x1_ffff_fffe), 33),
+    (CodeTest::Cmp(CmpOp::Eq, 0x1_ffff_ffff), 33),
+];
+
+/// The same of 64 ones.
+const PLANES_OF_64: [(CodeTest, u64); 4] = [
+    (CodeTest::Cmp(CmpOp::Lt, 0x8000_0000_0000_0000), 4),
+    (CodeTest::Cmp(CmpOp::Gt, 0xffff_ffff_0000_0000), 36),
+    (CodeTest::Cmp(CmpOp::Ge, 0xffff_ffff_ffff_fffe), 64),
+    (CodeTest::Cmp(CmpOp::Eq, u64::MAX), 64),
+];
+
+/// Tests of the code 0x96_0000_00a5 of 40 bits, whose bytes are 96 00 00 00 a5, and the slices that are read: up to the first
+/// byte in which the two differ.
+const SLICES_OF_40: [(CodeTest, u64); 6] = [
+    (CodeTest::Cmp(CmpOp::Lt, 0x97_0000_0000), 1),
+    (CodeTest::Cmp(CmpOp::Ge, 0x96_8000_0000), 2),
+    (CodeTest::Range(0x90_0000_0000, 0x96_0001_0000), 3),
+    (CodeTest::Cmp(CmpOp::Lt, 0x96_0000_0100), 4),
+    (CodeTest::Cmp(CmpOp::Gt, 0x96_0000_00a4), 5),
+    (CodeTest::Cmp(CmpOp::Eq, 0x96_0000_00a5), 5),
+];
+
+/// The same of 33 ones, which lie as the bytes ff ff ff ff 80.
+const SLICES_OF_33: [(CodeTest, u64); 4] = [
+    (CodeTest::Cmp(CmpOp::Lt, 0x1_0000_0000), 1),
+    (CodeTest::Cmp(CmpOp::Gt, 0x1_ffff_fffd), 4),
+    (CodeTest::Cmp(CmpOp::Gt, 0x1_ffff_fffe), 5),
+    (CodeTest::Cmp(CmpOp::Eq, 0x1_ffff_ffff), 5),
+];
+
+/// The same of 64 ones.
+const SLICES_OF_64: [(CodeTest, u64); 4] = [
+    (CodeTest::Cmp(CmpOp::Lt, 0x8000_0000_0000_0000), 1),
+    (CodeTest::Cmp(CmpOp::Gt, 0xffff_ffff_0000_0000), 5),
+    (CodeTest::Cmp(CmpOp::Ge, 0xffff_ffff_ffff_fffe), 8),
+    (CodeTest::Cmp(CmpOp::Eq, u64::MAX), 8),
+];
+
+/// Sees the units of scans of four rows, all of one code.
+fn check_four<C: CodeColumn + Drop, R: Abort + AllocGlobal>(
+    rt: &R,
+    width: u32,
+    code: u64,
+    cases: &[(CodeTest, u64)],
+)
+    requires some { 1 ≤ width }
+    requires narrow { width ≤ 64 }
+    requires widest { width ≤ C.WIDEST }
+{
+    let four: C = column_of(rt, width, &[cut(code, width); 4]);
+    check_units(rt, &four, width, cases);
+}
+
+#[test]
+fn planes_of_wide_codes(rt: HostRuntime) {
+    check_four::<VerticalColumn, _>(&rt, 33, u64::MAX, &PLANES_OF_33);
+    check_four::<VerticalColumn, _>(&rt, 40, 0x96_0000_00a5, &PLANES_OF_40);
+    check_four::<VerticalColumn, _>(&rt, 64, u64::MAX, &PLANES_OF_64);
+}
+
+#[test]
+fn slices_of_wide_codes(rt: HostRuntime) {
+    check_four::<SliceColumn, _>(&rt, 33, u64::MAX, &SLICES_OF_33);
+    check_four::<SliceColumn, _>(&rt, 40, 0x96_0000_00a5, &SLICES_OF_40);
+    check_four::<SliceColumn, _>(&rt, 64, u64::MAX, &SLICES_OF_64);
 }

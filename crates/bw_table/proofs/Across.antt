@@ -3,16 +3,17 @@ use Rattle.std.proofs.Common.{◌≡◌, ℕ, suc, ℤ, ◌+◌, ◌-◌, ◌<�
 use Rattle.std.specs.List.{All, range_with_len}
 use Rattle.std.proofs.lemmas.Bool.{cases_lt}
 use Rattle.std.proofs.lemmas.List.{get_or_append_left, get_or-append_right, get_or-map, length-map, length-replicate, get_or-replicate, same_lists, get_or_default}
-use Rattle.std.proofs.lemmas.List.Elements.{All-from_get_or, All-map}
+use Rattle.std.proofs.lemmas.List.Elements.{All-append, All-from_get_or, All-map}
 use Rattle.bw_mask.specs.Masks.{MaskRows, len, row_at}
 use Rattle.bw_column.specs.Columns.{ColumnView}
 use Rattle.bw_column.specs.Preparing.{IsEncodingFor}
-use Rattle.bw_column.specs.Values.{value_at}
+use Rattle.bw_column.specs.Values.{IsNullOrInteger, value_at}
 use Rattle.bw_code.specs.Lists.{made}
 use Rattle.bw_code.proofs.Lists.{made_at, made_is, made_len}
 use Rattle.bw_table.specs.Changes.{AreAppended, AreEncodingsFor, slots_without}
 use Rattle.bw_table.specs.Slots.{AreColumns, Slot, SlotsView, column_of, live_slot, row_of, slot_at, slot_column, slot_of, slots_of}
 use Rattle.bw_table.specs.Halves.{AllKept, AllMadeFrom}
+use Rattle.bw_table.proofs.Integers.{integers_down, integers_kept}
 use Rattle.bw_code.specs.declared.encoding.Encoding.{Encoding}
 use Rattle.bw_code.specs.declared.encoding.Encoding.TheVariants.{Dictionary}
 use Rattle.bw_code.specs.declared.kind.Layout.TheVariants.{P}
@@ -57,6 +58,7 @@ module _ (new old : List ColumnView) (kept : AllKept new old) where
     kept_columns are = record {
       rows = λ k d l. ap length (kept.each k d).values ∙ are.rows k d (omega (arith, kept.count)) ∙ ap length (sym rows);
       few = omega (arith, are.few, ap length rows);
+      integers = integers_kept new old kept are.integers;
     }
 
 -- each column has its column of the rows last
@@ -115,12 +117,15 @@ module _ (new old : List ColumnView) (live new_live : MaskRows) (rows : List (Li
   slots_longer =
       sym (made_is (len new_live) (slot_of new new_live) (slots_of old live ++ map live_slot rows) (live_slot []) (length-append (slots_of old live) (map live_slot rows) ∙ rw (made_len (len live) (slot_of old live), length-map rows live_slot) (sym total)) (λ i h. new_slot i (live_slot []) (omega (arith, total))))
 
-  pub columns_longer : len live + length rows ≤ 2 ^ 24 → AreColumns new new_live
-  columns_longer few = record {
+  pub columns_longer : len live + length rows ≤ 2 ^ 24 → All (λ row. All IsNullOrInteger row) rows → AreColumns new new_live
+  columns_longer few integers = record {
     rows = λ k d l.
         let low : k < length old = omega (arith, longer.count) in
         ap length (longer.each k d low) ∙ length-append (get_or old k d).values (column_of rows k) ∙ rw (are.rows k d low, length-map rows (λ row. value_at row k)) (sym total);
     few = omega (arith, total);
+    integers = λ k d l.
+        let low : k < length old = omega (arith, longer.count, l) in
+        rw (longer.each k d low) (All-append IsNullOrInteger (get_or old k d).values (column_of rows k) (are.integers k d low) (integers_down rows k (λ i e h. omega (arith, wide i e h, low)) integers));
   }
 
 -- what the two halves do

@@ -1,11 +1,13 @@
 -- The headers of a table tell how its columns are kept.
 use Rattle.std.proofs.Common.{List, [], ◌∷◌, ap, arith, get_or, length, map, refl, subst, sym, ℕ, ◌<◌, ◌∙◌, ◌≡◌}
 use Rattle.std.proofs.lemmas.List.{get_or-map, length-map, same_lists}
+use Rattle.std.proofs.lemmas.List.Elements.{All-nil}
 use Rattle.bw_mask.specs.Masks.{MaskRows}
 use Rattle.bw_code.specs.Encodings.{kind_of}
 use Rattle.bw_code.specs.declared.encoding.Encoding.{Encoding}
 use Rattle.bw_code.specs.declared.kind.Layout.{Layout}
 use Rattle.bw_column.specs.Columns.{ColumnView}
+use Rattle.bw_column.specs.Values.{IsNullOrInteger}
 use Rattle.bw_table.specs.Changes.{AreRebuilt, choice_of, chosen_kind, chosen_layout}
 use Rattle.bw_table.specs.Sets.{AreEmpty}
 use Rattle.bw_table.specs.Slots.{AreColumns, SlotsView}
@@ -67,6 +69,7 @@ module _ {N : Type 0} where
     empty_columns = record {
       rows = λ k d l. ap length (are.each k (first_of headers k (omega (arith, l, are.count))) d (omega (arith, l, are.count))).values ∙ sym (ap length none);
       few = omega (arith, ap length none);
+      integers = λ k d l. rw (are.each k (first_of headers k (omega (arith, l, are.count))) d (omega (arith, l, are.count))).values (All-nil IsNullOrInteger);
     }
 
     pub empty_headers : AreHeadersOf headers (view_of columns live)

@@ -2,6 +2,7 @@ pub mod Across
 pub mod Flat
 pub mod Heads
 pub mod Inserted
+pub mod Integers
 pub mod Opened
 pub mod SameKinds
 pub mod Places

@@ -7,7 +7,7 @@ use Rattle.bw_mask.specs.Masks.{MaskRows, len}
 use Rattle.bw_code.specs.Encodings.{kind_of}
 use Rattle.bw_code.proofs.Lists.{made_at, made_is, made_len}
 use Rattle.bw_column.specs.Columns.{ColumnView}
-use Rattle.bw_column.specs.Values.{value_at}
+use Rattle.bw_column.specs.Values.{IsNullOrInteger, value_at}
 use Rattle.bw_table.specs.Opening.{AreFitted, AreOpened, AreOpenedBelow, IsOpened, row_across, rows_across}
 use Rattle.bw_table.specs.Slots.{AreColumns, live_slot, row_of, slot_of, slots_of}
 use Rattle.bw_table.specs.Tables.{AreHeadersOf}
@@ -30,12 +30,15 @@ module _ {N : Type 0} where
     total : len live ≡ rows
     total = ap length all ∙ length-replicate rows true
 
-    pub opened_columns : AreColumns columns live
-    opened_columns = record {
+    pub opened_columns : All (All IsNullOrInteger) cells → AreColumns columns live
+    opened_columns integers = record {
       rows = λ k d l.
           let low : k < length headers = omega (arith, l, are.count) in
           ap length (are.each k (first_of headers k low) d low).values ∙ long k [] (omega (arith, low, wide)) ∙ sym total;
       few = omega (arith, few, total);
+      integers = λ k d l.
+          let low : k < length headers = omega (arith, l, are.count) in
+          rw (are.each k (first_of headers k low) d low).values (integers k [] (omega (arith, low, wide)));
     }
 
     pub opened_headers : AreHeadersOf headers (view_of columns live)

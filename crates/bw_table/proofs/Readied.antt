@@ -1,13 +1,10 @@
 -- What one column's growth, and one column's change, do to all columns.
-use Rattle.std.proofs.Common.{◌≡◌, ℕ, ℤ, ◌+◌, ◌<◌, ◌≤◌, List, [], ◌∷◌, ◌++◌, length, get_or, set, take, true, sym, ap, subst, ◌∙◌, inl, inr, arith, length-set, Option, None}
-use Rattle.std.specs.List.{All}
+use Rattle.std.proofs.Common.{◌≡◌, ℕ, ℤ, ◌+◌, ◌<◌, ◌≤◌, List, [], ◌∷◌, ◌++◌, length, get_or, set, take, true, sym, ap, subst, ◌∙◌, inl, inr, arith, length-set, Option}
 use Rattle.std.proofs.lemmas.Bool.{cases_eq}
 use Rattle.std.proofs.lemmas.List.{get_or-set_same, get_or-set_other, get_or_push, get_or_append_left, length_push, get_or-take, take-take}
 use Rattle.std.proofs.Math.Seq.{take-append_seam}
-use Rattle.std.proofs.lemmas.List.Elements.{All-map}
 use Rattle.bw_column.specs.Columns.{ColumnView, Keeps}
 use Rattle.bw_column.specs.Preparing.{IsEncodingFor, IsPreparedFor, Preparation}
-use Rattle.bw_column.specs.Values.{IsNullOrInteger, value_at}
 use Rattle.bw_table.specs.Slots.{column_of}
 use Rattle.bw_table.specs.Halves.{AllKept, AllMadeFrom, AreReadyBelow, IsMade}
 
@@ -33,10 +30,6 @@ module _ (columns old : List ColumnView) (k : ℕ) (x : ColumnView) (inside : k 
             let low : j < k = omega arith in
             rw (get_or-set_other columns k j x c n, get_or_append_left changes (change ∷ []) d j (omega (arith, len))) (ready j c d low)
       ]
-
--- a column of rows of integers
-pub integers_down : (rows : List (List (Option ℤ))) (k : ℕ) → All (λ row. k < length row) rows → All (λ row. All IsNullOrInteger row) rows → All IsNullOrInteger (column_of rows k)
-integers_down rows k wide integers = All-map IsNullOrInteger (λ row. value_at row k) rows (λ i d l. integers i d l k None (wide i d l))
 
 pub made_more : (rows : List (List (Option ℤ))) (new old : List ColumnView) (n : ℕ) (x : ColumnView) → n < length new → ((c : ColumnView) → IsMade x (get_or old n c) (column_of rows n)) → AllMadeFrom (n + 1) rows new old → AllMadeFrom n rows (set new n x) old
 made_more rows new old n x inside here made j c low l =

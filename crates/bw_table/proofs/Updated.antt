@@ -1,6 +1,6 @@
 -- Columns that are set, or built anew from the live rows, read across as a list of slots.
 use Rattle.std.proofs.Common.{◌≡◌, ℕ, ◌<◌, true, false, List, [], length, get_or, map, replicate, count_by, refl, sym, ap, ◌∙◌, inl, inr, arith, Option, Some, None, if◌then◌else◌}
-use Rattle.std.specs.List.{filter, range_with_len}
+use Rattle.std.specs.List.{All, filter, range_with_len}
 use Rattle.std.proofs.lemmas.Bool.{cases_Bool}
 use Rattle.std.proofs.lemmas.List.{get_or_default, get_or-map, get_or-replicate, length-map, length-replicate, same_lists}
 use Rattle.std.proofs.lemmas.List.Sums.{count_by-le-length}
@@ -9,7 +9,7 @@ use Rattle.bw_column.specs.Columns.{ColumnView}
 use Rattle.bw_column.specs.Places.{put_at}
 use Rattle.bw_code.proofs.Lists.{made_at, made_is, made_len}
 use Rattle.bw_column.specs.Values.{value_at}
-use Rattle.bw_table.specs.Changes.{AreEncodingsWith, AreRebuilt, AreUpdated, IsEncodingWith, choice_of, chosen_kind, chosen_layout, new_value, places, row_with, set_of, slots_with, value_for}
+use Rattle.bw_table.specs.Changes.{AreEncodingsWith, AreRebuilt, AreUpdated, IsEncodingWith, IsSetTo, choice_of, chosen_kind, chosen_layout, new_value, places, row_with, set_of, slots_with, value_for}
 use Rattle.bw_table.specs.Slots.{AreColumns, Slot, live_slot, live_slots, row_of, slot_at, slot_of, slots_of}
 use Rattle.bw_table.specs.Sets.{AllBuilt, AllSet, IsSet, gathered}
 use Rattle.bw_table.specs.declared.setting.SetTo.{SetTo}
@@ -17,6 +17,7 @@ use Rattle.bw_table.specs.declared.setting.SetTo.TheVariants.{Column}
 use Rattle.bw_table.specs.declared.choice.Choice.{Choice}
 use Rattle.bw_code.specs.Encodings.{kind_of}
 use Rattle.bw_table.proofs.Places.{count_places, filter_mapped, map_alike, map_twice, places_in, places_inside, put_gathered}
+use Rattle.bw_table.proofs.Integers.{integers_gathered, integers_set, set_is_one}
 use Rattle.bw_table.proofs.Across.{column_back, map_same, no_column, view_of}
 
 -- one column that is set, or not
@@ -70,10 +71,13 @@ module _ (new old : List ColumnView) (live found : MaskRows) (sets : List (ℕ �
       let low : i < len live = omega (arith, n) in
       made_at (len live) (slot_of new live) i (live_slot []) low ∙ rw (made_at (len live) (slot_of old live) i (live_slot []) low, row_is i low) refl)
 
-  pub columns_set : AreColumns new live
-  columns_set = record {
+  pub columns_set : All (λ set. IsSetTo (length old) set.1) sets → AreColumns new live
+  columns_set sound = record {
     rows = λ k d l. let inside : k < length old = omega (arith, all.count) in set_length old found k inside d (set_of sets k) (get_or new k d) (all.each k d) ∙ are.rows k d inside;
     few = are.few;
+    integers = λ k d l.
+        let inside : k < length old = omega (arith, l, all.count) in
+        integers_set old are.integers found (set_of sets k) (set_is_one (IsSetTo (length old)) sets sound k) (get_or new k d) (get_or old k d) (all.each k d) (are.integers k d inside);
   }
 
   rows_found : map (λ i. (slot_at (slots_of old live) i).row) (places found) ≡ map (row_of old) (places found)
@@ -127,6 +131,7 @@ module _ (choices : List (ℕ × Choice)) (new old : List ColumnView) (live new_
   columns_built = record {
     rows = λ k d l. as_long_new k d (omega (arith, all.count));
     few = omega (arith, are.few, total, count_places live, count_by-le-length (λ row. row) live.rows);
+    integers = λ k d l. let inside : k < length old = omega (arith, l, all.count) in rw (all.each k d inside).values (integers_gathered old are.integers live (Column k) inside);
   }
 
   pub are_rebuilt : AreRebuilt choices (view_of old live) (view_of new new_live)

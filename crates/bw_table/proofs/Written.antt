@@ -32,7 +32,7 @@ module _ (new old : ColumnView) (values : List (Option ℤ)) (keeps : Keeps new 
     encoding = rw (keeps.values, keeps.encoding) is.encoding;
     coded = rw keeps.encoding is.coded;
     codes = rw keeps.encoding is.codes;
-    integers = is.integers;
+    held = rw keeps.layout is.held;
     few = omega (arith, is.few, ap length keeps.values);
     room = omega (arith, is.room, keeps.room, ap length keeps.values);
   }
@@ -43,7 +43,7 @@ module _ (new old : ColumnView) (values : List (Option ℤ)) (keeps : Keeps new 
     encoding = rw (keeps.values, keeps.encoding) is.encoding;
     coded = is.coded;
     codes = is.codes;
-    integers = is.integers;
+    held = rw keeps.layout is.held;
     few = omega (arith, is.few, ap length keeps.values);
     room = omega (arith, is.room, keeps.room, ap length keeps.values);
   }
@@ -54,7 +54,7 @@ module _ (new old : ColumnView) (values : List (Option ℤ)) (keeps : Keeps new 
     encoding = rw (keeps.values, keeps.encoding) is.encoding;
     coded = is.coded;
     codes = is.codes;
-    integers = is.integers;
+    held = rw keeps.layout is.held;
     few = omega (arith, is.few, ap length keeps.values);
     room = omega (arith, is.room, ap length keeps.values);
   }

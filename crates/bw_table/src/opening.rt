@@ -10,6 +10,7 @@ use bw_column::Column;
 use std::alloc::{AllocError, Global};
 
 /// A column of these cells, as its header says.
+#[tactic(auto, using(bw_column::proofs::Held::all_held))]
 fn column_of<N, C: Measured>(
     alloc: Global,
     header: &Header<N>,

@@ -14,6 +14,7 @@ use bw_mask::Mask;
 use std::alloc::{AllocError, Global};
 
 /// A column of these values, in the layout and of the kind that are chosen, or those of the column `own`.
+#[tactic(auto, using(bw_column::proofs::Held::all_held))]
 fn built_as(
     alloc: Global,
     own: &Column,
@@ -40,6 +41,7 @@ pub(crate) fn build_anew(
     choices: &[(usize, Choice)],
 ) -> Result<Vec<Column>, AllocError>
     requires long { All (λ column. length column.values ≡ len mask.now) columns.now.items }
+    requires integers { All (λ column. All IsNullOrInteger column.values) columns.now.items }
     requires few { len mask.now ≤ 2 ^ 24 }
     ensures { IfOk result (λ built. AllBuilt mask.now choices.now built.items columns.now.items) }
 {

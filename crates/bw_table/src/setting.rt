@@ -28,9 +28,11 @@ pub(crate) struct Change {
 }
 
 /// What a column is set to in row i.
+#[tactic(auto, using(crate::proofs::Integers::set_to_integer))]
 fn value_for(columns: &Vec<Column>, to: SetTo, i: usize) -> Option<i64>
     requires to { IsSetTo (vec_len columns.now) to }
     requires inside { All (λ column. i < length column.values) columns.now.items }
+    requires integers { All (λ column. All IsNullOrInteger column.values) columns.now.items }
     ensures is { result ≡ value_for to (row_of columns.now.items i) }
     ensures integer { IsNullOrInteger result }
 {
@@ -50,6 +52,7 @@ pub(crate) fn gather(
 ) -> Result<Vec<Option<i64>>, AllocError>
     requires to { IsSetTo (vec_len columns.now) to }
     requires long { All (λ column. length column.values ≡ len mask.now) columns.now.items }
+    requires integers { All (λ column. All IsNullOrInteger column.values) columns.now.items }
     requires bound { len mask.now ≤ 2 ^ 24 }
     ensures values { IfOk result (λ values. values.items ≡ gathered columns.now.items mask.now to) }
     ensures integers { IfOk result (λ values. All IsNullOrInteger values.items) }
@@ -75,6 +78,7 @@ pub(crate) fn prepare_sets(
     requires named { All (λ set. set.0 < vec_len columns.old) sets.now }
     requires values { All (λ set. IsSetTo (vec_len columns.old) set.1) sets.now }
     requires long { All (λ column. length column.values ≡ len found.now) columns.old.items }
+    requires integers { All (λ column. All IsNullOrInteger column.values) columns.old.items }
     requires few { len found.now ≤ 2 ^ 24 }
     ensures kept { AllKept columns.new.items columns.old.items }
     ensures count { IfOk result (λ changes. vec_len changes ≡ length sets.now) }

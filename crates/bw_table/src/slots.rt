@@ -190,6 +190,7 @@ impl Slots {
     pub fn column(&self, k: usize) -> &Column
         requires { k < length self.now.encodings }
         ensures values { result.now.values ≡ slot_column self.now.slots k }
+        ensures integers { All IsNullOrInteger result.now.values }
         ensures layout { (d : Layout) → result.now.layout ≡ slice_index_or self.now.layouts k d }
         ensures encoding { (d : Encoding) → result.now.encoding ≡ slice_index_or self.now.encodings k d }
     {

@@ -129,6 +129,7 @@ impl<N: Drop> Table<N> {
     pub fn column(&self, k: usize) -> &Column
         requires { k < length self.now.headers }
         ensures values { result.now.values ≡ slot_column self.now.slots k }
+        ensures integers { All IsNullOrInteger result.now.values }
         ensures layout { (d : Header N) → result.now.layout ≡ (slice_index_or self.now.headers k d).layout }
         ensures kind { (d : Header N) → kind_of result.now.encoding ≡ (slice_index_or self.now.headers k d).kind }
         ensures encoding { (d : Encoding) → result.now.encoding ≡ slice_index_or self.now.encodings k d }

@@ -3,7 +3,9 @@
 use crate::columns::column_of;
 use crate::random::LAYOUTS;
 use crate::seen::see_at;
-use crate::set_functions::{Answers, answered_at_once, cell, chosen_values, folded, mask_of};
+use crate::set_functions::{
+    Answers, Reach, answered_at_once, cell, chosen_values, folded, mask_of,
+};
 use bw_code::{Kind, Layout};
 use bw_mask::Mask;
 use std::process::Abort;
@@ -29,10 +31,12 @@ fn many_values<R: Abort + AllocGlobal>(rt: &R, length: usize, nulls: bool) -> Ve
         number = number_after(number);
         let is_known = !nulls || number >> 29 & 7 != 0;
         values
-            .push(cell(is_known, (number >> 32) % VALUES))
+            .push(cell(is_known, (number >> 32) % VALUES, Reach::Integer))
             .expect(rt, "memory");
     }
-    values.push(cell(true, VALUES)).expect(rt, "memory");
+    values
+        .push(cell(true, VALUES, Reach::Integer))
+        .expect(rt, "memory");
     values
 }
 

@@ -1,8 +1,8 @@
 //! Columns of integers and nulls: worked examples, with each call that may want memory seen answering.
 
-ghost use Rattle.std.specs.Prelude.{All, length, ◌≡◌, ◌≤◌};
+ghost use Rattle.std.specs.Prelude.{All, length, ◌^◌, ◌≡◌, ◌≤◌};
 ghost use Rattle.bw_mask.specs.Masks.{len};
-ghost use Rattle.bw_column.specs.Values.{IsNullOrInteger};
+ghost use Rattle.bw_column.specs.Values.{IsNullOrHeld};
 
 use crate::seen::{see, see_at};
 use bw_code::{CmpOp, Encoding, Kind, Layout, Meter};
@@ -13,32 +13,35 @@ use std::process::Abort;
 /// The rows where a truth is true, those where it is false, and the units that were read for it.
 pub(crate) type Outcome = (u64, u64, u64);
 
-fn check_value<R: Abort>(rt: &R, value: Option<i64>)
-    ensures { IsNullOrInteger value }
+fn check_value<R: Abort>(rt: &R, value: Option<i64>, layout: Layout)
+    ensures { IsNullOrHeld layout value }
 {
     if let Some(x) = value {
-        assert!(rt; -2_147_483_648 <= x && x <= 2_147_483_647);
+        match layout {
+            Layout::H => assert!(rt; -2_147_483_648 <= x && x <= 2_147_483_647),
+            Layout::P | Layout::V | Layout::S => {}
+        }
     }
 }
 
-fn check_values<R: Abort>(rt: &R, values: &[Option<i64>])
-    ensures integers { All IsNullOrInteger values.now }
-    ensures few { length values.now ≤ 200000 }
+fn check_values<R: Abort>(rt: &R, values: &[Option<i64>], layout: Layout)
+    ensures held { All (IsNullOrHeld layout) values.now }
+    ensures few { length values.now ≤ 2 ^ 24 }
 {
-    assert!(rt; values.len() <= 200_000);
+    assert!(rt; values.len() <= 16_777_216);
     for value in values {
-        check_value(rt, *value);
+        check_value(rt, *value, layout);
     }
 }
 
-/// A column of at most 200,000 values.
+/// A column of these values, which the layout has to hold.
 pub(crate) fn column_of<R: Abort + AllocGlobal>(
     rt: &R,
     values: &[Option<i64>],
     layout: Layout,
     kind: Kind,
 ) -> Column {
-    check_values(rt, values);
+    check_values(rt, values, layout);
     Column::build(rt.alloc(), &values, layout, kind).expect(rt, "memory")
 }
 
@@ -85,8 +88,8 @@ fn see_offset<R: Abort + AllocGlobal>(
 
 /// The column with these values after its own.
 fn appended<R: Abort + AllocGlobal>(rt: &R, mut column: Column, values: &[Option<i64>]) -> Column {
-    check_values(rt, values);
-    assert!(rt; column.len() <= 200_000);
+    check_values(rt, values, column.layout());
+    assert!(rt; column.len() <= 200_000 && values.len() <= 200_000);
     let prepared = column
         .room_for(rt.alloc(), &values, true)
         .expect(rt, "memory");
@@ -110,7 +113,7 @@ fn overwritten<R: Abort + AllocGlobal>(
     bits: u64,
     values: &[Option<i64>],
 ) -> Column {
-    check_values(rt, values);
+    check_values(rt, values, column.layout());
     let places = rows_of(rt, &column, bits);
     assert!(rt; places.count() == values.len() && column.len() <= 200_000);
     let prepared = column

@@ -22,3 +22,5 @@ mod seen;
 mod set_functions;
 #[cfg(test)]
 mod units;
+#[cfg(test)]
+mod widest;

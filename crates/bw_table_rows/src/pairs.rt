@@ -90,26 +90,41 @@ fn a_worked_pair_in_all_layouts_and_kinds(rt: HostRuntime) {
     }
 }
 
-/// A value so far above a base, and no more than an INTEGER may be.
-fn value(base: i32, distance: u32) -> i64 {
-    (i64::from(base) + i64::from(distance)).min(2_147_483_647)
-}
-
-/// Where the values of a column begin, and the greatest distance from there.
+/// Where the values of a column begin, the greatest distance from there, and the greatest value that there may be.
 #[derive(Clone, Copy)]
 struct Span {
-    base: i32,
-    greatest: u32,
+    base: i64,
+    greatest: u64,
+    most: i64,
 }
 
 impl Span {
-    /// A distance of 1 to 32 bits, from near 0 or from far.
-    fn random(random: &mut Random) -> Span {
+    /// INTEGERs: a distance of 1 to 32 bits, from near 0 or from far.
+    fn of_integers(random: &mut Random) -> Span {
         let word = random.next();
         let base = ((word >> 32) as u32).cast_signed();
         Span {
-            base: base >> (word % 32),
-            greatest: u32::MAX >> (word / 32 % 32),
+            base: i64::from(base >> (word % 32)),
+            greatest: u64::from(u32::MAX >> (word / 32 % 32)),
+            most: 2_147_483_647,
+        }
+    }
+
+    /// Integers of 64 bits: a distance of 1 to 64 bits, from near 0 or from far.
+    fn of_words(random: &mut Random) -> Span {
+        let word = random.next();
+        Span {
+            base: random.next().cast_signed() >> (word % 64),
+            greatest: u64::MAX >> (word / 64 % 64),
+            most: i64::MAX,
+        }
+    }
+
+    /// The value so far above the base, and no more than there may be.
+    fn value(self, distance: u64) -> i64 {
+        match i64::try_from(i128::from(self.base) + i128::from(distance)) {
+            Ok(value) => value.min(self.most),
+            Err(_) => self.most,
         }
     }
 }
@@ -120,12 +135,12 @@ fn values_of<R: Abort + AllocGlobal>(rt: &R, random: &mut Random, span: Span) ->
     for i in 0..values.len() {
         let word = random.next();
         if word % 8 != 0 {
-            values[i] = Some(value(span.base, (word >> 32) as u32 & span.greatest));
+            values[i] = Some(span.value(random.next() & span.greatest));
         }
     }
     if values.len() > 2 {
-        values[1] = Some(value(span.base, 0));
-        values[2] = Some(value(span.base, span.greatest));
+        values[1] = Some(span.value(0));
+        values[2] = Some(span.value(span.greatest));
     }
     values
 }
@@ -194,34 +209,59 @@ fn check_pair<R: Abort + AllocGlobal>(rt: &R, left: Column, right: Column, op: C
     check_truths(rt, &left, &right, op, &need);
 }
 
-/// All pairs of layouts and kinds of one pair of lists.
+/// The layouts that hold integers of 64 bits, that of planes twice.
+const WIDE_LAYOUTS: [Layout; 4] = [Layout::P, Layout::V, Layout::S, Layout::V];
+
+/// All pairs of these layouts and of the kinds, of one pair of lists.
 fn check_layouts<R: Abort + AllocGlobal>(
     rt: &R,
     random: &mut Random,
+    layouts: [Layout; 4],
     values: &[Option<i64>],
     others: &[Option<i64>],
 ) {
     for i in 0..64 {
-        let left = column_of(rt, values, LAYOUTS[i / 16], KINDS[i / 8 % 2]);
-        let right = column_of(rt, others, LAYOUTS[i / 2 % 4], KINDS[i % 2]);
+        let left = column_of(rt, values, layouts[i / 16], KINDS[i / 8 % 2]);
+        let right = column_of(rt, others, layouts[i / 2 % 4], KINDS[i % 2]);
         let op = OPERATORS[(random.next() >> 8) as usize % 6];
         check_pair(rt, left, right, op, random.next() | random.next());
     }
 }
 
+/// Compares random values of two spans in these layouts.
+fn check_spans<R: Abort + AllocGlobal>(
+    rt: &R,
+    random: &mut Random,
+    layouts: [Layout; 4],
+    span: Span,
+    other: Span,
+) {
+    let values = values_of(rt, random, span);
+    let others = values_of(rt, random, other);
+    check_layouts(rt, random, layouts, &values, &others);
+}
+
+/// Two spans, one and the same in one case of four, so that both columns have one encoding.
+fn paired(case: usize, span: Span, other: Span) -> (Span, Span) {
+    (span, if case % 4 == 0 { span } else { other })
+}
+
 #[test]
 fn random_pairs_in_all_layouts_and_kinds(rt: HostRuntime) {
     let mut random = Random::new();
-    for i in 0..200 {
-        let span = Span::random(&mut random);
-        // In one case of four both columns have one encoding.
-        let other = if i % 4 == 0 {
-            span
-        } else {
-            Span::random(&mut random)
-        };
-        let values = values_of(&rt, &mut random, span);
-        let others = values_of(&rt, &mut random, other);
-        check_layouts(&rt, &mut random, &values, &others);
+    for case in 0..200 {
+        let span = Span::of_integers(&mut random);
+        let (span, other) = paired(case, span, Span::of_integers(&mut random));
+        check_spans(&rt, &mut random, LAYOUTS, span, other);
+    }
+}
+
+#[test]
+fn random_pairs_of_64_bits(rt: HostRuntime) {
+    let mut random = Random::new();
+    for case in 0..100 {
+        let span = Span::of_words(&mut random);
+        let (span, other) = paired(case, span, Span::of_words(&mut random));
+        check_spans(&rt, &mut random, WIDE_LAYOUTS, span, other);
     }
 }

@@ -43,18 +43,46 @@ fn drawn_length(random: &mut Random) -> usize {
 
 /// A code of so many bits whose highest bit is set.
 fn drawn_top(random: &mut Random, width: u32) -> u64 {
-    let below = !(u64::MAX << (width % 64));
+    let below = u64::MAX >> (64 - width.clamp(1, 64));
     (random.next() | !(below >> 1)) & below
+}
+
+/// How far the integers of a column reach.
+#[derive(Clone, Copy, Debug, PartialEq, Eq)]
+pub(crate) enum Reach {
+    /// As those of 32 bits.
+    Integer,
+    /// As those of 64 bits, which BitWeaving/H doesn't hold.
+    Whole,
+}
+
+impl Reach {
+    /// How far the greatest lies from the least.
+    fn greatest(self) -> u64 {
+        match self {
+            Reach::Integer => 0xffff_ffff,
+            Reach::Whole => u64::MAX,
+        }
+    }
+
+    /// The integer at this distance from the least one, counted round.
+    fn integer(self, distance: u64) -> i64 {
+        match self {
+            Reach::Integer => (distance & 0xffff_ffff) as i64 - 0x8000_0000,
+            Reach::Whole => i64::MIN.wrapping_add_unsigned(distance),
+        }
+    }
 }
 
 /// A least value at which this top code still stands for an integer, as its distance from the least integer: where the
 /// integers begin, where they end for it, or between.
-fn drawn_base(random: &mut Random, top: u64) -> u64 {
-    let last = 0xffff_ffff ^ (top & 0xffff_ffff);
+fn drawn_base(random: &mut Random, top: u64, reach: Reach) -> u64 {
+    let greatest = reach.greatest();
+    let last = greatest ^ (top & greatest);
     match random.next() >> 8 & 3 {
         0 => 0,
         1 => last,
-        _ => (random.next() & 0x7fff_ffff).min(last),
+        _ => (random.next() & greatest >> 1).min(last),
     }
 }
 
@@ -71,12 +99,21 @@ fn drawn_code(random: &mut Random, top: u64, place: usize, length: usize) -> u64
 }
 
 /// Null, or the integer at this distance from the least one.
-pub(crate) fn cell(is_known: bool, distance: u64) -> Option<i64> {
+pub(crate) fn cell(is_known: bool, distance: u64, reach: Reach) -> Option<i64> {
     if is_known {
-        Some((distance & 0xffff_ffff) as i64 - 0x8000_0000)
+        Some(reach.integer(distance))
     } else {
         None
     }
+}
+
+/// What a random column is like: how far its integers reach, how many bits the codes of an offset have, and how many of 64
+/// values are not null.
+#[derive(Clone, Copy, Debug)]
+struct Drawn {
+    reach: Reach,
+    width: u32,
+    known: u64,
 }
 
 /// Values whose distances from the least have some of the bits of a top code and no others. Where one is known, 0 and the
@@ -84,12 +121,16 @@ pub(crate) fn cell(is_known: bool, distance: u64) -> Option<i64> {
 fn drawn_values<R: Abort + AllocGlobal>(
     rt: &R,
     random: &mut Random,
-    width: u32,
+    drawn: Drawn,
     length: usize,
-    known: u64,
 ) -> Vec<Option<i64>> {
+    let Drawn {
+        reach,
+        width,
+        known,
+    } = drawn;
     let top = drawn_top(random, width);
-    let base = drawn_base(random, top);
+    let base = drawn_base(random, top, reach);
     let turn = (random.next() >> 8 & 1023) as usize;
     let mut values = Vec::new(rt.alloc());
     for row in 0..length {
@@ -98,7 +139,7 @@ fn drawn_values<R: Abort + AllocGlobal>(
         let is_end = place == 0 || place == length / 2;
         let is_known = known > 0 && is_end || happens(random, known);
         values
-            .push(cell(is_known, base.wrapping_add(code)))
+            .push(cell(is_known, base.wrapping_add(code), reach))
             .expect(rt, "memory");
     }
     values
@@ -226,28 +267,48 @@ fn check_rows<R: Abort + AllocGlobal>(
     see_at(rt, case, answered_at_once(rt, column, &rows), wanted);
 }
 
-/// Checks a column of this share of known values, whose codes have so many bits if it is an offset.
+/// Checks a random column.
 fn check_column<R: Abort + AllocGlobal>(
     rt: &R,
     random: &mut Random,
     way: (Layout, Kind),
-    width: u32,
-    known: u64,
+    drawn: Drawn,
 ) {
     let length = drawn_length(random);
-    let values = drawn_values(rt, random, width, length, known);
+    let values = drawn_values(rt, random, drawn, length);
     let column = column_of(rt, &values, way.0, way.1);
-    if way.1 == Kind::Offset && known > 0 && length > 1 {
-        assert_eq!(rt; column.encoding().width(), width);
+    if way.1 == Kind::Offset && drawn.known > 0 && length > 1 {
+        assert_eq!(rt; column.encoding().width(), drawn.width);
     }
     check_rows(rt, random, &column, &values);
 }
 
-/// Checks columns of each width, with and without nulls.
+/// Checks columns of a width, with and without nulls.
+fn check_width<R: Abort + AllocGlobal>(
+    rt: &R,
+    random: &mut Random,
+    way: (Layout, Kind),
+    reach: Reach,
+    width: u32,
+) {
+    for known in KNOWN_IN_64 {
+        let drawn = Drawn {
+            reach,
+            width,
+            known,
+        };
+        check_column(rt, random, way, drawn);
+    }
+}
+
+/// Checks columns of each width that the layout holds.
 fn check_widths<R: Abort + AllocGlobal>(rt: &R, random: &mut Random, layout: Layout, kind: Kind) {
     for width in 1..33 {
-        for known in KNOWN_IN_64 {
-            check_column(rt, random, (layout, kind), width, known);
+        check_width(rt, random, (layout, kind), Reach::Integer, width);
+    }
+    if layout != Layout::H {
+        for width in 33..65 {
+            check_width(rt, random, (layout, kind), Reach::Whole, width);
         }
     }
 }

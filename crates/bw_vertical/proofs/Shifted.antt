@@ -6,14 +6,10 @@ use Rattle.std.proofs.lemmas.Int.{ints}
 use Rattle.std.proofs.lemmas.List.{get_or_past}
 use Rattle.std.proofs.lemmas.Nat.Bits.{bit_at_cat_low}
 use Rattle.bw_mask.specs.Masks.{MaskRows, bit_of, len, row_at}
-use Rattle.bw_code.specs.Shifts.{StaysBelow, shifted}
+use Rattle.bw_code.specs.Shifts.{IsWord, StaysBelow, shifted}
 use Rattle.bw_code.proofs.Lists.{made_at}
 use Rattle.bw_vertical.specs.Storage.{code_of, codes_of, is_set}
 use Rattle.bw_vertical.proofs.Holding.{code_bit, code_is, code_lt}
-
--- what is added modulo 2^64 to add an integer
-abbrev pub IsWord : ℤ → ℕ → Type 0
-IsWord by word = (code sum : ℕ) → code < 2 ^ 32 → sum < 2 ^ 32 → pos sum ≡ pos code +ℤ by → (code + word) % 2 ^ 64 ≡ sum
 
 -- the bits below 64 are those of the rest
 low_bit : (n i : ℕ) → i < 64 → bit_of (n % 2 ^ 64) i ≡ bit_of n i
@@ -25,11 +21,11 @@ low_bit n i h =
 abbrev IsCode : ℕ → ℤ → ℕ → ℕ → Type 0
 IsCode k value sum c = (c < 2 ^ k) × (pos c ≡ value) × ((m : ℕ) → m < 64 → bit_of sum m ≡ bit_of c m)
 
-module _ (k : ℕ) (by : ℤ) (word : ℕ) (narrow : k ≤ 32) (word_is : IsWord by word) where
+module _ (k : ℕ) (by : ℤ) (word : ℕ) (narrow : k ≤ 64) (word_is : IsWord by word) where
   new_code : (there : Bool) (code : ℕ) → code < 2 ^ k → StaysBelow (2 ^ k) (shifted by there code) → (c : ℕ) × IsCode k (shifted by there code) (code + (if there then word else 0)) c
   new_code true code small fits =
       let c = nat_abs (pos code +ℤ by) in
-      let most : 2 ^ k ≤ 2 ^ 32 = pow_mono {i = k} {j = 32} narrow in
+      let most : 2 ^ k ≤ 2 ^ 64 = pow_mono {i = k} {j = 64} narrow in
       let is : pos c ≡ pos code +ℤ by = omega (arith, ints, fits.0) in
       let low : c < 2 ^ k = omega (arith, ints, fits.0, fits.1) in
       (c, (low, is, λ m h. sym (low_bit (code + word) m h) ∙ ap (λ z. bit_of z m) (word_is code c (omega (arith, small, most)) (omega (arith, low, most)) is)))

@@ -1,5 +1,5 @@
 -- Sums compared bit by bit from the lowest up.
-use Rattle.std.proofs.Common.{Bool, List, [], ap, arith, false, get_or, inl, inr, if◌then◌else◌, length, min, nat_le, nat_lt, not, pow_pos, refl, suc, sym, true, zero, ℕ, ◌%◌, ◌&&◌, ◌*◌, ◌+◌, ◌-◌, ◌/◌, ◌<◌, ◌==◌, ◌^◌, ◌||◌, ◌≡◌, ◌≤◌, ◌∙◌}
+use Rattle.std.proofs.Common.{Bool, List, [], ap, arith, false, get_or, inl, inr, if◌then◌else◌, length, min, nat_eq, nat_le, nat_lt, not, pow_pos, refl, suc, sym, true, zero, ℕ, ◌%◌, ◌&&◌, ◌*◌, ◌+◌, ◌-◌, ◌/◌, ◌<◌, ◌==◌, ◌^◌, ◌||◌, ◌≡◌, ◌≤◌, ◌∙◌}
 use Rattle.std.specs.Int.{bit_at}
 use Rattle.std.specs.List.{list_any}
 use native.Mathlib.Nat.{mod-eq_of_lt}
@@ -125,13 +125,24 @@ compared_more p b q c lt d x lift y n e f g before =
       differs = rw (sum, g, before.differs) (sym (differ_more (x + lift) y n));
     }
 
-lift_low : (lift n : ℕ) → lift / 2 ^ n ≡ 0 → lift < 2 ^ n
-lift_low lift n none = omega (arith, (div-lt_iff_lt-mul {k = 2 ^ n} {x = lift} {y = 1} (pow_pos n)).0 (omega (arith, none)))
+-- a number is longer than n bits where something is left of it without these
+pub longer_is : (x n : ℕ) → not (nat_eq (x / 2 ^ n) 0) ≡ nat_le (2 ^ n) x
+longer_is x n =
+    elim (cases_lt x (2 ^ n)) [
+      | inl l ↦ let none = (div-lt_iff_lt-mul {k = 2 ^ n} {x = x} {y = 1} (pow_pos n)).1 (omega (arith, l)) in grind (arith, nat_tests, none, l)
+      | inr l ↦
+          let some : 0 < x / 2 ^ n =
+          elim (cases_lt 0 (x / 2 ^ n)) [
+            | inl p ↦ p
+            | inr p ↦ let low = (div-lt_iff_lt-mul {k = 2 ^ n} {x = x} {y = 1} (pow_pos n)).0 (omega (arith, p)) in absurd (omega (arith, low, l))
+          ] in
+          grind (arith, nat_tests, some, l)
+    ]
 
 -- a number of n bits and one that is no longer carry over where their sum is longer
-pub past_carry : (x lift n : ℕ) → x < 2 ^ n → lift / 2 ^ n ≡ 0 → (carried x lift n == 1) ≡ nat_le (2 ^ n) (x + lift)
+pub past_carry : (x lift n : ℕ) → x < 2 ^ n → nat_le (2 ^ n) lift ≡ false → (carried x lift n == 1) ≡ nat_le (2 ^ n) (x + lift)
 past_carry x lift n h none =
-    let low = lift_low lift n none in
+    let low : lift < 2 ^ n = grind (arith, nat_tests, none) in
     let p = 2 ^ n in
     let whole : carried x lift n ≡ (x + lift) / p = rw (mod-eq_of_lt h, mod-eq_of_lt low) refl in
     elim (cases_lt (x + lift) p) [
@@ -146,12 +157,8 @@ past_carry x lift n h none =
     ]
 
 -- what is added is longer
-pub past_lift : (x lift n : ℕ) → (lift / 2 ^ n ≡ 0 → ⊥) → nat_le (2 ^ n) (x + lift) ≡ true
-past_lift x lift n some =
-    elim (cases_lt lift (2 ^ n)) [
-      | inl l ↦ let low = (div-lt_iff_lt-mul {k = 2 ^ n} {x = lift} {y = 1} (pow_pos n)).1 (omega (arith, l)) in absurd (some (omega (arith, low)))
-      | inr l ↦ grind (arith, nat_tests, l)
-    ]
+pub past_lift : (x lift n : ℕ) → nat_le (2 ^ n) lift ≡ true → nat_le (2 ^ n) (x + lift) ≡ true
+past_lift x lift n some = grind (arith, nat_tests, some)
 
 -- sums by the bits of the other numbers, and by whether they are longer
 pub whole_less : (x lift y n : ℕ) (c lt d past : Bool) → y < 2 ^ n → AreCompared x lift y n c lt d → past ≡ nat_le (2 ^ n) (x + lift) → (lt && not past) ≡ nat_lt (x + lift) y

@@ -38,7 +38,7 @@ HasSegment k groups q = (g : ℕ) → 4 * g < k → (q + 1) * planes_in k g ≤ 
 -- the planes of n codes of k bits: whole segments, and rows past the last are not set
 pub record AreGroups (k : ℕ) (groups : List (List (List ℕ))) (n : ℕ) : Type 0 where
   pub some : 1 ≤ k
-  pub narrow : k ≤ 32
+  pub narrow : k ≤ 64
   pub few : n ≤ 2 ^ 24
   pub count : length groups ≡ groups_of k
   pub sizes : (g : ℕ) → 4 * g < k → length (slice_index_or groups g []) ≡ segments_of n * planes_in k g

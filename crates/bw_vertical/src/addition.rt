@@ -45,6 +45,14 @@ fn has_bit(number: u64, n: usize) -> bool
     number >> n & 1 == 1
 }
 
+/// Whether a number has a bit above its n lowest ones.
+fn is_longer(number: u64, n: usize) -> bool
+    requires { n ≤ 64 }
+    ensures { result ≡ nat_le (2 ^ n) number }
+{
+    n < 64 && number >> n != 0
+}
+
 /// How sums compare with other numbers in 256 rows by their lowest bits alone.
 #[derive(Clone, Copy)]
 struct LowBits {
@@ -85,21 +93,21 @@ impl LowBits {
 
     /// Where a sum of a number of n bits has a bit above those, by which it is compared.
     fn past(self, lift: u64, n: usize) -> [u64; 4]
-        requires few { n < 64 }
+        requires few { n ≤ 64 }
         ensures { (j x y : ℕ) → j < 256 → x < 2 ^ n → AreCompared x lift y n (row_in self.carry j) (row_in self.lt j) (row_in self.differ j)
             → row_in result j ≡ nat_le (2 ^ n) (x + lift) }
     {
-        if lift >> n == 0 {
-            self.carry
-        } else {
+        if is_longer(lift, n) {
             [u64::MAX; 4]
+        } else {
+            self.carry
         }
     }
 
     /// Where the whole sums are below the other numbers, and where the two differ. The numbers are of n bits, by which they are
     /// compared.
     fn whole(self, lift: u64, n: usize) -> ([u64; 4], [u64; 4])
-        requires few { n < 64 }
+        requires few { n ≤ 64 }
         ensures less { (j x y : ℕ) → j < 256 → x < 2 ^ n → y < 2 ^ n → AreCompared x lift y n (row_in self.carry j) (row_in self.lt j) (row_in self.differ j)
             → row_in result.0 j ≡ nat_lt (x + lift) y }
         ensures differ { (j x y : ℕ) → j < 256 → x < 2 ^ n → y < 2 ^ n → AreCompared x lift y n (row_in self.carry j) (row_in self.lt j) (row_in self.differ j)
@@ -114,7 +122,7 @@ impl LowBits {
 /// read for it.
 #[inline(always)]
 fn low_plane<S: Source<[u64; 4]>>(source: &mut S, k: usize, q: usize, n: usize) -> [u64; 4]
-    requires narrow { k ≤ 32 }
+    requires narrow { k ≤ 64 }
     requires small { q < 2 ^ 32 }
     requires there { (q + 1) * k ≤ length (S.units source.old) }
     requires few { S.reads source.old + (if nat_lt n k then 1 else 0) ≤ 2 ^ 63 }
@@ -138,8 +146,8 @@ fn compare_lifted<A: Source<[u64; 4]>, B: Source<[u64; 4]>>(
     other: usize,
     q: usize,
 ) -> ([u64; 4], [u64; 4])
-    requires narrow { width ≤ 32 }
-    requires other_narrow { other ≤ 32 }
+    requires narrow { width ≤ 64 }
+    requires other_narrow { other ≤ 64 }
     requires small { q < 2 ^ 32 }
     requires there { (q + 1) * width ≤ length (A.units a.old) }
     requires other_there { (q + 1) * other ≤ length (B.units b.old) }
@@ -174,8 +182,8 @@ fn compare_sums<A: Source<[u64; 4]>, B: Source<[u64; 4]>>(
     q: usize,
     lifts: Lifts,
 ) -> ([u64; 4], [u64; 4])
-    requires narrow { width ≤ 32 }
-    requires other_narrow { other ≤ 32 }
+    requires narrow { width ≤ 64 }
+    requires other_narrow { other ≤ 64 }
     requires lower { (lifts.left ≡ 0) ⊎ (lifts.right ≡ 0) }
     requires small { q < 2 ^ 32 }
     requires there { (q + 1) * width ≤ length (A.units a.old) }
@@ -218,8 +226,8 @@ pub fn add_from<A: Source<[u64; 4]>, B: Source<[u64; 4]>>(
     need: &Mask,
     out: &mut Mask,
 )
-    requires narrow { left.width ≤ 32 }
-    requires other_narrow { right.width ≤ 32 }
+    requires narrow { left.width ≤ 64 }
+    requires other_narrow { right.width ≤ 64 }
     requires few { len need.now ≤ 2 ^ 24 }
     requires out { len out.old ≡ len need.now }
     requires units { length (A.units a.old) ≡ segments_of (len need.now) * left.width }

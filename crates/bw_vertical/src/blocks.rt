@@ -7,7 +7,7 @@ ghost use Rattle.bw_vertical.specs.Storage.{HasSegment, KeepsSizes, code_of, gro
 use crate::bytes::{codes_of_words, put_codes};
 use crate::storage::{add_words, words_at};
 
-/// The codes of rows 64 w to 64 w + 63.
+/// The codes of rows 64 w to 64 w + 63, of at most 32 bits.
 fn block_at(groups: &[Vec<[u64; 4]>], k: usize, w: usize) -> [u32; 64]
     requires narrow { k ≤ 32 }
     requires small { w < 2 ^ 32 }
@@ -16,6 +16,22 @@ fn block_at(groups: &[Vec<[u64; 4]>], k: usize, w: usize) -> [u32; 64]
     ensures { (r : ℕ) → r < 64 → slice_index result r ≡ code_of k (lists groups.now) (64 * w + r) }
 {
     codes_of_words(&words_at(groups, k, w), k)
+}
+
+/// The codes of rows 64 w to 64 w + 63, of more than 32 bits: the 32 lowest bits of each, and those above them.
+fn halves_at(groups: &[Vec<[u64; 4]>], k: usize, w: usize) -> ([u32; 64], [u32; 64])
+    requires wide { 32 ≤ k }
+    requires narrow { k ≤ 64 }
+    requires small { w < 2 ^ 32 }
+    requires count { length groups.now ≡ groups_of k }
+    requires there { HasSegment k (lists groups.now) (w / 4) }
+    ensures { (r : ℕ) → r < 64 → slice_index result.0 r + 2 ^ 32 * slice_index result.1 r ≡ code_of k (lists groups.now) (64 * w + r) }
+{
+    let words = words_at(groups, k, w);
+    (
+        codes_of_words(&words, 32),
+        codes_of_words(&words[32..], k - 32),
+    )
 }
 
 /// Copies n numbers from a place of a block to a place of `out`.
@@ -31,9 +47,51 @@ fn copy_run(block: &[u32], from: usize, n: usize, out: &mut [u64], at: usize)
     }
 }
 
+/// Copies n numbers of 64 bits, in halves, from a place of a block to a place of `out`.
+fn copy_halves(low: &[u32], high: &[u32], from: usize, n: usize, out: &mut [u64], at: usize)
+    requires low { from + n ≤ length low.now }
+    requires high { from + n ≤ length high.now }
+    requires out { at + n ≤ length out.old }
+    ensures long { length out.new ≡ length out.old }
+    ensures before { (i : ℕ) → i < at → slice_index out.new i ≡ slice_index out.old i }
+    ensures copied { (r : ℕ) → r < n → slice_index out.new (at + r) ≡ slice_index low.now (from + r) + 2 ^ 32 * slice_index high.now (from + r) }
+{
+    for r in 0..n {
+        out[at + r] = u64::from(low[from + r]) + 0x1_0000_0000 * u64::from(high[from + r]);
+    }
+}
+
+/// Copies the codes of n rows from row `from` of word w on to a place of `out`.
+fn copy_codes(
+    groups: &[Vec<[u64; 4]>],
+    k: usize,
+    w: usize,
+    from: usize,
+    n: usize,
+    out: &mut [u64],
+    at: usize,
+)
+    requires narrow { k ≤ 64 }
+    requires small { w < 2 ^ 32 }
+    requires count { length groups.now ≡ groups_of k }
+    requires there { HasSegment k (lists groups.now) (w / 4) }
+    requires inside { from + n ≤ 64 }
+    requires out { at + n ≤ length out.old }
+    ensures long { length out.new ≡ length out.old }
+    ensures before { (i : ℕ) → i < at → slice_index out.new i ≡ slice_index out.old i }
+    ensures copied { (r : ℕ) → r < n → slice_index out.new (at + r) ≡ code_of k (lists groups.now) (64 * w + (from + r)) }
+{
+    if k <= 32 {
+        copy_run(&block_at(groups, k, w), from, n, out, at);
+    } else {
+        let (low, high) = halves_at(groups, k, w);
+        copy_halves(&low, &high, from, n, out, at);
+    }
+}
+
 /// Fills `out` with the codes of rows `at`, `at + 1`, ..
 pub(crate) fn read_codes(groups: &[Vec<[u64; 4]>], k: usize, at: usize, out: &mut [u64])
-    requires narrow { k ≤ 32 }
+    requires narrow { k ≤ 64 }
     requires small { at + length out.old ≤ 2 ^ 32 }
     requires count { length groups.now ≡ groups_of k }
     requires there { (j : ℕ) → j < at + length out.old → HasSegment k (lists groups.now) (j / 256) }
@@ -42,71 +100,105 @@ pub(crate) fn read_codes(groups: &[Vec<[u64; 4]>], k: usize, at: usize, out: &mu
 {
     let mut i = 0;
     while i < out.len() {
-        let block = block_at(groups, k, (at + i) / 64);
         let from = (at + i) % 64;
         let n = (64 - from).min(out.len() - i);
-        copy_run(&block, from, n, out, i);
+        copy_codes(groups, k, (at + i) / 64, from, n, out, i);
         i += n;
     }
 }
 
-/// Codes of 32 bits go to the first n places of a block.
-fn narrow(codes: &[u64], n: usize, block: &mut [u32; 64])
+/// 32 bits of each code, from bit `down` on, go to the first n places of a block.
+fn narrow(codes: &[u64], down: u32, n: usize, block: &mut [u32; 64])
     requires all { n ≡ length codes.now }
     requires few { n ≤ 64 }
-    requires fit { All (λ code. code < 2 ^ 32) codes.now }
-    ensures codes { (r : ℕ) → r < n → slice_index block.new r ≡ slice_index codes.now r }
+    requires down { down < 64 }
+    ensures codes { (r : ℕ) → r < n → slice_index block.new r ≡ slice_index codes.now r / 2 ^ down % 2 ^ 32 }
     ensures rest { (r : ℕ) → n ≤ r → slice_index block.new r ≡ slice_index block.old r }
 {
     for r in 0..n {
-        block[r] = codes[r] as u32;
+        block[r] = ((codes[r] >> down) % 0x1_0000_0000) as u32;
     }
 }
 
-/// The codes as numbers of 32 bits, and zeros behind them.
-fn narrowed(codes: &[u64]) -> [u32; 64]
+/// 32 bits of each code, from bit `down` on, and zeros behind them.
+fn narrowed(codes: &[u64], down: u32) -> [u32; 64]
     requires few { length codes.now ≤ 64 }
-    requires fit { All (λ code. code < 2 ^ 32) codes.now }
-    ensures { (r : ℕ) → slice_index result r ≡ slice_index codes.now r }
+    requires down { down < 64 }
+    ensures { (r : ℕ) → slice_index result r ≡ slice_index codes.now r / 2 ^ down % 2 ^ 32 }
 {
     let mut block = [0; 64];
     // Most come by whole words, and quicker where the length is known.
     if codes.len() == 64 {
-        narrow(codes, 64, &mut block);
+        narrow(codes, down, 64, &mut block);
     } else {
-        narrow(codes, codes.len(), &mut block);
+        narrow(codes, down, codes.len(), &mut block);
     }
     block
 }
 
-/// The words of the planes of k bits: bit r of word b is bit b of code r, and not set where there is no such code. What the words
-/// from k on hold is of no account.
+/// The words of the planes of at most 32 bits: bit r of word b is bit b of code r, and not set where there is no such code. What
+/// the words from k on hold is of no account.
 pub fn plane_words(codes: &[u64], k: usize) -> [u64; 32]
     requires few { length codes.now ≤ 64 }
     requires narrow { k ≤ 32 }
-    requires fit { All (λ code. code < 2 ^ 32) codes.now }
     ensures { (b r : ℕ) → b < k → r < 64 → bit_of (slice_index result b) r ≡ bit_of (slice_index codes.now r) b }
 {
     let mut words = [0; 32];
-    put_codes(&narrowed(codes), k, &mut words);
+    put_codes(&narrowed(codes, 0), k, &mut words, 0);
     words
 }
 
-/// The codes of rows `at`, `at + 1`, .. become these, so few that they lie in one word. From `at` on
-/// no row was set.
+/// The same of at most 64 bits. Half as many words are quicker to make where they are enough.
+pub fn wide_plane_words(codes: &[u64], k: usize) -> [u64; 64]
+    requires few { length codes.now ≤ 64 }
+    requires narrow { k ≤ 64 }
+    ensures { (b r : ℕ) → b < k → r < 64 → bit_of (slice_index result b) r ≡ bit_of (slice_index codes.now r) b }
+{
+    let mut words = [0; 64];
+    put_codes(&narrowed(codes, 0), k.min(32), &mut words, 0);
+    if k > 32 {
+        put_codes(&narrowed(codes, 32), k - 32, &mut words, 32);
+    }
+    words
+}
+
+/// The codes of rows `at`, `at + 1`, .. become those of which these are the words of the planes, so few that they lie in one word.
+/// From `at` on no row was set. The clauses alone name the codes.
 #[tactic(auto, using(crate::proofs::Settings::word_there))]
-pub(crate) fn put_block(groups: &mut Vec<Vec<[u64; 4]>>, k: usize, at: usize, codes: &[u64])
-    requires narrow { k ≤ 32 }
+fn put_rows(groups: &mut Vec<Vec<[u64; 4]>>, k: usize, at: usize, codes: &[u64], words: &[u64])
+    requires narrow { k ≤ 64 }
     requires small { at < 2 ^ 32 }
     requires count { vec_len groups.old ≡ groups_of k }
     requires there { HasSegment k (lists groups.old.items) (at / 256) }
     requires few { at % 64 + length codes.now ≤ 64 }
-    requires fit { All (λ code. code < 2 ^ 32) codes.now }
+    requires long { k ≤ length words.now }
+    requires rows { (b r : ℕ) → b < k → r < 64 → bit_of (slice_index words.now b) r ≡ bit_of (slice_index codes.now r) b }
     requires clean { (i j : ℕ) → i < k → at ≤ j → is_set k (lists groups.old.items) i j ≡ false }
     ensures sizes { KeepsSizes groups.new.items groups.old.items }
     ensures kept { (i j : ℕ) → i < k → j < at → is_set k (lists groups.new.items) i j ≡ is_set k (lists groups.old.items) i j }
     ensures added { (i r : ℕ) → i < k → r < length codes.now → is_set k (lists groups.new.items) i (at + r) ≡ bit_of (slice_index codes.now r) (k - 1 - i) }
     ensures clean { (i j : ℕ) → i < k → at + length codes.now ≤ j → is_set k (lists groups.new.items) i j ≡ false }
 {
-    add_words(groups, k, at / 64, &plane_words(codes, k), at % 64);
+    add_words(groups, k, at / 64, words, at % 64);
+}
+
+/// The codes of rows `at`, `at + 1`, .. become these, so few that they lie in one word. From `at` on
+/// no row was set.
+pub(crate) fn put_block(groups: &mut Vec<Vec<[u64; 4]>>, k: usize, at: usize, codes: &[u64])
+    requires narrow { k ≤ 64 }
+    requires small { at < 2 ^ 32 }
+    requires count { vec_len groups.old ≡ groups_of k }
+    requires there { HasSegment k (lists groups.old.items) (at / 256) }
+    requires few { at % 64 + length codes.now ≤ 64 }
+    requires clean { (i j : ℕ) → i < k → at ≤ j → is_set k (lists groups.old.items) i j ≡ false }
+    ensures sizes { KeepsSizes groups.new.items groups.old.items }
+    ensures kept { (i j : ℕ) → i < k → j < at → is_set k (lists groups.new.items) i j ≡ is_set k (lists groups.old.items) i j }
+    ensures added { (i r : ℕ) → i < k → r < length codes.now → is_set k (lists groups.new.items) i (at + r) ≡ bit_of (slice_index codes.now r) (k - 1 - i) }
+    ensures clean { (i j : ℕ) → i < k → at + length codes.now ≤ j → is_set k (lists groups.new.items) i j ≡ false }
+{
+    if k <= 32 {
+        put_rows(groups, k, at, codes, &plane_words(codes, k));
+    } else {
+        put_rows(groups, k, at, codes, &wide_plane_words(codes, k));
+    }
 }

@@ -32,8 +32,9 @@ fn rows_with_bit(bytes: &[u8; 64], i: u32) -> u64
 }
 
 /// The words of the eight planes of these bytes go to the words from `at` on.
-fn put_words(words: &mut [u64; 32], at: usize, bytes: &[u8; 64])
-    requires { at + 8 ≤ 32 }
+fn put_words(words: &mut [u64], at: usize, bytes: &[u8; 64])
+    requires room { at + 8 ≤ length words.old }
+    ensures long { length words.new ≡ length words.old }
     ensures inside { (t r : ℕ) → t < 8 → r < 64 → bit_of (slice_index words.new (at + t)) r ≡ bit_of (slice_index bytes.now r) t }
     ensures before { (b : ℕ) → b < at → slice_index words.new b ≡ slice_index words.old b }
 {
@@ -42,13 +43,16 @@ fn put_words(words: &mut [u64; 32], at: usize, bytes: &[u8; 64])
     }
 }
 
-/// The words become those of the planes of codes of k bits.
-pub(crate) fn put_codes(codes: &[u32; 64], k: usize, words: &mut [u64; 32])
-    requires { k ≤ 32 }
-    ensures { (b r : ℕ) → b < k → r < 64 → bit_of (slice_index words.new b) r ≡ bit_of (slice_index codes.now r) b }
+/// The words from `at` on become those of the planes of codes of k bits.
+pub(crate) fn put_codes(codes: &[u32; 64], k: usize, words: &mut [u64], at: usize)
+    requires narrow { k ≤ 32 }
+    requires room { at + 32 ≤ length words.old }
+    ensures long { length words.new ≡ length words.old }
+    ensures inside { (b r : ℕ) → b < k → r < 64 → bit_of (slice_index words.new (at + b)) r ≡ bit_of (slice_index codes.now r) b }
+    ensures before { (b : ℕ) → b < at → slice_index words.new b ≡ slice_index words.old b }
 {
     for j in 0..k.div_ceil(8) {
-        put_words(words, 8 * j, &byte_of_each(codes, j));
+        put_words(words, at + 8 * j, &byte_of_each(codes, j));
     }
 }
 
@@ -150,18 +154,20 @@ fn joined(bytes: &[[u8; 64]; 4]) -> [u32; 64]
 }
 
 /// The codes of at most 8 bits of which these are the words.
-fn codes_of_byte(words: &[u64; 32]) -> [u32; 64]
-    requires { (b : ℕ) → 8 ≤ b → slice_index words.now b ≡ 0 }
+fn codes_of_byte(words: &[u64]) -> [u32; 64]
+    requires long { 8 ≤ length words.now }
+    requires rest { (b : ℕ) → 8 ≤ b → b < 32 → slice_index words.now b ≡ 0 }
     ensures bits { (r b : ℕ) → r < 64 → b < 32 → bit_of (slice_index result r) b ≡ bit_of (slice_index words.now b) r }
     ensures fit { (r : ℕ) → r < 64 → slice_index result r < 2 ^ 32 }
 {
     widened(&bytes_of_words(words))
 }
 
-/// The codes of k bits of which these are the words.
-pub(crate) fn codes_of_words(words: &[u64; 32], k: usize) -> [u32; 64]
+/// The codes of k bits of which the first 32 of these are the words.
+pub fn codes_of_words(words: &[u64], k: usize) -> [u32; 64]
+    requires long { 32 ≤ length words.now }
     requires narrow { k ≤ 32 }
-    requires rest { (b : ℕ) → k ≤ b → slice_index words.now b ≡ 0 }
+    requires rest { (b : ℕ) → k ≤ b → b < 32 → slice_index words.now b ≡ 0 }
     ensures bits { (r b : ℕ) → r < 64 → b < 32 → bit_of (slice_index result r) b ≡ bit_of (slice_index words.now b) r }
     ensures fit { (r : ℕ) → r < 64 → slice_index result r < 2 ^ 32 }
 {

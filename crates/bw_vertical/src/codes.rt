@@ -11,7 +11,7 @@ use bw_mask::Mask;
 /// The code of row j.
 #[tactic(auto, using(crate::proofs::Settings::word_there))]
 pub(crate) fn code_at(groups: &[Vec<[u64; 4]>], k: usize, j: usize) -> u64
-    requires narrow { k ≤ 32 }
+    requires narrow { k ≤ 64 }
     requires small { j < 2 ^ 32 }
     requires count { length groups.now ≡ groups_of k }
     requires there { HasSegment k (lists groups.now) (j / 256) }
@@ -36,7 +36,7 @@ fn with_bit(word: u64, r: usize, bit: bool) -> u64
 /// The code of row j becomes this one.
 #[tactic(auto, using(crate::proofs::Settings::word_there))]
 pub(crate) fn put_code(groups: &mut Vec<Vec<[u64; 4]>>, k: usize, j: usize, code: u64)
-    requires narrow { k ≤ 32 }
+    requires narrow { k ≤ 64 }
     requires small { j < 2 ^ 32 }
     requires count { vec_len groups.old ≡ groups_of k }
     requires there { HasSegment k (lists groups.old.items) (j / 256) }

@@ -1,6 +1,6 @@
 //! Columns of codes as planes of bits.
 
-ghost use Rattle.std.specs.Prelude.{[], pos, ◌++◌, ◌%◌, ◌/◌, ◌≤◌, ◌^◌, length, slice_index_or, ℕ, ◌*◌, ◌+◌, ◌-◌, ◌<◌, ◌≡◌};
+ghost use Rattle.std.specs.Prelude.{[], pos, ◌-ℤ◌, ◌++◌, ◌%◌, ◌/◌, ◌≤◌, ◌^◌, length, slice_index_or, ℕ, ◌*◌, ◌+◌, ◌-◌, ◌<◌, ◌≡◌};
 ghost use Rattle.bw_mask.specs.Masks.{bit_of, len, row_at, row_in};
 ghost use Rattle.bw_code.specs.Columns.{code_at, count, Fit, KeepsShape};
 ghost use Rattle.bw_code.specs.Shifts.{StaysBelow, shifted};
@@ -11,15 +11,15 @@ ghost use Rattle.bw_vertical.specs.Storage.{groups_of, planes_in};
 use crate::growing::{begin_segment, empty_groups, reserve_segments};
 use crate::pair::pair_from;
 use crate::scan::scan_from;
-use crate::shifting::{as_word, shift_codes};
+use crate::shifting::shift_codes;
 use crate::source::PlaneSource;
 use crate::{blocks, codes};
-use bw_code::{CmpOp, CodeColumn, CodeTest, Meter, Source};
+use bw_code::{CmpOp, CodeColumn, CodeTest, Meter, Source, word_between};
 use bw_mask::Mask;
 use std::alloc::{AllocError, Global};
 use std::marker::Model;
 
-/// Codes of at most 32 bits as planes, each of one bit of every code (BitWeaving/V: Li and Patel,
+/// Codes of at most 64 bits as planes, each of one bit of every code (BitWeaving/V: Li and Patel,
 /// SIGMOD 2013). Plane 0 holds the highest bits.
 #[derive(Drop)]
 pub struct VerticalColumn {
@@ -70,17 +70,17 @@ impl VerticalColumn {
         PlaneSource::new(&self.groups, self.width, self.len)
     }
 
-    /// Adds so much to the code of each of the rows. Each of them then is a code of the column's width, too. Takes no
+    /// Counts the code of each of the rows from another base. Each of them then is a code of the column's width, too. Takes no
     /// memory.
-    pub fn shift(&mut self, rows: &Mask, by: i64)
+    pub fn shift(&mut self, rows: &Mask, from: i64, to: i64)
         requires rows { len rows.now ≡ count self.old }
-        requires fit { (i : ℕ) → i < count self.old → StaysBelow (2 ^ self.old.width) (shifted by (row_at rows.now i) (code_at self.old i)) }
+        requires fit { (i : ℕ) → i < count self.old → StaysBelow (2 ^ self.old.width) (shifted (from -ℤ to) (row_at rows.now i) (code_at self.old i)) }
         ensures shape { KeepsShape self.new self.old }
         ensures count { count self.new ≡ count self.old }
-        ensures codes { (i : ℕ) → i < count self.old → pos (code_at self.new i) ≡ shifted by (row_at rows.now i) (code_at self.old i) }
+        ensures codes { (i : ℕ) → i < count self.old → pos (code_at self.new i) ≡ shifted (from -ℤ to) (row_at rows.now i) (code_at self.old i) }
     {
         let k = self.width as usize;
-        shift_codes(&mut self.groups, k, self.len, rows, as_word(by));
+        shift_codes(&mut self.groups, k, self.len, rows, word_between(from, to));
     }
 
     /// Adds codes at the end, within the room, so few that their rows lie in one word.
@@ -104,11 +104,11 @@ impl VerticalColumn {
 impl CodeColumn for VerticalColumn {
     ghost layout = { layouts.V };
 
-    ghost WIDEST = { 32 };
+    ghost WIDEST = { 64 };
 
     ghost seen = { λ c. c };
 
-    const WIDEST: u32 = 32;
+    const WIDEST: u32 = 64;
 
     #[tactic(auto, using(crate::proofs::Holding::codes_len))]
     fn with_width(alloc: Global, width: u32) -> Result<VerticalColumn, AllocError> {

@@ -25,7 +25,7 @@ pub(crate) fn reserve_segments(
     k: usize,
     more: usize,
 ) -> Result<(), AllocError>
-    requires narrow { k ≤ 32 }
+    requires narrow { k ≤ 64 }
     requires few { more ≤ 2 ^ 16 }
     requires count { vec_len groups.old ≡ groups_of k }
     ensures count { vec_len groups.new ≡ vec_len groups.old }
@@ -58,7 +58,7 @@ fn push_planes(group: &mut Vec<[u64; 4]>, m: usize)
 
 /// Puts a segment behind the others, within the capacity. None of its rows is set.
 pub(crate) fn push_segment(groups: &mut Vec<Vec<[u64; 4]>>, k: usize)
-    requires narrow { k ≤ 32 }
+    requires narrow { k ≤ 64 }
     requires count { vec_len groups.old ≡ groups_of k }
     requires room { (g : ℕ) → 4 * g < k → length (slice_index_or (lists groups.old.items) g []) + planes_in k g ≤ slice_index (capacities groups.old.items) g }
     ensures count { vec_len groups.new ≡ vec_len groups.old }

@@ -15,7 +15,8 @@ mod source;
 mod storage;
 
 pub use addition::add_from;
-pub use blocks::plane_words;
+pub use blocks::{plane_words, wide_plane_words};
+pub use bytes::codes_of_words;
 pub use column::VerticalColumn;
 pub use pair::pair_from;
 pub use scan::scan_from;

@@ -26,7 +26,7 @@ fn compare_planes<A: Source<[u64; 4]>, B: Source<[u64; 4]>>(
     lt: &mut [u64; 4],
     eq: &mut [u64; 4],
 )
-    requires narrow { k ≤ 32 }
+    requires narrow { k ≤ 64 }
     requires within { i < k }
     requires small { q < 2 ^ 32 }
     requires there { (q + 1) * k ≤ length (A.units a.old) }
@@ -55,7 +55,7 @@ fn compare<A: Source<[u64; 4]>, B: Source<[u64; 4]>>(
     q: usize,
     need: &[u64; 4],
 ) -> ([u64; 4], [u64; 4])
-    requires narrow { k ≤ 32 }
+    requires narrow { k ≤ 64 }
     requires small { q < 2 ^ 32 }
     requires there { (q + 1) * k ≤ length (A.units a.old) }
     requires other_there { (q + 1) * k ≤ length (B.units b.old) }
@@ -96,7 +96,7 @@ fn segment<A: Source<[u64; 4]>, B: Source<[u64; 4]>>(
     op: CmpOp,
     need: &[u64; 4],
 ) -> [u64; 4]
-    requires narrow { k ≤ 32 }
+    requires narrow { k ≤ 64 }
     requires small { q < 2 ^ 32 }
     requires there { (q + 1) * k ≤ length (A.units a.old) }
     requires other_there { (q + 1) * k ≤ length (B.units b.old) }
@@ -131,7 +131,7 @@ pub fn pair_from<A: Source<[u64; 4]>, B: Source<[u64; 4]>>(
     need: &Mask,
     out: &mut Mask,
 )
-    requires narrow { width ≤ 32 }
+    requires narrow { width ≤ 64 }
     requires few { len need.now ≤ 2 ^ 24 }
     requires out { len out.old ≡ len need.now }
     requires units { length (A.units a.old) ≡ segments_of (len need.now) * width }

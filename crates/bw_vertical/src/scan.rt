@@ -46,7 +46,7 @@ fn compare_plane<S: Source<[u64; 4]>>(
     lt: &mut [u64; 4],
     eq: &mut [u64; 4],
 )
-    requires narrow { k ≤ 32 }
+    requires narrow { k ≤ 64 }
     requires within { i < k }
     requires small { q < 2 ^ 32 }
     requires there { (q + 1) * k ≤ length (S.units source.old) }
@@ -68,7 +68,7 @@ fn compare<S: Source<[u64; 4]>>(
     constant: u64,
     need: &[u64; 4],
 ) -> ([u64; 4], [u64; 4])
-    requires narrow { k ≤ 32 }
+    requires narrow { k ≤ 64 }
     requires constant { constant < 2 ^ k }
     requires small { q < 2 ^ 32 }
     requires there { (q + 1) * k ≤ length (S.units source.old) }
@@ -111,7 +111,7 @@ fn between<S: Source<[u64; 4]>>(
     high: u64,
     need: &[u64; 4],
 ) -> [u64; 4]
-    requires narrow { k ≤ 32 }
+    requires narrow { k ≤ 64 }
     requires low { low < 2 ^ k }
     requires high { high < 2 ^ k }
     requires small { q < 2 ^ 32 }
@@ -145,7 +145,7 @@ fn segment<S: Source<[u64; 4]>>(
     test: CodeTest,
     need: &[u64; 4],
 ) -> [u64; 4]
-    requires narrow { k ≤ 32 }
+    requires narrow { k ≤ 64 }
     requires test { TestFits k test }
     requires small { q < 2 ^ 32 }
     requires there { (q + 1) * k ≤ length (S.units source.old) }
@@ -178,7 +178,7 @@ pub fn scan_from<S: Source<[u64; 4]>>(
     need: &Mask,
     out: &mut Mask,
 )
-    requires narrow { width ≤ 32 }
+    requires narrow { width ≤ 64 }
     requires test { TestFits width test }
     requires few { len need.now ≤ 2 ^ 24 }
     requires out { len out.old ≡ len need.now }

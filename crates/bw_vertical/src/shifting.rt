@@ -2,19 +2,12 @@
 //! lowest up.
 
 ghost use Rattle.std.specs.Int.{bit_at};
-ghost use Rattle.std.specs.Prelude.{if◌then◌else◌, pos, vec_len, ◌+ℤ◌, ℕ, ◌%◌, ◌*◌, ◌+◌, ◌-◌, ◌/◌, ◌<◌, ◌^◌, ◌≡◌, ◌≢◌, ◌≤◌};
+ghost use Rattle.std.specs.Prelude.{if◌then◌else◌, vec_len, ℕ, ◌%◌, ◌*◌, ◌+◌, ◌-◌, ◌/◌, ◌<◌, ◌^◌, ◌≡◌, ◌≢◌, ◌≤◌};
 ghost use Rattle.bw_mask.specs.Masks.{bit_of, len as mask_len, row_at};
 ghost use Rattle.bw_vertical.specs.Storage.{AreGroups, HasSegment, KeepsSizes, code_of, groups_of, is_set, lists, word_of};
 
 use crate::storage::{put_word, word_at};
 use bw_mask::Mask;
-
-/// What is added modulo 2^64 to add an integer.
-pub(crate) fn as_word(by: i64) -> u64
-    ensures { (code sum : ℕ) → code < 2 ^ 32 → sum < 2 ^ 32 → pos sum ≡ pos code +ℤ by → (code + result) % 2 ^ 64 ≡ sum }
-{
-    0u64.wrapping_add_signed(by)
-}
 
 /// Adds two bits in each of 64 rows, and what is carried from the plane below: the bits of the sums, and what is
 /// carried to the plane above.
@@ -35,7 +28,7 @@ fn rows_where(rows: u64, number: u64, n: usize) -> u64
 
 /// Adds so much to the codes of these rows of word w, modulo 2^k.
 pub(crate) fn shift_word(groups: &mut Vec<Vec<[u64; 4]>>, k: usize, w: usize, rows: u64, by: u64)
-    requires narrow { k ≤ 32 }
+    requires narrow { k ≤ 64 }
     requires small { w < 2 ^ 32 }
     requires count { vec_len groups.old ≡ groups_of k }
     requires there { HasSegment k (lists groups.old.items) (w / 4) }

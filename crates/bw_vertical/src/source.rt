@@ -54,7 +54,7 @@ fn run_at<'a>(
     requires start { start ≡ segment * k }
     requires from { start ≤ i }
     requires to { i < start + k }
-    requires narrow { k ≤ 32 }
+    requires narrow { k ≤ 64 }
     requires small { segment < 2 ^ 32 }
     requires low { i ≤ 2 ^ 63 }
     requires count { length groups.now ≡ groups_of k }

@@ -6,7 +6,7 @@ ghost use Rattle.bw_vertical.specs.Storage.{HasSegment, KeepsSizes, groups_of, l
 /// How many planes group g has.
 pub(crate) fn planes_in(k: usize, g: usize) -> usize
     requires group { 4 * g < k }
-    requires narrow { k ≤ 32 }
+    requires narrow { k ≤ 64 }
     ensures { result ≡ planes_in k g }
 {
     (k - 4 * g).min(4)
@@ -15,7 +15,7 @@ pub(crate) fn planes_in(k: usize, g: usize) -> usize
 /// Plane i of segment q.
 pub(crate) fn plane_at(groups: &[Vec<[u64; 4]>], k: usize, q: usize, i: usize) -> &[u64; 4]
     requires plane { i < k }
-    requires narrow { k ≤ 32 }
+    requires narrow { k ≤ 64 }
     requires small { q < 2 ^ 32 }
     requires count { length groups.now ≡ groups_of k }
     requires there { HasSegment k (lists groups.now) q }
@@ -29,7 +29,7 @@ pub(crate) fn plane_at(groups: &[Vec<[u64; 4]>], k: usize, q: usize, i: usize) -
 /// Word w of plane i.
 pub(crate) fn word_at(groups: &[Vec<[u64; 4]>], k: usize, i: usize, w: usize) -> u64
     requires plane { i < k }
-    requires narrow { k ≤ 32 }
+    requires narrow { k ≤ 64 }
     requires small { w < 2 ^ 32 }
     requires count { length groups.now ≡ groups_of k }
     requires there { HasSegment k (lists groups.now) (w / 4) }
@@ -55,7 +55,7 @@ fn put_in_group(group: &mut Vec<[u64; 4]>, at: usize, lane: usize, word: u64)
 /// Word w of plane i becomes this word.
 pub(crate) fn put_word(groups: &mut Vec<Vec<[u64; 4]>>, k: usize, i: usize, w: usize, word: u64)
     requires plane { i < k }
-    requires narrow { k ≤ 32 }
+    requires narrow { k ≤ 64 }
     requires small { w < 2 ^ 32 }
     requires count { vec_len groups.old ≡ groups_of k }
     requires there { HasSegment k (lists groups.old.items) (w / 4) }
@@ -74,13 +74,13 @@ fn take_words(
     from: usize,
     m: usize,
     lane: usize,
-    words: &mut [u64; 32],
+    words: &mut [u64; 64],
     top: usize,
 )
     requires planes { from + m ≤ length group.now }
     requires lane { lane < 4 }
     requires top { m ≤ top + 1 }
-    requires inside { top < 32 }
+    requires inside { top < 64 }
     ensures taken { (i : ℕ) → i < m → slice_index words.new (top - i) ≡ slice_index (slice_index_or group.now (from + i) []) lane }
     ensures above { (b : ℕ) → top < b → slice_index words.new b ≡ slice_index words.old b }
 {
@@ -96,9 +96,9 @@ fn take_group(
     g: usize,
     m: usize,
     w: usize,
-    words: &mut [u64; 32],
+    words: &mut [u64; 64],
 )
-    requires narrow { k ≤ 32 }
+    requires narrow { k ≤ 64 }
     requires small { w < 2 ^ 32 }
     requires count { length groups.now ≡ groups_of k }
     requires there { HasSegment k (lists groups.now) (w / 4) }
@@ -111,15 +111,15 @@ fn take_group(
 }
 
 /// Word w of each plane: word b is that of the plane of bit b, and 0 where there is no such plane.
-pub(crate) fn words_at(groups: &[Vec<[u64; 4]>], k: usize, w: usize) -> [u64; 32]
-    requires narrow { k ≤ 32 }
+pub(crate) fn words_at(groups: &[Vec<[u64; 4]>], k: usize, w: usize) -> [u64; 64]
+    requires narrow { k ≤ 64 }
     requires small { w < 2 ^ 32 }
     requires count { length groups.now ≡ groups_of k }
     requires there { HasSegment k (lists groups.now) (w / 4) }
     ensures planes { (i : ℕ) → i < k → slice_index result (k - 1 - i) ≡ word_of k (lists groups.now) i w }
     ensures rest { (b : ℕ) → k ≤ b → slice_index result b ≡ 0 }
 {
-    let mut words = [0; 32];
+    let mut words = [0; 64];
     // Most groups are whole, and quicker where their size is known.
     'whole: for g in 0..k / 4 {
         take_group(groups, k, g, 4, w, &mut words);
@@ -137,14 +137,14 @@ fn add_to_group(
     from: usize,
     m: usize,
     lane: usize,
-    words: &[u64; 32],
+    words: &[u64],
     top: usize,
     up: usize,
 )
     requires planes { from + m ≤ vec_len group.old }
     requires lane { lane < 4 }
     requires top { m ≤ top + 1 }
-    requires inside { top < 32 }
+    requires inside { top < length words.now }
     requires up { up < 64 }
     ensures len { vec_len group.new ≡ vec_len group.old }
     ensures capacity { vec_capacity group.new ≡ vec_capacity group.old }
@@ -168,16 +168,17 @@ fn add_group(
     g: usize,
     m: usize,
     w: usize,
-    words: &[u64; 32],
+    words: &[u64],
     up: usize,
 )
-    requires narrow { k ≤ 32 }
+    requires narrow { k ≤ 64 }
     requires small { w < 2 ^ 32 }
     requires count { vec_len groups.old ≡ groups_of k }
     requires there { HasSegment k (lists groups.old.items) (w / 4) }
     requires up { up < 64 }
     requires group { 4 * g < k }
     requires planes { m ≡ planes_in k g }
+    requires words { k ≤ length words.now }
     ensures sizes { KeepsSizes groups.new.items groups.old.items }
     ensures added { (i : ℕ) → i < k → i / 4 ≡ g → word_of k (lists groups.new.items) i w ≡ bit_or (word_of k (lists groups.old.items) i w) (slice_index words.now (k - 1 - i) * 2 ^ up % 2 ^ 64) }
     ensures other { (i v : ℕ) → i < k → (i / 4 ≢ g) ⊎ (v ≢ w) → word_of k (lists groups.new.items) i v ≡ word_of k (lists groups.old.items) i v }
@@ -191,14 +192,15 @@ pub(crate) fn add_words(
     groups: &mut Vec<Vec<[u64; 4]>>,
     k: usize,
     w: usize,
-    words: &[u64; 32],
+    words: &[u64],
     up: usize,
 )
-    requires narrow { k ≤ 32 }
+    requires narrow { k ≤ 64 }
     requires small { w < 2 ^ 32 }
     requires count { vec_len groups.old ≡ groups_of k }
     requires there { HasSegment k (lists groups.old.items) (w / 4) }
     requires up { up < 64 }
+    requires words { k ≤ length words.now }
     ensures sizes { KeepsSizes groups.new.items groups.old.items }
     ensures added { (i : ℕ) → i < k → word_of k (lists groups.new.items) i w ≡ bit_or (word_of k (lists groups.old.items) i w) (slice_index words.now (k - 1 - i) * 2 ^ up % 2 ^ 64) }
     ensures other { (i v : ℕ) → i < k → v ≢ w → word_of k (lists groups.new.items) i v ≡ word_of k (lists groups.old.items) i v }

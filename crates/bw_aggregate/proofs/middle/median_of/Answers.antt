@@ -4,6 +4,7 @@ use Rattle.std.specs.Prelude.{slice_get}
 use Rattle.bw_code.specs.Encodings.{width}
 use Rattle.bw_model.specs.SetFunctions.{sorted}
 use Rattle.bw_aggregate.specs.Chosen.{chosen}
+use Rattle.bw_column.proofs.Held.{all_storable}
 use Rattle.bw_aggregate.proofs.SortedValues.{is_code, nth_is}
 use Rattle.bw_aggregate.proofs.Told.{fit_by, many_codes}
 use Rattle.bw_aggregate.proofs.middle.median_of.Goals as goal
@@ -26,7 +27,7 @@ decode-requires c =
     let column = c.args.column.now in
     let keep = c.args.known.now.rows in
     let e = c.encoding-encoding.ensures in
-    rw e.is (is_code column.encoding e.sound keep keep column.values c.requires.len c.requires.len c.requires.known.each e.coded c.requires.integers _ c.in_ok-code.code c.in_ok-code.ensures)
+    rw e.is (is_code column.encoding e.sound keep keep column.values c.requires.len c.requires.len c.requires.known.each e.coded (all_storable column.layout column.values c.requires.held) _ c.in_ok-code.code c.in_ok-code.ensures)
 
 pub returns : goal.returns
 returns c =

@@ -1,12 +1,11 @@
-use Rattle.std.proofs.Common.{ap, arith, cond, not, subst, sym, ℕ, ◌*◌, ◌+◌, ◌-◌, ◌<◌, ◌^◌, ◌≡◌, ◌∙◌}
-use Rattle.std.proofs.Math.Nat.{div-le_self}
+use Rattle.std.proofs.Common.{ap, arith, cond, div-le_self, not, rules, subst, sym, ℕ, ◌*◌, ◌+◌, ◌-◌, ◌<◌, ◌^◌, ◌≡◌, ◌∙◌}
 use Rattle.bw_mask.specs.Masks.{row_in}
 use Rattle.bw_code.specs.Columns.{code_at}
 use Rattle.bw_aggregate.specs.Descents.{front, next}
 use Rattle.bw_aggregate.specs.Ends.{distance, is_near}
 use Rattle.bw_aggregate.proofs.Distances.{distance-more, distance-small}
 use Rattle.bw_aggregate.proofs.LeftRows.{is_some}
-use Rattle.bw_aggregate.proofs.NearRows.{AreLeft, code_small, found_nearest, left_start, none_nearer, one_down}
+use Rattle.bw_aggregate.proofs.NearRows.{AreLeft, code_small, found_nearest, left_start, none_nearer, one_down, small_front}
 use Rattle.bw_aggregate.proofs.nearest_planes.nearest_of.Goals as goal
 
 pub planes-init : goal.planes-init
@@ -37,7 +36,7 @@ returns-then-found-best c =
     (λ j h. distance-more c.args.end k m (code j) (omega (arith, within)) (code_small k codes.codes c.requires.fit (256 * c.args.q + j))
     ∙ ap (λ b. 2 * front (m + 1) (far j) + cond {A = ℕ} (is_near c.args.end b) 0 1) (sym (c.plane_at.ensures j h)))
     c.nearer_rows-nearer.ensures c.has_row-some.ensures c.nearer_or_all-left.ensures in
-    let small : c.planes.found < 2 ^ 63 = omega (arith, c.planes.invariant.best, div-le_self c.args.best (2 ^ (k - i)), c.requires.small) in
+    let small : c.planes.found < 2 ^ 63 = small_front c.args.best c.planes.found (k - i) (search rules) (omega (arith, within)) c.planes.invariant.best in
     let found : c.with_bit-found.result ≡ next c.planes.found (not c.has_row-some.result) = c.with_bit-found.ensures small in
     let same : c.width-k.result - 1 - i ≡ m = omega (arith, c.width-k.ensures.width) in
     let past : front m c.args.best < next c.planes.found (not c.has_row-some.result) = rw (← same, ← found) c.if-found-best.true in
@@ -60,7 +59,7 @@ planes-preserved c =
     (λ j h. distance-more c.args.end k m (code j) (omega (arith, within)) (code_small k codes.codes c.requires.fit (256 * c.args.q + j))
     ∙ ap (λ b. 2 * front (m + 1) (far j) + cond {A = ℕ} (is_near c.args.end b) 0 1) (sym (c.plane_at.ensures j h)))
     c.nearer_rows-nearer.ensures c.has_row-some.ensures c.nearer_or_all-left.ensures in
-    let small : c.planes.found < 2 ^ 63 = omega (arith, c.planes.invariant.best, div-le_self c.args.best (2 ^ (k - i)), c.requires.small) in
+    let small : c.planes.found < 2 ^ 63 = small_front c.args.best c.planes.found (k - i) (search rules) (omega (arith, within)) c.planes.invariant.best in
     let found : c.with_bit-found.result ≡ next c.planes.found (not c.has_row-some.result) = c.with_bit-found.ensures small in
     let next_place : m ≡ k - (i + 1) = omega arith in
     let same : c.width-k.result - 1 - i ≡ k - (i + 1) = omega (arith, c.width-k.ensures.width) in

@@ -16,9 +16,9 @@ runs-preserved c =
     let here : min (64 * q) (length values) ≡ 64 * q = omega (arith, below) in
     let next : min (64 * (q + 1)) (length values) ≡ 64 * q + n = omega (arith, below, many) in
     let run = run_of_bits rows (64 * q) n c.bits.result (omega (arith, many, below, c.requires)) (omega (arith, many)) c.bits.ensures in
-    let more = c.total_at.ensures.total rows c.requires run in
-    let one = run_added (to_z w128 c.runs.total-bits) c.total_at.result q c.runs.invariant.small (omega (arith, below, c.len.ensures.count, c.len.ensures.few)) c.total_at.ensures.small in
-    rw (c.from-total.ensures, one.0, next) (record {
-      total = ap (λ t. t +ℤ c.total_at.result) (c.runs.invariant.total ∙ ap (value_total rows values) here) ∙ sym more;
+    let more = c.total_at-total.ensures.total rows c.requires run in
+    let one = run_added (to_z w128 c.runs.total-bits) c.total_at-total.result q c.runs.invariant.small (omega (arith, below, c.len.ensures.count, c.len.ensures.few)) c.total_at-total.ensures.small in
+    rw (one.0, next) (record {
+      total = ap (λ t. t +ℤ c.total_at-total.result) (c.runs.invariant.total ∙ ap (value_total rows values) here) ∙ sym more;
       small = one.1;
     })

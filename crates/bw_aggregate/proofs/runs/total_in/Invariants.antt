@@ -7,5 +7,5 @@ abbrev pub invariant-values : goal.invariant-values
 invariant-values l = record {
   totals : (need : List Bool) (all : List (Option ℤ)) (at : ℕ) → length need ≡ length all → l.values ≡ take (length l.values) (drop at all) → IsRun need at (length l.values) l.rows
       → value_total need all (at + l.i) ≡ value_total need all at +ℤ l.total;
-  small : unsigned_abs l.total ≤ l.i * 2 ^ 31;
+  small : unsigned_abs l.total ≤ l.i * 2 ^ 63;
 }

@@ -35,8 +35,8 @@ runs-preserved g c =
           let more = c.run_tally-more.ensures.sum asked rows c.requires.len run in
           let before = c.runs.invariant.total asked ∙ ap (code_sum rows column.codes) here in
           let after = ap (code_sum rows column.codes) next in
-          omega (arith, more, before, after, c.from-total.ensures);
-      small = omega (arith, c.runs.invariant.small, c.run_tally-more.ensures.small, c.from-total.ensures);
+          omega (arith, more, before, after);
+      small = omega (arith, c.runs.invariant.small, c.run_tally-more.ensures.small);
       nearest = subst (λ k. AreNearest k known (code_at column) c.greatest_code-top.result c.args.far c.run_tally-more.result.nearest) next
           (ends_more (64 * q) n known (bit_of (bit_and c.bits-rows.result c.bits.result)) (code_at column) (λ (i : ℕ). code_at column (64 * q + i)) c.greatest_code-top.result c.args.far c.runs.best c.run_tally-more.result.nearest
           in_both (λ i h. refl)
@@ -50,7 +50,7 @@ returns g c =
     let known = λ (r : ℕ). row_at c.args.rows.now r && row_at c.args.nonnull.now r in
     let all : min (64 * c.runs.q) (count column) ≡ count column = omega (arith, c.runs-test.false, c.div_ceil-q-end.ensures, c.len.ensures.count) in
     let whole : code_sum rows column.codes (count column) ≡ sum (items_where_true rows column.codes) = rw (take_all (count column) rows (omega (arith, c.requires.len)), take_all (count column) column.codes (omega arith)) refl in
-    let top : c.greatest_code-top.result ≡ 2 ^ column.width - 1 = c.greatest_code-top.ensures.is ∙ ap (λ w. 2 ^ w - 1) c.width.ensures.width in
+    let top : c.greatest_code-top.result ≡ 2 ^ column.width - 1 = c.greatest_code-top.ensures ∙ ap (λ w. 2 ^ w - 1) c.width.ensures.width in
     record {
       small = omega (arith, c.runs.invariant.small, c.div_ceil-q-end.ensures, c.len.ensures.count, c.len.ensures.few);
       sum = λ asked. c.runs.invariant.total asked ∙ ap (code_sum rows column.codes) all ∙ whole;

@@ -17,11 +17,11 @@ code_tally-requires-clause-fit c =
     let column = c.args.column.now in
     fit_by column.encoding c.encoding.ensures.sound column.values c.encoding.ensures.coded (width column.encoding) refl
 
-pub returns-in-Offset-clause-told : goal.returns-in-Offset-clause-told
-returns-in-Offset-clause-told c =
+pub returns-in-Offset : goal.returns-in-Offset
+returns-in-Offset c =
     let column = c.args.column.now in
     let offset = c.in-Offset.offset in
-    let tally = c.code_tally-tally.ensures.tally in
+    let tally = c.code_tally-tally.ensures in
     let whole : to_z w128 (of_z w128 c.based_total.result) ≡ c.based_total.result = omega (arith, ints, c.based_total.type_inv) in
     let base : to_z w64 (of_z w64 offset.base) ≡ offset.base = search (arith, ints, to_z-of_z) in
     record {

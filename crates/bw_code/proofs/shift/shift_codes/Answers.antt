@@ -1,34 +1,19 @@
-use Rattle.std.proofs.Common.{arith, drop, get_or, inl, inr, length, length-drop, length-take, pos, refl, ap, take, ◌∙◌, ◌+◌, ◌*◌, ◌-◌, ◌<◌, ◌≡◌, ◌≤◌}
-use Rattle.std.proofs.lemmas.Bool.{cases_lt, lt-ltb}
-use Rattle.std.proofs.lemmas.List.{get_or-drop, get_or-take}
-use Rattle.bw_code.proofs.Parts.{before_part, behind_part, in_part, part_length}
+use Rattle.std.proofs.Common.{FitsSigned, arith, of_z, to_z, w64, ℕ, ℤ, ◌-ℤ◌}
+use Rattle.std.proofs.lemmas.Int.{to_z-of_z}
+use Rattle.bw_mask.specs.Masks.{row_at}
+use Rattle.bw_code.specs.Shifts.{IsWord}
+use Rattle.bw_code.proofs.Moving.{each_below, each_shifted}
 use Rattle.bw_code.proofs.shift.shift_codes.Goals as goal
 
-pub loop-q-preserved : goal.loop-q-preserved
-loop-q-preserved c =
-    let i = c.loop-q.invariant in
-    let codes = c.loop-q.codes in
-    let new = c.shift_block.new.codes in
-    let at = 64 * c.loop-q.q in
-    let n = c.min-end.result - at in
-    let q_below : at < length codes = omega (arith, c.loop-q-test.true, c.div_ceil-q-end.ensures, i.long) in
-    let end_is = c.min-end.ensures in
-    let part : length (take n (drop at codes)) ≡ n = omega (arith, length-take n (drop at codes), length-drop at codes, end_is) in
-    let long : length new ≡ n = c.shift_block.ensures.len ∙ part in
-    let fits : at + n ≤ length codes = omega (arith, end_is, q_below) in
-    record {
-      done = λ k h l.
-          elim (cases_lt k at) [
-            | inl below ↦ ap pos (before_part at n codes new 0 fits long k below) ∙ i.done k below (omega (arith, fits, below))
-            | inr above ↦
-                let j = k - at in
-                let inside : j < n = omega (arith, h, l, above, end_is, part_length at n codes new 0 fits long) in
-                let here : at + j ≡ k = omega (arith, above) in
-                let code : get_or (take n (drop at codes)) j 0 ≡ get_or c.args.codes.now k 0 = get_or-take n (drop at codes) j 0 inside ∙ get_or-drop at codes j 0 ∙ ap (λ m. get_or codes m 0) here ∙ i.left k above in
-                ap pos (in_part at n codes new 0 fits long k above (omega (arith, inside)))
-                ∙ c.shift_block.ensures.codes j (omega (arith, part, inside))
-                ∙ rw (c.bits.ensures j, lt-ltb j 64 (omega (arith, inside, end_is)), here, code) refl
-          ];
-      left = λ k h. behind_part at n codes new 0 fits long k (omega (arith, h, end_is)) ∙ i.left k (omega (arith, h));
-      long = part_length at n codes new 0 fits long ∙ i.long;
-    }
+word : (from to : ℤ) (r : ℕ) → FitsSigned w64 from → FitsSigned w64 to → IsWord (to_z w64 (of_z w64 from) -ℤ to_z w64 (of_z w64 to)) r → IsWord (from -ℤ to) r
+word from to r f t is code sum p q e = is code sum p q (rw (to_z-of_z w64 from f, to_z-of_z w64 to t) e)
+
+pub shift_blocks-requires-clause-fit : goal.shift_blocks-requires-clause-fit
+shift_blocks-requires-clause-fit c i h =
+    let codes = c.args.codes.now in
+    each_below (c.args.from -ℤ c.args.to) c.word_between.result 32 (word c.args.from c.args.to c.word_between.result c.ranges.from c.ranges.to c.word_between.ensures) (omega arith) (row_at c.args.rows.now) codes c.requires.low c.requires.fit i h
+
+pub returns-clause-codes : goal.returns-clause-codes
+returns-clause-codes c =
+    let codes = c.args.codes.now in
+    each_shifted (c.args.from -ℤ c.args.to) c.word_between.result 32 (word c.args.from c.args.to c.word_between.result c.ranges.from c.ranges.to c.word_between.ensures) (omega arith) (row_at c.args.rows.now) codes c.requires.low c.requires.fit c.shift_blocks.new.codes c.shift_blocks.ensures.len c.shift_blocks.ensures.codes

@@ -3,7 +3,7 @@ use Rattle.bw_code_rows.proofs.plain_codes.column_of.Given as goal
 
 abbrev pub invariant-loop-row : goal.invariant-loop-row
 invariant-loop-row g l = record {
-  width : (g.C.CodeColumn.seen l.column).width ≡ 9;
+  width : (g.C.CodeColumn.seen l.column).width ≡ l.width;
   count : length (g.C.CodeColumn.seen l.column).codes ≡ l.row;
   room : l.rows ≤ (g.C.CodeColumn.seen l.column).room;
 }

@@ -1,11 +1,10 @@
-use Rattle.std.proofs.Common.{All, [], ◌≤◌}
+use Rattle.std.proofs.Common.{All, []}
 use Rattle.std.proofs.lemmas.Result.{IfOk-weaker}
-use Rattle.bw_code.specs.Encodings.{IsFit, width}
+use Rattle.bw_code.specs.Encodings.{IsFit}
 use Rattle.bw_code.specs.Fittings.{AreTold}
 use Rattle.bw_column.specs.Codes.{IsCoded}
 use Rattle.bw_column.specs.Values.{known}
 use Rattle.bw_column.proofs.Known.{all_coded}
-use Rattle.bw_column.proofs.Narrow.{known_integers, narrow}
 use Rattle.bw_column.proofs.building.encoding_of.Given.{Over}
 use Rattle.bw_column.proofs.building.encoding_of.Goals as goal
 
@@ -21,8 +20,3 @@ pub returns-clause-coded : goal.returns-clause-coded
 returns-clause-coded g c =
     let values = g.C.Cells.cells c.args.values.now in
     IfOk-weaker c.encoding.result _ (λ e. All (IsCoded e) values) (λ e coded. all_coded e values (coded (known values) (told g c))) c.encoding.ensures.coded
-
-pub returns-clause-narrow : goal.returns-clause-narrow
-returns-clause-narrow g c =
-    let values = g.C.Cells.cells c.args.values.now in
-    IfOk-weaker c.encoding.result _ (λ e. width e ≤ 32) (λ e fits. narrow (known values) e (known_integers values c.requires.integers) (fits (known values) (told g c))) c.encoding.ensures.fits

@@ -27,4 +27,4 @@ pub returns-clause-integers : goal.returns-clause-integers
 returns-clause-integers c =
     let slots = c.stored-stored.result.now.slots in
     let found = live_column slots c.live.result.now c.args.k c.in_ok-values.values.items c.live.ensures.len c.live.ensures.rows c.in_ok-values.ensures in
-    subst (All values.IsNullOrInteger) (sym found) (live_integers slots c.args.k (subst (All values.IsNullOrInteger) c.column-column.ensures.values c.len-slots.ensures.integers))
+    subst (All values.IsNullOrInteger) (sym found) (live_integers slots c.args.k (subst (All values.IsNullOrInteger) c.column-column.ensures.values c.column-column.ensures.integers))

@@ -1,4 +1,4 @@
-use Rattle.std.proofs.Common.{ap, arith, ℕ, subst, ◌*◌, ◌+◌, ◌<◌, ◌^◌, ◌≡◌, ◌≤◌, ◌∙◌}
+use Rattle.std.proofs.Common.{ap, arith, ℕ, subst, ◌*◌, ◌+◌, ◌<◌, ◌^◌, ◌≡◌, ◌∙◌}
 use Rattle.std.proofs.Math.Nat.{pow-le-pow_right}
 use Rattle.bw_mask.specs.Masks.{bit_of, row_in}
 use Rattle.bw_vertical.specs.Carries.{AreCompared}

@@ -1,4 +1,4 @@
-use Rattle.std.proofs.Common.{[], ap, arith, length, sym, ◌*◌, ◌+◌, ◌-◌, ◌<◌, ◌≡◌, ◌∙◌}
+use Rattle.std.proofs.Common.{[], ap, arith, length, sym, ◌*◌, ◌+◌, ◌-◌, ◌<◌, ◌∙◌}
 use Rattle.std.proofs.lemmas.List.{get_or_default}
 use Rattle.bw_mask.specs.Masks.{row_in}
 use Rattle.bw_vertical.proofs.Lanes.{no_rows}

@@ -26,7 +26,7 @@ returns-clause-bits c r b h l =
       | inr p ↦
           let past : k ≤ b = omega (arith, c.div_ceil-j-end.ensures, c.loop-j-test.false, p) in
           let behind : c.loop-j.j ≤ b / 8 = omega (arith, p) in
-          ap (λ x. bit_of x (b % 8)) (inv.rest (b / 8) r behind) ∙ bit_of_zero (b % 8) ∙ sym (ap (λ x. bit_of x r) (c.requires.rest b past) ∙ bit_of_zero r)
+          ap (λ x. bit_of x (b % 8)) (inv.rest (b / 8) r behind) ∙ bit_of_zero (b % 8) ∙ sym (ap (λ x. bit_of x r) (c.requires.rest b past l) ∙ bit_of_zero r)
     ]
 
 pub returns-clause-fit : goal.returns-clause-fit

@@ -27,3 +27,15 @@ loop-g-preserved c =
             | inr d ↦ omega (arith, inv.room h (omega (arith, l, d)) m, capacities_more vs g v w within read c.reserve.ensures.capacity h)
           ];
     }
+
+pub returns-in_err-reserve-clause-same : goal.returns-in_err-reserve-clause-same
+returns-in_err-reserve-clause-same c =
+    let vs = c.loop-g.groups.items in
+    let within : c.loop-g.g < length vs = omega arith in
+    lists_kept vs c.loop-g.g c.index_mut-group.result.now c.reserve.new.self within c.index_mut-group.ensures.value c.reserve.ensures.items ∙ c.loop-g.invariant.same
+
+pub returns-in_err-reserve-clause-capacities : goal.returns-in_err-reserve-clause-capacities
+returns-in_err-reserve-clause-capacities c h =
+    let vs = c.loop-g.groups.items in
+    let within : c.loop-g.g < length vs = omega arith in
+    omega (arith, c.loop-g.invariant.more h, capacities_more vs c.loop-g.g c.index_mut-group.result.now c.reserve.new.self within c.index_mut-group.ensures.value c.reserve.ensures.capacity h)

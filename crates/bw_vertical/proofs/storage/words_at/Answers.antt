@@ -4,7 +4,7 @@ use Rattle.bw_code.proofs.LaneLemmas.{zeros}
 use Rattle.bw_vertical.proofs.storage.words_at.Goals as goal
 
 pub whole-init : goal.whole-init
-whole-init c = record { planes = λ i h l. absurd (omega (arith, h)); rest = λ b h. zeros 32 b }
+whole-init c = record { planes = λ i h l. absurd (omega (arith, h)); rest = λ b h. zeros 64 b }
 
 pub whole-preserved : goal.whole-preserved
 whole-preserved c =

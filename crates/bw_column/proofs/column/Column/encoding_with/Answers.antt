@@ -4,9 +4,9 @@ use Rattle.std.proofs.lemmas.Result.{IfOk-weaker}
 use Rattle.bw_code.specs.Encodings.{IsFit, width}
 use Rattle.bw_code.specs.Fittings.{AreTold}
 use Rattle.bw_column.specs.Codes.{IsCoded}
-use Rattle.bw_column.specs.Values.{known}
+use Rattle.bw_column.specs.Values.{known, widest}
 use Rattle.bw_column.proofs.Known.{both_coded}
-use Rattle.bw_column.proofs.Narrow.{integers_of_both, narrow}
+use Rattle.bw_column.proofs.Narrow.{held_of_both, narrow}
 use Rattle.bw_column.proofs.column.Column.encoding_with.Given.{Over}
 use Rattle.bw_column.proofs.column.Column.encoding_with.Goals as goal
 
@@ -37,7 +37,8 @@ returns-clause-coded g c =
 
 pub returns-clause-narrow : goal.returns-clause-narrow
 returns-clause-narrow g c =
+    let l = c.args.self.now.layout in
     let own = c.args.self.now.values in
     let values = g.C.Cells.cells c.args.values.now in
     let list = known (own ++ values) in
-    IfOk-weaker c.encoding.result _ (λ e. width e ≤ 32) (λ e fits. narrow list e (integers_of_both own values list refl c.len.ensures.integers c.requires.integers) (fits list (told g c))) c.encoding.ensures.fits
+    IfOk-weaker c.encoding.result _ (λ e. width e ≤ widest l) (λ e fits. narrow l list e (held_of_both l own values list refl c.len.ensures.held c.requires.held) (fits list (told g c))) c.encoding.ensures.fits

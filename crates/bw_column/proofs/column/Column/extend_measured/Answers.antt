@@ -5,8 +5,9 @@ use Rattle.std.proofs.lemmas.List.{length-map}
 use Rattle.bw_cells.specs.Distances.{distance_from}
 use Rattle.bw_code.proofs.Lists.{part_fits, part_over}
 use Rattle.bw_column.specs.Codes.{IsCoded}
-use Rattle.bw_column.specs.Values.{IsNullOrInteger}
+use Rattle.bw_column.specs.Values.{IsNullOrHeld}
 use Rattle.bw_column.proofs.Bases.{measured_rows}
+use Rattle.bw_column.proofs.Held.{all_storable}
 use Rattle.bw_column.proofs.Pieces.{all_here}
 use Rattle.bw_column.proofs.column.Column.extend_measured.Goals as goal
 
@@ -22,7 +23,25 @@ extend_rows-requires-clause-rows g c =
     let fits : FitsSigned w64 base = search rules in
     let distances : c.distances-present.new.out ≡ map (distance_from base) (take m (drop at cells)) = rw (to_z-of_z w64 base fits) at c.distances-present.ensures.distances in
     (measured_rows c.args.offset e (take m (drop at cells)) c.distances-present.new.out c.distances-present.result (i.encoding ∙ c.requires.encoding) fits
-    (all_here (IsCoded e) cells at m held) (all_here IsNullOrInteger cells at m c.requires.integers) distances c.distances-present.ensures.present).0
+    (all_here (IsCoded e) cells at m held) (all_storable c.args.self.now.layout (take m (drop at cells)) (all_here (IsNullOrHeld c.args.self.now.layout) cells at m c.requires.held)) distances c.distances-present.ensures.present).0
+
+pub extend_rows-requires-clause-held : goal.extend_rows-requires-clause-held
+extend_rows-requires-clause-held g c =
+    let i = c.loop-at.invariant in
+    let cells = g.C.Cells.cells c.args.cells.now in
+    let at = c.loop-at.at in
+    let l = c.args.self.now.layout in
+    let m = length (take c.min-n.result c.loop-at.list) in
+    let e = c.loop-at.self.encoding in
+    let base = c.args.offset.base in
+    let held : All (IsCoded e) cells = rw i.encoding c.requires.coded in
+    let fits : FitsSigned w64 base = search rules in
+    let distances : c.distances-present.new.out ≡ map (distance_from base) (take m (drop at cells)) = rw (to_z-of_z w64 base fits) at c.distances-present.ensures.distances in
+    let here : All (IsNullOrHeld l) (take m (drop at cells)) = all_here (IsNullOrHeld l) cells at m c.requires.held in
+    let rows =
+    (measured_rows c.args.offset e (take m (drop at cells)) c.distances-present.new.out c.distances-present.result (i.encoding ∙ c.requires.encoding) fits
+    (all_here (IsCoded e) cells at m held) (all_storable l (take m (drop at cells)) here) distances c.distances-present.ensures.present).1 in
+    rw (rows, i.layout) here
 
 pub extend_rows-requires-clause-room : goal.extend_rows-requires-clause-room
 extend_rows-requires-clause-room g c =
@@ -56,7 +75,7 @@ loop-at-preserved g c =
     let inside : at + n ≤ length cells = omega (arith, c.min-n.ensures, c.len-in-loop-at.ensures, i.at) in
     let rows =
     (measured_rows c.args.offset e (take m (drop at cells)) c.distances-present.new.out c.distances-present.result (i.encoding ∙ c.requires.encoding) fits
-    (all_here (IsCoded e) cells at m held) (all_here IsNullOrInteger cells at m c.requires.integers) distances c.distances-present.ensures.present).1 in
+    (all_here (IsCoded e) cells at m held) (all_storable c.args.self.now.layout (take m (drop at cells)) (all_here (IsNullOrHeld c.args.self.now.layout) cells at m c.requires.held)) distances c.distances-present.ensures.present).1 in
     record {
       at = inside;
       values =

@@ -55,7 +55,7 @@ more_live c = c.push_live.ensures ∙ ap (λ n. c.reserve.new.self.rows ++ repli
 pub invariant_of-self-2 : goal.invariant_of-self-2
 invariant_of-self-2 c =
     let few : len c.self.inside.live + length c.args.rows.now ≤ 2 ^ 24 = grind (arith, made_len) in
-    columns_longer c.apply.new.columns.items c.self.inside.columns.items c.self.inside.live c.push_live.new.live c.args.rows.now c.self.invariant (got_longer c) (are_wide c) (more_live c) few
+    columns_longer c.apply.new.columns.items c.self.inside.columns.items c.self.inside.live c.push_live.new.live c.args.rows.now c.self.invariant (got_longer c) (are_wide c) (more_live c) few c.requires.integers
 
 appended : (c : goal.After-push_live) → AreAppended (view_of c.self.inside.columns.items c.self.inside.live) c.args.rows.now (view_of c.apply.new.columns.items c.push_live.new.live)
 appended c = are_appended c.apply.new.columns.items c.self.inside.columns.items c.self.inside.live c.push_live.new.live c.args.rows.now c.self.invariant (got_longer c) (are_wide c) (more_live c)

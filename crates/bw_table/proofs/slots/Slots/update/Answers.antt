@@ -1,8 +1,10 @@
-use Rattle.std.proofs.Common.{refl, ◌≡◌, ap, arith, map, sym, ◌∙◌}
+use Rattle.std.proofs.Common.{All, length, refl, subst, ◌≡◌, ap, arith, map, sym, ◌∙◌}
+use Rattle.std.proofs.lemmas.List.{length-map}
+use Rattle.bw_column.specs.Columns.{ColumnView}
 use Rattle.bw_mask.specs.Masks.{len}
 use Rattle.bw_code.proofs.Lists.{made_len}
 use Rattle.bw_code.specs.Encodings.{kind_of}
-use Rattle.bw_table.specs.Changes.{AreUpdated}
+use Rattle.bw_table.specs.Changes.{AreUpdated, IsSetTo}
 use Rattle.bw_table.specs.Slots.{AreColumns, SlotsView}
 use Rattle.bw_table.proofs.SameKinds.{updated_kinds}
 use Rattle.bw_table.proofs.Across.{kept_columns, kept_view, on_err, view_of}
@@ -43,9 +45,15 @@ are_kept c = kept_columns c.prepare_sets.new.columns.items c.self.inside.columns
 as_long : (c : goal.After-apply_sets) → len c.args.found.now ≡ len c.self.inside.live
 as_long c = grind (arith, made_len)
 
+sound : (c : goal.After-apply_sets) → All (λ set. IsSetTo (length c.prepare_sets.new.columns.items) set.1) c.args.sets.now
+sound c =
+    let many : length (map (λ (x : ColumnView). x.encoding) c.self.inside.columns.items) ≡ length c.prepare_sets.new.columns.items = length-map c.self.inside.columns.items (λ (x : ColumnView). x.encoding) ∙ sym c.prepare_sets.ensures.kept.count in
+    let values : All (λ set. IsSetTo (length (map (λ (x : ColumnView). x.encoding) c.self.inside.columns.items)) set.1) c.args.sets.now = rw (← c.self.view_is) at c.requires.values in
+    subst (λ n. All (λ set. IsSetTo n set.1) c.args.sets.now) many values
+
 pub invariant_of-self-2 : goal.invariant_of-self-2
 invariant_of-self-2 c =
-    columns_set c.apply_sets.new.columns.items c.prepare_sets.new.columns.items c.self.inside.live c.args.found.now c.args.sets.now (are_kept c) (as_long c) c.apply_sets.ensures.set
+    columns_set c.apply_sets.new.columns.items c.prepare_sets.new.columns.items c.self.inside.live c.args.found.now c.args.sets.now (are_kept c) (as_long c) c.apply_sets.ensures.set (sound c)
 
 updated : (c : goal.After-apply_sets) → AreUpdated c.args.found.now c.args.sets.now (view_of c.self.inside.columns.items c.self.inside.live) (view_of c.apply_sets.new.columns.items c.self.inside.live)
 updated c =

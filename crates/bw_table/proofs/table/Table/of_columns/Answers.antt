@@ -7,7 +7,7 @@ pub invariant_of-slots : goal.invariant_of-slots
 invariant_of-slots g c =
     let cells = map g.C.Cells.cells c.args.columns.now in
     let wide = length-map c.args.columns.now g.C.Cells.cells ∙ c.requires.wide in
-    opened_columns c.args.headers.items cells c.in_ok-columns.columns.items c.in_ok-filled.field-0 c.args.rows wide c.requires.long c.requires.few c.in_ok-columns.ensures c.in_ok-filled.ensures
+    opened_columns c.args.headers.items cells c.in_ok-columns.columns.items c.in_ok-filled.field-0 c.args.rows wide c.requires.long c.requires.few c.in_ok-columns.ensures c.in_ok-filled.ensures c.requires.integers
 
 pub invariant_of-result : goal.invariant_of-result
 invariant_of-result g c =

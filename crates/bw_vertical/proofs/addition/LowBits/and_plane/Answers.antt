@@ -1,4 +1,4 @@
-use Rattle.std.proofs.Common.{◌∙◌, ap, ◌≡◌}
+use Rattle.std.proofs.Common.{◌∙◌}
 use Rattle.bw_mask.specs.Masks.{row_in}
 use Rattle.bw_vertical.proofs.Sums.{compared_more}
 use Rattle.bw_vertical.proofs.addition.LowBits.and_plane.Goals as goal

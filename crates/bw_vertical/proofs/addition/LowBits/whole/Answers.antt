@@ -1,4 +1,4 @@
-use Rattle.std.proofs.Common.{◌∙◌, ◌≡◌}
+use Rattle.std.proofs.Common.{◌∙◌}
 use Rattle.bw_mask.specs.Masks.{row_in}
 use Rattle.bw_vertical.proofs.Sums.{whole_differs, whole_less}
 use Rattle.bw_vertical.proofs.addition.LowBits.whole.Goals as goal

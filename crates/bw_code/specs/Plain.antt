@@ -1,0 +1,14 @@
+-- A plain list of codes, of 4 bytes each or of 8.
+use Rattle.std.specs.Prelude.{◌<◌, ◌≤◌}
+use Rattle.bw_code.specs.Columns.{CodeList}
+use Rattle.bw_code.specs.declared.plain.PlainCodes.{PlainCodes}
+use Rattle.bw_code.specs.declared.plain.PlainCodes.TheVariants.{Narrow, Wide}
+
+abbrev pub plain_list : PlainCodes → CodeList
+plain_list (Narrow codes) = codes
+plain_list (Wide codes) = codes
+
+-- no more bytes than a code needs
+abbrev pub ArePlainCodes : PlainCodes → Type 0
+ArePlainCodes (Narrow codes) = codes.width ≤ 32
+ArePlainCodes (Wide codes) = 32 < codes.width
