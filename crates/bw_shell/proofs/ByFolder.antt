@@ -1,5 +1,5 @@
 -- What a statement is answered, from what the engine and the folder answered.
-use Rattle.std.proofs.Common.{◌≡◌, ◌∙◌, ◌⊎◌, ◌+◌, ◌<◌, inl, inr, ℕ, List, length, replicate, Option, None, Some, Ok, Err, Result, refl, sym, ap, subst, arith}
+use Rattle.std.proofs.Common.{◌≡◌, ◌∙◌, ◌⊎◌, ◌+◌, ◌<◌, ◌≤◌, inl, inr, ℕ, List, length, replicate, Option, None, Some, Ok, Err, Result, refl, sym, ap, subst, arith}
 use Rattle.std.specs.Prelude.{IsSomeAnd}
 use Rattle.std.specs.Bool.{MatchBool}
 use Rattle.std.specs.Borrow.{Bor}
@@ -22,13 +22,14 @@ use Rattle.bw_model.specs.declared.reply.Reply.TheVariants.{Refused}
 use Rattle.bw_engine.specs.Files.{IsNoSave, Replies, RepliesBy}
 use Rattle.bw_engine.specs.declared.file_answer.FileAnswer.TheVariants as file
 use Rattle.bw_shell.specs.Answers.{Answers, AnswersBy, Wants}
-use Rattle.bw_shell.specs.Folders.{Files, Reads, file_of}
-use Rattle.bw_shell.specs.States.{HasFile, KeepsFiles, State, seen, with_store}
+use Rattle.bw_shell.specs.Folders.{Files, Reads, failures_after, file_of}
+use Rattle.bw_shell.specs.Reading.{AnswersFault, IsRead, IsReadFor}
+use Rattle.bw_shell.specs.States.{FolderState, HasFile, KeepsFiles, State, seen, with_store}
 use Rattle.bw_shell.specs.declared.folders.FolderFault.{FolderFault}
 use Rattle.bw_shell.specs.declared.folders.FolderFault.TheVariants as fault
 
 -- what is used isn't refused early
-used : (o : Option Refusal) (named : FileUse) (name : List ℕ) → unless_refused o named ≡ writes name → (o ≡ None) × (named ≡ writes name)
+pub used : (o : Option Refusal) (named : FileUse) (name : List ℕ) → unless_refused o named ≡ writes name → (o ≡ None) × (named ≡ writes name)
 used None named name e = (refl, e)
 used (Some refusal) named name e = cc
 
@@ -167,3 +168,39 @@ reading_missing store tree name reply after is replies = subst (λ read. Replies
 
 pub reading_too_large : (store : Store) (tree : StatementTree) (name : List ℕ) (reply : Reply) (after : Store) → Some name ≡ file_read (file_use store tree) → Replies store tree file.TooLarge reply after → Step store content.TooLarge tree reply after
 reading_too_large store tree name reply after is replies = subst (λ read. RepliesBy read store tree file.TooLarge reply after) (sym is) replies
+
+-- which file was read
+pub read_none : (wanted : Option (List ℕ)) (before after : FolderState) → IsReadFor wanted before after None → (wanted ≡ None) × (after ≡ before)
+read_none None before after h = (refl, h)
+read_none (Some name) before after h = absurd h
+
+pub record WasRead (wanted : Option (List ℕ)) (before after : FolderState) (read : Result (GlobalVec ℕ) FolderFault) : Type 0 where
+  pub name : List ℕ
+  pub is_wanted : Some name ≡ wanted
+  pub is : IsRead name before after read
+
+pub read_some : (wanted : Option (List ℕ)) (before after : FolderState) (read : Result (GlobalVec ℕ) FolderFault) → IsReadFor wanted before after (Some read) → WasRead wanted before after read
+read_some None before after read h = absurd h
+read_some (Some name) before after read h = record { name = name; is_wanted = refl; is = h }
+
+-- where it wasn't given
+pub by_fault : (before : Store) (tree : StatementTree) (files new : Option Files) (failures count : ℕ) (why : FolderFault) (reply : Reply) (after : Store)
+    → WasRead (file_read (file_use before tree)) (seen files failures) (seen new count) (Err why) → AnswersFault why before tree reply after
+    → Answers (with_store before (seen files failures)) tree reply (with_store after (seen new count))
+by_fault before tree files new failures count fault.Missing reply after was answers =
+    without_bytes before tree files failures was.name new count None content.Missing reply after was.is_wanted (has_none _ _ _ _ was.is.files) refl (keeps_read _ _ _ _ _ was.is.files) was.is.failures
+    (reading_missing before tree was.name reply after was.is_wanted answers)
+by_fault before tree files new failures count fault.TooLarge reply after was answers =
+    let long = has_more was.name files new was.is.files in
+    without_bytes before tree files failures was.name new count (Some long.bytes) content.TooLarge reply after was.is_wanted long.there (says_too_large before tree long.bytes long.long) (keeps_read _ _ _ _ _ was.is.files) was.is.failures
+    (reading_too_large before tree was.name reply after was.is_wanted answers)
+by_fault before tree files new failures count fault.Failed reply after was answers =
+    rw (answers.0, answers.1) (failing before tree files failures was.name new count was.is_wanted (keeps_read _ _ _ _ _ was.is.files) was.is.failures)
+by_fault before tree files new failures count fault.Memory reply after was answers =
+    rw (answers.0, answers.1) (wanting before tree files failures was.name new count was.is_wanted (keeps_read _ _ _ _ _ was.is.files) was.is.failures)
+
+pub failures_upto : (why : FolderFault) (count : ℕ) → failures_after {A = GlobalVec ℕ} (Err why) count ≤ count + 1
+failures_upto fault.Missing count = omega arith
+failures_upto fault.TooLarge count = omega arith
+failures_upto fault.Failed count = omega arith
+failures_upto fault.Memory count = omega arith

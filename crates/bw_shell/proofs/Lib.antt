@@ -1,8 +1,12 @@
 pub mod ByFolder
+pub mod EarlyEnds
+pub mod FileFailures
 pub mod FileMaps
 pub mod Items
+pub mod Layouts
 pub mod Lines
 pub mod OneAnswer
+pub mod OtherFiles
 pub mod Outputs
 pub mod PieceByPiece
 pub mod Rests

@@ -89,7 +89,7 @@ module _ (before after : State) (name file : List ℕ) (n : ℕ) (known : IsSome
 
 -- OPEN
 
-there_is : (files : Option Files) (file bytes : List ℕ) (found : Option (List ℕ)) → file_in files file ≡ Some bytes → HasFile files file found → found ≡ Some bytes
+pub there_is : (files : Option Files) (file bytes : List ℕ) (found : Option (List ℕ)) → file_in files file ≡ Some bytes → HasFile files file found → found ≡ Some bytes
 there_is None file bytes found is has = cc
 there_is (Some list) file bytes found is has = has ∙ is
 

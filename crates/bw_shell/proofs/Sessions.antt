@@ -10,7 +10,6 @@ use Rattle.bw_shell.specs.declared.reading.ScriptEnd.{ScriptEnd}
 use Rattle.bw_shell.specs.declared.reading.ScriptEnd.TheVariants.{Fault, Reached}
 use Rattle.bw_shell.specs.declared.session.OnError.{OnError}
 use Rattle.bw_shell.specs.declared.session.RunEnd.{RunEnd}
-use Rattle.bw_shell.specs.declared.session.RunEnd.TheVariants as ends
 use Rattle.bw_shell.proofs.Texts.{appends_none, appends_twice}
 
 -- a part that a cut closes is never dropped

@@ -1,9 +1,11 @@
 pub mod Answering
 pub mod Answers
+pub mod Elsewhere
 pub mod Folders
 pub mod Handing
 pub mod Opening
 pub mod Output
+pub mod Reading
 pub mod Replies
 pub mod Run
 pub mod Script

@@ -1,12 +1,13 @@
 //! A statement carried out, with a folder for its file.
 
-ghost use Rattle.std.specs.Prelude.{◌≡◌, ◌≤◌, ◌<◌, ◌+◌, ◌^◌, IsSome};
+ghost use Rattle.std.specs.Prelude.{◌≡◌, ◌≤◌, ◌<◌, ◌+◌, ◌^◌, IsSome, None};
 ghost use Rattle.bw_engine.specs.Files.{Replies};
 ghost use Rattle.bw_engine.specs.Stores.{store_of};
 ghost use Rattle.bw_model.specs.FileUse.{file_read, file_use};
 ghost use Rattle.bw_sql.specs.Tree.{statement_of};
 ghost use Rattle.bw_shell.specs.Answers.{Answers};
 ghost use Rattle.bw_shell.specs.Handing.{WritesOut};
+ghost use Rattle.bw_shell.specs.Reading.{AnswersFault, IsReadFor};
 ghost use Rattle.bw_shell.specs.States.{seen, with_store};
 
 use crate::folders::{Folder, FolderFault};
@@ -19,18 +20,49 @@ pub(crate) fn execute<F: Folder>(engine: &mut Engine, folder: &mut F, statement:
     ensures answers { Answers (with_store (store_of engine.old) (seen (F.files folder.old) (F.failure_count folder.old))) (statement_of statement) result (with_store (store_of engine.new) (seen (F.files folder.new) (F.failure_count folder.new))) }
     ensures failures { F.failure_count folder.new ≤ F.failure_count folder.old + 1 }
 {
-    let Some(name) = engine.wants(&statement) else {
-        return match engine.execute(statement, FileAnswer::NotAsked) {
-            Outcome::Reply(reply) => reply,
-            Outcome::Save(saving) => save(folder, saving),
-        };
-    };
-    match folder.read(name, FILE_LIMIT) {
-        Ok(bytes) => answer_of(engine, statement, FileAnswer::Bytes(bytes.as_slice())),
-        Err(FolderFault::Missing) => answer_of(engine, statement, FileAnswer::Unreadable),
-        Err(FolderFault::TooLarge) => answer_of(engine, statement, FileAnswer::TooLarge),
-        Err(FolderFault::Failed) => Reply::Refused(Refusal::UnreadableFile),
-        Err(FolderFault::Memory) => Reply::Refused(Refusal::OutOfMemory),
+    match read_wanted(engine, folder, &statement) {
+        None => execute_alone(engine, folder, statement),
+        Some(Ok(bytes)) => answer_of(engine, statement, FileAnswer::Bytes(bytes.as_slice())),
+        Some(Err(fault)) => answer_fault(engine, statement, fault),
+    }
+}
+
+/// The bytes of the file that a statement wants, or why they aren't there. `None` where it wants no file.
+fn read_wanted<F: Folder>(
+    engine: &Engine,
+    folder: &mut F,
+    statement: &Statement,
+) -> Option<Result<Vec<u8>, FolderFault>>
+    requires { F.failure_count folder.old < 2 ^ 63 }
+    ensures { IsReadFor (file_read (file_use (store_of engine.now) (statement_of statement.now))) (seen (F.files folder.old) (F.failure_count folder.old)) (seen (F.files folder.new) (F.failure_count folder.new)) result }
+{
+    let name = engine.wants(statement)?;
+    Some(folder.read(name, FILE_LIMIT))
+}
+
+/// Carries out a statement that wants no file.
+fn execute_alone<F: Folder>(engine: &mut Engine, folder: &mut F, statement: Statement) -> Reply
+    requires few { F.failure_count folder.old < 2 ^ 63 }
+    requires alone { file_read (file_use (store_of engine.old) (statement_of statement)) ≡ None }
+    ensures answers { Answers (with_store (store_of engine.old) (seen (F.files folder.old) (F.failure_count folder.old))) (statement_of statement) result (with_store (store_of engine.new) (seen (F.files folder.new) (F.failure_count folder.new))) }
+    ensures failures { F.failure_count folder.new ≤ F.failure_count folder.old + 1 }
+{
+    match engine.execute(statement, FileAnswer::NotAsked) {
+        Outcome::Reply(reply) => reply,
+        Outcome::Save(saving) => save(folder, saving),
+    }
+}
+
+/// The reply to a statement whose file the folder didn't give.
+fn answer_fault(engine: &mut Engine, statement: Statement, fault: FolderFault) -> Reply
+    requires { IsSome (file_read (file_use (store_of engine.old) (statement_of statement))) }
+    ensures { AnswersFault fault (store_of engine.old) (statement_of statement) result (store_of engine.new) }
+{
+    match fault {
+        FolderFault::Missing => answer_of(engine, statement, FileAnswer::Unreadable),
+        FolderFault::TooLarge => answer_of(engine, statement, FileAnswer::TooLarge),
+        FolderFault::Failed => Reply::Refused(Refusal::UnreadableFile),
+        FolderFault::Memory => Reply::Refused(Refusal::OutOfMemory),
     }
 }
 

@@ -1,24 +1,31 @@
 //! Laws of the definitions.
 
-ghost use Rattle.std.specs.Prelude.{◌≡◌, ◌<◌, ◌⊎◌, ℕ, IsSome, List, None, Some, [], length, map};
+ghost use Rattle.std.specs.Prelude.{◌≡◌, ◌≢◌, ◌+◌, ◌++◌, ◌<◌, ◌⊎◌, ℕ, All, IsSome, List, None, Option, Some, [], length, map};
 ghost use Rattle.std.specs.List.{flat_map};
 ghost use Rattle.bw_lex.specs.Parts.{AreParts};
 ghost use Rattle.bw_lex.specs.declared.script.Part.{Part as AnyPart};
-ghost use Rattle.bw_sql.specs.Tree.{open_table, save};
+ghost use Rattle.bw_sql.specs.Tree.{ConditionTree, ItemsTree, StatementTree, open_table, save, select};
+ghost use Rattle.bw_model.specs.FileUse.{reads, use_in};
 ghost use Rattle.bw_model.specs.ReplyText.{reply_text};
-ghost use Rattle.bw_model.specs.Store.{Table, table_limit, table_of};
+ghost use Rattle.bw_model.specs.Step.{outcome_of};
+ghost use Rattle.bw_model.specs.Store.{Store, Table, names, table_limit, table_of};
 ghost use Rattle.bw_model.specs.Told.{as_read};
+ghost use Rattle.bw_model.specs.declared.content.Content.{Content as AnyContent};
+ghost use Rattle.bw_model.specs.declared.refusal.Refusal.TheVariants.{UnreadableFile, UnwritableFile};
 ghost use Rattle.bw_model.specs.declared.reply.Reply.{Reply as AnyReply};
-ghost use Rattle.bw_model.specs.declared.reply.Reply.TheVariants.{Count};
+ghost use Rattle.bw_model.specs.declared.reply.Reply.TheVariants.{Count, Refused};
 ghost use Rattle.bw_shell.specs.Answers.{Answers, CannotRead, Wants};
+ghost use Rattle.bw_shell.specs.Elsewhere.{IsNoSaveTo};
 ghost use Rattle.bw_shell.specs.Opening.{Opens};
 ghost use Rattle.bw_shell.specs.Output.{IsOutput};
 ghost use Rattle.bw_shell.specs.Replies.{Answered, WroteReplies};
 ghost use Rattle.bw_shell.specs.Run.{Session};
 ghost use Rattle.bw_shell.specs.States.{State, file_in};
 ghost use Rattle.bw_shell.specs.declared.reading.ScriptEnd.{ScriptEnd as HowRead};
+ghost use Rattle.bw_shell.specs.declared.reading.ScriptEnd.TheVariants.{Fault};
 ghost use Rattle.bw_shell.specs.declared.session.OnError.{OnError as WhatThen};
 ghost use Rattle.bw_shell.specs.declared.session.RunEnd.{RunEnd as HowEnded};
+ghost use Rattle.bw_shell.specs.declared.session.RunEnd.TheVariants.{ReadFault};
 
 /// What a session over a script's parts wrote is the texts of replies, one to each part in order: of all
 /// parts where it is done, of all but a rest that no `;` closes where reading failed, up to the first
@@ -49,4 +56,46 @@ pub fn saved_tables_open()
     ensures { (before after later last : State) (name file other : List ℕ) (n : ℕ) (reply : AnyReply) → IsSome before.files → Answers before (save name file) (Count n) after
         → file_in later.files file ≡ file_in after.files file → table_of later.store other ≡ None → length later.store < table_limit → Answers later (open_table other file) reply last
         → (table : Table) × (table_of before.store name ≡ Some table) × (n ≡ length table.rows) × (Opens later other table reply last ⊎ Wants later (open_table other file) reply last ⊎ CannotRead later reply last) }
+{}
+
+/// A statement leaves every file but the one that it saves a table to, where the folder tells its files.
+pub fn other_files_stay()
+    ensures { (before after : State) (statement : StatementTree) (reply : AnyReply) (file : List ℕ) → IsSome before.files → Answers before statement reply after → ((name : List ℕ) → statement ≡ save name file → ⊥)
+        → file_in after.files file ≡ file_in before.files file }
+{}
+
+/// A table that one statement of a run saves opens again later in the run with the same columns and rows, whatever the parts
+/// of the script between them say, where none of them saves to the same file. Let a SAVE be answered `ok n`, and the parts that
+/// follow it as they may be, up to an OPEN of its file under a name that is free and with fewer tables there than the limit. Then n
+/// is the number of the saved table's rows, and the OPEN adds just this table as the last one and answers `ok n`; or memory
+/// ran out, and nothing changes; or the folder failed at reading.
+pub fn saved_tables_open_later()
+    ensures { (script : List ℕ) (before after later last : State) (parts : List AnyPart) (replies : List AnyReply) (name file other : List ℕ) (n : ℕ) (reply : AnyReply)
+        → IsSome before.files → Answers before (save name file) (Count n) after → Answered script after parts replies later → All (IsNoSaveTo file script) parts
+        → table_of later.store other ≡ None → length later.store < table_limit → Answers later (open_table other file) reply last
+        → (table : Table) × (table_of before.store name ≡ Some table) × (n ≡ length table.rows) × (Opens later other table reply last ⊎ Wants later (open_table other file) reply last ⊎ CannotRead later reply last) }
+{}
+
+/// A statement is answered with error 41, and a statement that reads a file which is there with error 40, only where the
+/// folder failed in it: its count of failures rose by one. (Error 40 of a file that isn't there needs no failure.)
+pub fn file_errors_are_failures()
+    ensures written { (before after : State) (statement : StatementTree) → Answers before statement (Refused UnwritableFile) after → after.failures ≡ before.failures + 1 }
+    ensures read { (before after : State) (statement : StatementTree) (file bytes : List ℕ) → use_in statement ≡ reads file → file_in before.files file ≡ Some bytes → Answers before statement (Refused UnreadableFile) after
+        → after.failures ≡ before.failures + 1 }
+{}
+
+/// No layout and no kind of encoding shows in a SELECT: over two tables whose columns have the same names in the same order, and whose
+/// rows are the same, it has the same reply, be it an answer or a refusal.
+pub fn layouts_never_show()
+    ensures { (store other : Store) (said also : AnyContent) (table twin : Table) (name alias : List ℕ) (items : ItemsTree) (condition : Option ConditionTree)
+        → table_of store name ≡ Some table → table_of other alias ≡ Some twin → names table.headers ≡ names twin.headers → table.rows ≡ twin.rows
+        → (outcome_of store said (select items name condition)).0 ≡ (outcome_of other also (select items alias condition)).0 }
+{}
+
+/// A run that ended at an error or because its writer failed, and of whose script the reader gave no more than this, is a run of every
+/// longer script: with more bytes after those that were read it ends in the same way, writes the same bytes and leaves the same
+/// state, however the rest is read.
+pub fn early_ends_stay()
+    ensures { (on_error : WhatThen) (read : HowRead) (end : HowEnded) (script more : List ℕ) (state last : State) (parts all : List AnyPart) (bytes : List ℕ) → AreParts script parts → AreParts (script ++ more) all → end ≢ ReadFault
+        → Session on_error Fault script state parts end bytes last → Session on_error read (script ++ more) state all end bytes last }
 {}

@@ -15,7 +15,10 @@ mod writing;
 
 pub use folders::{Folder, FolderFault, MemoryFolder};
 pub use host_folder::HostFolder;
-pub use laws::{one_output, output_tells_replies, replies_are_written, saved_tables_open};
+pub use laws::{
+    early_ends_stay, file_errors_are_failures, layouts_never_show, one_output, other_files_stay,
+    output_tells_replies, replies_are_written, saved_tables_open, saved_tables_open_later,
+};
 pub use reading::ScriptEnd;
 pub use session::{OnError, RunEnd, run};
 pub use text::write_reply;
