@@ -19,17 +19,17 @@ const SAVED: [u8; 31] = [
 ];
 
 /// A statement with its `;`, and its reply.
-type Answered = (&'static str, &'static str);
+pub(crate) type Answered = (&'static str, &'static str);
 
 const LOADED: &[u8] = b"\xEF\xBB\xBF\"7\",\r\nnull,-2\r\n+5,08\r\n";
 
-const LOADING: [Answered; 3] = [
+pub(crate) const LOADING: [Answered; 3] = [
     ("CREATE TABLE t (a INT, b INT);", "ok\n"),
     ("LOAD t FROM 'f';", "ok 3\n"),
     ("SELECT * FROM t;", "A,B\n7,NULL\nNULL,-2\n5,8\nrows 3\n"),
 ];
 
-const SAVING: [Answered; 6] = [
+pub(crate) const SAVING: [Answered; 6] = [
     ("CREATE TABLE t (a INTEGER);", "ok\n"),
     ("INSERT INTO t VALUES (3), (NULL), (-1);", "ok 3\n"),
     ("SAVE t TO 'g';", "ok 3\n"),
@@ -41,12 +41,12 @@ const SAVING: [Answered; 6] = [
 /// How many replies of the script stand before the one of SAVE.
 const BEFORE_SAVE: usize = 2;
 
-fn files() -> [File<'static>; 1] {
+pub(crate) fn files() -> [File<'static>; 1] {
     [("f", LOADED)]
 }
 
 /// The statements of a script, one behind the other.
-fn script_of<R: Abort + AllocGlobal>(rt: &R, script: &[Answered]) -> String {
+pub(crate) fn script_of<R: Abort + AllocGlobal>(rt: &R, script: &[Answered]) -> String {
     let mut text = String::new(rt.alloc());
     for (statement, _) in script {
         text.push_str(statement).expect(rt, "memory");
@@ -55,7 +55,11 @@ fn script_of<R: Abort + AllocGlobal>(rt: &R, script: &[Answered]) -> String {
 }
 
 /// The replies to so many statements, one behind the other.
-fn replies_of<R: Abort + AllocGlobal>(rt: &R, script: &[Answered], count: usize) -> String {
+pub(crate) fn replies_of<R: Abort + AllocGlobal>(
+    rt: &R,
+    script: &[Answered],
+    count: usize,
+) -> String {
     let mut text = String::new(rt.alloc());
     for (_, reply) in script.iter().take(count) {
         text.push_str(reply).expect(rt, "memory");
@@ -64,7 +68,7 @@ fn replies_of<R: Abort + AllocGlobal>(rt: &R, script: &[Answered], count: usize)
 }
 
 /// How many statements lie whole in so many bytes of the script.
-fn closed_in(script: &[Answered], bytes: usize) -> usize {
+pub(crate) fn closed_in(script: &[Answered], bytes: usize) -> usize {
     let mut end: usize = 0;
     let mut count: usize = 0;
     for (statement, _) in script {
@@ -77,7 +81,7 @@ fn closed_in(script: &[Answered], bytes: usize) -> usize {
 }
 
 /// Runs a script that goes on after errors.
-fn run_all<R: AllocGlobal, I: Read, O: Write, F: Folder>(
+pub(crate) fn run_all<R: AllocGlobal, I: Read, O: Write, F: Folder>(
     rt: &R,
     reader: &mut I,
     writer: &mut O,

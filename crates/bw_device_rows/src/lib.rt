@@ -5,11 +5,15 @@
 #[cfg(test)]
 mod devices;
 #[cfg(test)]
+mod failing_once;
+#[cfg(test)]
 mod harness;
 #[cfg(test)]
 mod pieces;
 #[cfg(test)]
 mod program_ends;
+#[cfg(test)]
+mod refusing_host;
 #[cfg(test)]
 mod seen;
 #[cfg(test)]
