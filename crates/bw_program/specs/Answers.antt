@@ -17,16 +17,16 @@ EndsOver on_error given left end = (old : Option (List ℕ)) × (new : Option (L
 abbrev pub AnswersOver : OnError → Option (List ℕ) → Option (List ℕ) → Ending → Type 0
 AnswersOver on_error given left ending = (end : RunEnd) × (ending ≡ Ran end) × EndsOver on_error given left end
 
--- a script that a path names was run, or couldn't be opened
-abbrev pub IsOfFile : Ending → Type 0
-IsOfFile (Ran _) = ⊤
-IsOfFile NotOpened = ⊤
-IsOfFile (NotAsked _) = ⊥
+-- a script that a path names couldn't be opened; or it was run, whatever bytes it holds
+abbrev pub IsOfFile : OnError → Ending → Type 0
+IsOfFile on_error (Ran end) = (given : Option (List ℕ)) × (left : Option (List ℕ)) × EndsOver on_error given left end
+IsOfFile on_error NotOpened = ⊤
+IsOfFile on_error (NotAsked _) = ⊥
 
 -- standard input is answered where no path is named, and else it is left as it was
 abbrev pub AnswersScript : Option Text → OnError → Option (List ℕ) → Option (List ℕ) → Ending → Type 0
 AnswersScript None on_error given left ending = AnswersOver on_error given left ending
-AnswersScript (Some path) on_error given left ending = (left ≡ given) × IsOfFile ending
+AnswersScript (Some path) on_error given left ending = (left ≡ given) × IsOfFile on_error ending
 
 -- the program did what its words ask for; where they are refused, or memory is wanting, standard input is left as it was
 abbrev pub Follows : Option Asked → Option (List ℕ) → Option (List ℕ) → Ending → Type 0
