@@ -1,0 +1,102 @@
+"""bitcol from Python: tables of nullable integers in main memory, whose answers are proved.
+
+    import bitcol
+
+    with bitcol.Session() as session:
+        session.execute("CREATE TABLE visits (day INT, seconds INT)")
+        session.executemany("INSERT INTO visits VALUES (?, ?)", [(1, 30), (1, None), (2, 45)])
+        print(session.execute("SELECT SUM(seconds) FROM visits WHERE day < ?", [2]).scalar())
+
+Session has the calls of its own, connect those of DB-API 2.0 (PEP 249). Nothing but the standard library is needed.
+"""
+
+from .dbapi import (
+    BINARY,
+    DATETIME,
+    NUMBER,
+    ROWID,
+    STRING,
+    Binary,
+    Connection,
+    Cursor,
+    Date,
+    DateFromTicks,
+    Time,
+    TimeFromTicks,
+    Timestamp,
+    TimestampFromTicks,
+    apilevel,
+    connect,
+    paramstyle,
+    threadsafety,
+)
+from .door import Door, File
+from .errors import (
+    DatabaseError,
+    DataError,
+    DataRefused,
+    Error,
+    ErrorNumber,
+    IntegrityError,
+    InterfaceError,
+    InternalError,
+    NotSupportedError,
+    OperationalError,
+    ProgrammingError,
+    Refused,
+    StatementRefused,
+    StoreRefused,
+    Warning,
+)
+from .program import find_program
+from .reply import Reply
+from .script import quoted
+from .session import Session, TableSize
+from .table import Table
+from .table_file import Kind, Layout
+
+__all__ = [
+    "BINARY",
+    "DATETIME",
+    "NUMBER",
+    "ROWID",
+    "STRING",
+    "Binary",
+    "Connection",
+    "Cursor",
+    "DataError",
+    "DataRefused",
+    "DatabaseError",
+    "Date",
+    "DateFromTicks",
+    "Door",
+    "Error",
+    "ErrorNumber",
+    "File",
+    "IntegrityError",
+    "InterfaceError",
+    "InternalError",
+    "Kind",
+    "Layout",
+    "NotSupportedError",
+    "OperationalError",
+    "ProgrammingError",
+    "Refused",
+    "Reply",
+    "Session",
+    "StatementRefused",
+    "StoreRefused",
+    "Table",
+    "TableSize",
+    "Time",
+    "TimeFromTicks",
+    "Timestamp",
+    "TimestampFromTicks",
+    "Warning",
+    "apilevel",
+    "connect",
+    "find_program",
+    "paramstyle",
+    "quoted",
+    "threadsafety",
+]

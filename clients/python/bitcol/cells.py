@@ -1,0 +1,191 @@
+"""The cells of a column as table files store them: a bit and a word for each row, and how they come from Python."""
+
+from __future__ import annotations
+
+import array
+import sys
+from collections.abc import Iterable, Sequence
+from dataclasses import dataclass
+from functools import cached_property
+from itertools import compress, repeat
+from operator import is_not
+from typing import Any
+
+from .door import Bytes
+from .errors import DataError, ProgrammingError
+from .optional import imported, is_numpy_array, is_pandas_series, numpy_module
+from .script import integer
+
+LEAST_INTEGER, GREATEST_INTEGER = -(2**31), 2**31 - 1
+WORD_BYTES = 4
+
+_TYPECODE = next(code for code in "il" if array.array(code).itemsize == WORD_BYTES)
+_EIGHT_BITS = [bytes(byte >> bit & 1 for bit in range(8)) for byte in range(256)]
+_INVERTED = bytes.maketrans(b"\0\1", b"\1\0")
+_AS_DIGITS = bytes.maketrans(b"\0\1", b"01")
+
+
+@dataclass(frozen=True)
+class Cells:
+    """Bit i mod 8 of byte i // 8 of `presence` is 1 where row i isn't NULL, and 0 past the last row. `words` has 4
+    bytes for each row, the lowest first: the value in two's complement, and 0 where the row is NULL."""
+
+    rows: int
+    presence: Bytes
+    words: Bytes
+
+    def presence_bytes(self) -> bytes:
+        """A byte for each row: 1 where it isn't NULL, else 0."""
+        return b"".join(map(_EIGHT_BITS.__getitem__, bytes(self.presence)))[: self.rows]
+
+    def numbers(self) -> array.array[int]:
+        """The words as an array of 32-bit integers."""
+        words = array.array(_TYPECODE)
+        words.frombytes(self.words)
+        return _with_lowest_first(words)
+
+    @cached_property
+    def null_rows(self) -> list[int]:
+        """The rows that are NULL, counted from 0, in order."""
+        if self.presence == _all_present(self.rows):
+            return []
+        return list(compress(range(self.rows), self.presence_bytes().translate(_INVERTED)))
+
+    def to_list(self) -> list[int | None]:
+        """An int for each row, or None where it is NULL."""
+        cells: list[int | None] = self.numbers().tolist()  # type: ignore[assignment]
+        for row in self.null_rows:
+            cells[row] = None
+        return cells
+
+    def to_numpy(self) -> Any:
+        """A masked array of 32-bit integers, masked where a row is NULL."""
+        numpy = numpy_module()
+        values = numpy.frombuffer(self.words, "<i4").astype(numpy.int32)
+        return numpy.ma.array(values, mask=_numpy_mask(numpy, self))
+
+    def fault(self) -> str | None:
+        """Why no table file has these cells, or None where one may."""
+        if bytes(self.presence[-1:]) > _all_present(self.rows)[-1:]:
+            return "a bit past the last row"
+        numpy = imported("numpy")
+        if numpy is not None:
+            has_number = numpy.frombuffer(self.words, "<i4")[_numpy_mask(numpy, self)].any()
+        else:
+            has_number = any(map(self.numbers().__getitem__, self.null_rows))
+        return "a number at a NULL" if has_number else None
+
+
+def presence_size(rows: int) -> int:
+    """How many bytes the presence bits of so many rows have."""
+    return (rows + 7) // 8
+
+
+def cells_of(column: Iterable[Any]) -> Cells:
+    """The cells of a column: a list, tuple, range or array of integers and None, or another iterable of these, an
+    array of numpy, masked or not, or a series of pandas.
+
+    Raises ProgrammingError where a cell is neither an integer nor None, and DataError where an integer is outside of
+    INTEGER.
+    """
+    if is_pandas_series(column):
+        column = _array_of_series(column)
+    if is_numpy_array(column) and column.dtype.kind != "O":  # type: ignore[attr-defined]
+        return _cells_of_numpy(column)
+    if isinstance(column, (list, tuple, range, array.array)):
+        return _cells_of_sequence(column)
+    try:
+        listed = list(column)
+    except TypeError:
+        raise ProgrammingError(f"a column has integers and None; this one is of type {type(column).__name__}") from None
+    return _cells_of_sequence(listed)
+
+
+def check_widths(rows: Sequence[Sequence[Any]], width: int, before: int) -> None:
+    """Raises ProgrammingError where a row hasn't so many values. So many rows came before these."""
+    try:
+        widths = list(map(len, rows))
+    except TypeError:
+        raise ProgrammingError("each row is to be a list or a tuple of values") from None
+    if widths.count(width) < len(rows):
+        row = next(row for row, found in enumerate(widths) if found != width)
+        raise ProgrammingError(f"row {before + row}: {widths[row]} values, and {width} are wanted")
+
+
+def _cells_of_sequence(column: Sequence[Any]) -> Cells:
+    """The cells of a sequence. The array's own constructor looks at each, and refuses a None."""
+    presence = _all_present(len(column))
+    try:
+        words = array.array(_TYPECODE, column)
+    except (TypeError, OverflowError):
+        presence = _packed(bytes(map(is_not, column, repeat(None))))
+        try:
+            words = array.array(_TYPECODE, [0 if cell is None else cell for cell in column])
+        except (TypeError, OverflowError):
+            raise _first_fault(column) from None
+    return Cells(len(column), presence, memoryview(_with_lowest_first(words)).cast("B"))
+
+
+def _first_fault(column: Sequence[Any]) -> DataError | ProgrammingError:
+    """What is wrong with the first cell that no column can hold."""
+    for row, cell in enumerate(column):
+        if cell is not None:
+            try:
+                number = integer(cell)
+            except ProgrammingError as fault:
+                return ProgrammingError(f"row {row}: {fault}")
+            if not LEAST_INTEGER <= number <= GREATEST_INTEGER:
+                return DataError(f"row {row}: a value outside {LEAST_INTEGER} to {GREATEST_INTEGER}")
+    return ProgrammingError("a column that changes while it is read")
+
+
+def _cells_of_numpy(column: Any) -> Cells:
+    numpy = numpy_module()
+    if column.ndim != 1:
+        raise ProgrammingError(f"a column has one dimension, not {column.ndim}")
+    if column.dtype.kind not in "iub":
+        raise ProgrammingError(f"an array of {column.dtype}: a column has integers")
+    mask = numpy.ma.getmaskarray(column)
+    values = numpy.where(mask, 0, numpy.ma.getdata(column)) if mask.any() else numpy.ma.getdata(column)
+    outside = (values < LEAST_INTEGER) | (values > GREATEST_INTEGER)
+    if outside.any():
+        raise DataError(f"row {outside.argmax()}: a value outside {LEAST_INTEGER} to {GREATEST_INTEGER}")
+    presence = numpy.packbits(~mask, bitorder="little").tobytes()
+    return Cells(len(column), presence, values.astype("<i4").tobytes())
+
+
+def _array_of_series(series: Any) -> Any:
+    """A masked array of a series of integers with NA, or an array of objects."""
+    numpy = numpy_module()
+    if series.dtype.kind in "iu":
+        # A type without NA of the same kind, so that no value wraps.
+        widest = "int64" if series.dtype.kind == "i" else "uint64"
+        return numpy.ma.array(series.to_numpy(dtype=widest, na_value=0), mask=series.isna().to_numpy())
+    values = series.to_numpy()
+    return numpy.where(series.isna(), None, values) if values.dtype.kind == "O" else values
+
+
+def _numpy_mask(numpy: Any, cells: Cells) -> Any:
+    """An array that is true where a row is NULL."""
+    bits = numpy.frombuffer(cells.presence, numpy.uint8)
+    return numpy.unpackbits(bits, count=cells.rows, bitorder="little") == 0
+
+
+def _packed(present: bytes) -> bytes:
+    """The bits of these bytes of 0 and 1."""
+    if not present:
+        return b""
+    # To read digits of base 2 takes linear time, and no step of the interpreter for each.
+    return int(present[::-1].translate(_AS_DIGITS), 2).to_bytes(presence_size(len(present)), "little")
+
+
+def _all_present(rows: int) -> bytes:
+    """The presence bits of so many rows without NULL."""
+    last = bytes([(1 << rows % 8) - 1]) if rows % 8 else b""
+    return b"\xff" * (rows // 8) + last
+
+
+def _with_lowest_first(words: array.array[int]) -> array.array[int]:
+    if sys.byteorder == "big":
+        words.byteswap()
+    return words

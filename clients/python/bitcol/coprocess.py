@@ -1,0 +1,234 @@
+"""The door to the program: a child process behind two pipes, one for scripts and one for replies.
+
+The program answers a statement as soon as it has read it, and stops reading while its answer isn't taken. So the
+client reads replies while it still writes: neither can wait for the other.
+"""
+
+from __future__ import annotations
+
+import contextlib
+import os
+import select
+import signal
+import subprocess
+import tempfile
+import threading
+import weakref
+from collections.abc import Iterable, Iterator
+from pathlib import Path
+from typing import NoReturn
+
+from .door import Bytes
+from .errors import InterfaceError, OperationalError
+from .reply import ReplyBuffer
+from .script import PathLike
+
+# Bytes that are read at a time: what a pipe holds. Larger buffers cost more to make than a short reply takes.
+PIPE_BYTES = 65_536
+# All that is sent to one process is one script, which has a limit. The reserve is for SAVE alone.
+SCRIPT_BYTES = 2**30
+RESERVE_BYTES = 2**20
+SECONDS_TO_END = 10
+
+
+class Coprocess:
+    """A store in a process of its own, which ends with it. Calls from several threads take turns."""
+
+    def __init__(self, program: PathLike, folder: PathLike | None = None) -> None:
+        """Starts the program. `folder` is where it looks for the files that statements name; by default where this
+        process is. OperationalError where it can't be started."""
+        try:
+            # A session of its own keeps an interrupt from the keyboard away from the program.
+            self._child = subprocess.Popen(
+                [os.fspath(program)],
+                stdin=subprocess.PIPE,
+                stdout=subprocess.PIPE,
+                stderr=subprocess.PIPE,
+                bufsize=0,
+                cwd=folder,
+                start_new_session=True,
+            )
+        except (OSError, ValueError) as fault:
+            raise OperationalError(f"the program can't be started: {fault}") from fault
+        assert self._child.stdin and self._child.stdout and self._child.stderr
+        self._scripts = self._child.stdin.fileno()
+        self._answers = self._child.stdout.fileno()
+        os.set_blocking(self._scripts, False)
+        self._for_answers = select.poll()
+        self._for_answers.register(self._answers, select.POLLIN)
+        self._for_both = select.poll()
+        self._for_both.register(self._answers, select.POLLIN)
+        self._for_both.register(self._scripts, select.POLLOUT)
+        self._owner = os.getpid()
+        self._finalizer = weakref.finalize(self, _drop, self._child, self._owner)
+        self._lock = threading.Lock()
+        self._buffer = ReplyBuffer()
+        self._unsent: Bytes = b""
+        # Replies to come: those of the call in hand, and those of calls that were interrupted.
+        self._owed = 0
+        self._sent = 0
+        self._waits = False
+        self._end: str | None = None
+
+    def answer(self, script: bytes, statements: int) -> list[bytes]:
+        """See Door. An interrupted call's statements may have been carried out, or may yet be; its replies are dropped.
+        One that comes in the middle of a transfer ends the program, since replies could not be told apart after it."""
+        with self._lock:
+            self._ensure_usable(script)
+            try:
+                # What an interrupted call left comes first.
+                self._finish()
+                self._unsent, self._owed = script, statements
+                self._send()
+                return self._finish()
+            except OperationalError:
+                raise
+            except BaseException as fault:
+                if not self._waits:
+                    self._abandon(fault)
+                self._waits = False
+                raise
+
+    @contextlib.contextmanager
+    def scratch(self) -> Iterator[HostFile]:
+        """See Door: a file in a temporary folder of its own. TMPDIR says where such folders are made."""
+        try:
+            room = tempfile.TemporaryDirectory(prefix="bitcol-")
+        except OSError as fault:
+            raise OperationalError(f"no temporary folder: {fault}") from fault
+        with room as folder:
+            yield HostFile(Path(folder).resolve() / "file")
+
+    def close(self) -> None:
+        """See Door. The program ends at the end of its script; where it doesn't in 10 seconds, it is killed."""
+        with self._lock:
+            if self._owner != os.getpid() or self._end is not None:
+                return
+            self._end = ""
+            self._reap()
+
+    def _ensure_usable(self, script: bytes) -> None:
+        if self._end is not None:
+            if self._end:
+                raise OperationalError(f"{self._end}; its tables are gone")
+            raise InterfaceError("the session is closed")
+        if self._owner != os.getpid():
+            raise InterfaceError("the session belongs to the process that opened it")
+        sent = self._sent + len(script)
+        if sent > SCRIPT_BYTES - RESERVE_BYTES and not script.startswith(b"SAVE "):
+            raise OperationalError(
+                f"the session has sent {self._sent} bytes of statements, and a program takes {SCRIPT_BYTES}:"
+                " save its tables, and open them in another session"
+            )
+        self._sent = sent
+
+    def _finish(self) -> list[bytes]:
+        """Sends what isn't sent, and takes the replies that are owed."""
+        replies = []
+        while self._owed:
+            reply = self._buffer.take()
+            if reply is None:
+                self._move()
+            else:
+                self._owed -= 1
+                replies.append(reply)
+        return replies
+
+    def _move(self) -> None:
+        """Waits until a pipe is ready, and moves what it takes or has."""
+        pipes = self._for_both if self._unsent else self._for_answers
+        # Nothing is on its way here, so what interrupts this loses nothing.
+        self._waits = True
+        ready = pipes.poll()
+        self._waits = False
+        for pipe, _ in ready:
+            if pipe == self._answers:
+                self._receive()
+            else:
+                self._send()
+
+    def _send(self) -> None:
+        """Sends as much as the pipe takes at once."""
+        try:
+            sent = os.write(self._scripts, self._unsent)
+        except BlockingIOError:
+            return
+        except BrokenPipeError:
+            # The program reads no more. What it wrote before it ended still comes.
+            self._unsent = b""
+            return
+        self._unsent = memoryview(self._unsent)[sent:] if sent < len(self._unsent) else b""
+
+    def _receive(self) -> None:
+        data = os.read(self._answers, PIPE_BYTES)
+        if not data:
+            self._died()
+        self._buffer.add(data)
+
+    def _died(self) -> NoReturn:
+        """Raises OperationalError with what is known of the end of a program that ended by itself."""
+        status, said = self._reap()
+        how = f"was killed by {signal.Signals(-status).name}" if status < 0 else f"ended with status {status}"
+        self._end = f"the program {how}{': ' + said if said else ''}"
+        raise OperationalError(f"{self._end}; its tables are gone")
+
+    def _abandon(self, fault: BaseException) -> None:
+        """Ends a program whose replies can't be told apart any more."""
+        self._child.kill()
+        self._reap()
+        self._end = f"{type(fault).__name__} came in the middle of a transfer, and the program was ended"
+
+    def _reap(self) -> tuple[int, str]:
+        """The status of the program, which has no more to do, and what it wrote to standard error."""
+        self._finalizer.detach()
+        return _reaped(self._child)
+
+
+def _drop(child: subprocess.Popen[bytes], owner: int) -> None:
+    """Ends the program of a session that nobody has any more. In a forked process it isn't that process's to end."""
+    if owner == os.getpid():
+        _reaped(child)
+
+
+def _reaped(child: subprocess.Popen[bytes]) -> tuple[int, str]:
+    """Closes the pipes of a program, waits for its end, and gives its status and what it wrote to standard error."""
+    assert child.stdin and child.stdout and child.stderr
+    child.stdin.close()
+    child.stdout.close()
+    try:
+        status = child.wait(SECONDS_TO_END)
+    except subprocess.TimeoutExpired:
+        child.kill()
+        status = child.wait()
+    with child.stderr as stream:
+        return status, stream.read().decode(errors="replace").strip()
+
+
+class HostFile:
+    """A file of the host, by its path."""
+
+    def __init__(self, path: Path) -> None:
+        self._path = path
+
+    @property
+    def name(self) -> str:
+        """See File."""
+        return str(self._path)
+
+    def write(self, pieces: Iterable[Bytes]) -> None:
+        """See File. OperationalError where the host can't write it."""
+        try:
+            with self._path.open("wb", buffering=0) as file:
+                for piece in pieces:
+                    rest = memoryview(piece).cast("B")
+                    while rest:
+                        rest = rest[file.write(rest) or 0 :]
+        except OSError as fault:
+            raise OperationalError(f"a temporary file can't be written: {fault}") from fault
+
+    def read(self) -> bytes:
+        """See File. OperationalError where the host can't read it."""
+        try:
+            return self._path.read_bytes()
+        except OSError as fault:
+            raise OperationalError(f"a temporary file can't be read: {fault}") from fault

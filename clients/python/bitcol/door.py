@@ -1,0 +1,44 @@
+"""What lies between a session and a store: any object that answers scripts and lends files.
+
+A session knows no more of its store than these calls, so a store in a process of its own and one in this process can
+stand behind the same session.
+"""
+
+from __future__ import annotations
+
+from collections.abc import Iterable
+from contextlib import AbstractContextManager
+from typing import Protocol, Union
+
+Bytes = Union[bytes, bytearray, memoryview]
+
+
+class File(Protocol):
+    """A file that a statement and this process can both reach."""
+
+    @property
+    def name(self) -> str:
+        """How a statement names it."""
+
+    def write(self, pieces: Iterable[Bytes]) -> None:
+        """Makes the file hold these pieces, one after the other."""
+
+    def read(self) -> bytes:
+        """All that the file holds."""
+
+
+class Door(Protocol):
+    """A store that answers scripts. Tables live until it is closed."""
+
+    def answer(self, script: bytes, statements: int) -> list[bytes]:
+        """The bytes of the replies to a script of so many statements, one for each, in order.
+
+        Each statement ends with its `;` and isn't blank. Raises InterfaceError where the door is closed, and
+        OperationalError where the store is gone.
+        """
+
+    def scratch(self) -> AbstractContextManager[File]:
+        """A file that is gone when the context ends."""
+
+    def close(self) -> None:
+        """Ends the store. A closed door may be closed again."""

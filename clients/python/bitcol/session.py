@@ -1,0 +1,128 @@
+"""A session: tables that live until it is closed, and the calls that work on them."""
+
+from __future__ import annotations
+
+from collections.abc import Iterable, Mapping, Sequence
+from dataclasses import dataclass
+from types import TracebackType
+from typing import Any
+
+from .coprocess import Coprocess
+from .door import Door
+from .insertion import Inserter, insertion_of
+from .program import find_program
+from .reply import Reply, reply_of
+from .script import PathLike, bound, checked_name, checked_text, quoted, statement_of, statements_of
+from .table import Table
+from .table_file import Kind, Layout
+
+
+@dataclass(frozen=True)
+class TableSize:
+    """A table that is there: its name, and its number of columns and of rows."""
+
+    name: str
+    columns: int
+    rows: int
+
+
+class Session:
+    """Tables of nullable integers in a store of their own. They are gone when the session is closed.
+
+    Threads may share a session: its calls take turns. A refused statement raises Refused and changes nothing.
+    """
+
+    def __init__(
+        self, program: PathLike | None = None, folder: PathLike | None = None, *, door: Door | None = None
+    ) -> None:
+        """Starts a store: the program at this path, or the one that find_program finds. `folder` is where it looks for
+        the files that statements name. A `door` is taken in place of a program. OperationalError where the program
+        can't be started."""
+        self._door: Door = Coprocess(find_program() if program is None else program, folder) if door is None else door
+
+    def execute(self, statement: str, values: Sequence[Any] = ()) -> Reply:
+        """The reply to one statement, with these values in place of its `?`: integers and None."""
+        text = checked_text(statement)
+        if "?" in text or not isinstance(values, tuple) or values:
+            text = bound(text, values)
+        (data,) = self._door.answer(statement_of(text), 1)
+        return _accepted(reply_of(data))
+
+    def executemany(self, statement: str, rows: Iterable[Sequence[Any]]) -> int:
+        """Executes a statement once for each row of values, and gives the sum of the counts of its replies.
+
+        An INSERT whose values are all `?` adds all rows or none, and is quick, as long as its rows as CSV have no more
+        than 268,435,456 bytes; beyond that, all or none of each such part. Any other statement is executed one by one
+        up to the first that is refused.
+        """
+        insertion = insertion_of(checked_text(statement))
+        if insertion is not None:
+            return Inserter(insertion, self.execute, self._door).insert(rows)
+        return sum(self.execute(statement, row).count or 0 for row in rows)
+
+    def run(self, script: str) -> list[Reply]:
+        """The replies to all statements of a script, refusals among them. Nothing is raised for a refusal, and the
+        statements after it are carried out."""
+        statements = statements_of(checked_text(script))
+        if not statements:
+            return []
+        return [reply_of(data) for data in self._door.answer(b"".join(statements), len(statements))]
+
+    def write_table(
+        self,
+        table: str,
+        columns: Table | Mapping[str, Iterable[Any]] | Any,
+        layout: Layout = Layout.V,
+        kind: Kind = Kind.OFFSET,
+    ) -> int:
+        """Makes a new table of whole columns: a mapping of names to lists, arrays of integers or numpy's, or a data
+        frame of pandas. Gives the number of rows. Refused where the table is there (TABLE_EXISTS)."""
+        made = columns if isinstance(columns, Table) else Table.of(columns, layout, kind)
+        pieces = made.file_pieces()
+        with self._door.scratch() as file:
+            file.write(pieces)
+            return self.open(table, file.name)
+
+    def read_table(self, table: str) -> Table:
+        """All of a table."""
+        with self._door.scratch() as file:
+            self.save(table, file.name)
+            return Table.of_file(file.read())
+
+    def load(self, table: str, path: PathLike, header: bool = False) -> int:
+        """LOAD: adds the rows of a CSV file to a table, all or none, and gives their number."""
+        return self._count(f"LOAD {checked_name(table)} FROM {quoted(path)}{' WITH HEADER' if header else ''}")
+
+    def save(self, table: str, path: PathLike) -> int:
+        """SAVE: writes a table to a table file, over one that is there, and gives the number of rows."""
+        return self._count(f"SAVE {checked_name(table)} TO {quoted(path)}")
+
+    def open(self, table: str, path: PathLike) -> int:
+        """OPEN: makes a new table of a table file, and gives the number of rows."""
+        return self._count(f"OPEN {checked_name(table)} FROM {quoted(path)}")
+
+    def tables(self) -> list[TableSize]:
+        """The tables that are there, in the order in which they were made."""
+        return [TableSize(*row) for row in self.execute("TABLES").rows()]
+
+    def close(self) -> None:
+        """Ends the store and its tables. A closed session may be closed again."""
+        self._door.close()
+
+    def _count(self, statement: str) -> int:
+        return self.execute(statement).count or 0
+
+    def __enter__(self) -> Session:
+        return self
+
+    def __exit__(
+        self, kind: type[BaseException] | None, fault: BaseException | None, trace: TracebackType | None
+    ) -> None:
+        self.close()
+
+
+def _accepted(reply: Reply) -> Reply:
+    """The reply, unless it is a refusal, which is raised."""
+    if reply.refusal is not None:
+        raise reply.refusal
+    return reply

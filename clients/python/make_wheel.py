@@ -1,0 +1,94 @@
+#!/usr/bin/env python3
+"""Makes a wheel of the package with the program in it, by the standard library alone.
+
+    make_wheel.py [FOLDER]      into this folder, which is made if it isn't there; by default the working directory
+
+The program is what the environment variable BITCOL names, or crates/bitcol/out/bitcol. pip calls build_wheel where it
+is asked for this folder. The same files make the same bytes.
+"""
+
+from __future__ import annotations
+
+import base64
+import hashlib
+import os
+import sys
+import sysconfig
+import zipfile
+from collections.abc import Iterator
+from dataclasses import dataclass
+from pathlib import Path
+
+HERE = Path(__file__).resolve().parent
+TOP = HERE.parent.parent
+PROGRAM, FILE = 0o755, 0o644
+# A wheel's files need a time, and nobody reads it: the first that a zip can hold.
+TIME = (1980, 1, 1, 0, 0, 0)
+
+
+@dataclass(frozen=True)
+class Member:
+    """A file of the wheel: its path there, its bytes, and who may do what with it."""
+
+    path: str
+    data: bytes
+    mode: int = FILE
+
+    def record(self) -> str:
+        """Its line of RECORD."""
+        digest = base64.urlsafe_b64encode(hashlib.sha256(self.data).digest()).rstrip(b"=").decode()
+        return f"{self.path},sha256={digest},{len(self.data)}\n"
+
+
+def program() -> Path:
+    """The program that goes into the wheel. Ends this script where it isn't there."""
+    path = Path(os.environ.get("BITCOL") or TOP / "crates/bitcol/out/bitcol")
+    if not path.is_file():
+        sys.exit(f"{path} isn't there: build it by rt run in crates/bitcol, or name another by BITCOL")
+    return path
+
+
+def members(version: str, tag: str) -> Iterator[Member]:
+    """All files of the wheel but RECORD."""
+    for path in sorted((HERE / "bitcol").glob("*")):
+        if path.suffix in (".py", ".typed"):
+            yield Member(f"bitcol/{path.name}", path.read_bytes())
+    yield Member("bitcol/bin/bitcol", program().read_bytes(), PROGRAM)
+    about = f"bitcol-{version}.dist-info"
+    metadata = (
+        f"Metadata-Version: 2.1\nName: bitcol\nVersion: {version}\n"
+        "Summary: Tables of nullable integers in main memory, whose answers are proved\n"
+        "License: MIT OR Apache-2.0\nRequires-Python: >=3.10\nDescription-Content-Type: text/markdown\n\n"
+    )
+    yield Member(f"{about}/METADATA", metadata.encode() + (HERE / "README.md").read_bytes())
+    wheel = f"Wheel-Version: 1.0\nGenerator: make_wheel\nRoot-Is-Purelib: false\nTag: {tag}\n"
+    yield Member(f"{about}/WHEEL", wheel.encode())
+    yield Member(f"{about}/entry_points.txt", b"[console_scripts]\nbitcol = bitcol.program:main\n")
+    for name in ("LICENSE-APACHE", "LICENSE-MIT"):
+        yield Member(f"{about}/{name}", (TOP / name).read_bytes())
+
+
+def make(folder: Path) -> Path:
+    """Makes the wheel in this folder, and gives its path."""
+    version = (TOP / "VERSION").read_text().strip()
+    tag = f"py3-none-{sysconfig.get_platform().replace('-', '_').replace('.', '_')}"
+    files = list(members(version, tag))
+    record = f"bitcol-{version}.dist-info/RECORD"
+    lines = "".join(file.record() for file in files) + f"{record},,\n"
+    folder.mkdir(parents=True, exist_ok=True)
+    path = folder / f"bitcol-{version}-{tag}.whl"
+    with zipfile.ZipFile(path, "w", zipfile.ZIP_DEFLATED) as wheel:
+        for file in [*files, Member(record, lines.encode())]:
+            entry = zipfile.ZipInfo(file.path, TIME)
+            entry.external_attr = (0o100000 | file.mode) << 16
+            wheel.writestr(entry, file.data, zipfile.ZIP_DEFLATED)
+    return path
+
+
+def build_wheel(wheel_directory: str, config_settings: object = None, metadata_directory: str | None = None) -> str:
+    """What pip calls, by PEP 517: the name of the wheel that was made in the folder."""
+    return make(Path(wheel_directory)).name
+
+
+if __name__ == "__main__":
+    print(make(Path(sys.argv[1] if len(sys.argv) > 1 else ".")))

@@ -1,0 +1,89 @@
+"""The wheel and `make install`, each into a folder of its own."""
+
+import importlib.util
+import os
+import shutil
+import subprocess
+import sys
+import tempfile
+import unittest
+from pathlib import Path
+
+import bitcol
+
+CLIENTS = Path(__file__).resolve().parent.parent.parent
+MANUAL = CLIENTS / "share/bitcol.1"
+SCRIPT = "CREATE TABLE t (a INT); INSERT INTO t VALUES (3), (NULL), (-1); SELECT a FROM t WHERE a < 3;"
+REPLIES = "ok\nok 3\nA\n-1\nrows 1\n"
+
+
+def run(*words: object, folder: Path = CLIENTS, **environment: str) -> str:
+    """What a command writes to standard output. An error where it fails."""
+    variables = {name: value for name, value in os.environ.items() if name not in ("BITCOL", "PYTHONPATH")}
+    variables.update(environment)
+    ended = subprocess.run(
+        list(map(str, words)), input=SCRIPT, capture_output=True, text=True, env=variables, cwd=folder, check=False
+    )
+    if ended.returncode:
+        raise AssertionError(f"{words} ended with {ended.returncode}: {ended.stdout}{ended.stderr}")
+    return ended.stdout
+
+
+class InFolder(unittest.TestCase):
+    def setUp(self) -> None:
+        room = tempfile.TemporaryDirectory()
+        self.addCleanup(room.cleanup)
+        self.folder = Path(room.name)
+        self.program = os.path.abspath(bitcol.find_program())
+
+
+@unittest.skipUnless(shutil.which("make"), "make is not installed")
+class Install(InFolder):
+    def test_install_and_uninstall(self) -> None:
+        words = ("make", "-C", CLIENTS, f"DESTDIR={self.folder}", "PREFIX=/opt/bitcol", f"BITCOL={self.program}")
+        run(*words, "install")
+        top = self.folder / "opt/bitcol"
+        self.assertEqual(run(top / "bin/bitcol"), REPLIES)
+        self.assertEqual((top / "share/man/man1/bitcol.1").read_bytes(), MANUAL.read_bytes())
+        run(*words, "uninstall")
+        self.assertEqual([path for path in self.folder.rglob("*") if path.is_file()], [])
+
+
+@unittest.skipUnless(shutil.which("groff"), "groff is not installed")
+class Manual(unittest.TestCase):
+    def test_the_page_has_no_fault_and_its_example_is_right(self) -> None:
+        ended = subprocess.run(
+            ["groff", "-man", "-Tascii", "-ww", "-P-cbou", MANUAL], capture_output=True, text=True, check=False
+        )
+        self.assertEqual((ended.returncode, ended.stderr), (0, ""))
+        lines = [line.strip() for line in ended.stdout.splitlines()]
+        start = next(place for place, line in enumerate(lines) if line.startswith("echo "))
+        self.assertIn(SCRIPT, lines[start])
+        self.assertEqual(lines[start + 1 : start + 6], REPLIES.split("\n")[:-1])
+
+
+class Wheel(InFolder):
+    def make(self, folder: Path) -> Path:
+        """Makes the wheel into a folder, and gives its path."""
+        return Path(run(sys.executable, "-B", CLIENTS / "python/make_wheel.py", folder, BITCOL=self.program).strip())
+
+    def test_the_same_files_make_the_same_bytes(self) -> None:
+        first, second = self.make(self.folder / "a"), self.make(self.folder / "b")
+        self.assertEqual(first.read_bytes(), second.read_bytes())
+
+    @unittest.skipUnless(importlib.util.find_spec("pip"), "pip is not installed")
+    def test_it_is_installed_with_its_program(self) -> None:
+        wheel, place = self.make(self.folder), self.folder / "installed"
+        pip = (sys.executable, "-m", "pip", "install", "--quiet", "--no-index", "--no-deps", "--no-compile")
+        run(*pip, "--target", place, wheel)
+        script = "import bitcol, sys; s = bitcol.Session(); s.run(sys.stdin.read()); print(s.tables(), bitcol.__file__)"
+        said = run(sys.executable, "-B", "-c", script, PYTHONPATH=str(place), PATH="/usr/bin:/bin", folder=self.folder)
+        self.assertEqual(said, f"[TableSize(name='T', columns=1, rows=3)] {place}/bitcol/__init__.py\n")
+        self.assertEqual(run(place / "bin/bitcol", PYTHONPATH=str(place), folder=self.folder), REPLIES)
+
+    @unittest.skipUnless(importlib.util.find_spec("pip"), "pip is not installed")
+    def test_pip_makes_one_of_the_folder(self) -> None:
+        pip = (sys.executable, "-m", "pip", "wheel", "--quiet", "--no-index", "--no-deps")
+        run(*pip, "--wheel-dir", self.folder / "pip", CLIENTS / "python", BITCOL=self.program)
+        (wheel,) = (self.folder / "pip").iterdir()
+        self.assertEqual(wheel.read_bytes(), self.make(self.folder).read_bytes())
