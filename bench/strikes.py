@@ -6,6 +6,7 @@ above must not be proved any more: so it gets its answer through the lower call,
 `rt all check` at the top: the copy goes on from what that kept, and each strike takes 15 to 90 seconds.
 
     python3 bench/strikes.py [WORD ..]      only the strikes whose upper call has one of the words in its name
+    python3 bench/strikes.py --names        proves nothing: whether each clause and each upper call is still where it is said to be
 """
 
 import re
@@ -137,10 +138,18 @@ STRIKES = [
     Strike("bw_aggregate::middle::descend_in_copies", (of_column("plane", "column.rt", "rows", "out.new"),)),
     Strike("bw_aggregate::middle::descend_in_place", (of_planes(),)),
     Strike("bw_aggregate::plane::plane_at", (of_planes(),)),
-    Strike("bw_aggregate::plane_sums::segment_sum", (of_segments(),)),
+    Strike("bw_aggregate::plane_sums::planes_sum", (of_segments(),)),
     Strike("bw_aggregate::nearest_planes::nearest_of", (of_segments(),)),
     Strike("bw_table::table::Table::fetch", (of_column("get", "column.rt", "is", "result"),)),
     Strike("bw_engine::shown::fetch_row", (Clause("bw_table/src/table.rt", "fetch", "", "result"),)),
+    Strike("bw_column::storage::Codes::read", (of_every_column("read", "codes", "out.new"),)),
+    Strike("bw_column::reading::read_block", (of_column("read", "storage.rt", "codes", "out.new"),)),
+    Strike("bw_column::distances::distances_by_offset", (of_column("read", "storage.rt", "codes", "out.new"),)),
+    Strike("bw_column::column::Column::read", (of_column("read_block", "reading.rt", "", "out.new"),)),
+    Strike("bw_column::column::Column::compared_block", (of_column("read", "reading.rt", "", "out.new"),)),
+    Strike("bw_aggregate::tally_runs::run_tally", (of_every_column("read", "codes", "out.new"),)),
+    Strike("bw_aggregate::runs::total_at", (of_column("read", "reading.rt", "", "out.new"),)),
+    Strike("bw_engine::shown::read_column", (of_column("read", "reading.rt", "", "out.new"),)),
 ]
 
 
@@ -179,8 +188,27 @@ def is_refused(crates, tried):
     return bool(done.returncode and there), "; ".join(line[:160] for line in told[:2]) or said[-400:]
 
 
+def what_is_gone():
+    """What the strikes name and is no more: clauses, and upper calls in the file of their module."""
+    for tried in STRIKES:
+        for clause in tried.clauses:
+            try:
+                clause.struck((TOP / "crates" / clause.file).read_text(encoding="utf-8"))
+            except (AttributeError, OSError, ValueError):
+                yield f"{clause.file}: {clause.function} {clause.name}".rstrip()
+        crate, module, *_, call = tried.upper.split("::")
+        source = TOP / "crates" / crate / "src"
+        texts = [file.read_text(encoding="utf-8") for file in source.rglob("*.rt" if module == "column" else f"{module}.rt")]
+        if not any(re.search(rf"\bfn {call}\b", text) for text in texts):
+            yield tried.upper
+
+
 def main():
     words = sys.argv[1:]
+    if words == ["--names"]:
+        gone = list(what_is_gone())
+        print("\n".join([*gone, f"{len(STRIKES)} strikes, {len(gone)} names gone"]))
+        sys.exit(bool(gone))
     chosen = [it for it in STRIKES if not words or any(word in it.upper for word in words)]
     failed = 0
     with tempfile.TemporaryDirectory(prefix="bitcol-strikes-") as room:
