@@ -50,9 +50,9 @@ def program() -> Path:
 
 def members(version: str, tag: str) -> Iterator[Member]:
     """All files of the wheel but RECORD."""
-    for path in sorted((HERE / "bitcol").glob("*")):
+    for path in sorted((HERE / "bitcol").rglob("*")):
         if path.suffix in (".py", ".typed"):
-            yield Member(f"bitcol/{path.name}", path.read_bytes())
+            yield Member(path.relative_to(HERE).as_posix(), path.read_bytes())
     yield Member("bitcol/bin/bitcol", program().read_bytes(), PROGRAM)
     about = f"bitcol-{version}.dist-info"
     metadata = (

@@ -19,7 +19,7 @@ from pathlib import Path
 from typing import NoReturn
 
 from .door import Bytes
-from .errors import InterfaceError, OperationalError
+from .errors import InterfaceError, OperationalError, ProgramEnded
 from .reply import ReplyBuffer
 from .script import PathLike
 
@@ -110,7 +110,7 @@ class Coprocess:
     def _ensure_usable(self, script: bytes) -> None:
         if self._end is not None:
             if self._end:
-                raise OperationalError(f"{self._end}; its tables are gone")
+                raise ProgramEnded(f"{self._end}; its tables are gone")
             raise InterfaceError("the session is closed")
         if self._owner != os.getpid():
             raise InterfaceError("the session belongs to the process that opened it")
@@ -166,11 +166,11 @@ class Coprocess:
         self._buffer.add(data)
 
     def _died(self) -> NoReturn:
-        """Raises OperationalError with what is known of the end of a program that ended by itself."""
+        """Raises ProgramEnded with what is known of the end of a program that ended by itself."""
         status, said = self._reap()
         how = f"was killed by {signal.Signals(-status).name}" if status < 0 else f"ended with status {status}"
         self._end = f"the program {how}{': ' + said if said else ''}"
-        raise OperationalError(f"{self._end}; its tables are gone")
+        raise ProgramEnded(f"{self._end}; its tables are gone")
 
     def _abandon(self, fault: BaseException) -> None:
         """Ends a program whose replies can't be told apart any more."""
@@ -200,8 +200,12 @@ def _reaped(child: subprocess.Popen[bytes]) -> tuple[int, str]:
     except subprocess.TimeoutExpired:
         child.kill()
         status = child.wait()
-    with child.stderr as stream:
-        return status, stream.read().decode(errors="replace").strip()
+    try:
+        with child.stderr as stream:
+            return status, stream.read().decode(errors="replace").strip()
+    except ValueError:
+        # Another thread has read and closed it: the interpreter ends while a call is under way.
+        return status, ""
 
 
 class HostFile:

@@ -34,7 +34,7 @@ class Door(Protocol):
         """The bytes of the replies to a script of so many statements, one for each, in order.
 
         Each statement ends with its `;` and isn't blank. Raises InterfaceError where the door is closed, and
-        OperationalError where the store is gone.
+        ProgramEnded where the store is gone.
         """
 
     def scratch(self) -> AbstractContextManager[File]:

@@ -5,7 +5,8 @@
         InterfaceError            the client was used in a way that it can't be
         DatabaseError
             DataError             a value that no column or statement can hold
-            OperationalError      the program ended, or can't be started
+            OperationalError      the program can't be started, or was given more than it takes
+                ProgramEnded      .. the program ended, and its tables are gone
             ProgrammingError      a statement or a parameter that is wrong in itself
             NotSupportedError     what the store, or a package that isn't installed, would have to do
             IntegrityError, InternalError     never raised: PEP 249 asks for the names
@@ -41,7 +42,11 @@ class DataError(DatabaseError):
 
 
 class OperationalError(DatabaseError):
-    """The program ended, can't be started, or was given more than it takes."""
+    """The program can't be started, was given more than it takes, or ended."""
+
+
+class ProgramEnded(OperationalError):
+    """The program ended, and its tables are gone. The text tells how."""
 
 
 class IntegrityError(DatabaseError):

@@ -19,6 +19,8 @@ Row = tuple[Any, ...]
 # `units` is the reply of a statement that a later program may have; an older one never writes it.
 _ONE_LINE = (b"ok", b"error ", b"units ")
 _LAST_LINE = b"\nrows "
+# Bytes of rows that are read at a time where an answer isn't wanted as a whole.
+_BATCH_BYTES = 2**18
 _read_json = json.JSONDecoder().raw_decode
 
 
@@ -82,13 +84,39 @@ class Reply:
 
     def rows(self) -> list[Row]:
         """All rows, a tuple each, NULL as None. InterfaceError where the answer has no rows to show."""
-        cells = iter(self._all_cells())
-        return list(zip(*[cells] * len(self.headings)))
+        return self._rows_of(self._all_cells())
 
     def columns(self) -> list[list[Any]]:
         """A list of cells for each heading."""
         cells, width = self._all_cells(), len(self.headings)
         return [cells[first::width] for first in range(width)]
+
+    def first_rows(self, limit: int) -> list[Row]:
+        """The first rows, at most so many. The others aren't looked at."""
+        if self._cells is not None:
+            return self.rows()[:limit]
+        end = 0
+        for _ in range(min(limit, len(self))):
+            end = self._body.index(b"\n", end) + 1
+        return self._rows_between(0, end)
+
+    def batches(self) -> Iterator[list[Row]]:
+        """All rows in order, some at a time, none of which is kept: an answer of millions of rows takes less memory so.
+        InterfaceError where the answer has no rows to show."""
+        if self._cells is not None or not self.headings:
+            yield self.rows()
+            return
+        for start, end in self._parts():
+            yield self._rows_between(start, end)
+
+    def lines(self, null: str) -> Iterator[str]:
+        """The rows as lines of CSV, some at a time, with this text for NULL. InterfaceError as of batches."""
+        if self._cells is not None or not self.headings or self._names_tables():
+            for rows in self.batches():
+                yield "".join(",".join(null if cell is None else str(cell) for cell in row) + "\n" for row in rows)
+        else:
+            for start, end in self._parts():
+                yield self._body[start:end].decode("ascii").replace("NULL", null)
 
     def scalar(self) -> Any:
         """The one cell of an answer of one row and one column. ProgrammingError where it has another form."""
@@ -124,9 +152,29 @@ class Reply:
         if not self.headings:
             raise InterfaceError("the statement's answer has no rows")
         if self._cells is None:
-            self._cells = _names_and_integers(self._body) if self._names_tables() else _integers(self._body)
+            self._cells = self._cells_of(self._body)
             self._body = b""
         return self._cells
+
+    def _cells_of(self, lines: bytes) -> list[Any]:
+        return _names_and_integers(lines) if self._names_tables() else _integers(lines)
+
+    def _rows_of(self, cells: list[Any]) -> list[Row]:
+        remaining = iter(cells)
+        return list(zip(*[remaining] * len(self.headings)))
+
+    def _parts(self) -> Iterator[tuple[int, int]]:
+        """Where whole lines of the body begin and end, some at a time."""
+        start = 0
+        while start < len(self._body):
+            # No line is as long as a batch.
+            end = self._body.rfind(b"\n", start, start + _BATCH_BYTES) + 1
+            yield start, end
+            start = end
+
+    def _rows_between(self, start: int, end: int) -> list[Row]:
+        """The rows whose lines are these bytes of the body."""
+        return self._rows_of(self._cells_of(self._body[start:end]))
 
     def _names_tables(self) -> bool:
         # TABLE is a reserved word, so no column has this name.

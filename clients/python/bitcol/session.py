@@ -8,7 +8,7 @@ from types import TracebackType
 from typing import Any
 
 from .coprocess import Coprocess
-from .door import Door
+from .door import Bytes, Door
 from .insertion import Inserter, insertion_of
 from .program import find_program
 from .reply import Reply, reply_of
@@ -92,6 +92,12 @@ class Session:
     def load(self, table: str, path: PathLike, header: bool = False) -> int:
         """LOAD: adds the rows of a CSV file to a table, all or none, and gives their number."""
         return self._count(f"LOAD {checked_name(table)} FROM {quoted(path)}{' WITH HEADER' if header else ''}")
+
+    def load_bytes(self, table: str, pieces: Iterable[Bytes], header: bool = False) -> int:
+        """LOAD of these bytes in place of a CSV file: adds their rows, all or none, and gives their number."""
+        with self._door.scratch() as file:
+            file.write(pieces)
+            return self.load(table, file.name, header)
 
     def save(self, table: str, path: PathLike) -> int:
         """SAVE: writes a table to a table file, over one that is there, and gives the number of rows."""

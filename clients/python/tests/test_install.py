@@ -80,6 +80,8 @@ class Wheel(InFolder):
         said = run(sys.executable, "-B", "-c", script, PYTHONPATH=str(place), PATH="/usr/bin:/bin", folder=self.folder)
         self.assertEqual(said, f"[TableSize(name='T', columns=1, rows=3)] {place}/bitcol/__init__.py\n")
         self.assertEqual(run(place / "bin/bitcol", PYTHONPATH=str(place), folder=self.folder), REPLIES)
+        shell = (sys.executable, "-B", "-m", "bitcol")
+        self.assertEqual(run(*shell, PYTHONPATH=str(place), PATH="/usr/bin:/bin", folder=self.folder), "A\n-1\n")
 
     @unittest.skipUnless(importlib.util.find_spec("pip"), "pip is not installed")
     def test_pip_makes_one_of_the_folder(self) -> None:

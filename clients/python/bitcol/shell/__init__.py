@@ -1,0 +1,13 @@
+"""A shell for people: `python3 -m bitcol [FILE ..]`.
+
+    main          the words of the command line, and the statuses
+    shell         what a line of input does
+    commands      the commands that begin with a point
+    statements    lines cut into statements
+    store         a session that an interrupt leaves usable
+    console       where answers, remarks and errors go
+    render, plot  answers as tables, CSV, JSON, Markdown and lines, and as charts
+    importing     tables of files: csv_import, sqlite_import, names, types
+    exporting     files of tables
+    terminal      lines that are typed, their history and completion
+"""

@@ -1,0 +1,180 @@
+"""Tables of CSV files with a header.
+
+The file is read in parts, and the program LOADs each: that is quick, and tells how far it is. Where a part is refused,
+the line and the column are looked for here, and the table is dropped.
+"""
+
+from __future__ import annotations
+
+import csv
+import io
+from collections.abc import Callable, Iterator, Sequence
+from dataclasses import dataclass
+from functools import partial
+from itertools import chain
+from typing import BinaryIO, Protocol
+
+from ..errors import DataRefused
+from ..table_file import COLUMN_LIMIT
+from .fault import Fault
+from .names import column_names
+from .store import Store
+from .types import INTEGER, NUMBER
+
+# A part: long enough that the statement for it costs nothing, short enough for the memory and for a progress line.
+PART_BYTES = 2**23
+# A header may go on over lines, and lines without a byte may stand before it: no more bytes than these are looked at.
+HEADER_BYTES = 2**20
+
+_BYTE_ORDER_MARK = b"\xef\xbb\xbf"
+_DELIMITERS = ",;\t|"
+# LOAD leaves out the first record of each part, which is this one, so a mark in the middle of a file is a fault.
+_LEFT_OUT = b"0\n"
+
+Tell = Callable[[str], None]
+
+
+@dataclass(frozen=True)
+class Header:
+    """The first record of a file: its fields, what stands between them, and how many lines and bytes it has."""
+
+    fields: list[str]
+    delimiter: str
+    lines: int
+    size: int
+
+
+@dataclass(frozen=True)
+class Part:
+    """Whole lines of a file, and the number of the first, from 1."""
+
+    data: bytes
+    line: int
+
+
+@dataclass(frozen=True)
+class CsvTable:
+    """A table that is to be made of a CSV file."""
+
+    store: Store
+    table: str
+
+    def fill(self, file: BinaryIO, size: int, tell: Tell) -> tuple[int, list[str]]:
+        """Makes the table of a file of so many bytes, or of 0 where that isn't known. Gives the number of rows, and a
+        line for each column that is called otherwise than in the file. A Fault, without the file's name, where the file
+        is no such CSV; then the table isn't there."""
+        block = file.read(PART_BYTES)
+        header = header_of(block)
+        names, notes = column_names(header.fields)
+        columns = ", ".join(f"{name} {INTEGER.word}" for name in names)
+        create = f"CREATE TABLE {self.table} ({columns})"
+        with self.store.making(self.table, lambda session: session.execute(create)):
+            return self._load(parts_of(file, block, header), header, size, tell), notes
+
+    def _load(self, parts: Iterator[Part], header: Header, size: int, tell: Tell) -> int:
+        rows, done = 0, header.size
+        for part in parts:
+            rows += self._load_part(part, header)
+            done += len(part.data)
+            tell(f"{min(100 * done // size, 100)} %" if size else f"{done / 1e6:.0f} MB")
+        return rows
+
+    def _load_part(self, part: Part, header: Header) -> int:
+        data = part.data
+        if header.delimiter != ",":
+            # To exchange the two keeps a comma inside of a field from becoming a delimiter.
+            data = data.translate(bytes.maketrans(f"{header.delimiter},".encode(), f",{header.delimiter}".encode()))
+        try:
+            return self.store.call(lambda session: session.load_bytes(self.table, [_LEFT_OUT, data], header=True))
+        except DataRefused as refusal:
+            raise Fault(first_fault(part, header) or f"a record from line {part.line} on is refused") from refusal
+
+
+def header_of(block: bytes) -> Header:
+    """The header of a file that begins with these bytes. A Fault where it has none."""
+    if not block:
+        raise Fault("the file is empty, and a CSV file begins with a header")
+    if b"\0" in block:
+        raise Fault(f"no CSV file: line {block.count(10, 0, block.index(0)) + 1} has a zero byte")
+    skipped = len(_BYTE_ORDER_MARK) if block.startswith(_BYTE_ORDER_MARK) else 0
+    lines = block[skipped:HEADER_BYTES].splitlines(keepends=True)
+    texts = [line.decode("utf-8", "replace") for line in lines]
+    delimiter = _delimiter(next((text for text in texts if text.strip()), ""))
+    reader = csv.reader(texts, delimiter=delimiter)
+    line, fields = next(_records(reader, 1), (0, []))
+    if not fields:
+        raise Fault("no line has a field, and a CSV file begins with a header")
+    if len(fields) > COLUMN_LIMIT:
+        raise Fault(f"the header has {len(fields)} fields, and a table has at most {COLUMN_LIMIT} columns")
+    if all(map(NUMBER.fullmatch, fields)):
+        raise Fault(f"line {line} has integers alone, and a CSV file begins with a header")
+    size = skipped + sum(map(len, lines[: reader.line_num]))
+    return Header(fields, delimiter, reader.line_num, size)
+
+
+def parts_of(file: BinaryIO, block: bytes, header: Header) -> Iterator[Part]:
+    """What follows the header in the file, of which this block was read, in parts that end with a line."""
+    line = header.lines + 1
+    pieces: list[bytes] = []
+    for block in chain([block[header.size :]], iter(partial(file.read, PART_BYTES), b"")):
+        end = block.rfind(b"\n") + 1
+        if end:
+            part = Part(b"".join([*pieces, block[:end]]), line)
+            yield part
+            line += part.data.count(b"\n")
+            pieces = []
+        pieces.append(block[end:])
+    if last := b"".join(pieces):
+        yield Part(last, line)
+
+
+def first_fault(part: Part, header: Header) -> str | None:
+    """The first line of a part that is no row of the table, and why, or None where each is one."""
+    text = part.data.decode("utf-8", "backslashreplace")
+    reader = csv.reader(io.StringIO(text, newline=""), delimiter=header.delimiter)
+    for line, record in _records(reader, part.line):
+        reason = _fault_of(record, header.fields)
+        if reason:
+            return f"line {line}{reason}"
+    return None
+
+
+class _Reader(Protocol):
+    """A reader of Python's module csv."""
+
+    @property
+    def line_num(self) -> int:
+        """How many lines it has read."""
+
+    def __iter__(self) -> Iterator[list[str]]:
+        """The records."""
+
+
+def _records(reader: _Reader, first: int) -> Iterator[tuple[int, list[str]]]:
+    """The records of a reader, each with the line that it begins on. The reader's first line has this number. A line
+    without a byte is no record."""
+    line = first
+    try:
+        for record in reader:
+            if record:
+                yield line, record
+            line = first + reader.line_num
+    except csv.Error as fault:
+        raise Fault(f"no CSV file: line {line}: {fault}") from None
+
+
+def _fault_of(record: Sequence[str], columns: Sequence[str]) -> str | None:
+    """Why a record is no row, as the program would see it: first its number of fields, then field by field."""
+    if len(record) != len(columns):
+        return f" has {len(record)} fields, and the header has {len(columns)}"
+    for field, column in zip(record, columns):
+        try:
+            INTEGER.value_of(field)
+        except ValueError as fault:
+            return f", column {column!r}: {fault}"
+    return None
+
+
+def _delimiter(line: str) -> str:
+    """What stands between the fields of this line: a comma where it has one, else what it has most of."""
+    return "," if "," in line else max(_DELIMITERS, key=line.count)

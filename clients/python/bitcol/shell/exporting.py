@@ -1,0 +1,61 @@
+"""Files of tables: CSV or a table file, by the suffix of the file's name.
+
+A file is written beside the one that it replaces, so a failure leaves that one as it was.
+"""
+
+from __future__ import annotations
+
+import contextlib
+import os
+import shutil
+from collections.abc import Callable
+from pathlib import Path
+
+from ..script import checked_name
+from .fault import Fault, reason_of
+from .render import Mode, rendered
+from .store import Store
+
+
+def export_table(store: Store, table: str, path: str) -> int:
+    """Writes a table to a file, over one that is there, and gives the number of rows. A Fault where the suffix is none
+    of these or the file can't be written, and what the session raises."""
+    name = checked_name(table)
+    write = _WRITERS.get(Path(path).suffix.lower())
+    if write is None:
+        raise Fault(f"{path}: the suffix says what is written, {' or '.join(_WRITERS)}")
+    # The file that a link leads to is replaced, not the link.
+    target = Path(os.path.realpath(path) if os.path.islink(path) else path)
+    if target.exists() and not target.is_file():
+        raise Fault(f"{path}: this is no file")
+    draft = target.with_name(f".{target.name}.{os.getpid()}")
+    try:
+        rows = write(store, name, draft)
+        if target.exists():
+            shutil.copymode(target, draft)
+        os.replace(draft, target)
+    except OSError as fault:
+        raise Fault(f"{path}: {reason_of(fault)}") from None
+    finally:
+        # After an interrupt a SAVE may still be carried out: this comes after it, and nobody waits.
+        store.post(lambda _: _remove(draft))
+    return rows
+
+
+def _write_csv(store: Store, table: str, path: Path) -> int:
+    reply = store.call(lambda session: session.execute(f"SELECT * FROM {table}"))
+    with path.open("w", encoding="ascii", newline="") as file:
+        file.writelines(rendered(reply, Mode.CSV))
+    return len(reply)
+
+
+def _write_table_file(store: Store, table: str, path: Path) -> int:
+    return store.call(lambda session: session.save(table, path))
+
+
+def _remove(path: Path) -> None:
+    with contextlib.suppress(OSError):
+        path.unlink()
+
+
+_WRITERS: dict[str, Callable[[Store, str, Path], int]] = {".csv": _write_csv, ".table": _write_table_file}

@@ -1,0 +1,148 @@
+"""Tables of files: CSV, table files, and SQLite's. A file's first bytes tell which it is, whatever its name."""
+
+from __future__ import annotations
+
+import os
+import stat
+from collections.abc import Callable
+from dataclasses import dataclass, field
+from pathlib import Path
+
+from ..errors import DataError, ErrorNumber, Refused
+from ..table import Table
+from ..table_file import MARK as TABLE_FILE_MARK
+from . import sqlite_import
+from .csv_import import CsvTable, Tell
+from .fault import Fault, reason_of
+from .names import column_names, name_of
+from .store import Store
+
+
+@dataclass(frozen=True)
+class Imported:
+    """A table that was made of a file, and lines on what is called otherwise than there."""
+
+    table: str
+    rows: int
+    notes: list[str] = field(default_factory=list)
+
+
+@dataclass(frozen=True)
+class Import:
+    """One table that is to be made of a file. `run` makes it, or raises and makes none."""
+
+    label: str
+    run: Callable[[Tell], Imported]
+
+
+def split_word(word: str) -> tuple[str, str | None]:
+    """A word of the command line as a file and a table's name: `FILE`, or `FILE:TABLE` where no file has this name."""
+    path, colon, table = word.rpartition(":")
+    if colon and table and not os.path.exists(word) and os.path.exists(path):
+        return path, table
+    return word, None
+
+
+def imports_of(store: Store, path: str, table: str | None) -> list[Import]:
+    """What is to be made of a file: a table of this name, or of the file's. Of an SQLite file, the table of this name,
+    or all. A Fault where the file can't be read."""
+    if is_special(path):
+        # What isn't kept can't be looked at twice.
+        return [Import(path, lambda tell: _of_csv(store, path, table, tell))]
+    first = _first_bytes(path)
+    if first.startswith(sqlite_import.MARK):
+        return [_sqlite(store, path, name) for name in _chosen(path, table)]
+    if first.startswith(TABLE_FILE_MARK):
+        return [Import(path, lambda _: _of_table_file(store, path, table))]
+    return [Import(path, lambda tell: _of_csv(store, path, table, tell))]
+
+
+def is_special(path: str) -> bool:
+    """Whether the path is a pipe or a device."""
+    try:
+        mode = os.stat(path).st_mode
+    except (OSError, ValueError):
+        return False
+    return not stat.S_ISREG(mode) and not stat.S_ISDIR(mode)
+
+
+def _first_bytes(path: str) -> bytes:
+    try:
+        with open(path, "rb") as file:
+            return file.read(len(sqlite_import.MARK))
+    except OSError as fault:
+        raise Fault(f"{path}: {reason_of(fault)}") from None
+    except ValueError as fault:
+        raise Fault(f"{path!r}: {fault}") from None
+
+
+def _table_name(path: str, table: str | None) -> tuple[str, list[str]]:
+    """The name for a table: this one, or the file's, and a line where it can't be that."""
+    word = Path(path).stem if table is None else table
+    name = name_of(word, "T")
+    return name, [] if name == word.upper() else [f"table {word!r} is called {name}"]
+
+
+def _of_csv(store: Store, path: str, table: str | None, tell: Tell) -> Imported:
+    name, notes = _table_name(path, table)
+    try:
+        with open(path, "rb") as file:
+            status = os.fstat(file.fileno())
+            size = status.st_size if stat.S_ISREG(status.st_mode) else 0
+            rows, more = CsvTable(store, name).fill(file, size, tell)
+    except OSError as fault:
+        raise Fault(f"{path}: {reason_of(fault)}") from None
+    except Fault as fault:
+        raise Fault(f"{path}: {fault}") from None
+    except Refused as refusal:
+        raise _named(refusal, path, name) from None
+    return Imported(name, rows, notes + more)
+
+
+def _of_table_file(store: Store, path: str, table: str | None) -> Imported:
+    name, notes = _table_name(path, table)
+    try:
+        with store.making(name, lambda session: session.open(name, path)) as rows:
+            return Imported(name, rows, notes)
+    except Refused as refusal:
+        raise _named(refusal, path, name) from None
+
+
+def _chosen(path: str, table: str | None) -> list[str]:
+    """The tables of an SQLite file that are wanted: all, or the one of this name, as SQLite compares names."""
+    try:
+        names = sqlite_import.table_names(path)
+    except Fault as fault:
+        raise Fault(f"{path}: {fault}") from None
+    chosen = names if table is None else [name for name in names if name.lower() == table.lower()]
+    if not chosen:
+        there = f"it has {', '.join(names)}" if names else "it has none"
+        raise Fault(f"{path}: there is no table {table!r}; {there}" if table else f"{path}: the file has no tables")
+    return chosen
+
+
+def _sqlite(store: Store, path: str, table: str) -> Import:
+    """One table of an SQLite file."""
+    label = f"{path}, table {table}"
+
+    def run(tell: Tell) -> Imported:
+        name, notes = _table_name(path, table)
+        try:
+            words, columns = sqlite_import.read_table(path, table, tell)
+            names, more = column_names(words)
+            made = Table.of(dict(zip(names, columns)))
+            with store.making(name, lambda session: session.write_table(name, made)) as rows:
+                return Imported(name, rows, notes + more)
+        except Refused as refusal:
+            raise _named(refusal, label, name) from None
+        except (DataError, Fault) as fault:
+            raise Fault(f"{label}: {fault}") from None
+
+    return Import(label, run)
+
+
+def _named(refusal: Refused, label: str, table: str) -> Fault:
+    """A refusal with the file that it is about, and what to do where the table is there."""
+    if refusal.number == ErrorNumber.TABLE_EXISTS:
+        return Fault(f"{label}: there is a table {table} already: DROP it, or give this one another name")
+    return Fault(f"{label}: {refusal}")

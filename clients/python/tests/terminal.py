@@ -1,0 +1,188 @@
+"""The shell as people and scripts run it: behind a pseudo-terminal, and behind pipes."""
+
+from __future__ import annotations
+
+import fcntl
+import os
+import pty
+import re
+import select
+import signal
+import stat
+import struct
+import subprocess
+import sys
+import tempfile
+import termios
+import time
+import unittest
+from pathlib import Path
+
+import bitcol
+
+PACKAGE = Path(__file__).resolve().parent.parent
+SHELL = (sys.executable, "-B", "-m", "bitcol")
+PROMPT = "bitcol> "
+MORE = "   ...> "
+IN_TEXT = "     '> "
+COLUMNS = 100
+SECONDS = 30
+_ESCAPES = re.compile(r"\x1b\[[0-9;?]*[A-Za-z]")
+
+
+def environment(folder: Path, **variables: str) -> dict[str, str]:
+    """The variables of a shell whose history and temporary files lie in this folder."""
+    named = {
+        "BITCOL": os.path.abspath(bitcol.find_program()),
+        "PYTHONPATH": str(PACKAGE),
+        "XDG_STATE_HOME": str(folder / "state"),
+        "TERM": "dumb",
+        "COLUMNS": "",
+        "NO_COLOR": "",
+        "INPUTRC": os.devnull,
+        "PYTHONUTF8": "1",
+    }
+    return {**os.environ, **named, **variables}
+
+
+class ShellTestCase(unittest.TestCase):
+    """A test with a folder of its own, in which its shells run."""
+
+    def setUp(self) -> None:
+        room = tempfile.TemporaryDirectory()
+        self.addCleanup(room.cleanup)
+        self.folder = Path(room.name).resolve() / "work"
+        self.folder.mkdir()
+
+    def write(self, name: str, content: str | bytes) -> Path:
+        """Makes a file in the folder."""
+        path = self.folder / name
+        path.write_bytes(content.encode() if isinstance(content, str) else content)
+        return path
+
+    def run_shell(self, *words: object, typed: str = "", **variables: str) -> subprocess.CompletedProcess[str]:
+        """Runs the shell behind pipes, with this on its standard input."""
+        return subprocess.run(
+            [*SHELL, *map(str, words)],
+            input=typed,
+            capture_output=True,
+            text=True,
+            cwd=self.folder,
+            env=environment(self.folder.parent, **variables),
+            timeout=SECONDS,
+            check=False,
+        )
+
+    def assert_answers(self, words: tuple[object, ...], out: str, typed: str = "") -> None:
+        """Runs the shell behind pipes: it is to write exactly this, nothing on standard error, and end with 0."""
+        ended = self.run_shell(*words, typed=typed)
+        self.assertEqual((ended.stdout, ended.stderr, ended.returncode), (out, "", 0))
+
+    def assert_fails(
+        self, words: tuple[object, ...], errors: str, out: str = "", status: int = 1, typed: str = ""
+    ) -> None:
+        """Runs the shell behind pipes: it is to write exactly this on standard error, and end with this status."""
+        ended = self.run_shell(*words, typed=typed)
+        self.assertEqual((ended.stderr, ended.stdout, ended.returncode), (errors, out, status))
+
+    def terminal(self, *words: object, **variables: str) -> Terminal:
+        """A shell behind a terminal, at its first prompt. It ends with the test."""
+        terminal = self.start_terminal(*words, **variables)
+        terminal.wait_for(PROMPT)
+        return terminal
+
+    def start_terminal(self, *words: object, **variables: str) -> Terminal:
+        """A shell behind a terminal, which wrote nothing yet. It ends with the test."""
+        terminal = Terminal(self.folder, list(map(str, words)), environment(self.folder.parent, **variables))
+        self.addCleanup(terminal.kill)
+        return terminal
+
+    def observed_program(self) -> tuple[Path, Path]:
+        """A program for BITCOL that is the real one, and the file in which the number of its process is."""
+        number = self.folder.parent / "number"
+        program = self.folder.parent / "program"
+        program.write_text(f"#!/bin/sh\necho $$ > '{number}'\nexec '{os.path.abspath(bitcol.find_program())}'\n")
+        program.chmod(stat.S_IRWXU)
+        return program, number
+
+
+class Terminal:
+    """A shell behind a pseudo-terminal, and what it wrote."""
+
+    def __init__(self, folder: Path, words: list[str], variables: dict[str, str]) -> None:
+        self._pid, self._side = pty.fork()
+        if self._pid == 0:
+            try:
+                os.chdir(folder)
+                os.execve(SHELL[0], [*SHELL, *words], variables)
+            finally:
+                os._exit(127)
+        fcntl.ioctl(self._side, termios.TIOCSWINSZ, struct.pack("HHHH", 40, COLUMNS, 0, 0))
+        self.keeps_escapes = False
+        self._unread = ""
+        self._status: int | None = None
+
+    def wait_for(self, text: str, seconds: float = SECONDS) -> str:
+        """What was written up to this text, and not waited for before. AssertionError where it doesn't come."""
+        limit = time.monotonic() + seconds
+        while text not in self._unread:
+            if not self._read(limit - time.monotonic()):
+                raise AssertionError(f"{text!r} doesn't come after {self._unread!r}")
+        before, _, self._unread = self._unread.partition(text)
+        return before
+
+    def press(self, keys: str) -> None:
+        """Types keys, without the end of a line."""
+        self.press_bytes(keys.encode())
+
+    def press_bytes(self, keys: bytes) -> None:
+        """Types keys by the bytes that they send."""
+        os.write(self._side, keys)
+
+    def interrupt(self, prompt: str = PROMPT) -> None:
+        """Presses Ctrl-C, and waits for the next prompt. Nobody presses it within the moment between a prompt and the
+        wait for keys, when Python doesn't look at it before the next key."""
+        time.sleep(0.2)
+        self.press("\x03")
+        self.wait_for(prompt)
+
+    def say(self, line: str, prompt: str = PROMPT) -> str:
+        """Types a line at a prompt, and gives what is written up to the next."""
+        self.press(line + "\n")
+        return self.wait_for(prompt).partition("\n")[2]
+
+    def finish(self, line: str = ".quit") -> tuple[str, int]:
+        """Types a last line, and gives what is written to the end, and the status."""
+        self.press(line + "\n" if line else "\x04")
+        return self.rest(), self.status()
+
+    def rest(self) -> str:
+        """What is written up to the end of the shell, which ends by itself."""
+        while self._read(SECONDS):
+            pass
+        return self._unread
+
+    def status(self) -> int:
+        """The status of a shell that ends."""
+        if self._status is None:
+            _, status = os.waitpid(self._pid, 0)
+            self._status = os.waitstatus_to_exitcode(status)
+            os.close(self._side)
+        return self._status
+
+    def kill(self) -> None:
+        """Ends the shell where it hasn't ended."""
+        if self._status is None:
+            os.kill(self._pid, signal.SIGKILL)
+            self.status()
+
+    def _read(self, seconds: float) -> bool:
+        """Reads what was written. False where nothing comes in time, or the shell has ended."""
+        ready, _, _ = select.select([self._side], [], [], max(seconds, 0))
+        try:
+            data = os.read(self._side, 65_536) if ready else b""
+        except OSError:  # what Linux says at the end of the other side
+            data = b""
+        text = data.decode(errors="replace")
+        self._unread += (text if self.keeps_escapes else _ESCAPES.sub("", text)).replace("\r", "")
+        return bool(data)
