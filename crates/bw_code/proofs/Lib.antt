@@ -15,6 +15,7 @@ pub mod Moving
 pub mod Offsets
 pub mod Parts
 pub mod Reach
+pub mod Runs
 pub mod Segments
 pub mod UnitLemmas
 pub mod Widths

@@ -1,6 +1,8 @@
 -- A column of codes: how many bits a code has, the codes, and for how many there is room.
-use Rattle.std.specs.Prelude.{List, length, slice_index, ℕ, ◌<◌, ◌^◌, ◌≡◌, ◌≤◌}
+use Rattle.std.specs.Prelude.{Bool, List, if◌then◌else◌, length, nat_le, slice_index, ℕ, ◌&&◌, ◌-◌, ◌<◌, ◌^◌, ◌≡◌, ◌≤◌}
 use Rattle.std.specs.List.{All}
+use Rattle.bw_mask.specs.Masks.{bit_of}
+use Rattle.bw_code.specs.Lists.{made}
 
 pub record CodeList : Type 0 where
   pub width : ℕ
@@ -37,3 +39,15 @@ pub record AreWide (width : ℕ) (codes : List ℕ) : Type 0 where
   pub narrow : width ≤ 64
   pub few : length codes ≤ 2 ^ 24
   pub fit : Fit width codes
+
+-- whether row j is one of the rows from `at` on whose bit is set in a word: row at + i has bit i
+abbrev pub is_chosen : ℕ → ℕ → ℕ → Bool
+is_chosen at rows j = nat_le at j && bit_of rows (j - at)
+
+-- the codes, of which those of the chosen rows become the ones that stand at their bits' places, and the others stay
+abbrev pub put_codes : List ℕ → ℕ → ℕ → List ℕ → List ℕ
+put_codes old at rows codes = made (length old) (λ j. if is_chosen at rows j then slice_index codes (j - at) else slice_index old j)
+
+-- the codes, of which those of the chosen rows become this one, and the others stay
+abbrev pub filled_codes : List ℕ → ℕ → ℕ → ℕ → List ℕ
+filled_codes old at rows code = made (length old) (λ j. if is_chosen at rows j then code else slice_index old j)

@@ -1,15 +1,16 @@
 //! Columns of codes, in any layout.
 
-ghost use Rattle.std.specs.Prelude.{[], IfOk, OnOk, drop, length, slice_set, take, ℕ, ◌&&◌, ◌++◌, ◌+◌, ◌<◌, ◌^◌, ◌≡◌, ◌≤◌, ◌∷◌};
+ghost use Rattle.std.specs.Prelude.{[], IfOk, OnOk, drop, false, length, slice_set, take, true, ℕ, ◌%◌, ◌&&◌, ◌++◌, ◌+◌, ◌<◌, ◌^◌, ◌≡◌, ◌≤◌, ◌∷◌};
 ghost use Rattle.bw_mask.specs.Masks.{bit_of, len, row_at, SameShape};
 ghost use Rattle.bw_code.specs.declared.kind.Layout.{Layout};
-ghost use Rattle.bw_code.specs.Columns.{code_at, count, CodeList, Fit, KeepsShape};
+ghost use Rattle.bw_code.specs.Columns.{code_at, count, filled_codes, put_codes, CodeList, Fit, KeepsShape};
 ghost use Rattle.bw_code.specs.Meters.{raised};
 ghost use Rattle.bw_code.specs.Tests.{code_compares, meets, TestFits};
 ghost use Rattle.bw_code.specs.Units.{units_of_pair, units_of_scan};
 
 use crate::compare::{CmpOp, CodeTest};
 use crate::meter::Meter;
+use crate::shift::has_bit;
 use bw_mask::Mask;
 use std::alloc::{AllocError, Global};
 
@@ -59,9 +60,10 @@ pub trait CodeColumn: Sized {
         ensures count { result ≡ count (seen self.now) }
         ensures few { result ≤ 2 ^ 24 };
 
-    /// How many bits a code has.
+    /// How many bits a code has. All codes fit them.
     fn width(&self) -> u32
         ensures width { result ≡ (seen self.now).width }
+        ensures fit { Fit (seen self.now).width (seen self.now).codes }
         ensures some { 1 ≤ result }
         ensures narrow { result ≤ WIDEST };
 
@@ -77,6 +79,41 @@ pub trait CodeColumn: Sized {
         requires fits { code < 2 ^ (seen self.old).width }
         ensures shape { KeepsShape (seen self.new) (seen self.old) }
         ensures codes { (seen self.new).codes ≡ slice_set (seen self.old).codes i code };
+
+    /// Puts codes at some of at most 64 rows from row `at` on, which is the first of a word's: row at + i takes code i where
+    /// bit i of the word is set. Every other row keeps its code.
+    fn put_run(&mut self, at: usize, rows: u64, codes: &[u64])
+        requires word { at % 64 ≡ 0 }
+        requires few { length codes.now ≤ 64 }
+        requires there { at + length codes.now ≤ count (seen self.old) }
+        requires given { (i : ℕ) → length codes.now ≤ i → bit_of rows i ≡ false }
+        requires fit { Fit (seen self.old).width codes.now }
+        ensures shape { KeepsShape (seen self.new) (seen self.old) }
+        ensures codes { (seen self.new).codes ≡ put_codes (seen self.old).codes at rows codes.now }
+    {
+        for i in 0..codes.len() {
+            if has_bit(rows, i) {
+                self.set(at + i, codes[i]);
+            }
+        }
+    }
+
+    /// Puts one code at some of 64 rows from row `at` on, which is the first of a word's: at row at + i where bit i of the
+    /// word is set. Every other row keeps its code.
+    fn fill_run(&mut self, at: usize, rows: u64, code: u64)
+        requires word { at % 64 ≡ 0 }
+        requires inside { at ≤ count (seen self.old) }
+        requires there { (i : ℕ) → bit_of rows i ≡ true → at + i < count (seen self.old) }
+        requires fits { code < 2 ^ (seen self.old).width }
+        ensures shape { KeepsShape (seen self.new) (seen self.old) }
+        ensures codes { (seen self.new).codes ≡ filled_codes (seen self.old).codes at rows code }
+    {
+        for i in 0..64 {
+            if has_bit(rows, i) {
+                self.set(at + i, code);
+            }
+        }
+    }
 
     /// Fills `out` with the codes from row `at` on.
     fn read(&self, at: usize, out: &mut [u64])

@@ -15,6 +15,7 @@ mod narrow_codes;
 mod offset;
 mod plain;
 mod plain_pair;
+mod plain_run;
 mod ranks;
 mod shift;
 mod source;
@@ -22,6 +23,7 @@ mod unit_laws;
 mod wide_codes;
 mod wide_lanes;
 mod wide_pair;
+mod wide_run;
 mod width;
 
 pub use column::CodeColumn;

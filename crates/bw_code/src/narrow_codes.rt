@@ -10,8 +10,8 @@ use crate::column::CodeColumn;
 use crate::compare::{CmpOp, CodeTest};
 use crate::lanes::{self, Interval, filled_up};
 use crate::meter::Meter;
-use crate::plain_pair;
 use crate::shift::shift_codes;
+use crate::{plain_pair, plain_run};
 use bw_mask::Mask;
 use std::alloc::{AllocError, Global};
 use std::marker::Model;
@@ -79,6 +79,14 @@ impl CodeColumn for NarrowCodes {
     fn set(&mut self, i: usize, code: u64) {
         let codes = &mut self.codes;
         codes[i] = code as u32;
+    }
+
+    fn put_run(&mut self, at: usize, rows: u64, codes: &[u64]) {
+        plain_run::put_run(&mut self.codes, at, rows, codes);
+    }
+
+    fn fill_run(&mut self, at: usize, rows: u64, code: u64) {
+        plain_run::fill_run(&mut self.codes, at, rows, code as u32);
     }
 
     fn read(&self, at: usize, out: &mut [u64]) {

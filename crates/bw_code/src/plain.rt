@@ -104,6 +104,20 @@ impl CodeColumn for PlainColumn {
         }
     }
 
+    fn put_run(&mut self, at: usize, rows: u64, codes: &[u64]) {
+        match &mut self.codes {
+            PlainCodes::Narrow(own) => own.put_run(at, rows, codes),
+            PlainCodes::Wide(own) => own.put_run(at, rows, codes),
+        }
+    }
+
+    fn fill_run(&mut self, at: usize, rows: u64, code: u64) {
+        match &mut self.codes {
+            PlainCodes::Narrow(codes) => codes.fill_run(at, rows, code),
+            PlainCodes::Wide(codes) => codes.fill_run(at, rows, code),
+        }
+    }
+
     fn read(&self, at: usize, out: &mut [u64]) {
         match &self.codes {
             PlainCodes::Narrow(codes) => codes.read(at, out),

@@ -16,7 +16,7 @@ pub fn word_between(from: i64, to: i64) -> u64
 
 /// Whether bit i is set.
 #[tactic(auto, using(bw_mask::proofs::Bits::bit_test))]
-fn has_bit(word: u64, i: usize) -> bool
+pub(crate) fn has_bit(word: u64, i: usize) -> bool
     requires { i < 64 }
     ensures { result ≡ bit_of word i }
 {

@@ -11,7 +11,7 @@ use crate::meter::Meter;
 use crate::narrow_codes::units;
 use crate::shift::shift_wide_codes;
 use crate::wide_lanes::{self, WideInterval, filled_up};
-use crate::{plain_pair, wide_pair};
+use crate::{plain_pair, wide_pair, wide_run};
 use bw_mask::Mask;
 use std::alloc::{AllocError, Global};
 use std::marker::Model;
@@ -79,6 +79,14 @@ impl CodeColumn for WideCodes {
     fn set(&mut self, i: usize, code: u64) {
         let codes = &mut self.codes;
         codes[i] = code;
+    }
+
+    fn put_run(&mut self, at: usize, rows: u64, codes: &[u64]) {
+        wide_run::put_run(&mut self.codes, at, rows, codes);
+    }
+
+    fn fill_run(&mut self, at: usize, rows: u64, code: u64) {
+        wide_run::fill_run(&mut self.codes, at, rows, code);
     }
 
     fn read(&self, at: usize, out: &mut [u64]) {

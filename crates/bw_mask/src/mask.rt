@@ -260,6 +260,23 @@ impl Mask {
         words::put_word(&mut self.words, self.len, k, word);
     }
 
+    /// Rows 256 q to 256 q + 255, as far as there are such rows, become the bits of four words. No other row changes.
+    #[tactic(auto, using(crate::proofs::Views::rows_len))]
+    pub fn put_lanes(&mut self, q: usize, lanes: &[u64; 4])
+        requires { q < 2 ^ 32 }
+        ensures shape { SameShape self.new self.old }
+        ensures inside { (j : ℕ) → j < 256 → 256 * q + j < len self.old → row_at self.new (256 * q + j) ≡ row_in lanes.now j }
+        ensures outside { (j : ℕ) → (256 * q ≤ j → 256 * q + 256 ≤ j) → row_at self.new j ≡ row_at self.old j }
+    {
+        if q < self.len / 256 {
+            words::put_four(&mut self.words, q, lanes);
+        } else {
+            for i in 0..4 {
+                self.put_word(4 * q + i, lanes[i]);
+            }
+        }
+    }
+
     /// The words: row i is bit i % 64 of word i / 64, and bits past the end are 0.
     #[tactic(auto, using(crate::proofs::Views::rows_len, crate::proofs::Views::rows_clean))]
     pub fn words(&self) -> &[u64]

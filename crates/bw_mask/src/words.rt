@@ -179,6 +179,18 @@ pub(crate) fn put_word(words: &mut Vec<u64>, n: usize, k: usize, word: u64)
     }
 }
 
+/// Words 4 q to 4 q + 3 become these.
+pub(crate) fn put_four(words: &mut [u64], q: usize, lanes: &[u64; 4])
+    requires { 4 * q + 4 ≤ length words.old }
+    ensures len { length words.new ≡ length words.old }
+    ensures inside { (j : ℕ) → j < 256 → row_in words.new (256 * q + j) ≡ row_in lanes.now j }
+    ensures other { (j : ℕ) → (256 * q ≤ j → 256 * q + 256 ≤ j) → row_in words.new j ≡ row_in words.old j }
+{
+    for i in 0..4 {
+        words[4 * q + i] = lanes[i];
+    }
+}
+
 /// Word k; past the last word 0.
 fn word_at(words: &[u64], k: usize) -> u64
     ensures { result ≡ slice_index words.now k }
