@@ -1,9 +1,9 @@
 -- What groups of planes hold.
-use Rattle.std.proofs.Common.{Global, List, Vec, [], ◌++◌, ap, arith, false, get_or, inl, inr, length, set, sym, ℕ, ◌%◌, ◌*◌, ◌+◌, ◌-◌, ◌/◌, ◌<◌, ◌^◌, ◌≡◌, ◌≤◌, ◌∙◌, pow_pos}
+use Rattle.std.proofs.Common.{Global, List, Vec, [], ◌++◌, ap, arith, drop, false, get_or, inl, inr, length, set, sym, take, ℕ, ◌%◌, ◌*◌, ◌+◌, ◌-◌, ◌/◌, ◌<◌, ◌^◌, ◌≡◌, ◌≤◌, ◌∙◌, pow_pos}
 use mathlib.Core.Logic.{◌≢◌}
 use Rattle.std.proofs.Math.Nat.{mul-le-mul_right}
 use Rattle.std.proofs.lemmas.Bool.{cases_lt}
-use Rattle.std.proofs.lemmas.List.{get_or_past, length-map}
+use Rattle.std.proofs.lemmas.List.{get_or-drop, get_or-take, get_or_past, length-map, length-take}
 use Rattle.std.proofs.lemmas.Nat.{div-mul-add, mod-mul-add}
 use Rattle.bw_mask.specs.Masks.{bit_of, row_in}
 use Rattle.bw_mask.proofs.Bits.{bit_of_zero}
@@ -95,6 +95,13 @@ module _ (k n : ℕ) (gs : List (List (List ℕ))) where
 
   pub code_in_is : (j : ℕ) → j / 256 < segments_of n → code_in k (units_of k gs n) j ≡ code_of k gs j
   code_in_is j h = number_same (λ i. in_plane k (units_of k gs n) i j) (λ i. is_set k gs i j) k (λ i low. plane_is i j low h)
+
+-- planes side by side without the first m
+pub held_past : (k first m : ℕ) (gs : List (List (List ℕ))) (run : List (List ℕ)) → HoldsUnits k gs run first → HoldsUnits k gs (take (length run - m) (drop m run)) (first + m)
+held_past k first m gs run held n h =
+    let low : n < length run - m = omega (arith, h, length-take (length run - m) (drop m run)) in
+    let unit : first + (m + n) ≡ first + m + n = omega arith in
+    get_or-take (length run - m) (drop m run) n [] low ∙ get_or-drop m run n [] ∙ held (m + n) (omega (arith, low)) ∙ ap (λ v. plane_at k gs (v / k) (v % k)) unit
 
 -- row j is put anew
 module _ (k n j code : ℕ) (old new : List (List (List ℕ))) (small : code < 2 ^ k) (low : j < n)

@@ -204,3 +204,14 @@ some_row rows any = by_case (some_below (length rows) (λ j. get_or rows j false
     by_case : (b : Bool) → some_below (length rows) (λ j. get_or rows j false) ≡ b → some_below (length rows) (λ j. get_or rows j false) ≡ true
     by_case true h = h
     by_case false h = absurd (let none = list_any_none (λ row. row) rows (λ j d l. get_or_default rows j d false l ∙ none_at (length rows) (λ i. get_or rows i false) h j l) in cc)
+
+-- bit b of the codes of segment q, from the plane that was read at its place
+pub plane_read : (k q b at : ℕ) (units now : List (List ℕ)) (plane : List ℕ) → now ≡ units → plane ≡ get_or now at plane → at ≡ q * k + (k - 1 - b) → b < k → (q + 1) * k ≤ length units
+    → (j : ℕ) → j < 256 → row_in plane j ≡ bit_of (code_in k units (256 * q + j)) b
+plane_read k q b at units now plane kept is at_is low there j h =
+    let inside : q * k + (k - 1 - b) < length units = omega (arith, there, low) in
+    ap (λ p. row_in p j) (is ∙ ap (λ us. get_or us at plane) kept ∙ ap (λ m. get_or units m plane) at_is ∙ get_or_default units (q * k + (k - 1 - b)) plane [] inside) ∙ plane_bit k q b j units h low
+
+-- how many of three planes there are, where there is no fourth
+pub three_more : (n k : ℕ) → k < n + 4 → (if nat_lt n k then 1 else 0) + (if nat_lt (n + 1) k then 1 else 0) + (if nat_lt (n + 2) k then 1 else 0) ≡ min 4 (k - n)
+three_more n k h = grind (arith, nat_tests, h)

@@ -1,6 +1,6 @@
 -- How a column of codes lies in memory. Group g holds planes 4g to 4g + 3, as far as there are such planes; in it the planes of
 -- segment 0 come first, then those of segment 1, and so on. A plane of a segment is four words of 64 rows.
-use Rattle.std.specs.Prelude.{Bool, List, [], false, length, map, min, slice_index, slice_index_or, suc, zero, ℕ, ◌%◌, ◌*◌, ◌+◌, ◌-◌, ◌/◌, ◌<◌, ◌^◌, ◌≡◌, ◌≤◌}
+use Rattle.std.specs.Prelude.{Bool, List, [], bit_and, bit_or, false, length, map, min, slice_index, slice_index_or, suc, zero, ℕ, ◌%◌, ◌*◌, ◌+◌, ◌-◌, ◌/◌, ◌<◌, ◌^◌, ◌≡◌, ◌≤◌}
 use Rattle.std.specs.Prelude.{vec_capacity}
 use Rattle.std.specs.Global.{Vec}
 use Rattle.std.specs.Simd.Lanes.{mask_l}
@@ -66,6 +66,10 @@ pub record KeepsSizes (new old : List (Vec (List ℕ))) : Type 0 where
   pub sizes : (g : ℕ) → length (slice_index_or (lists new) g []) ≡ length (slice_index_or (lists old) g [])
   pub capacities : (g : ℕ) → slice_index (capacities old) g ≤ slice_index (capacities new) g
 
+-- the chosen rows of a word become those of another
+abbrev pub blended : ℕ → ℕ → ℕ → ℕ
+blended rows new old = bit_or (bit_and old (2 ^ 64 - 1 - rows)) (bit_and new rows)
+
 -- the first n codes
 abbrev pub codes_of : ℕ → List (List (List ℕ)) → ℕ → List ℕ
 codes_of k groups n = made n (code_of k groups)
@@ -82,10 +86,23 @@ pub record PlanesRead : Type 0 where
 abbrev pub HoldsUnits : ℕ → List (List (List ℕ)) → List (List ℕ) → ℕ → Type 0
 HoldsUnits k groups run first = (i : ℕ) → i < length run → slice_index_or run i [] ≡ plane_at k groups ((first + i) / k) ((first + i) % k)
 
--- the planes of n codes, the first unit of a segment of them, and the units of a group of planes, four at most
-pub record IsInPlace (k : ℕ) (groups : List (List (List ℕ))) (n segment start : ℕ) (run : List (List ℕ)) (first : ℕ) : Type 0 where
-  pub planes : AreGroups k groups n
+-- the groups of all planes but the first k - left, which fill whole groups
+pub record LieAhead (k : ℕ) (groups behind : List (Vec (List ℕ))) (left : ℕ) : Type 0 where
+  pub whole : 4 * ((k - left) / 4) ≡ k - left
+  pub count : (k - left) / 4 + length behind ≡ length groups
+  pub same : (g : ℕ) → g < length behind → (d : Vec (List ℕ)) → slice_index_or behind g d ≡ slice_index_or groups ((k - left) / 4 + g) d
+
+-- a segment and its first unit, how many of its planes are in the groups that were not taken from, those groups, and what is left of the last one
+-- that was taken from, from a unit on
+pub record Stands (k : ℕ) (groups : List (Vec (List ℕ))) (segment start left : ℕ) (behind : List (Vec (List ℕ))) (rest : List (List ℕ)) (next : ℕ) : Type 0 where
   pub start_is : start ≡ segment * k
-  pub units : HoldsUnits k groups run first
-  pub few : length run ≤ 4
-  pub low : first ≤ 2 ^ 63
+  pub small : start < 2 ^ 62
+  pub within : left ≤ k
+  pub ahead : 0 < left → LieAhead k groups behind left
+  pub units : HoldsUnits k (lists groups) rest next
+  pub end : next + length rest + left ≡ start + k
+
+-- the planes of n codes, and where their source stands
+pub record IsInPlace (k : ℕ) (groups : List (Vec (List ℕ))) (n segment start left : ℕ) (behind : List (Vec (List ℕ))) (rest : List (List ℕ)) (next : ℕ) : Type 0 where
+  pub planes : AreGroups k (lists groups) n
+  pub stands : Stands k groups segment start left behind rest next

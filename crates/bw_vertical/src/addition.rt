@@ -1,7 +1,7 @@
 //! Columns of kind OFFSET with different bases, compared without fetching a value: what the higher base is above the other is
 //! added to its codes, and the sums are compared with the codes of the other, plane by plane from the lowest up.
 
-ghost use Rattle.std.specs.Prelude.{if◌then◌else◌, length, nat_le, nat_lt, not, pos, ℕ, ◌&&◌, ◌*◌, ◌+◌, ◌+ℤ◌, ◌<◌, ◌==◌, ◌^◌, ◌≡◌, ◌≤◌, ◌⊎◌};
+ghost use Rattle.std.specs.Prelude.{if◌then◌else◌, length, min, nat_le, nat_lt, not, pos, ℕ, ◌&&◌, ◌*◌, ◌+◌, ◌+ℤ◌, ◌-◌, ◌<◌, ◌==◌, ◌^◌, ◌≡◌, ◌≤◌, ◌⊎◌};
 ghost use Rattle.bw_mask.specs.Masks.{SameShape, bit_of, len, row_at, row_in};
 ghost use Rattle.bw_code.specs.Choosing.{by_masks};
 ghost use Rattle.bw_code.specs.Tests.{code_compares, int_compares};
@@ -137,6 +137,42 @@ fn low_plane<S: Source<[u64; 4]>>(source: &mut S, k: usize, q: usize, n: usize) 
     }
 }
 
+/// The planes of bits n to n + 3, counted from the lowest, of the codes of segment q. Planes are quickest read from the highest
+/// down, so four of them are read so and handed on the other way round.
+#[inline(always)]
+fn low_planes<S: Source<[u64; 4]>>(
+    source: &mut S,
+    k: usize,
+    q: usize,
+    n: usize,
+) -> ([u64; 4], [u64; 4], [u64; 4], [u64; 4])
+    requires narrow { k ≤ 64 }
+    requires bit { n ≤ 64 }
+    requires small { q < 2 ^ 32 }
+    requires there { (q + 1) * k ≤ length (S.units source.old) }
+    requires few { S.reads source.old + min 4 (k - n) ≤ 2 ^ 63 }
+    ensures units { S.units source.new ≡ S.units source.old }
+    ensures reads { S.reads source.new ≡ S.reads source.old + min 4 (k - n) }
+    ensures first { (j : ℕ) → j < 256 → row_in result.0 j ≡ bit_of (code_in k (S.units source.old) (256 * q + j)) n }
+    ensures second { (j : ℕ) → j < 256 → row_in result.1 j ≡ bit_of (code_in k (S.units source.old) (256 * q + j)) (n + 1) }
+    ensures third { (j : ℕ) → j < 256 → row_in result.2 j ≡ bit_of (code_in k (S.units source.old) (256 * q + j)) (n + 2) }
+    ensures fourth { (j : ℕ) → j < 256 → row_in result.3 j ≡ bit_of (code_in k (S.units source.old) (256 * q + j)) (n + 3) }
+{
+    if n + 4 <= k {
+        let unit = q * k + (k - 4 - n);
+        let fourth = source.read(unit);
+        let third = source.read(unit + 1);
+        let second = source.read(unit + 2);
+        let first = source.read(unit + 3);
+        (first, second, third, fourth)
+    } else {
+        let first = low_plane(source, k, q, n);
+        let second = low_plane(source, k, q, n + 1);
+        let third = low_plane(source, k, q, n + 2);
+        (first, second, third, [0; 4])
+    }
+}
+
 /// The rows of segment q whose code in `a` with `lift` added is below the code in `b`, and those where the two differ.
 fn compare_lifted<A: Source<[u64; 4]>, B: Source<[u64; 4]>>(
     a: &mut A,
@@ -162,14 +198,18 @@ fn compare_lifted<A: Source<[u64; 4]>, B: Source<[u64; 4]>>(
     ensures differ { (j : ℕ) → j < 256 → row_in result.1 j
         ≡ not (code_in width (A.units a.old) (256 * q + j) + lift == code_in other (B.units b.old) (256 * q + j)) }
 {
-    let planes = width.max(other);
+    let groups = width.max(other).div_ceil(4);
     let mut low = LowBits::none();
-    for n in 0..planes {
-        let x = low_plane(a, width, q, n);
-        let y = low_plane(b, other, q, n);
-        low = low.and_plane(&x, has_bit(lift, n), &y);
+    for g in 0..groups {
+        let n = 4 * g;
+        let x = low_planes(a, width, q, n);
+        let y = low_planes(b, other, q, n);
+        let one = low.and_plane(&x.0, has_bit(lift, n), &y.0);
+        let two = one.and_plane(&x.1, has_bit(lift, n + 1), &y.1);
+        let three = two.and_plane(&x.2, has_bit(lift, n + 2), &y.2);
+        low = three.and_plane(&x.3, has_bit(lift, n + 3), &y.3);
     }
-    low.whole(lift, planes)
+    low.whole(lift, 4 * groups)
 }
 
 /// The rows of segment q whose first sum is below the second one, and those where the sums differ. To one of the two columns

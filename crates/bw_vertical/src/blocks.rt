@@ -5,7 +5,7 @@ ghost use Rattle.bw_mask.specs.Masks.{bit_of};
 ghost use Rattle.bw_vertical.specs.Storage.{HasSegment, KeepsSizes, code_of, groups_of, is_set, lists};
 
 use crate::bytes::{codes_of_words, put_codes};
-use crate::storage::{add_words, words_at};
+use crate::storage::{add_words, take_planes};
 
 /// The codes of rows 64 w to 64 w + 63, of at most 32 bits.
 fn block_at(groups: &[Vec<[u64; 4]>], k: usize, w: usize) -> [u32; 64]
@@ -15,7 +15,9 @@ fn block_at(groups: &[Vec<[u64; 4]>], k: usize, w: usize) -> [u32; 64]
     requires there { HasSegment k (lists groups.now) (w / 4) }
     ensures { (r : ℕ) → r < 64 → slice_index result r ≡ code_of k (lists groups.now) (64 * w + r) }
 {
-    codes_of_words(&words_at(groups, k, w), k)
+    let mut words = [0; 32];
+    take_planes(groups, k, w, &mut words);
+    codes_of_words(&words, k)
 }
 
 /// The codes of rows 64 w to 64 w + 63, of more than 32 bits: the 32 lowest bits of each, and those above them.
@@ -27,7 +29,8 @@ fn halves_at(groups: &[Vec<[u64; 4]>], k: usize, w: usize) -> ([u32; 64], [u32; 
     requires there { HasSegment k (lists groups.now) (w / 4) }
     ensures { (r : ℕ) → r < 64 → slice_index result.0 r + 2 ^ 32 * slice_index result.1 r ≡ code_of k (lists groups.now) (64 * w + r) }
 {
-    let words = words_at(groups, k, w);
+    let mut words = [0; 64];
+    take_planes(groups, k, w, &mut words);
     (
         codes_of_words(&words, 32),
         codes_of_words(&words[32..], k - 32),
@@ -61,31 +64,42 @@ fn copy_halves(low: &[u32], high: &[u32], from: usize, n: usize, out: &mut [u64]
     }
 }
 
-/// Copies the codes of n rows from row `from` of word w on to a place of `out`.
-fn copy_codes(
-    groups: &[Vec<[u64; 4]>],
-    k: usize,
-    w: usize,
-    from: usize,
-    n: usize,
-    out: &mut [u64],
-    at: usize,
-)
-    requires narrow { k ≤ 64 }
-    requires small { w < 2 ^ 32 }
+/// Fills `out` with the codes of rows `at`, `at + 1`, .., of at most 32 bits.
+fn read_narrow(groups: &[Vec<[u64; 4]>], k: usize, at: usize, out: &mut [u64])
+    requires narrow { k ≤ 32 }
+    requires small { at + length out.old ≤ 2 ^ 32 }
     requires count { length groups.now ≡ groups_of k }
-    requires there { HasSegment k (lists groups.now) (w / 4) }
-    requires inside { from + n ≤ 64 }
-    requires out { at + n ≤ length out.old }
+    requires there { (j : ℕ) → j < at + length out.old → HasSegment k (lists groups.now) (j / 256) }
     ensures long { length out.new ≡ length out.old }
-    ensures before { (i : ℕ) → i < at → slice_index out.new i ≡ slice_index out.old i }
-    ensures copied { (r : ℕ) → r < n → slice_index out.new (at + r) ≡ code_of k (lists groups.now) (64 * w + (from + r)) }
+    ensures codes { (i : ℕ) → i < length out.old → slice_index out.new i ≡ code_of k (lists groups.now) (at + i) }
 {
-    if k <= 32 {
-        copy_run(&block_at(groups, k, w), from, n, out, at);
-    } else {
-        let (low, high) = halves_at(groups, k, w);
-        copy_halves(&low, &high, from, n, out, at);
+    let mut i = 0;
+    while i < out.len() {
+        let from = (at + i) % 64;
+        let n = (64 - from).min(out.len() - i);
+        let block = block_at(groups, k, (at + i) / 64);
+        copy_run(&block, from, n, out, i);
+        i += n;
+    }
+}
+
+/// Fills `out` with the codes of rows `at`, `at + 1`, .., of more than 32 bits.
+fn read_wide(groups: &[Vec<[u64; 4]>], k: usize, at: usize, out: &mut [u64])
+    requires wide { 32 ≤ k }
+    requires narrow { k ≤ 64 }
+    requires small { at + length out.old ≤ 2 ^ 32 }
+    requires count { length groups.now ≡ groups_of k }
+    requires there { (j : ℕ) → j < at + length out.old → HasSegment k (lists groups.now) (j / 256) }
+    ensures long { length out.new ≡ length out.old }
+    ensures codes { (i : ℕ) → i < length out.old → slice_index out.new i ≡ code_of k (lists groups.now) (at + i) }
+{
+    let mut i = 0;
+    while i < out.len() {
+        let from = (at + i) % 64;
+        let n = (64 - from).min(out.len() - i);
+        let (low, high) = halves_at(groups, k, (at + i) / 64);
+        copy_halves(&low, &high, from, n, out, i);
+        i += n;
     }
 }
 
@@ -98,12 +112,11 @@ pub(crate) fn read_codes(groups: &[Vec<[u64; 4]>], k: usize, at: usize, out: &mu
     ensures long { length out.new ≡ length out.old }
     ensures codes { (i : ℕ) → i < length out.old → slice_index out.new i ≡ code_of k (lists groups.now) (at + i) }
 {
-    let mut i = 0;
-    while i < out.len() {
-        let from = (at + i) % 64;
-        let n = (64 - from).min(out.len() - i);
-        copy_codes(groups, k, (at + i) / 64, from, n, out, i);
-        i += n;
+    // A loop for each, since one that chooses at each block is slower.
+    if k <= 32 {
+        read_narrow(groups, k, at, out);
+    } else {
+        read_wide(groups, k, at, out);
     }
 }
 

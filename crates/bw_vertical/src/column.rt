@@ -13,7 +13,7 @@ use crate::pair::pair_from;
 use crate::scan::scan_from;
 use crate::shifting::shift_codes;
 use crate::source::PlaneSource;
-use crate::{blocks, codes};
+use crate::{blocks, codes, runs};
 use bw_code::{CmpOp, CodeColumn, CodeTest, Meter, Source, word_between};
 use bw_mask::Mask;
 use std::alloc::{AllocError, Global};
@@ -160,6 +160,20 @@ impl CodeColumn for VerticalColumn {
     #[tactic(auto, using(crate::proofs::Holding::codes_len))]
     fn set(&mut self, i: usize, code: u64) {
         codes::put_code(&mut self.groups, self.width as usize, i, code);
+    }
+
+    #[tactic(auto, using(crate::proofs::Holding::codes_len))]
+    fn put_run(&mut self, at: usize, rows: u64, codes: &[u64]) {
+        if at < self.len {
+            runs::put_chosen(&mut self.groups, self.width as usize, at / 64, rows, codes);
+        }
+    }
+
+    #[tactic(auto, using(crate::proofs::Holding::codes_len))]
+    fn fill_run(&mut self, at: usize, rows: u64, code: u64) {
+        if at < self.len {
+            runs::fill_chosen(&mut self.groups, self.width as usize, at / 64, rows, code);
+        }
     }
 
     #[tactic(auto, using(crate::proofs::Holding::codes_len))]

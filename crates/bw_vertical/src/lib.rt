@@ -2,6 +2,7 @@
 #![tactic(auto)]
 
 mod addition;
+mod blending;
 mod blocks;
 mod bytes;
 mod codes;
@@ -9,6 +10,7 @@ mod column;
 mod growing;
 mod pair;
 mod rows;
+mod runs;
 mod scan;
 mod shifting;
 mod source;

@@ -38,9 +38,7 @@ pub(crate) fn put_lanes(out: &mut Mask, q: usize, lanes: &[u64; 4])
     ensures inside { (j : ℕ) → j < 256 → 256 * q + j < len out.old → row_at out.new (256 * q + j) ≡ row_in lanes.now j }
     ensures before { (j : ℕ) → j < 256 * q → row_at out.new j ≡ row_at out.old j }
 {
-    for i in 0..4 {
-        out.put_word(4 * q + i, lanes[i]);
-    }
+    out.put_lanes(q, lanes);
 }
 
 pub(crate) fn is_empty(lanes: &[u64]) -> bool

@@ -12,13 +12,6 @@ use bw_code::{CmpOp, CodeTest, Source};
 use bw_lane::plane_step;
 use bw_mask::Mask;
 
-/// Whether a scan stops after plane i: a group of planes ends there, and no row is left.
-fn stops(i: usize, left: &[u64; 4]) -> bool
-    ensures { result ≡ (i % 4 == 3 && not (some_below 256 (row_in left.now))) }
-{
-    i % 4 == 3 && is_empty(left)
-}
-
 /// The needed rows that compare so, by those that are below and those that are equal.
 pub(crate) fn chosen(op: CmpOp, need: &[u64; 4], lt: &[u64; 4], eq: &[u64; 4]) -> [u64; 4]
     ensures { (j : ℕ) → j < 256 → row_in result j ≡ by_masks op (row_in need.now j) (row_in lt.now j) (row_in eq.now j) }
@@ -34,7 +27,8 @@ pub(crate) fn chosen(op: CmpOp, need: &[u64; 4], lt: &[u64; 4], eq: &[u64; 4]) -
 }
 
 /// Compares the rows of segment q with a constant by plane i more, below those that were compared. `lt` are the rows below
-/// the constant so far, and `eq` those that are equal to it so far.
+/// the constant so far, and `eq` those that are equal to it so far. The constant's bit is bit `at` of the bits, and the plane
+/// is unit `unit`.
 // A scan calls it for each plane, and a call left in place would keep both masks in memory.
 #[inline(always)]
 fn compare_plane<S: Source<[u64; 4]>>(
@@ -42,22 +36,26 @@ fn compare_plane<S: Source<[u64; 4]>>(
     k: usize,
     q: usize,
     i: usize,
-    constant: u64,
+    unit: usize,
+    bits: u64,
+    at: usize,
     lt: &mut [u64; 4],
     eq: &mut [u64; 4],
 )
     requires narrow { k ≤ 64 }
     requires within { i < k }
+    requires unit { unit ≡ q * k + i }
+    requires bit { at < 64 }
     requires small { q < 2 ^ 32 }
     requires there { (q + 1) * k ≤ length (S.units source.old) }
     requires few { S.reads source.old < 2 ^ 63 }
     ensures units { S.units source.new ≡ S.units source.old }
     ensures reads { S.reads source.new ≡ S.reads source.old + 1 }
-    ensures less { (j : ℕ) → j < 256 → row_in lt.new j ≡ (row_in lt.old j || (row_in eq.old j && (bit_of constant (k - 1 - i) && not (row_in (slice_index_or (S.units source.old) (q * k + i) []) j)))) }
-    ensures same { (j : ℕ) → j < 256 → row_in eq.new j ≡ (row_in eq.old j && (if bit_of constant (k - 1 - i) then row_in (slice_index_or (S.units source.old) (q * k + i) []) j else not (row_in (slice_index_or (S.units source.old) (q * k + i) []) j))) }
+    ensures less { (j : ℕ) → j < 256 → row_in lt.new j ≡ (row_in lt.old j || (row_in eq.old j && (bit_of bits at && not (row_in (slice_index_or (S.units source.old) (q * k + i) []) j)))) }
+    ensures same { (j : ℕ) → j < 256 → row_in eq.new j ≡ (row_in eq.old j && (if bit_of bits at then row_in (slice_index_or (S.units source.old) (q * k + i) []) j else not (row_in (slice_index_or (S.units source.old) (q * k + i) []) j))) }
 {
-    let plane = source.read(q * k + i);
-    plane_step(lt, eq, &plane, constant >> (k - 1 - i) & 1 == 1);
+    let plane = source.read(unit);
+    plane_step(lt, eq, &plane, bits >> at & 1 == 1);
 }
 
 /// The needed rows of segment q that are below the constant, and those that are equal to it.
@@ -81,25 +79,78 @@ fn compare<S: Source<[u64; 4]>>(
 {
     let (mut lt, mut eq) = ([0; 4], *need);
     for g in 0..k / 4 {
-        compare_plane(source, k, q, 4 * g, constant, &mut lt, &mut eq);
-        compare_plane(source, k, q, 4 * g + 1, constant, &mut lt, &mut eq);
-        compare_plane(source, k, q, 4 * g + 2, constant, &mut lt, &mut eq);
-        compare_plane(source, k, q, 4 * g + 3, constant, &mut lt, &mut eq);
+        // The four bits of a group are taken by one shift.
+        let bits = constant >> (k - 4 - 4 * g);
+        let unit = q * k + 4 * g;
+        compare_plane(source, k, q, 4 * g, unit, bits, 3, &mut lt, &mut eq);
+        compare_plane(source, k, q, 4 * g + 1, unit + 1, bits, 2, &mut lt, &mut eq);
+        compare_plane(source, k, q, 4 * g + 2, unit + 2, bits, 1, &mut lt, &mut eq);
+        compare_plane(source, k, q, 4 * g + 3, unit + 3, bits, 0, &mut lt, &mut eq);
         if is_empty(&eq) {
             return (lt, eq);
         }
     }
     for i in k / 4 * 4..k {
-        compare_plane(source, k, q, i, constant, &mut lt, &mut eq);
+        compare_plane(
+            source,
+            k,
+            q,
+            i,
+            q * k + i,
+            constant,
+            k - 1 - i,
+            &mut lt,
+            &mut eq,
+        );
     }
     (lt, eq)
 }
 
-/// The rows that are not below the low end, and below the high end or equal to it.
-fn inside(below: &[u64; 4], lt: &[u64; 4], eq: &[u64; 4]) -> [u64; 4]
-    ensures { (j : ℕ) → j < 256 → row_in result j ≡ ((row_in lt.now j || row_in eq.now j) && not (row_in below.now j)) }
+/// The rows that are below a constant by the planes so far, and those that are equal to it.
+#[derive(Clone, Copy)]
+struct Side {
+    lt: [u64; 4],
+    eq: [u64; 4],
+}
+
+/// Compares the rows of segment q with both ends of a range by plane i more, which is unit `unit`. The ends' bits are bits `at`.
+// As for `compare_plane`: a call left in place would keep the four masks in memory.
+#[inline(always)]
+fn between_plane<S: Source<[u64; 4]>>(
+    source: &mut S,
+    k: usize,
+    q: usize,
+    i: usize,
+    unit: usize,
+    ends: (u64, u64),
+    at: usize,
+    low: &mut Side,
+    high: &mut Side,
+)
+    requires narrow { k ≤ 64 }
+    requires within { i < k }
+    requires unit { unit ≡ q * k + i }
+    requires bit { at < 64 }
+    requires small { q < 2 ^ 32 }
+    requires there { (q + 1) * k ≤ length (S.units source.old) }
+    requires few { S.reads source.old < 2 ^ 63 }
+    ensures units { S.units source.new ≡ S.units source.old }
+    ensures reads { S.reads source.new ≡ S.reads source.old + 1 }
+    ensures low_less { (j : ℕ) → j < 256 → row_in low.new.lt j ≡ (row_in low.old.lt j || (row_in low.old.eq j && (bit_of ends.0 at && not (row_in (slice_index_or (S.units source.old) (q * k + i) []) j)))) }
+    ensures low_same { (j : ℕ) → j < 256 → row_in low.new.eq j ≡ (row_in low.old.eq j && (if bit_of ends.0 at then row_in (slice_index_or (S.units source.old) (q * k + i) []) j else not (row_in (slice_index_or (S.units source.old) (q * k + i) []) j))) }
+    ensures high_less { (j : ℕ) → j < 256 → row_in high.new.lt j ≡ (row_in high.old.lt j || (row_in high.old.eq j && (bit_of ends.1 at && not (row_in (slice_index_or (S.units source.old) (q * k + i) []) j)))) }
+    ensures high_same { (j : ℕ) → j < 256 → row_in high.new.eq j ≡ (row_in high.old.eq j && (if bit_of ends.1 at then row_in (slice_index_or (S.units source.old) (q * k + i) []) j else not (row_in (slice_index_or (S.units source.old) (q * k + i) []) j))) }
 {
-    without(&either(lt, eq), below)
+    let plane = source.read(unit);
+    plane_step(&mut low.lt, &mut low.eq, &plane, ends.0 >> at & 1 == 1);
+    plane_step(&mut high.lt, &mut high.eq, &plane, ends.1 >> at & 1 == 1);
+}
+
+/// The rows that are not below the low end, and below the high end or equal to it.
+fn inside(below: &[u64; 4], high: &Side) -> [u64; 4]
+    ensures { (j : ℕ) → j < 256 → row_in result j ≡ ((row_in high.now.lt j || row_in high.now.eq j) && not (row_in below.now j)) }
+{
+    without(&either(&high.lt, &high.eq), below)
 }
 
 /// The needed rows of segment q that are within the two constants, both in.
@@ -124,17 +175,38 @@ fn between<S: Source<[u64; 4]>>(
     ensures rows { (j : ℕ) → j < 256 → row_in result j ≡ (row_in need.now j
         && (nat_le low (code_in k (S.units source.old) (256 * q + j)) && nat_le (code_in k (S.units source.old) (256 * q + j)) high)) }
 {
-    let (mut lt_lo, mut eq_lo) = ([0; 4], *need);
-    let (mut lt_hi, mut eq_hi) = ([0; 4], *need);
-    for i in 0..k {
-        let plane = source.read(q * k + i);
-        plane_step(&mut lt_lo, &mut eq_lo, &plane, low >> (k - 1 - i) & 1 == 1);
-        plane_step(&mut lt_hi, &mut eq_hi, &plane, high >> (k - 1 - i) & 1 == 1);
-        if stops(i, &either(&eq_lo, &eq_hi)) {
-            return inside(&lt_lo, &lt_hi, &eq_hi);
+    let all = Side {
+        lt: [0; 4],
+        eq: *need,
+    };
+    let (mut lo, mut hi) = (all, all);
+    for g in 0..k / 4 {
+        let down = k - 4 - 4 * g;
+        let ends = (low >> down, high >> down);
+        let unit = q * k + 4 * g;
+        between_plane(source, k, q, 4 * g, unit, ends, 3, &mut lo, &mut hi);
+        between_plane(source, k, q, 4 * g + 1, unit + 1, ends, 2, &mut lo, &mut hi);
+        between_plane(source, k, q, 4 * g + 2, unit + 2, ends, 1, &mut lo, &mut hi);
+        between_plane(source, k, q, 4 * g + 3, unit + 3, ends, 0, &mut lo, &mut hi);
+        if is_empty(&either(&lo.eq, &hi.eq)) {
+            return inside(&lo.lt, &hi);
         }
     }
-    inside(&lt_lo, &lt_hi, &eq_hi)
+    for i in k / 4 * 4..k {
+        let ends = (low, high);
+        between_plane(
+            source,
+            k,
+            q,
+            i,
+            q * k + i,
+            ends,
+            k - 1 - i,
+            &mut lo,
+            &mut hi,
+        );
+    }
+    inside(&lo.lt, &hi)
 }
 
 /// The needed rows of segment q that meet the test.

@@ -19,7 +19,7 @@ fn add_bits(a: u64, b: u64, carry: u64) -> (u64, u64)
 }
 
 /// The rows, if bit n of the number is set, and else none.
-fn rows_where(rows: u64, number: u64, n: usize) -> u64
+pub(crate) fn rows_where(rows: u64, number: u64, n: usize) -> u64
     requires { n < 64 }
     ensures { (r : ℕ) → r < 64 → bit_at result r ≡ bit_at (if bit_of rows r then number else 0) n }
 {

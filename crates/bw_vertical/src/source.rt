@@ -1,14 +1,13 @@
 //! Planes in memory as a source of units.
 
-ghost use Rattle.std.specs.Prelude.{length, nat_le, nat_lt, ◌&&◌, ◌*◌, ◌+◌, ◌-◌, ◌/◌, ◌<◌, ◌^◌, ◌≡◌, ◌≤◌};
-ghost use Rattle.bw_vertical.specs.Storage.{AreGroups, HasSegment, HoldsUnits, groups_of, lists, units_of};
+ghost use Rattle.std.specs.Prelude.{length, min, ◌*◌, ◌+◌, ◌-◌, ◌/◌, ◌<◌, ◌^◌, ◌≡◌, ◌≤◌};
+ghost use Rattle.bw_vertical.specs.Storage.{AreGroups, HasSegment, LieAhead, Stands, groups_of, lists, planes_in, units_of};
 
 use crate::storage::planes_in;
 use bw_code::Source;
 use std::marker::Model;
 
-/// The segment of unit i and its first unit, by those of the unit before: of the same segment and of
-/// the next without a division.
+/// The segment of unit i and its first unit, by those of another unit: of the same segment without a division.
 fn place(segment: usize, start: usize, k: usize, i: usize) -> (usize, usize)
     requires some { 0 < k }
     requires start { start ≡ segment * k }
@@ -17,73 +16,160 @@ fn place(segment: usize, start: usize, k: usize, i: usize) -> (usize, usize)
 {
     if start <= i && i - start < k {
         (segment, start)
-    } else if start <= i && i - start == k {
-        (segment + 1, i)
     } else {
         (i / k, i / k * k)
     }
 }
 
-/// Planes that lie side by side: those of units `first`, `first + 1`, ..
+/// Where a source stands: a segment and its first unit, how many of its planes are in the groups that were not taken from, those
+/// groups, and what is left of the last one that was taken from, from unit `next` on.
 #[derive(Clone, Copy)]
-struct PlaneRun<'a> {
-    planes: &'a [[u64; 4]],
-    first: usize,
+struct Standing<'a> {
+    segment: usize,
+    start: usize,
+    left: usize,
+    behind: &'a [Vec<[u64; 4]>],
+    rest: &'a [[u64; 4]],
+    next: usize,
 }
 
-impl<'a> PlaneRun<'a> {
-    /// Whether unit i is one of them. Below the first, the difference wraps to a number past any length, so that one
-    /// comparison tells.
-    fn has(&self, i: usize) -> bool
-        requires few { length self.now.planes.now ≤ 4 }
-        requires low { self.now.first ≤ 2 ^ 63 }
-        ensures { result ≡ (nat_le self.now.first i && nat_lt (i - self.now.first) (length self.now.planes.now)) }
-    {
-        i.wrapping_sub(self.first) < self.planes.len()
+/// In front of the next group of the segment, which begins with unit i.
+fn next_group<'a>(
+    groups: &'a [Vec<[u64; 4]>],
+    k: usize,
+    from: Standing<'a>,
+    i: usize,
+) -> Standing<'a>
+    requires narrow { k ≤ 64 }
+    requires left { 0 < from.left }
+    requires within { from.left ≤ k }
+    requires start { from.start ≡ from.segment * k }
+    requires small { from.segment < 2 ^ 32 }
+    requires count { length groups.now ≡ groups_of k }
+    requires there { HasSegment k (lists groups.now) from.segment }
+    requires ahead { LieAhead k groups.now from.behind.now from.left }
+    requires unit { i ≡ from.start + (k - from.left) }
+    ensures stands { Stands k groups.now result.segment result.start result.left result.behind.now result.rest.now result.next }
+    ensures next { result.next ≡ i }
+    ensures count { length result.rest.now ≡ min 4 from.entry.left }
+{
+    let m = from.left.min(4);
+    let group = &from.behind[0];
+    Standing {
+        left: from.left - m,
+        behind: &from.behind[1..],
+        rest: &group[from.segment * m..from.segment * m + m],
+        next: i,
+        ..from
     }
 }
 
-/// The planes of the segment that are of one group with unit i.
-fn run_at<'a>(
+/// In front of group g of a segment.
+fn at_group<'a>(
+    groups: &'a [Vec<[u64; 4]>],
+    k: usize,
+    segment: usize,
+    start: usize,
+    g: usize,
+) -> Standing<'a>
+    requires start { start ≡ segment * k }
+    requires group { 4 * g < k }
+    requires narrow { k ≤ 64 }
+    requires small { segment < 2 ^ 32 }
+    requires count { length groups.now ≡ groups_of k }
+    requires there { HasSegment k (lists groups.now) segment }
+    ensures stands { Stands k groups.now result.segment result.start result.left result.behind.now result.rest.now result.next }
+    ensures next { result.next ≡ start + 4 * g }
+    ensures count { length result.rest.now ≡ planes_in k g }
+{
+    let next = start + 4 * g;
+    let from = Standing {
+        segment,
+        start,
+        left: k - 4 * g,
+        behind: &groups[g..],
+        rest: &[],
+        next,
+    };
+    next_group(groups, k, from, next)
+}
+
+/// In front of unit i, which may be any, by a segment and its first unit.
+#[inline(always)]
+fn jumped<'a>(
     groups: &'a [Vec<[u64; 4]>],
     k: usize,
     segment: usize,
     start: usize,
     i: usize,
-) -> PlaneRun<'a>
-    requires start { start ≡ segment * k }
-    requires from { start ≤ i }
-    requires to { i < start + k }
+) -> Standing<'a>
+    requires some { 0 < k }
     requires narrow { k ≤ 64 }
-    requires small { segment < 2 ^ 32 }
-    requires low { i ≤ 2 ^ 63 }
+    requires low { i < 2 ^ 32 }
+    requires start { start ≡ segment * k }
     requires count { length groups.now ≡ groups_of k }
-    requires there { HasSegment k (lists groups.now) segment }
-    ensures from { result.first ≤ i }
-    ensures to { i - result.first < length result.planes.now }
-    ensures units { HoldsUnits k (lists groups.now) result.planes.now result.first }
-    ensures few { length result.planes.now ≤ 4 }
-    ensures low { result.first ≤ 2 ^ 63 }
+    requires there { HasSegment k (lists groups.now) (i / k) }
+    ensures stands { Stands k groups.now result.segment result.start result.left result.behind.now result.rest.now result.next }
+    ensures next { result.next ≡ i }
+    ensures some { 0 < length result.rest.now }
 {
-    let g = (i - start) / 4;
-    let count = planes_in(k, g);
-    let group = &groups[g];
-    PlaneRun {
-        planes: &group[segment * count..segment * count + count],
-        first: start + 4 * g,
+    let (segment, start) = place(segment, start, k, i);
+    let group = at_group(groups, k, segment, start, (i - start) / 4);
+    Standing {
+        rest: &group.rest[i - group.next..],
+        next: i,
+        ..group
     }
 }
 
-/// The planes of a column, read one at a time: unit q * width + i is plane i of segment q. A plane of
-/// the run that was read from last is read without looking for its place.
+/// In front of unit i, the first one behind what was taken: that of the next group of the segment, or of the next segment.
+#[inline(always)]
+fn stepped<'a>(groups: &'a [Vec<[u64; 4]>], k: usize, from: Standing<'a>, i: usize) -> Standing<'a>
+    requires some { 0 < k }
+    requires narrow { k ≤ 64 }
+    requires low { i < 2 ^ 32 }
+    requires count { length groups.now ≡ groups_of k }
+    requires there { HasSegment k (lists groups.now) (i / k) }
+    requires from { Stands k groups.now from.segment from.start from.left from.behind.now from.rest.now from.next }
+    requires next { i ≡ from.next }
+    requires none { length from.rest.now ≡ 0 }
+    ensures stands { Stands k groups.now result.segment result.start result.left result.behind.now result.rest.now result.next }
+    ensures next { result.next ≡ i }
+    ensures some { 0 < length result.rest.now }
+{
+    if from.left > 0 {
+        return next_group(groups, k, from, i);
+    }
+    at_group(groups, k, from.segment + 1, i, 0)
+}
+
+/// In front of unit i, which may be any. The first of the next segment, and those of this one, are found without a division.
+#[inline(always)]
+fn moved<'a>(groups: &'a [Vec<[u64; 4]>], k: usize, from: Standing<'a>, i: usize) -> Standing<'a>
+    requires some { 0 < k }
+    requires narrow { k ≤ 64 }
+    requires low { i < 2 ^ 32 }
+    requires count { length groups.now ≡ groups_of k }
+    requires there { HasSegment k (lists groups.now) (i / k) }
+    requires from { Stands k groups.now from.segment from.start from.left from.behind.now from.rest.now from.next }
+    ensures stands { Stands k groups.now result.segment result.start result.left result.behind.now result.rest.now result.next }
+    ensures next { result.next ≡ i }
+    ensures some { 0 < length result.rest.now }
+{
+    if i == from.start + k {
+        return at_group(groups, k, from.segment + 1, i, 0);
+    }
+    jumped(groups, k, from.segment, from.start, i)
+}
+
+/// The planes of a column, read one at a time: unit q * width + i is plane i of segment q. What is left of the group read from
+/// last is kept, so that a read of the next unit need only see whether a plane is left.
 #[derive(Drop)]
 pub struct PlaneSource<'a> {
     groups: &'a [Vec<[u64; 4]>],
     width: usize,
     len: usize,
-    segment: usize,
-    start: usize,
-    run: PlaneRun<'a>,
+    standing: Standing<'a>,
     reads: u64,
 }
 
@@ -94,7 +180,7 @@ impl<'a> Model for PlaneSource<'a> {
 
     ghost view = { λ s. record { units = units_of s.width (lists s.groups.now) s.len; reads = s.reads } };
 
-    ghost invariant = { λ s. IsInPlace s.width (lists s.groups.now) s.len s.segment s.start s.run.planes.now s.run.first };
+    ghost invariant = { λ s. IsInPlace s.width s.groups.now s.len s.standing.segment s.standing.start s.standing.left s.standing.behind.now s.standing.rest.now s.standing.next };
 }
 
 impl<'a> PlaneSource<'a> {
@@ -108,11 +194,13 @@ impl<'a> PlaneSource<'a> {
             groups,
             width: width as usize,
             len,
-            segment: 0,
-            start: 0,
-            run: PlaneRun {
-                planes: &[],
-                first: 0,
+            standing: Standing {
+                segment: 0,
+                start: 0,
+                left: width as usize,
+                behind: groups,
+                rest: &[],
+                next: 0,
             },
             reads: 0,
         }
@@ -124,15 +212,23 @@ impl<'a> Source<[u64; 4]> for PlaneSource<'a> {
 
     ghost reads = { λ s. s.reads };
 
+    // A call left in place would keep the source in memory.
+    #[inline(always)]
     fn read(&mut self, i: usize) -> [u64; 4] {
         self.reads += 1;
-        if !self.run.has(i) {
-            let (segment, start) = place(self.segment, self.start, self.width, i);
-            self.segment = segment;
-            self.start = start;
-            self.run = run_at(self.groups, self.width, segment, start, i);
+        // Where units are read in turn, that i is the next one is known, and only the second test is left.
+        let mut at = self.standing;
+        if i != at.next {
+            at = moved(self.groups, self.width, at, i);
+        } else if at.rest.is_empty() {
+            at = stepped(self.groups, self.width, at, i);
         }
-        self.run.planes[i - self.run.first]
+        self.standing = Standing {
+            rest: &at.rest[1..],
+            next: i + 1,
+            ..at
+        };
+        at.rest[0]
     }
 
     fn reads(&self) -> u64 {

@@ -69,18 +69,12 @@ pub(crate) fn put_word(groups: &mut Vec<Vec<[u64; 4]>>, k: usize, i: usize, w: u
 }
 
 /// A lane of m planes side by side goes to the words from `top` downwards.
-fn take_words(
-    group: &[[u64; 4]],
-    from: usize,
-    m: usize,
-    lane: usize,
-    words: &mut [u64; 64],
-    top: usize,
-)
+fn take_words(group: &[[u64; 4]], from: usize, m: usize, lane: usize, words: &mut [u64], top: usize)
     requires planes { from + m ≤ length group.now }
     requires lane { lane < 4 }
     requires top { m ≤ top + 1 }
-    requires inside { top < 64 }
+    requires inside { top < length words.old }
+    ensures long { length words.new ≡ length words.old }
     ensures taken { (i : ℕ) → i < m → slice_index words.new (top - i) ≡ slice_index (slice_index_or group.now (from + i) []) lane }
     ensures above { (b : ℕ) → top < b → slice_index words.new b ≡ slice_index words.old b }
 {
@@ -90,44 +84,39 @@ fn take_words(
 }
 
 /// Word w of the planes of group g, of which there are m: word b becomes that of the plane of bit b.
-fn take_group(
-    groups: &[Vec<[u64; 4]>],
-    k: usize,
-    g: usize,
-    m: usize,
-    w: usize,
-    words: &mut [u64; 64],
-)
+fn take_group(groups: &[Vec<[u64; 4]>], k: usize, g: usize, m: usize, w: usize, words: &mut [u64])
     requires narrow { k ≤ 64 }
     requires small { w < 2 ^ 32 }
     requires count { length groups.now ≡ groups_of k }
     requires there { HasSegment k (lists groups.now) (w / 4) }
     requires group { 4 * g < k }
     requires planes { m ≡ planes_in k g }
+    requires words { k ≤ length words.old }
+    ensures long { length words.new ≡ length words.old }
     ensures taken { (i : ℕ) → i < k → i / 4 ≡ g → slice_index words.new (k - 1 - i) ≡ word_of k (lists groups.now) i w }
     ensures above { (b : ℕ) → k - 1 - 4 * g < b → slice_index words.new b ≡ slice_index words.old b }
 {
     take_words(&groups[g], w / 4 * m, m, w % 4, words, k - 1 - 4 * g);
 }
 
-/// Word w of each plane: word b is that of the plane of bit b, and 0 where there is no such plane.
-pub(crate) fn words_at(groups: &[Vec<[u64; 4]>], k: usize, w: usize) -> [u64; 64]
+/// Word w of each plane: word b becomes that of the plane of bit b. The words from k on stay.
+pub(crate) fn take_planes(groups: &[Vec<[u64; 4]>], k: usize, w: usize, words: &mut [u64])
     requires narrow { k ≤ 64 }
     requires small { w < 2 ^ 32 }
     requires count { length groups.now ≡ groups_of k }
     requires there { HasSegment k (lists groups.now) (w / 4) }
-    ensures planes { (i : ℕ) → i < k → slice_index result (k - 1 - i) ≡ word_of k (lists groups.now) i w }
-    ensures rest { (b : ℕ) → k ≤ b → slice_index result b ≡ 0 }
+    requires words { k ≤ length words.old }
+    ensures long { length words.new ≡ length words.old }
+    ensures planes { (i : ℕ) → i < k → slice_index words.new (k - 1 - i) ≡ word_of k (lists groups.now) i w }
+    ensures rest { (b : ℕ) → k ≤ b → slice_index words.new b ≡ slice_index words.old b }
 {
-    let mut words = [0; 64];
     // Most groups are whole, and quicker where their size is known.
     'whole: for g in 0..k / 4 {
-        take_group(groups, k, g, 4, w, &mut words);
+        take_group(groups, k, g, 4, w, words);
     }
     'last: for g in k / 4..groups.len() {
-        take_group(groups, k, g, k % 4, w, &mut words);
+        take_group(groups, k, g, k % 4, w, words);
     }
-    words
 }
 
 /// Rows are added to a lane of m planes side by side: those of the words from `top` downwards, moved

@@ -5,7 +5,7 @@ use Rattle.bw_code.proofs.Digits.{compared_none}
 use Rattle.bw_code.proofs.Segments.{rows_final, rows_left}
 use Rattle.bw_vertical.specs.Planes.{code_in}
 use Rattle.bw_vertical.proofs.Lanes.{no_rows}
-use Rattle.bw_vertical.proofs.Planes.{code_lt, group_left, group_more, group_stopped, plane_more}
+use Rattle.bw_vertical.proofs.Planes.{code_lt, group_left, group_stopped, plane_more, shifted_more}
 use Rattle.bw_vertical.proofs.scan.compare.Goals as goal
 
 pub loop-g-init : goal.loop-g-init
@@ -28,7 +28,7 @@ loop-g-preserved g c =
     let b = c.compare_plane-in-loop-g in
     let d = c.compare_plane-in-loop-g-2 in
     let e = c.compare_plane-in-loop-g-3 in
-    let rows = group_more k c.args.q (λ _. c.args.constant) (λ i _. bit_of c.args.constant (k - 1 - i)) units c.args.need.now c.requires.there (λ _. c.requires.constant) (λ i l j h. refl) n _ _ _ _ low c.loop-g.invariant.units a.ensures.units b.ensures.units d.ensures.units
+    let rows = shifted_more k c.args.q c.args.constant units c.args.need.now c.requires.there c.requires.constant n low _ _ _ _ c.loop-g.invariant.units a.ensures.units b.ensures.units d.ensures.units
     c.loop-g.lt c.loop-g.eq a.new.lt a.new.eq b.new.lt b.new.eq d.new.lt d.new.eq e.new.lt e.new.eq a.ensures.less a.ensures.same b.ensures.less b.ensures.same d.ensures.less d.ensures.same e.ensures.less e.ensures.same c.loop-g.invariant.rows in
     let left = rows_left 256 2 k need code c.args.constant (4 * (n + 1)) (row_in e.new.lt) (row_in e.new.eq) (omega arith) (λ j. code_lt k units (256 * c.args.q + j)) c.requires.constant rows low c.requires.needed in
     record {
@@ -51,7 +51,7 @@ returns-then-is_empty g c =
     let b = c.compare_plane-in-loop-g in
     let d = c.compare_plane-in-loop-g-2 in
     let e = c.compare_plane-in-loop-g-3 in
-    let rows = group_more k c.args.q (λ _. c.args.constant) (λ i _. bit_of c.args.constant (k - 1 - i)) units c.args.need.now c.requires.there (λ _. c.requires.constant) (λ i l j h. refl) n _ _ _ _ low c.loop-g.invariant.units a.ensures.units b.ensures.units d.ensures.units
+    let rows = shifted_more k c.args.q c.args.constant units c.args.need.now c.requires.there c.requires.constant n low _ _ _ _ c.loop-g.invariant.units a.ensures.units b.ensures.units d.ensures.units
     c.loop-g.lt c.loop-g.eq a.new.lt a.new.eq b.new.lt b.new.eq d.new.lt d.new.eq e.new.lt e.new.eq a.ensures.less a.ensures.same b.ensures.less b.ensures.same d.ensures.less d.ensures.same e.ensures.less e.ensures.same c.loop-g.invariant.rows in
     let left = rows_left 256 2 k need code c.args.constant (4 * (n + 1)) (row_in e.new.lt) (row_in e.new.eq) (omega arith) code_fits c.requires.constant rows low c.requires.needed in
     let stopped = group_stopped k n _ need (λ j. agreement 2 k (code j) c.args.constant) c.requires.needed refl _ left (sym c.is_empty.ensures ∙ c.if-is_empty.true) c.loop-g.invariant.left low in

@@ -2,10 +2,10 @@ use Rattle.std.proofs.Common.{ap, arith, get_or, inl, inr, length, ◌%◌, ◌*
 use Rattle.std.proofs.lemmas.Bool.{cases_lt}
 use Rattle.bw_vertical.specs.Storage.{code_of, lists}
 use Rattle.bw_vertical.proofs.Settings.{word_there}
-use Rattle.bw_vertical.proofs.blocks.read_codes.Goals as goal
+use Rattle.bw_vertical.proofs.blocks.read_wide.Goals as goal
 
-pub copy_codes-requires-clause-there : goal.copy_codes-requires-clause-there
-copy_codes-requires-clause-there c =
+pub halves_at-requires-clause-there : goal.halves_at-requires-clause-there
+halves_at-requires-clause-there c =
     let j = c.args.at + c.loop-i.i in
     let inside : c.args.at + c.loop-i.i < c.args.at + length c.args.out.now = omega (arith, c.loop-i-test.true, c.loop-i.invariant.long) in
     word_there c.args.k j (lists c.args.groups.now) (c.requires.there j inside)
@@ -16,19 +16,19 @@ loop-i-preserved c =
     let gs = lists c.args.groups.now in
     let at = c.args.at in
     let i = c.loop-i.i in
-    let out = c.copy_codes.new.out in
+    let out = c.copy_halves.new.out in
     let inv = c.loop-i.invariant in
     record {
-      long = c.copy_codes.ensures.long ∙ inv.long;
-      inside = omega (arith, c.min-n.ensures, c.copy_codes.ensures.long, c.loop-i-test.true);
+      long = c.copy_halves.ensures.long ∙ inv.long;
+      inside = omega (arith, c.min-n.ensures, c.copy_halves.ensures.long, c.loop-i-test.true);
       done = λ j h.
           elim (cases_lt j i) [
-            | inl l ↦ c.copy_codes.ensures.before j l ∙ inv.done j l
+            | inl l ↦ c.copy_halves.ensures.before j l ∙ inv.done j l
             | inr l ↦
                 let r = j - i in
                 let low : j - i < c.min-n.result = omega (arith, h, l) in
                 let place : j ≡ i + (j - i) = omega (arith, l) in
                 let row : 64 * ((at + i) / 64) + ((at + i) % 64 + (j - i)) ≡ at + j = omega (arith, l) in
-                ap (λ n. get_or out n 0) place ∙ c.copy_codes.ensures.copied (j - i) low ∙ ap (code_of k gs) row
+                ap (λ n. get_or out n 0) place ∙ c.copy_halves.ensures.copied (j - i) low ∙ c.halves_at.ensures ((at + i) % 64 + (j - i)) (omega (arith, c.min-n.ensures, low)) ∙ ap (code_of k gs) row
           ];
     }

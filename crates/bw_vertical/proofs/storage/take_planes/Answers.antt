@@ -1,10 +1,9 @@
-use Rattle.std.proofs.Common.{arith, inl, inr, ◌*◌, ◌-◌, ◌∙◌}
+use Rattle.std.proofs.Common.{arith, inl, inr, refl, ◌*◌, ◌-◌, ◌∙◌}
 use Rattle.std.proofs.lemmas.Bool.{cases_lt}
-use Rattle.bw_code.proofs.LaneLemmas.{zeros}
-use Rattle.bw_vertical.proofs.storage.words_at.Goals as goal
+use Rattle.bw_vertical.proofs.storage.take_planes.Goals as goal
 
 pub whole-init : goal.whole-init
-whole-init c = record { planes = λ i h l. absurd (omega (arith, h)); rest = λ b h. zeros 64 b }
+whole-init c = record { planes = λ i h l. absurd (omega (arith, h)); rest = λ b h. refl; long = refl }
 
 pub whole-preserved : goal.whole-preserved
 whole-preserved c =
@@ -18,6 +17,7 @@ whole-preserved c =
             | inr p ↦ c.take_group.ensures.taken i l (omega (arith, h, p))
           ];
       rest = λ b h. c.take_group.ensures.above b (omega (arith, h)) ∙ inv.rest b h;
+      long = c.take_group.ensures.long ∙ inv.long;
     }
 
 pub last-preserved : goal.last-preserved
@@ -32,4 +32,5 @@ last-preserved c =
             | inr p ↦ c.take_group-in-last.ensures.taken i l (omega (arith, h, p))
           ];
       rest = λ b h. c.take_group-in-last.ensures.above b (omega (arith, h)) ∙ inv.rest b h;
+      long = c.take_group-in-last.ensures.long ∙ inv.long;
     }

@@ -1,6 +1,6 @@
 use Rattle.std.proofs.Common.{get_or, length, ℕ, ◌+◌, ◌-◌, ◌<◌, ◌≡◌, ◌≤◌}
 use Rattle.bw_vertical.specs.Storage.{code_of, lists}
-use Rattle.bw_vertical.proofs.blocks.read_codes.Given as goal
+use Rattle.bw_vertical.proofs.blocks.read_wide.Given as goal
 
 -- the codes so far
 abbrev pub invariant-loop-i : goal.invariant-loop-i
