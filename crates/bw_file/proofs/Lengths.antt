@@ -1,5 +1,6 @@
 -- How long the parts of a file are.
-use Rattle.std.proofs.Common.{ap, sym, ◌∙◌, List, [], arith, length, refl, ℕ, ◌+◌, ◌≡◌, ◌≤◌, ◌∷◌}
+use Rattle.std.proofs.Common.{ap, sym, ◌∙◌, List, [], arith, length, refl, suc, ℕ, ◌*◌, ◌+◌, ◌≡◌, ◌≤◌, ◌∷◌}
+use Rattle.std.specs.Prelude.{All}
 use Rattle.std.proofs.lemmas.List.{length-append}
 use Rattle.std.proofs.lemmas.List.Sums.{sum_by-cons}
 use Rattle.std.specs.List.{flat_map, sum_by}
@@ -21,3 +22,16 @@ length-headers (h ∷ headers) =
     let rest = length-headers headers in
     let both : length (flat_map header_bytes (h ∷ headers)) ≡ length (header_bytes h) + length (flat_map header_bytes headers) = length-append (header_bytes h) (flat_map header_bytes headers) in
     both ∙ ap (λ n. n + length (flat_map header_bytes headers)) one ∙ ap (λ n. 3 + length h.name + n) rest ∙ sym (sum_by-cons (λ (x : ColumnHeader). 3 + length x.name) h headers)
+
+-- a name has at least one byte
+name_long : (name : List ℕ) → IsName name → 1 ≤ length name
+unfolding is_name
+name_long name h = grind (arith, common_steps)
+
+-- a header has at least four bytes
+pub headers_long : (headers : List ColumnHeader) → All (λ header. IsName header.name) headers → 4 * length headers ≤ sum_by (λ header. 3 + length header.name) headers
+headers_long [] names = omega arith
+headers_long (h ∷ headers) names =
+    let rest = headers_long headers (λ i d l. names (suc i) d (omega (arith, l))) in
+    let first = name_long h.name (names 0 h (omega arith)) in
+    omega (arith, rest, first, sum_by-cons (λ (x : ColumnHeader). 3 + length x.name) h headers)
