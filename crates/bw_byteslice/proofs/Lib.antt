@@ -1,5 +1,6 @@
 pub mod BitPlanes
 pub mod Bytes
+pub mod Chosen
 pub mod Halves
 pub mod InUnits
 pub mod Keeping

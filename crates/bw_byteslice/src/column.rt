@@ -12,7 +12,7 @@ use crate::plane_source::SlicePlanes;
 use crate::scan::scan_from;
 use crate::shift::{shift_of, slices_of};
 use crate::source::SliceSource;
-use crate::{plane, reading, storage};
+use crate::{plane, reading, runs, storage};
 use bw_code::{CmpOp, CodeColumn, CodeTest, Meter, Source};
 use bw_mask::Mask;
 use std::alloc::{AllocError, Global};
@@ -124,6 +124,15 @@ impl CodeColumn for SliceColumn {
 
     fn set(&mut self, i: usize, code: u64) {
         storage::put(&mut self.slices, self.width, i, &[code]);
+    }
+
+    fn put_run(&mut self, at: usize, rows: u64, codes: &[u64]) {
+        runs::put_run(&mut self.slices, self.width, at, rows, codes);
+    }
+
+    fn fill_run(&mut self, at: usize, rows: u64, code: u64) {
+        let count = (self.len - at).min(64);
+        runs::fill_run(&mut self.slices, self.width, at, count, rows, code);
     }
 
     fn read(&self, at: usize, out: &mut [u64]) {

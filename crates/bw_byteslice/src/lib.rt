@@ -8,6 +8,7 @@ mod plane;
 mod plane_source;
 mod reading;
 mod rows;
+mod runs;
 mod scan;
 mod shift;
 mod source;

@@ -69,7 +69,7 @@ pub(crate) fn grow(slices: &mut Vec<Vec<u8>>, len: usize)
 }
 
 /// Each code shifted up, as a number of 32 bits: a register takes twice as many of them as of 64.
-fn raise_codes(codes: &[u64], width: u32, numbers: &mut [u32])
+pub(crate) fn raise_codes(codes: &[u64], width: u32, numbers: &mut [u32])
     requires narrow { width ≤ 32 }
     requires fit { Fit width codes.now }
     requires long { length numbers.old ≡ length codes.now }
@@ -111,7 +111,7 @@ fn put_64_bytes(bytes: &mut [u8], m: usize, i: usize, numbers: &[u32])
 }
 
 /// Byte i of each number of m bytes.
-fn put_bytes(bytes: &mut [u8], m: usize, i: usize, numbers: &[u32])
+pub(crate) fn put_bytes(bytes: &mut [u8], m: usize, i: usize, numbers: &[u32])
     requires narrow { m ≤ 4 }
     requires slice { i < m }
     requires long { length bytes.old ≡ length numbers.now }
@@ -159,7 +159,7 @@ fn put_numbers(slices: &mut Vec<Vec<u8>>, first: usize, m: usize, at: usize, num
 }
 
 /// 32 bits of each code shifted up, from bit `down` on.
-fn raise_parts(codes: &[u64], width: u32, down: u32, numbers: &mut [u32])
+pub(crate) fn raise_parts(codes: &[u64], width: u32, down: u32, numbers: &mut [u32])
     requires narrow { width ≤ 64 }
     requires down { down < 64 }
     requires fit { Fit width codes.now }

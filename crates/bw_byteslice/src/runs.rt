@@ -1,0 +1,157 @@
+//! Codes put at some of 64 rows: in each slice those bytes alone become others.
+
+ghost use Rattle.std.specs.Prelude.{[], false, length, slice_index, slice_index_or, true, vec_capacity, vec_len, ℕ, ◌*◌, ◌+◌, ◌-◌, ◌<◌, ◌^◌, ◌≡◌, ◌≤◌};
+ghost use Rattle.bw_mask.specs.Masks.{bit_of};
+ghost use Rattle.bw_code.specs.Columns.{Fit};
+ghost use Rattle.bw_code.specs.Units.{digit};
+ghost use Rattle.bw_byteslice.specs.Slices.{shift_of, slices_of};
+ghost use Rattle.bw_byteslice.specs.Storing.{byte_of, bytes_of, capacities_of};
+
+use crate::shift::{byte_at, raise};
+use crate::storage::{put_bytes, raise_codes, raise_parts};
+
+/// How many rows a run has at most.
+const RUN: usize = 64;
+
+/// Whether bit i is set.
+#[tactic(auto, using(bw_mask::proofs::Bits::bit_test))]
+fn has_bit(word: u64, i: usize) -> bool
+    requires { i < 64 }
+    ensures { result ≡ bit_of word i }
+{
+    word >> i & 1 == 1
+}
+
+/// Whether each row is chosen: row i where bit i is set.
+fn choose(rows: u64, chosen: &mut [bool])
+    requires few { length chosen.old ≤ 64 }
+    ensures len { length chosen.new ≡ length chosen.old }
+    ensures each { (r : ℕ) → r < length chosen.old → slice_index_or chosen.new r false ≡ bit_of rows r }
+{
+    for r in 0..chosen.len() {
+        chosen[r] = has_bit(rows, r);
+    }
+}
+
+/// Puts bytes, each where its row is chosen. The others stay.
+fn put_chosen(kept: &mut [u8], chosen: &[bool], bytes: &[u8])
+    requires chosen { length chosen.now ≡ length kept.old }
+    requires long { length kept.old ≤ length bytes.now }
+    ensures len { length kept.new ≡ length kept.old }
+    ensures put { (r : ℕ) → r < length kept.old → slice_index_or chosen.now r false ≡ true → slice_index kept.new r ≡ slice_index bytes.now r }
+    ensures kept { (r : ℕ) → slice_index_or chosen.now r false ≡ false → slice_index kept.new r ≡ slice_index kept.old r }
+{
+    // Both are read, and there is no branch a row, so that bytes are taken side by side.
+    for r in 0..kept.len() {
+        let (own, byte) = (kept[r], bytes[r]);
+        kept[r] = if chosen[r] { byte } else { own };
+    }
+}
+
+/// The chosen rows from `at` on get these bytes of a slice.
+fn put_in_slice(slice: &mut Vec<u8>, at: usize, chosen: &[bool], bytes: &[u8])
+    requires there { at + length chosen.now ≤ length slice.old.items }
+    requires long { length chosen.now ≤ length bytes.now }
+    ensures len { length slice.new.items ≡ length slice.old.items }
+    ensures capacity { vec_capacity slice.new ≡ vec_capacity slice.old }
+    ensures put { (r : ℕ) → r < length chosen.now → slice_index_or chosen.now r false ≡ true → slice_index slice.new.items (at + r) ≡ slice_index bytes.now r }
+    ensures kept { (j : ℕ) → (at ≤ j → slice_index_or chosen.now (j - at) false ≡ false) → slice_index slice.new.items j ≡ slice_index slice.old.items j }
+{
+    put_chosen(&mut slice[at..at + chosen.len()], chosen, bytes);
+}
+
+/// The chosen rows from `at` on get these numbers of m bytes, slice by slice from slice `first` on.
+fn put_numbers(
+    slices: &mut Vec<Vec<u8>>,
+    first: usize,
+    m: usize,
+    at: usize,
+    chosen: &[bool],
+    numbers: &[u32],
+)
+    requires narrow { m ≤ 4 }
+    requires few { length numbers.now ≤ 64 }
+    requires long { length chosen.now ≡ length numbers.now }
+    requires slices { first + m ≤ vec_len slices.old }
+    requires there { (i : ℕ) → i < vec_len slices.old → at + length numbers.now ≤ length (slice_index_or (bytes_of slices.old.items) i []) }
+    ensures count { vec_len slices.new ≡ vec_len slices.old }
+    ensures capacities { capacities_of slices.new.items ≡ capacities_of slices.old.items }
+    ensures len { (i : ℕ) → length (slice_index_or (bytes_of slices.new.items) i []) ≡ length (slice_index_or (bytes_of slices.old.items) i []) }
+    ensures put { (i r : ℕ) → i < m → r < length numbers.now → slice_index_or chosen.now r false ≡ true
+        → byte_of (bytes_of slices.new.items) (at + r) (first + i) ≡ digit 256 m (slice_index numbers.now r) i }
+    ensures others { (i j : ℕ) → (first ≤ i → first + m ≤ i) → byte_of (bytes_of slices.new.items) j i ≡ byte_of (bytes_of slices.old.items) j i }
+    ensures kept { (i j : ℕ) → (at ≤ j → slice_index_or chosen.now (j - at) false ≡ false) → byte_of (bytes_of slices.new.items) j i ≡ byte_of (bytes_of slices.old.items) j i }
+{
+    let mut list = [0; RUN];
+    let bytes = &mut list[..numbers.len()];
+    for i in 0..m {
+        put_bytes(bytes, m, i, numbers);
+        let slice = &mut slices[first + i];
+        put_in_slice(slice, at, chosen, bytes);
+    }
+}
+
+/// Row at + i gets code i where bit i of the word is set. The codes are shifted up once for all slices, or, of more than 32 bits,
+/// once for the upper slices and once for the last four.
+pub(crate) fn put_run(slices: &mut Vec<Vec<u8>>, width: u32, at: usize, rows: u64, codes: &[u64])
+    requires narrow { width ≤ 64 }
+    requires count { vec_len slices.old ≡ slices_of width }
+    requires few { length codes.now ≤ 64 }
+    requires fit { Fit width codes.now }
+    requires there { (i : ℕ) → i < slices_of width → at + length codes.now ≤ length (slice_index_or (bytes_of slices.old.items) i []) }
+    ensures count { vec_len slices.new ≡ vec_len slices.old }
+    ensures capacities { capacities_of slices.new.items ≡ capacities_of slices.old.items }
+    ensures len { (i : ℕ) → length (slice_index_or (bytes_of slices.new.items) i []) ≡ length (slice_index_or (bytes_of slices.old.items) i []) }
+    ensures put { (i r : ℕ) → i < slices_of width → r < length codes.now → bit_of rows r ≡ true
+        → byte_of (bytes_of slices.new.items) (at + r) i ≡ digit 256 (slices_of width) (slice_index codes.now r * 2 ^ shift_of width) i }
+    ensures kept { (i j : ℕ) → (at ≤ j → bit_of rows (j - at) ≡ false) → byte_of (bytes_of slices.new.items) j i ≡ byte_of (bytes_of slices.old.items) j i }
+{
+    let mut list_of_chosen = [false; RUN];
+    let chosen = &mut list_of_chosen[..codes.len()];
+    choose(rows, chosen);
+    let mut list = [0; RUN];
+    let numbers = &mut list[..codes.len()];
+    let m = slices.len();
+    if width <= 32 {
+        raise_codes(codes, width, numbers);
+        put_numbers(slices, 0, m, at, chosen, numbers);
+    } else {
+        raise_parts(codes, width, 32, numbers);
+        put_numbers(slices, 0, m - 4, at, chosen, numbers);
+        raise_parts(codes, width, 0, numbers);
+        put_numbers(slices, m - 4, 4, at, chosen, numbers);
+    }
+}
+
+/// Row at + i gets the code where bit i of the word is set, of so many rows.
+pub(crate) fn fill_run(
+    slices: &mut Vec<Vec<u8>>,
+    width: u32,
+    at: usize,
+    count: usize,
+    rows: u64,
+    code: u64,
+)
+    requires narrow { width ≤ 64 }
+    requires count { vec_len slices.old ≡ slices_of width }
+    requires few { count ≤ 64 }
+    requires fits { code < 2 ^ width }
+    requires there { (i : ℕ) → i < slices_of width → at + count ≤ length (slice_index_or (bytes_of slices.old.items) i []) }
+    ensures count { vec_len slices.new ≡ vec_len slices.old }
+    ensures capacities { capacities_of slices.new.items ≡ capacities_of slices.old.items }
+    ensures len { (i : ℕ) → length (slice_index_or (bytes_of slices.new.items) i []) ≡ length (slice_index_or (bytes_of slices.old.items) i []) }
+    ensures put { (i r : ℕ) → i < slices_of width → r < count → bit_of rows r ≡ true
+        → byte_of (bytes_of slices.new.items) (at + r) i ≡ digit 256 (slices_of width) (code * 2 ^ shift_of width) i }
+    ensures kept { (i j : ℕ) → (at ≤ j → bit_of rows (j - at) ≡ false) → byte_of (bytes_of slices.new.items) j i ≡ byte_of (bytes_of slices.old.items) j i }
+{
+    let mut list = [false; RUN];
+    let chosen = &mut list[..count];
+    choose(rows, chosen);
+    let number = raise(code, width);
+    let m = slices.len();
+    for i in 0..m {
+        let bytes = [byte_at(number, m, i); RUN];
+        let slice = &mut slices[i];
+        put_in_slice(slice, at, chosen, &bytes);
+    }
+}
