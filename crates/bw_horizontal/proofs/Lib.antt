@@ -1,3 +1,4 @@
+pub mod Blends
 pub mod Costs
 pub mod Gathered
 pub mod Marks
@@ -5,4 +6,5 @@ pub mod Pairs
 pub mod Places
 pub mod Rows
 pub mod Runs
+pub mod Spans
 pub mod Views

@@ -40,7 +40,7 @@ pub code_below : (k : ℕ) (words : List ℕ) → k ≤ 32 → All (IsStored k) 
 code_below k words narrow stored j = (stored_at k words stored (word_of k j)).codes (section_in k j) (section_low k j narrow)
 
 -- the segment of a row of n
-segment_there : (rows n j : ℕ) → 0 < rows → j < n → j / rows < div_ceil n rows
+pub segment_there : (rows n j : ℕ) → 0 < rows → j < n → j / rows < div_ceil n rows
 segment_there rows n j pos h =
     elim (cases_lt (j / rows) (div_ceil n rows)) [
       | inl l ↦ l

@@ -9,10 +9,10 @@ ghost use Rattle.bw_horizontal.specs.Words.{row_of_bit, segments_of};
 
 use crate::pair::pair_from;
 use crate::place::Place;
-use crate::planes;
 use crate::scan::scan_from;
 use crate::source::WordSource;
 use crate::storage::{fill_up, put_codes, read_codes, words_for};
+use crate::{blending, planes};
 use bw_code::{CmpOp, CodeColumn, CodeTest, Meter, Source};
 use bw_mask::Mask;
 use std::alloc::{AllocError, Global};
@@ -108,6 +108,17 @@ impl CodeColumn for HorizontalColumn {
     #[tactic(auto, using(crate::proofs::Views::count_is))]
     fn set(&mut self, i: usize, code: u64) {
         Place::of(self.width, i).put(&mut self.words, code);
+    }
+
+    #[tactic(auto, using(crate::proofs::Views::count_is))]
+    fn put_run(&mut self, at: usize, rows: u64, codes: &[u64]) {
+        blending::put_run(&mut self.words, self.width, at, rows, codes);
+    }
+
+    #[tactic(auto, using(crate::proofs::Views::count_is))]
+    fn fill_run(&mut self, at: usize, rows: u64, code: u64) {
+        let end = self.len.min(at + 64);
+        blending::fill_run(&mut self.words, self.width, at, end, rows, code);
     }
 
     #[tactic(auto, using(crate::proofs::Views::count_is))]

@@ -1,6 +1,7 @@
 //! Codes side by side in words (layout H, BitWeaving/H).
 #![tactic(auto)]
 
+mod blending;
 mod column;
 mod gather;
 mod pair;
