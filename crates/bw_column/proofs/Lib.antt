@@ -1,6 +1,7 @@
 pub mod Bases
 pub mod Blocks
 pub mod Changed
+pub mod Chosen
 pub mod Extremes
 pub mod Flat
 pub mod Held
@@ -16,4 +17,5 @@ pub mod Rows
 pub mod Scans
 pub mod Shifting
 pub mod Spanned
+pub mod Spreads
 pub mod Told

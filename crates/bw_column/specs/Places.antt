@@ -1,6 +1,7 @@
 -- Values put in the set places of a mask, in order.
-use Rattle.std.specs.Prelude.{List, Option, count_by, if◌then◌else◌, length, take, ℕ, ℤ}
+use Rattle.std.specs.Prelude.{List, Option, count_by, if◌then◌else◌, length, take, ℕ, ℤ, ◌-◌}
 use Rattle.bw_mask.specs.Masks.{MaskRows, row_at}
+use Rattle.bw_code.specs.Columns.{is_chosen}
 use Rattle.bw_code.specs.Lists.{made}
 use Rattle.bw_column.specs.Values.{value_at}
 
@@ -14,3 +15,7 @@ put_at places values old i = if row_at places i then value_at values (rank place
 
 abbrev pub overwritten : MaskRows → List (Option ℤ) → List (Option ℤ) → List (Option ℤ)
 overwritten places values old = made (length old) (put_at places values old)
+
+-- the values, of which those of the chosen rows become the ones that stand at their bits' places, and the others stay
+abbrev pub put_values : List (Option ℤ) → ℕ → ℕ → List (Option ℤ) → List (Option ℤ)
+put_values old at rows values = made (length old) (λ j. if is_chosen at rows j then value_at values (j - at) else value_at old j)

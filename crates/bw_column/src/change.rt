@@ -84,8 +84,8 @@ impl Column {
         }
     }
 
-    /// Puts the values with their codes in the set places, in order.
-    fn put_all(&mut self, places: &Mask, values: &[Option<i64>], codes: &KeptCodes)
+    /// Puts the values with their codes in the set places, in order, one by one.
+    fn put_each(&mut self, places: &Mask, values: &[Option<i64>], codes: &KeptCodes)
         requires coded { All (IsCoded self.old.encoding) values.now }
         requires codes { AreKept (codes_for self.old.encoding values.now) codes.now }
         requires held { All (IsNullOrHeld self.old.layout) values.now }
@@ -103,6 +103,24 @@ impl Column {
             self.put(place, values[next], code);
             at = place + 1;
             next += 1;
+        }
+    }
+
+    /// Puts the values with their codes in the set places, in order.
+    fn put_all(&mut self, places: &Mask, values: &[Option<i64>], codes: &KeptCodes)
+        requires coded { All (IsCoded self.old.encoding) values.now }
+        requires codes { AreKept (codes_for self.old.encoding values.now) codes.now }
+        requires held { All (IsNullOrHeld self.old.layout) values.now }
+        requires few { length self.old.values ≤ 2 ^ 24 }
+        requires places { len places.now ≡ length self.old.values }
+        requires count { count_by (λ row. row) places.now.rows ≡ length values.now }
+        ensures values { self.new.values ≡ overwritten places.now values.now self.old.values }
+        ensures layout { self.new.layout ≡ self.old.layout }
+        ensures encoding { self.new.encoding ≡ self.old.encoding }
+    {
+        match codes {
+            KeptCodes::Distances => self.put_runs(places, values),
+            KeptCodes::Places(_) => self.put_each(places, values, codes),
         }
     }
 

@@ -17,6 +17,7 @@ mod pair_codes;
 mod pairs;
 mod planes;
 mod reading;
+mod runs;
 mod split;
 mod step;
 mod storage;

@@ -1,8 +1,8 @@
 //! The codes of a column, each layout in its own type.
 
-ghost use Rattle.std.specs.Prelude.{[], IfOk, OnOk, drop, length, slice_set, take, ℕ, ◌&&◌, ◌++◌, ◌+◌, ◌<◌, ◌^◌, ◌≡◌, ◌≤◌, pos, ◌-ℤ◌};
+ghost use Rattle.std.specs.Prelude.{[], IfOk, OnOk, drop, false, length, slice_set, take, true, ℕ, ◌%◌, ◌&&◌, ◌++◌, ◌+◌, ◌<◌, ◌^◌, ◌≡◌, ◌≤◌, pos, ◌-ℤ◌};
 ghost use Rattle.bw_mask.specs.Masks.{SameShape, bit_of, len, row_at};
-ghost use Rattle.bw_code.specs.Columns.{Fit, KeepsShape, code_at, count};
+ghost use Rattle.bw_code.specs.Columns.{Fit, KeepsShape, code_at, count, filled_codes, put_codes};
 ghost use Rattle.bw_code.specs.Meters.{raised};
 ghost use Rattle.bw_code.specs.Shifts.{StaysBelow, shifted};
 ghost use Rattle.bw_code.specs.Tests.{TestFits, code_compares, meets};
@@ -144,6 +144,41 @@ impl Codes {
             Codes::V(codes) => codes.set(i, code),
             Codes::H(codes) => codes.set(i, code),
             Codes::S(codes) => codes.set(i, code),
+        }
+    }
+
+    pub(crate) fn put_run(&mut self, at: usize, rows: u64, run: &[u64])
+        requires word { at % 64 ≡ 0 }
+        requires few { length run.now ≤ 64 }
+        requires there { at + length run.now ≤ count (list_of self.old) }
+        requires given { (i : ℕ) → length run.now ≤ i → bit_of rows i ≡ false }
+        requires fit { Fit (list_of self.old).width run.now }
+        ensures layout { layout_of self.new ≡ layout_of self.old }
+        ensures shape { KeepsShape (list_of self.new) (list_of self.old) }
+        ensures codes { (list_of self.new).codes ≡ put_codes (list_of self.old).codes at rows run.now }
+    {
+        match self {
+            Codes::P(codes) => codes.put_run(at, rows, run),
+            Codes::V(codes) => codes.put_run(at, rows, run),
+            Codes::H(codes) => codes.put_run(at, rows, run),
+            Codes::S(codes) => codes.put_run(at, rows, run),
+        }
+    }
+
+    pub(crate) fn fill_run(&mut self, at: usize, rows: u64, code: u64)
+        requires word { at % 64 ≡ 0 }
+        requires inside { at ≤ count (list_of self.old) }
+        requires there { (i : ℕ) → bit_of rows i ≡ true → at + i < count (list_of self.old) }
+        requires fits { code < 2 ^ (list_of self.old).width }
+        ensures layout { layout_of self.new ≡ layout_of self.old }
+        ensures shape { KeepsShape (list_of self.new) (list_of self.old) }
+        ensures codes { (list_of self.new).codes ≡ filled_codes (list_of self.old).codes at rows code }
+    {
+        match self {
+            Codes::P(codes) => codes.fill_run(at, rows, code),
+            Codes::V(codes) => codes.fill_run(at, rows, code),
+            Codes::H(codes) => codes.fill_run(at, rows, code),
+            Codes::S(codes) => codes.fill_run(at, rows, code),
         }
     }
 

@@ -1,6 +1,6 @@
 use Rattle.std.proofs.Common.{None, get_or, length, ℕ, ◌-◌, ◌<◌, ◌≡◌, ◌≤◌}
 use Rattle.bw_column.specs.Places.{put_at, rank}
-use Rattle.bw_column.proofs.column.Column.put_all.Given as goal
+use Rattle.bw_column.proofs.column.Column.put_each.Given as goal
 
 -- the places before this one have their values, the others what they had
 abbrev pub invariant-loop-place : goal.invariant-loop-place

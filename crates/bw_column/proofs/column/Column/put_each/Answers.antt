@@ -1,6 +1,6 @@
 use Rattle.std.proofs.Common.{arith, ap, get_or, length, length-set, None, ◌≡◌, ◌∙◌}
 use Rattle.bw_column.proofs.Overwriting.{all_done, done_more, next_below, next_rank, place_below, rest_less}
-use Rattle.bw_column.proofs.column.Column.put_all.Goals as goal
+use Rattle.bw_column.proofs.column.Column.put_each.Goals as goal
 
 pub bounds-values-next : goal.bounds-values-next
 bounds-values-next c =
