@@ -4,8 +4,9 @@ pub mod Heads
 pub mod Inserted
 pub mod Integers
 pub mod Opened
-pub mod SameKinds
+pub mod Picks
 pub mod Places
 pub mod Readied
+pub mod SameKinds
 pub mod Updated
 pub mod Written

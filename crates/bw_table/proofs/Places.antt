@@ -62,7 +62,7 @@ module _ (mask : MaskRows) where
       let e : a + suc d ≡ a + d + 1 = omega arith in
       ap (places_below mask) e ∙ place_out (a + d) (out (a + d) (omega arith) (omega arith)) ∙ places_over a d (λ j l h. out j l (omega arith))
 
-  places_between : (a b : ℕ) → a ≤ b → ((j : ℕ) → a ≤ j → j < b → row_at mask j ≡ false) → places_below mask b ≡ places_below mask a
+  pub places_between : (a b : ℕ) → a ≤ b → ((j : ℕ) → a ≤ j → j < b → row_at mask j ≡ false) → places_below mask b ≡ places_below mask a
   places_between a b l out =
       let e : a + (b - a) ≡ b = omega arith in
       ap (places_below mask) (sym e) ∙ places_over a (b - a) (λ j low high. out j low (omega (arith, e)))

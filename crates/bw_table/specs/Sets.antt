@@ -1,11 +1,12 @@
 -- Columns that are set in the rows of a mask, in two halves, and columns built anew from such rows.
 use Rattle.std.specs.Prelude.{List, None, Option, Some, [], false, length, map, slice_index_or, ℕ, ℤ, ◌<◌, ◌≡◌}
-use Rattle.bw_mask.specs.Masks.{MaskRows}
+use Rattle.std.specs.List.{filter, range_with_len}
+use Rattle.bw_mask.specs.Masks.{MaskRows, bit_of}
 use Rattle.bw_code.specs.Encodings.{IsFit, kind_of}
 use Rattle.bw_column.specs.Columns.{ColumnView, Keeps}
 use Rattle.bw_column.specs.Places.{overwritten}
 use Rattle.bw_column.specs.Preparing.{IsEncodingFor, IsPreparedFor}
-use Rattle.bw_column.specs.Values.{known}
+use Rattle.bw_column.specs.Values.{known, value_at}
 use Rattle.bw_table.specs.Changes.{choice_of, chosen_kind, chosen_layout, places, set_of, value_for}
 use Rattle.bw_table.specs.Slots.{row_of}
 use Rattle.bw_table.specs.declared.setting.Change.{Change}
@@ -17,6 +18,10 @@ use Rattle.bw_table.specs.declared.setting.SetTo.TheVariants.{Column}
 -- what a column is set to in the rows of a mask, in order
 abbrev pub gathered : List ColumnView → MaskRows → SetTo → List (Option ℤ)
 gathered columns mask to = map (λ i. value_for to (row_of columns i)) (places mask)
+
+-- of the values of a run those whose bit is set, in order
+abbrev pub picked : ℕ → List (Option ℤ) → List (Option ℤ)
+picked rows run = map (value_at run) (filter (bit_of rows) (range_with_len 0 (length run)))
 
 -- the change has the values of the set, and is prepared for its column as it stands
 pub record IsReadyFor (columns : List ColumnView) (found : MaskRows) (set : ℕ × SetTo) (change : Change) : Type 0 where

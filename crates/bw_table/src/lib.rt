@@ -4,6 +4,7 @@
 mod appending;
 mod choice;
 mod fault;
+mod gathering;
 mod header;
 mod opening;
 mod rebuilding;

@@ -4,11 +4,11 @@ ghost use Rattle.std.specs.Prelude.{All, IfOk, length, vec_len, ℕ, ◌<◌, �
 ghost use Rattle.std.specs.List.{AllPairs};
 ghost use Rattle.bw_mask.specs.Masks.{len};
 ghost use Rattle.bw_column.specs.Values.{IsNullOrInteger};
-ghost use Rattle.bw_table.specs.Changes.{IsSetTo, value_for};
+ghost use Rattle.bw_table.specs.Changes.{IsSetTo};
 ghost use Rattle.bw_table.specs.Halves.{AllKept};
 ghost use Rattle.bw_table.specs.Sets.{gathered, AllSet, AreReadyFor};
-ghost use Rattle.bw_table.specs.Slots.{row_of};
 
+use crate::gathering::{equal_values, gather_column};
 use bw_column::{Column, Prepared};
 use bw_mask::Mask;
 use std::alloc::{AllocError, Global};
@@ -27,23 +27,7 @@ pub(crate) struct Change {
     pub(crate) values: Vec<Option<i64>>,
 }
 
-/// What a column is set to in row i.
-#[tactic(auto, using(crate::proofs::Integers::set_to_integer))]
-fn value_for(columns: &Vec<Column>, to: SetTo, i: usize) -> Option<i64>
-    requires to { IsSetTo (vec_len columns.now) to }
-    requires inside { All (λ column. i < length column.values) columns.now.items }
-    requires integers { All (λ column. All IsNullOrInteger column.values) columns.now.items }
-    ensures is { result ≡ value_for to (row_of columns.now.items i) }
-    ensures integer { IsNullOrInteger result }
-{
-    match to {
-        SetTo::Value(x) => x,
-        SetTo::Column(k) => columns[k].get(i),
-    }
-}
-
 /// What a column is set to in the rows of a mask, in order.
-#[tactic(auto, using(bw_column::proofs::Overwriting::below_len, crate::proofs::Places::gathered_all))]
 pub(crate) fn gather(
     columns: &Vec<Column>,
     alloc: Global,
@@ -58,13 +42,10 @@ pub(crate) fn gather(
     ensures integers { IfOk result (λ values. All IsNullOrInteger values.items) }
     ensures few { IfOk result (λ values. vec_len values ≤ len mask.now) }
 {
-    let mut values = Vec::with_capacity(alloc, mask.count())?;
-    let mut at = 0;
-    while let Some(row) = mask.next_from(at) {
-        values.push(value_for(columns, to, row))?;
-        at = row + 1;
+    match to {
+        SetTo::Value(x) => equal_values(alloc, x, mask.count()),
+        SetTo::Column(k) => gather_column(&columns[k], alloc, mask),
     }
-    Ok(values)
 }
 
 /// The first half: each set column makes ready for its values, which are taken from the columns as they are.

@@ -1,0 +1,88 @@
+//! The values of a column in the rows of a mask.
+
+ghost use Rattle.std.specs.Prelude.{All, IfOk, length, map, replicate, take, vec_len, ◌<◌, ◌^◌, ◌≡◌, ◌≤◌};
+ghost use Rattle.bw_mask.specs.Masks.{bit_of, len};
+ghost use Rattle.bw_column.specs.Values.{IsNullOrInteger, value_at};
+ghost use Rattle.bw_table.specs.Changes.{places};
+ghost use Rattle.bw_table.specs.Sets.{picked};
+
+use bw_column::Column;
+use bw_mask::Mask;
+use std::alloc::{AllocError, Global};
+
+/// Of how many rows of a word one is read by itself, and the whole word's from there on.
+const FEW: u32 = 8;
+
+/// Whether bit i is set.
+#[tactic(auto, using(bw_mask::proofs::Bits::bit_test))]
+fn has_bit(word: u64, i: usize) -> bool
+    requires { i < 64 }
+    ensures { result ≡ bit_of word i }
+{
+    word >> i & 1 == 1
+}
+
+/// Puts those of at most 64 values whose bit is set to the front of `out`, in order, and answers how many they are.
+fn pick(run: &[Option<i64>], rows: u64, out: &mut [Option<i64>; 64]) -> usize
+    requires { length run.now ≤ 64 }
+    ensures few { result ≤ length run.now }
+    ensures front { take result out.new ≡ picked rows run.now }
+{
+    let mut count = 0;
+    // No branch a value: each is written, and the next one over it where its bit is not set.
+    for i in 0..run.len() {
+        out[count] = run[i];
+        if has_bit(rows, i) {
+            count += 1;
+        }
+    }
+    count
+}
+
+/// So many times one value.
+pub(crate) fn equal_values(
+    alloc: Global,
+    value: Option<i64>,
+    count: usize,
+) -> Result<Vec<Option<i64>>, AllocError>
+    ensures { IfOk result (λ values. values.items ≡ replicate count value) }
+{
+    let mut values = Vec::with_capacity(alloc, count)?;
+    for _i in 0..count {
+        values.push(value)?;
+    }
+    Ok(values)
+}
+
+/// The values of the rows of a mask, in order. Where many of a word's rows are asked for, the word's are read at once.
+pub(crate) fn gather_column(
+    column: &Column,
+    alloc: Global,
+    mask: &Mask,
+) -> Result<Vec<Option<i64>>, AllocError>
+    requires long { length column.now.values ≡ len mask.now }
+    requires integers { All IsNullOrInteger column.now.values }
+    ensures values { IfOk result (λ values. values.items ≡ map (value_at column.now.values) (places mask.now)) }
+    ensures integers { IfOk result (λ values. All IsNullOrInteger values.items) }
+    ensures few { IfOk result (λ values. vec_len values ≤ len mask.now) }
+{
+    let end = column.len();
+    let mut values = Vec::with_capacity(alloc, mask.count())?;
+    let mut run = [None; 64];
+    let mut front = [None; 64];
+    let mut at = 0;
+    while let Some(row) = mask.next_from(at) {
+        let n = (64 - row % 64).min(end - row);
+        let rows = mask.bits(row, n);
+        if rows.count_ones() < FEW {
+            values.push(column.get(row))?;
+            at = row + 1;
+        } else {
+            column.read(row, &mut run[..n]);
+            let count = pick(&run[..n], rows, &mut front);
+            values.extend_from_slice(&front[..count])?;
+            at = row + n;
+        }
+    }
+    Ok(values)
+}
