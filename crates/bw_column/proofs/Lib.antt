@@ -3,6 +3,7 @@ pub mod Blocks
 pub mod Changed
 pub mod Chosen
 pub mod Extremes
+pub mod Filled
 pub mod Flat
 pub mod Held
 pub mod Known
@@ -13,6 +14,7 @@ pub mod PairRows
 pub mod Pieces
 pub mod Planed
 pub mod Ranks
+pub mod Repeated
 pub mod Rows
 pub mod Scans
 pub mod Shifting

@@ -16,6 +16,10 @@ put_at places values old i = if row_at places i then value_at values (rank place
 abbrev pub overwritten : MaskRows → List (Option ℤ) → List (Option ℤ) → List (Option ℤ)
 overwritten places values old = made (length old) (put_at places values old)
 
+-- the values, of which those of the chosen rows become this one, and the others stay
+abbrev pub filled_values : List (Option ℤ) → ℕ → ℕ → Option ℤ → List (Option ℤ)
+filled_values old at rows value = made (length old) (λ j. if is_chosen at rows j then value else value_at old j)
+
 -- the values, of which those of the chosen rows become the ones that stand at their bits' places, and the others stay
 abbrev pub put_values : List (Option ℤ) → ℕ → ℕ → List (Option ℤ) → List (Option ℤ)
 put_values old at rows values = made (length old) (λ j. if is_chosen at rows j then value_at values (j - at) else value_at old j)

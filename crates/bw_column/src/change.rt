@@ -22,8 +22,8 @@ use std::marker::Model;
 /// looked for in a dictionary.
 #[derive(Drop)]
 pub struct Prepared {
-    step: Step,
-    codes: KeptCodes,
+    pub(crate) step: Step,
+    pub(crate) codes: KeptCodes,
 }
 
 impl Model for Prepared {

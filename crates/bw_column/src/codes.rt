@@ -1,7 +1,7 @@
 //! The codes of many values at a time.
 
 ghost use Rattle.std.specs.Bool.{OnTrue};
-ghost use Rattle.std.specs.Prelude.{All, IfSome, IsSome, IsTrue, is_some, length, map, ◌++◌, ◌+◌, ◌-◌, ◌^◌, ◌↔◌, ◌≡◌, ◌≤◌};
+ghost use Rattle.std.specs.Prelude.{All, IfSome, IsSome, IsTrue, is_some, length, map, replicate, ◌++◌, ◌+◌, ◌-◌, ◌^◌, ◌↔◌, ◌≡◌, ◌≤◌};
 ghost use Rattle.bw_code.specs.declared.encoding.Encoding.TheVariants as by;
 ghost use Rattle.bw_column.specs.Codes.{IsCoded, code_for, codes_for};
 
@@ -16,6 +16,13 @@ fn code(encoding: &Encoding, value: Option<i64>) -> Option<u64>
         None => Some(0),
         Some(x) => encoding.encode(x),
     }
+}
+
+/// Whether so many times a value have a code: of no values each has one.
+pub(crate) fn has_code_times(encoding: &Encoding, value: Option<i64>, count: usize) -> bool
+    ensures { IsTrue result ↔ All (IsCoded encoding.now) (replicate count value) }
+{
+    count == 0 || code(encoding, value).is_some()
 }
 
 /// The code of a value that has one.

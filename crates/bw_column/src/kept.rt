@@ -14,7 +14,7 @@ use std::alloc::{AllocError, Global};
 /// The codes of cells. Only those of a DICTIONARY are kept: each was looked for in its list.
 #[derive(Drop)]
 pub(crate) enum KeptCodes {
-    /// Distances from a base, which cost no more than to be kept.
+    /// Distances from a base, which cost no more than to be kept, or a code that is looked for once for all cells.
     Distances,
     /// Places in a dictionary.
     Places(Vec<u64>),

@@ -12,6 +12,7 @@ mod compare_anew;
 mod distances;
 mod ends;
 mod extending;
+mod filling;
 mod kept;
 mod pair_codes;
 mod pairs;

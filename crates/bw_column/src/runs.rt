@@ -51,7 +51,7 @@ fn spread(
 }
 
 /// Of at most 64 rows from row `at` on those whose bit is set become what the other word says of them.
-fn put_presence(nonnull: &mut Mask, at: usize, n: usize, rows: u64, present: u64)
+pub(crate) fn put_presence(nonnull: &mut Mask, at: usize, n: usize, rows: u64, present: u64)
     requires few { n ≤ 64 }
     requires inside { at + n ≤ len nonnull.old }
     requires given { (i : ℕ) → n ≤ i → bit_of rows i ≡ false }
