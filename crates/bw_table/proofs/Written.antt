@@ -15,8 +15,8 @@ use Rattle.bw_column.specs.Places.{overwritten}
 use Rattle.bw_table.specs.Changes.{places, set_of, value_for}
 use Rattle.bw_table.specs.Slots.{row_of}
 use Rattle.bw_table.specs.Halves.{AllKept}
-use Rattle.bw_table.specs.Sets.{gathered, AllSet, AreReadyFor, IsReadyFor, IsSet}
-use Rattle.bw_table.specs.declared.setting.Change.{Change}
+use Rattle.bw_table.specs.Sets.{gathered, taken, AllSet, AreReadyFor, IsReadyFor, IsSet}
+use Rattle.bw_table.specs.declared.taking.Change.{Change}
 use Rattle.bw_table.specs.declared.setting.SetTo.{SetTo}
 use Rattle.bw_table.proofs.Places.{count_places, map_alike}
 use Rattle.bw_table.proofs.Readied.{one_less, popped}
@@ -69,7 +69,7 @@ module _ (new old : List ColumnView) (kept : AllKept new old) (found : MaskRows)
   ready_kept : (set : ℕ × SetTo) (change : Change) → IsReadyFor old found set change → IsReadyFor new found set change
   ready_kept set change is = record {
     values = is.values ∙ sym (gathered_kept set.1);
-    ready = λ c. still_ready (get_or new set.0 c) (get_or old set.0 c) change.values.items change.prepared (kept.each set.0 c) (is.ready c);
+    ready = λ c. still_ready (get_or new set.0 c) (get_or old set.0 c) (taken found change.values) change.prepared (kept.each set.0 c) (is.ready c);
   }
 
   -- one set more is ready
@@ -137,11 +137,11 @@ module _ {found : MaskRows} {sets : List (ℕ × SetTo)} {cur old : List ColumnV
     pub keeps_here : (d : ColumnView) → Keeps column (get_or old here.0 d)
     keeps_here d = subst (λ (c : ColumnView). Keeps c (get_or old here.0 d)) (sym (stands ∙ get_or_default cur here.0 column d t.named)) (subst (λ to. IsSet old found to (get_or cur here.0 d) (get_or old here.0 d)) free (t.done.each here.0 d))
 
-    pub prepared_here : IsPreparedFor column change.values.items false change.prepared
-    prepared_here = still_ready column (get_or old here.0 column) change.values.items change.prepared (keeps_here column) (t.ready.ready column)
+    pub prepared_here : IsPreparedFor column (taken found change.values) false change.prepared
+    prepared_here = still_ready column (get_or old here.0 column) (taken found change.values) change.prepared (keeps_here column) (t.ready.ready column)
 
     -- and an overwrite does what the set says
-    pub more_set : (x : ColumnView) (values : List (Option ℤ)) → values ≡ change.values.items → x.values ≡ overwritten found values column.values → x.layout ≡ column.layout → IsEncodingFor column.values column.encoding values x.encoding → AllSet found (drop n sets) (set cur here.0 x) old
+    pub more_set : (x : ColumnView) (values : List (Option ℤ)) → values ≡ (taken found change.values) → x.values ≡ overwritten found values column.values → x.layout ≡ column.layout → IsEncodingFor column.values column.encoding values x.encoding → AllSet found (drop n sets) (set cur here.0 x) old
     more_set x values e is layout encoding =
         let all : values ≡ gathered old found here.1 = e ∙ t.ready.values in
         record {

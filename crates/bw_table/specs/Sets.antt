@@ -1,5 +1,5 @@
 -- Columns that are set in the rows of a mask, in two halves, and columns built anew from such rows.
-use Rattle.std.specs.Prelude.{List, None, Option, Some, [], false, length, map, slice_index_or, ℕ, ℤ, ◌<◌, ◌≡◌}
+use Rattle.std.specs.Prelude.{List, None, Option, Some, [], count_by, false, length, map, replicate, slice_index_or, ℕ, ℤ, ◌<◌, ◌≡◌}
 use Rattle.std.specs.List.{filter, range_with_len}
 use Rattle.bw_mask.specs.Masks.{MaskRows, bit_of}
 use Rattle.bw_code.specs.Encodings.{IsFit, kind_of}
@@ -9,11 +9,13 @@ use Rattle.bw_column.specs.Preparing.{IsEncodingFor, IsPreparedFor}
 use Rattle.bw_column.specs.Values.{known, value_at}
 use Rattle.bw_table.specs.Changes.{choice_of, chosen_kind, chosen_layout, places, set_of, value_for}
 use Rattle.bw_table.specs.Slots.{row_of}
-use Rattle.bw_table.specs.declared.setting.Change.{Change}
 use Rattle.bw_table.specs.declared.choice.Choice.{Choice}
 use Rattle.bw_table.specs.declared.header.Header.{Header}
 use Rattle.bw_table.specs.declared.setting.SetTo.{SetTo}
 use Rattle.bw_table.specs.declared.setting.SetTo.TheVariants.{Column}
+use Rattle.bw_table.specs.declared.taking.Change.{Change}
+use Rattle.bw_table.specs.declared.taking.Taken.{Taken}
+use Rattle.bw_table.specs.declared.taking.Taken.TheVariants.{Each, Same}
 
 -- what a column is set to in the rows of a mask, in order
 abbrev pub gathered : List ColumnView → MaskRows → SetTo → List (Option ℤ)
@@ -23,10 +25,15 @@ gathered columns mask to = map (λ i. value_for to (row_of columns i)) (places m
 abbrev pub picked : ℕ → List (Option ℤ) → List (Option ℤ)
 picked rows run = map (value_at run) (filter (bit_of rows) (range_with_len 0 (length run)))
 
+-- the values for the rows of a mask
+abbrev pub taken : MaskRows → Taken → List (Option ℤ)
+taken mask (Each values) = values.items
+taken mask (Same value) = replicate (count_by (λ row. row) mask.rows) value
+
 -- the change has the values of the set, and is prepared for its column as it stands
 pub record IsReadyFor (columns : List ColumnView) (found : MaskRows) (set : ℕ × SetTo) (change : Change) : Type 0 where
-  pub values : change.values.items ≡ gathered columns found set.1
-  pub ready : (c : ColumnView) → IsPreparedFor (slice_index_or columns set.0 c) change.values.items false change.prepared
+  pub values : taken found change.values ≡ gathered columns found set.1
+  pub ready : (c : ColumnView) → IsPreparedFor (slice_index_or columns set.0 c) (taken found change.values) false change.prepared
 
 abbrev pub AreReadyFor : List ColumnView → MaskRows → List (ℕ × SetTo) → List Change → Type 0
 AreReadyFor columns found sets changes = (j : ℕ) (s : ℕ × SetTo) (d : Change) → j < length changes → IsReadyFor columns found (slice_index_or sets j s) (slice_index_or changes j d)

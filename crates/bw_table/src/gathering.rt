@@ -1,11 +1,12 @@
 //! The values of a column in the rows of a mask.
 
-ghost use Rattle.std.specs.Prelude.{All, IfOk, length, map, replicate, take, vec_len, ◌<◌, ◌^◌, ◌≡◌, ◌≤◌};
+ghost use Rattle.std.specs.Prelude.{All, IfOk, length, map, take, vec_len, ◌<◌, ◌^◌, ◌≡◌, ◌≤◌};
 ghost use Rattle.bw_mask.specs.Masks.{bit_of, len};
 ghost use Rattle.bw_column.specs.Values.{IsNullOrInteger, value_at};
 ghost use Rattle.bw_table.specs.Changes.{places};
-ghost use Rattle.bw_table.specs.Sets.{picked};
+ghost use Rattle.bw_table.specs.Sets.{gathered, picked};
 
+use crate::setting::SetTo;
 use bw_column::Column;
 use bw_mask::Mask;
 use std::alloc::{AllocError, Global};
@@ -39,23 +40,8 @@ fn pick(run: &[Option<i64>], rows: u64, out: &mut [Option<i64>; 64]) -> usize
     count
 }
 
-/// So many times one value.
-pub(crate) fn equal_values(
-    alloc: Global,
-    value: Option<i64>,
-    count: usize,
-) -> Result<Vec<Option<i64>>, AllocError>
-    ensures { IfOk result (λ values. values.items ≡ replicate count value) }
-{
-    let mut values = Vec::with_capacity(alloc, count)?;
-    for _i in 0..count {
-        values.push(value)?;
-    }
-    Ok(values)
-}
-
 /// The values of the rows of a mask, in order. Where many of a word's rows are asked for, the word's are read at once.
-pub(crate) fn gather_column(
+fn gather_column(
     column: &Column,
     alloc: Global,
     mask: &Mask,
@@ -85,4 +71,21 @@ pub(crate) fn gather_column(
         }
     }
     Ok(values)
+}
+
+/// The values of column k in the rows of a mask, in order.
+pub(crate) fn gather(
+    columns: &Vec<Column>,
+    alloc: Global,
+    mask: &Mask,
+    k: usize,
+) -> Result<Vec<Option<i64>>, AllocError>
+    requires there { k < vec_len columns.now }
+    requires long { All (λ column. length column.values ≡ len mask.now) columns.now.items }
+    requires integers { All (λ column. All IsNullOrInteger column.values) columns.now.items }
+    ensures values { IfOk result (λ values. values.items ≡ gathered columns.now.items mask.now (SetTo.Column k)) }
+    ensures integers { IfOk result (λ values. All IsNullOrInteger values.items) }
+    ensures few { IfOk result (λ values. vec_len values ≤ len mask.now) }
+{
+    gather_column(&columns[k], alloc, mask)
 }

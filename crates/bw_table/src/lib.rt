@@ -13,6 +13,7 @@ mod rows;
 mod setting;
 mod slots;
 mod table;
+mod taking;
 
 pub use choice::Choice;
 pub use fault::TableFault;

@@ -8,7 +8,7 @@ ghost use Rattle.bw_table.specs.Changes.{chosen_kind, chosen_layout};
 ghost use Rattle.bw_table.specs.Sets.{AllBuilt};
 
 use crate::choice::{Choice, choice_of, chosen_kind, chosen_layout};
-use crate::setting::{SetTo, gather};
+use crate::gathering::gather;
 use bw_column::Column;
 use bw_mask::Mask;
 use std::alloc::{AllocError, Global};
@@ -47,7 +47,7 @@ pub(crate) fn build_anew(
 {
     let mut built = Vec::with_capacity(alloc, columns.len())?;
     for k in 0..columns.len() {
-        let values = gather(columns, alloc, mask, SetTo::Column(k))?;
+        let values = gather(columns, alloc, mask, k)?;
         let column = built_as(alloc, &columns[k], choice_of(choices, k), &values)?;
         built.push(column)?;
     }

@@ -6,10 +6,10 @@ ghost use Rattle.bw_mask.specs.Masks.{len};
 ghost use Rattle.bw_column.specs.Values.{IsNullOrInteger};
 ghost use Rattle.bw_table.specs.Changes.{IsSetTo};
 ghost use Rattle.bw_table.specs.Halves.{AllKept};
-ghost use Rattle.bw_table.specs.Sets.{gathered, AllSet, AreReadyFor};
+ghost use Rattle.bw_table.specs.Sets.{AllSet, AreReadyFor};
 
-use crate::gathering::{equal_values, gather_column};
-use bw_column::{Column, Prepared};
+use crate::taking::{Change, make_ready, take, values_for};
+use bw_column::Column;
 use bw_mask::Mask;
 use std::alloc::{AllocError, Global};
 
@@ -18,34 +18,6 @@ use std::alloc::{AllocError, Global};
 pub enum SetTo {
     Value(Option<i64>),
     Column(usize),
-}
-
-/// What one column takes: the values, and what it has prepared for them.
-#[derive(Drop)]
-pub(crate) struct Change {
-    pub(crate) prepared: Prepared,
-    pub(crate) values: Vec<Option<i64>>,
-}
-
-/// What a column is set to in the rows of a mask, in order.
-pub(crate) fn gather(
-    columns: &Vec<Column>,
-    alloc: Global,
-    mask: &Mask,
-    to: SetTo,
-) -> Result<Vec<Option<i64>>, AllocError>
-    requires to { IsSetTo (vec_len columns.now) to }
-    requires long { All (λ column. length column.values ≡ len mask.now) columns.now.items }
-    requires integers { All (λ column. All IsNullOrInteger column.values) columns.now.items }
-    requires bound { len mask.now ≤ 2 ^ 24 }
-    ensures values { IfOk result (λ values. values.items ≡ gathered columns.now.items mask.now to) }
-    ensures integers { IfOk result (λ values. All IsNullOrInteger values.items) }
-    ensures few { IfOk result (λ values. vec_len values ≤ len mask.now) }
-{
-    match to {
-        SetTo::Value(x) => equal_values(alloc, x, mask.count()),
-        SetTo::Column(k) => gather_column(&columns[k], alloc, mask),
-    }
 }
 
 /// The first half: each set column makes ready for its values, which are taken from the columns as they are.
@@ -68,8 +40,8 @@ pub(crate) fn prepare_sets(
     let mut changes = Vec::with_capacity(alloc, sets.len())?;
     for set in sets {
         let (k, to) = *set;
-        let values = gather(columns, alloc, found, to)?;
-        let prepared = columns[k].room_for(alloc, &values.as_slice(), false)?;
+        let values = values_for(columns, alloc, found, to)?;
+        let prepared = make_ready(&mut columns[k], alloc, found, &values)?;
         changes.push(Change { prepared, values })?;
     }
     Ok(changes)
@@ -91,8 +63,7 @@ pub(crate) fn apply_sets(
 {
     let mut rest = changes;
     while let Some(change) = rest.pop() {
-        let Change { prepared, values } = change;
         let (k, _) = sets[rest.len()];
-        columns[k].overwrite(prepared, found, &values);
+        take(&mut columns[k], found, change);
     }
 }

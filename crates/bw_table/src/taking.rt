@@ -1,0 +1,86 @@
+//! What a column takes in the rows of a mask: a value for each of them, or one for all.
+
+ghost use Rattle.std.specs.Prelude.{All, IfOk, count_by, false, length, vec_len, ◌^◌, ◌≡◌, ◌≤◌};
+ghost use Rattle.bw_mask.specs.Masks.{len};
+ghost use Rattle.bw_column.specs.Columns.{Keeps};
+ghost use Rattle.bw_column.specs.Places.{overwritten};
+ghost use Rattle.bw_column.specs.Preparing.{IsEncodingFor, IsPreparedFor};
+ghost use Rattle.bw_column.specs.Values.{IsNullOrInteger};
+ghost use Rattle.bw_table.specs.Changes.{IsSetTo};
+ghost use Rattle.bw_table.specs.Sets.{gathered, taken};
+
+use crate::gathering::gather;
+use crate::setting::SetTo;
+use bw_column::{Column, Prepared};
+use bw_mask::Mask;
+use std::alloc::{AllocError, Global};
+
+/// The values for the rows of a mask.
+#[derive(Drop)]
+pub(crate) enum Taken {
+    /// One for each row, in order.
+    Each(Vec<Option<i64>>),
+    /// The same for all rows, and no list of it.
+    Same(Option<i64>),
+}
+
+/// What one column takes: the values, and what it has prepared for them.
+#[derive(Drop)]
+pub(crate) struct Change {
+    pub(crate) prepared: Prepared,
+    pub(crate) values: Taken,
+}
+
+/// The values that a column is set to in the rows of a mask.
+pub(crate) fn values_for(
+    columns: &Vec<Column>,
+    alloc: Global,
+    mask: &Mask,
+    to: SetTo,
+) -> Result<Taken, AllocError>
+    requires to { IsSetTo (vec_len columns.now) to }
+    requires long { All (λ column. length column.values ≡ len mask.now) columns.now.items }
+    requires integers { All (λ column. All IsNullOrInteger column.values) columns.now.items }
+    ensures { IfOk result (λ values. taken mask.now values ≡ gathered columns.now.items mask.now to) }
+{
+    match to {
+        SetTo::Value(x) => Ok(Taken::Same(x)),
+        SetTo::Column(k) => Ok(Taken::Each(gather(columns, alloc, mask, k)?)),
+    }
+}
+
+/// A column makes ready for values. It keeps its own, also where memory is wanting.
+#[tactic(auto, using(bw_column::proofs::Held::all_held))]
+pub(crate) fn make_ready(
+    column: &mut Column,
+    alloc: Global,
+    mask: &Mask,
+    values: &Taken,
+) -> Result<Prepared, AllocError>
+    requires integers { All IsNullOrInteger (taken mask.now values.now) }
+    requires count { length (taken mask.now values.now) ≤ 2 ^ 24 }
+    requires few { length column.old.values ≤ 2 ^ 24 }
+    ensures prepared { IfOk result (IsPreparedFor column.new (taken mask.now values.now) false) }
+    ensures keeps { Keeps column.new column.old }
+{
+    match values {
+        Taken::Each(list) => column.room_for(alloc, &list.as_slice(), false),
+        Taken::Same(value) => column.room_to_fill(alloc, *value, mask.count()),
+    }
+}
+
+/// A column takes the values of a change in the rows of a mask, and no memory.
+pub(crate) fn take(column: &mut Column, mask: &Mask, change: Change)
+    requires prepared { IsPreparedFor column.old (taken mask.now change.values) false change.prepared }
+    requires mask { len mask.now ≡ length column.old.values }
+    requires count { count_by (λ row. row) mask.now.rows ≡ length (taken mask.now change.values) }
+    ensures values { column.new.values ≡ overwritten mask.now (taken mask.now change.values) column.old.values }
+    ensures layout { column.new.layout ≡ column.old.layout }
+    ensures encoding { IsEncodingFor column.old.values column.old.encoding (taken mask.now change.values) column.new.encoding }
+{
+    let Change { prepared, values } = change;
+    match values {
+        Taken::Each(list) => column.overwrite(prepared, mask, &list),
+        Taken::Same(value) => column.fill(prepared, mask, value),
+    }
+}
