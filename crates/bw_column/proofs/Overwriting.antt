@@ -1,9 +1,9 @@
 -- One more set place gets its value.
 use Rattle.std.proofs.Common.{None, Option, Some, List, ap, arith, count_by, false, get_or, inl, inr, length, refl, set, sym, true, ℕ, ℤ, ◌+◌, ◌<◌, ◌≡◌, ◌≢◌, ◌≤◌, ◌∙◌}
-use Rattle.std.proofs.lemmas.Bool.{both_ways, cases_eq, cases_lt}
+use Rattle.std.proofs.lemmas.Bool.{both_ways, cases_Bool, cases_eq, cases_lt}
 use Rattle.std.proofs.lemmas.List.{get_or-set_other, get_or-set_same, get_or_past}
 use Rattle.bw_mask.specs.Masks.{IsNext, MaskRows, len, row_at}
-use Rattle.bw_column.specs.Places.{overwritten, put_at, rank}
+use Rattle.bw_column.specs.Places.{ArePutFrom, overwritten, put_at, rank}
 use Rattle.bw_column.specs.Values.{value_at}
 use Rattle.bw_code.proofs.Lists.{made_is}
 use Rattle.bw_column.proofs.Ranks.{rank_below, rank_set, rank_skip}
@@ -51,6 +51,30 @@ module _ (places : MaskRows) (values old now : List (Option ℤ)) (at : ℕ)
 
       pub rest_less : (k : ℕ) → place + 1 ≤ k → value_at (set now place (value_at values next)) k ≡ value_at old k
       rest_less k h = let d : k ≢ place = omega arith in get_or-set_other now place k (value_at values next) None d ∙ rest k (omega (arith, is.0))
+
+  -- a run of places more
+  module _ (start n place : ℕ) (new : List (Option ℤ)) (put : ArePutFrom places values start n new now) (low : at ≤ start) (to : start ≤ place) (none : (j : ℕ) → at ≤ j → j < place → row_at places j ≡ false) where
+    put_again : (k : ℕ) → start ≤ k → put_at places values now k ≡ put_at places values old k
+    put_again k from =
+        elim (cases_Bool (row_at places k)) [
+          | inl t ↦ rw t refl
+          | inr t ↦ rw t (rest k (omega (arith, low, from)))
+        ]
+
+    pub run_done : (k : ℕ) → k < start + n → value_at new k ≡ put_at places values old k
+    run_done k h =
+        elim (cases_lt k start) [
+          | inl below ↦
+              put.outside k (λ l. absurd (omega (arith, l, below)))
+              ∙ elim (cases_lt k at) [
+                | inl l ↦ done k l
+                | inr l ↦ rest k l ∙ rw (none k l (omega (arith, below, to))) refl
+              ]
+          | inr from ↦ put.inside k from h ∙ put_again k from
+        ]
+
+    pub run_rest : (k : ℕ) → start + n ≤ k → value_at new k ≡ value_at old k
+    run_rest k h = put.outside k (λ _. h) ∙ rest k (omega (arith, h, low))
 
   pub all_done : IsNext (row_at places) at None → now ≡ overwritten places values old
   all_done none =

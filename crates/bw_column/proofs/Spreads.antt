@@ -1,15 +1,18 @@
 -- The values of the set places of a word, spread over a run and put there.
-use Rattle.std.proofs.Common.{List, None, Option, ap, arith, count_by, false, if◌then◌else◌, inl, inr, length, refl, sym, true, ℕ, ℤ, ◌&&◌, ◌+◌, ◌-◌, ◌<◌, ◌≡◌, ◌≤◌, ◌∙◌}
+use Rattle.std.proofs.Common.{get_or, List, None, Option, ap, arith, count_by, false, if◌then◌else◌, inl, inr, length, refl, sym, true, ℕ, ℤ, ◌&&◌, ◌+◌, ◌-◌, ◌<◌, ◌≡◌, ◌≤◌, ◌∙◌}
 use Rattle.std.specs.List.{All}
 use Rattle.std.specs.Prelude.{nat_lt}
 use Rattle.std.proofs.lemmas.Bool.{cases_Bool, cases_lt, le-ltb, lt-ltb}
-use Rattle.std.proofs.lemmas.List.{get_or_default, get_or_past}
+use Rattle.std.proofs.lemmas.List.{ext_get_or, get_or_default, get_or_past, length-map}
 use Rattle.bw_mask.specs.Masks.{MaskRows, bit_of, len, row_at}
 use Rattle.bw_code.specs.Columns.{is_chosen}
 use Rattle.bw_code.proofs.Lists.{made_at, made_len}
 use Rattle.bw_code.proofs.Runs.{chosen_below, chosen_from}
-use Rattle.bw_column.specs.Places.{put_at, put_values, rank}
+use Rattle.bw_code.specs.declared.encoding.Encoding.{Encoding}
+use Rattle.bw_column.specs.Codes.{code_for, codes_for}
+use Rattle.bw_column.specs.Places.{ArePutFrom, put_at, put_values, rank}
 use Rattle.bw_column.specs.Values.{value_at}
+use Rattle.bw_column.proofs.Chosen.{code_any}
 use Rattle.bw_column.proofs.Ranks.{rank_below}
 
 module _ (places : MaskRows) (values out : List (Option ℤ)) (start n : ℕ) (inside : start + n ≤ len places)
@@ -23,60 +26,60 @@ module _ (places : MaskRows) (values out : List (Option ℤ)) (start n : ℕ) (i
         | inr t ↦ rw (get_or_default out k d None h, each k low, t) none
       ]
 
-  module _ (old now : List (Option ℤ)) (at rows place : ℕ) (same_len : length now ≡ length old) (whole : len places ≡ length old)
-      (done : (k : ℕ) → k < at → value_at now k ≡ put_at places values old k)
-      (rest : (k : ℕ) → at ≤ k → value_at now k ≡ value_at old k)
-      (low : at ≤ start) (to : start ≤ place) (none : (j : ℕ) → at ≤ j → j < place → row_at places j ≡ false)
-      (bits : (i : ℕ) → bit_of rows i ≡ (nat_lt i n && row_at places (start + i))) where
-    put_now : ℕ → Option ℤ
-    put_now j = if is_chosen start rows j then value_at out (j - start) else value_at now j
+  -- a null's code is 0, so that codes are spread as the values are
+  pub codes_spread : (e : Encoding) (codes spread : List ℕ) → codes ≡ codes_for e values → length out ≡ n → length spread ≡ n
+      → ((i : ℕ) → i < n → get_or spread i 0 ≡ (if row_at places (start + i) then get_or codes (rank places (start + i)) 0 else 0)) → spread ≡ codes_for e out
+  codes_spread e codes spread are long len code =
+      ext_get_or 0 spread (codes_for e out) (len ∙ sym long ∙ sym (length-map out (code_for e))) (λ i h.
+      let low : i < n = omega (arith, h, len) in
+      elim (cases_Bool (row_at places (start + i))) [
+        | inl t ↦ rw (code i low, t, are, code_any e values (rank places (start + i)), code_any e out i, each i low, t) refl
+        | inr t ↦ rw (code i low, t, code_any e out i, each i low, t) refl
+      ])
 
-    unset : (k : ℕ) → row_at places k ≡ false → value_at old k ≡ put_at places values old k
-    unset k t = rw t refl
+  module _ (old : List (Option ℤ)) (rows : ℕ) (whole : len places ≡ length old) (bits : (i : ℕ) → bit_of rows i ≡ (nat_lt i n && row_at places (start + i))) where
+    abbrev put_now : ℕ → Option ℤ
+    put_now j = if is_chosen start rows j then value_at out (j - start) else value_at old j
 
-    pub put_len : length (put_values now start rows out) ≡ length old
-    put_len = made_len (length now) (λ j. if is_chosen start rows j then value_at out (j - start) else value_at now j) ∙ same_len
+    put_is : (k : ℕ) → k < length old → value_at (put_values old start rows out) k ≡ put_now k
+    put_is k h = made_at (length old) put_now k None h
 
-    put_is : (k : ℕ) → k < length now → value_at (put_values now start rows out) k ≡ (if is_chosen start rows k then value_at out (k - start) else value_at now k)
-    put_is k h = made_at (length now) (λ j. if is_chosen start rows j then value_at out (j - start) else value_at now j) k None h
-
-    left : (k : ℕ) → k < length now → is_chosen start rows k ≡ false → value_at (put_values now start rows out) k ≡ value_at now k
+    left : (k : ℕ) → k < length old → is_chosen start rows k ≡ false → value_at (put_values old start rows out) k ≡ value_at old k
     left k h t = put_is k h ∙ rw t refl
 
-    taken : (k : ℕ) → k < length now → is_chosen start rows k ≡ true → value_at (put_values now start rows out) k ≡ value_at out (k - start)
+    taken : (k : ℕ) → k < length old → is_chosen start rows k ≡ true → value_at (put_values old start rows out) k ≡ value_at out (k - start)
     taken k h t = put_is k h ∙ rw t refl
 
     bit_is : (i : ℕ) → i < n → bit_of rows i ≡ row_at places (start + i)
     bit_is i h = bits i ∙ rw (lt-ltb i n h) refl
 
-    pub run_done : (k : ℕ) → k < start + n → value_at (put_values now start rows out) k ≡ put_at places values old k
-    run_done k h =
-        let there : k < length now = omega (arith, h, inside, whole, same_len) in
-        elim (cases_lt k start) [
-          | inl below ↦
-              left k there (chosen_below start rows k below)
-              ∙ elim (cases_lt k at) [
-                | inl l ↦ done k l
-                | inr l ↦ rest k l ∙ unset k (none k l (omega (arith, below, to)))
-              ]
-          | inr from ↦
-              let i = k - start in
-              let high : i < n = omega (arith, h, from) in
-              let here : start + i ≡ k = omega (arith, from) in
-              let bit : is_chosen start rows k ≡ row_at places k = chosen_from start rows k from ∙ bit_is i high ∙ ap (row_at places) here in
-              elim (cases_Bool (row_at places k)) [
-                | inl t ↦
-                    let value = each i high in
-                    taken k there (bit ∙ t) ∙ (rw here at value) ∙ rw t refl
-                | inr t ↦ left k there (bit ∙ t) ∙ rest k (omega (arith, low, from)) ∙ unset k t
-              ]
+    put_inside : (k : ℕ) → start ≤ k → k < start + n → value_at (put_values old start rows out) k ≡ put_at places values old k
+    put_inside k from to =
+        let i = k - start in
+        let low : i < n = omega (arith, from, to) in
+        let here : start + i ≡ k = omega (arith, from) in
+        let there : k < length old = omega (arith, to, inside, whole) in
+        let bit : is_chosen start rows k ≡ row_at places k = chosen_from start rows k from ∙ bit_is i low ∙ ap (row_at places) here in
+        elim (cases_Bool (row_at places k)) [
+          | inl t ↦
+              let value = each i low in
+              taken k there (bit ∙ t) ∙ (rw here at value) ∙ rw t refl
+          | inr t ↦ left k there (bit ∙ t) ∙ rw t refl
         ]
 
-    pub run_rest : (k : ℕ) → start + n ≤ k → value_at (put_values now start rows out) k ≡ value_at old k
-    run_rest k h =
-        elim (cases_lt k (length now)) [
-          | inl there ↦
-              let out_of : bit_of rows (k - start) ≡ false = bits (k - start) ∙ rw (le-ltb (k - start) n (omega (arith, h))) refl in
-              left k there (chosen_from start rows k (omega (arith, h)) ∙ out_of) ∙ rest k (omega (arith, h, low))
-          | inr past ↦ get_or_past (put_values now start rows out) k None (omega (arith, past, put_len, same_len)) ∙ sym (get_or_past old k None (omega (arith, past, same_len)))
+    unchosen : (k : ℕ) → (start ≤ k → start + n ≤ k) → is_chosen start rows k ≡ false
+    unchosen k out_of =
+        elim (cases_lt k start) [
+          | inl below ↦ chosen_below start rows k below
+          | inr from ↦ chosen_from start rows k from ∙ bits (k - start) ∙ rw (le-ltb (k - start) n (omega (arith, out_of from))) refl
         ]
+
+    put_outside : (k : ℕ) → (start ≤ k → start + n ≤ k) → value_at (put_values old start rows out) k ≡ value_at old k
+    put_outside k out_of =
+        elim (cases_lt k (length old)) [
+          | inl there ↦ left k there (unchosen k out_of)
+          | inr past ↦ get_or_past (put_values old start rows out) k None (omega (arith, past, made_len (length old) put_now)) ∙ sym (get_or_past old k None past)
+        ]
+
+    pub are_put : ArePutFrom places values start n (put_values old start rows out) old
+    are_put = record { count = made_len (length old) put_now; inside = put_inside; outside = put_outside }

@@ -1,5 +1,5 @@
 -- Values put in the set places of a mask, in order.
-use Rattle.std.specs.Prelude.{List, Option, count_by, if◌then◌else◌, length, take, ℕ, ℤ, ◌-◌}
+use Rattle.std.specs.Prelude.{List, Option, count_by, if◌then◌else◌, length, take, ℕ, ℤ, ◌+◌, ◌-◌, ◌<◌, ◌≡◌, ◌≤◌}
 use Rattle.bw_mask.specs.Masks.{MaskRows, row_at}
 use Rattle.bw_code.specs.Columns.{is_chosen}
 use Rattle.bw_code.specs.Lists.{made}
@@ -23,3 +23,9 @@ filled_values old at rows value = made (length old) (λ j. if is_chosen at rows 
 -- the values, of which those of the chosen rows become the ones that stand at their bits' places, and the others stay
 abbrev pub put_values : List (Option ℤ) → ℕ → ℕ → List (Option ℤ) → List (Option ℤ)
 put_values old at rows values = made (length old) (λ j. if is_chosen at rows j then value_at values (j - at) else value_at old j)
+
+-- the set ones of the n places from `start` on have their values, and every other row keeps its own
+pub record ArePutFrom (places : MaskRows) (values : List (Option ℤ)) (start n : ℕ) (new old : List (Option ℤ)) : Type 0 where
+  pub count : length new ≡ length old
+  pub inside : (k : ℕ) → start ≤ k → k < start + n → value_at new k ≡ put_at places values old k
+  pub outside : (k : ℕ) → (start ≤ k → start + n ≤ k) → value_at new k ≡ value_at old k

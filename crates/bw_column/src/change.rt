@@ -84,46 +84,6 @@ impl Column {
         }
     }
 
-    /// Puts the values with their codes in the set places, in order, one by one.
-    fn put_each(&mut self, places: &Mask, values: &[Option<i64>], codes: &KeptCodes)
-        requires coded { All (IsCoded self.old.encoding) values.now }
-        requires codes { AreKept (codes_for self.old.encoding values.now) codes.now }
-        requires held { All (IsNullOrHeld self.old.layout) values.now }
-        requires few { length self.old.values ≤ 2 ^ 24 }
-        requires places { len places.now ≡ length self.old.values }
-        requires count { count_by (λ row. row) places.now.rows ≡ length values.now }
-        ensures values { self.new.values ≡ overwritten places.now values.now self.old.values }
-        ensures layout { self.new.layout ≡ self.old.layout }
-        ensures encoding { self.new.encoding ≡ self.old.encoding }
-    {
-        let mut at = 0;
-        let mut next = 0;
-        while let Some(place) = places.next_from(at) {
-            let code = codes.code_of(&self.encoding, values, next);
-            self.put(place, values[next], code);
-            at = place + 1;
-            next += 1;
-        }
-    }
-
-    /// Puts the values with their codes in the set places, in order.
-    fn put_all(&mut self, places: &Mask, values: &[Option<i64>], codes: &KeptCodes)
-        requires coded { All (IsCoded self.old.encoding) values.now }
-        requires codes { AreKept (codes_for self.old.encoding values.now) codes.now }
-        requires held { All (IsNullOrHeld self.old.layout) values.now }
-        requires few { length self.old.values ≤ 2 ^ 24 }
-        requires places { len places.now ≡ length self.old.values }
-        requires count { count_by (λ row. row) places.now.rows ≡ length values.now }
-        ensures values { self.new.values ≡ overwritten places.now values.now self.old.values }
-        ensures layout { self.new.layout ≡ self.old.layout }
-        ensures encoding { self.new.encoding ≡ self.old.encoding }
-    {
-        match codes {
-            KeptCodes::Distances => self.put_runs(places, values),
-            KeptCodes::Places(_) => self.put_each(places, values, codes),
-        }
-    }
-
     /// Puts the values in the set places: in the n-th set place the n-th value. Takes no memory.
     pub fn overwrite(&mut self, prepared: Prepared, places: &Mask, values: &[Option<i64>])
         requires prepared { IsPreparedFor self.old values.now false prepared }
@@ -135,6 +95,6 @@ impl Column {
     {
         let Prepared { step, codes } = prepared;
         self.take(step);
-        self.put_all(places, values, &codes);
+        self.put_runs(places, values, &codes);
     }
 }

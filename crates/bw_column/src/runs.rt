@@ -1,48 +1,51 @@
 //! Values put at some of 64 rows of a column at a time.
 
-ghost use Rattle.std.specs.Prelude.{All, None, count_by, false, if◌then◌else◌, length, ℕ, ◌%◌, ◌+◌, ◌-◌, ◌<◌, ◌^◌, ◌≡◌, ◌≤◌};
+ghost use Rattle.std.specs.Prelude.{All, None, count_by, false, if◌then◌else◌, length, min, slice_index_or, ℕ, ◌%◌, ◌+◌, ◌-◌, ◌<◌, ◌^◌, ◌≡◌, ◌≤◌};
 ghost use Rattle.bw_mask.specs.Masks.{SameShape, bit_of, len, row_at};
 ghost use Rattle.bw_code.specs.Columns.{is_chosen};
 ghost use Rattle.bw_column.specs.Codes.{IsCoded, codes_for};
-ghost use Rattle.bw_column.specs.Places.{overwritten, put_values, rank};
-ghost use Rattle.bw_column.specs.Values.{IsNullOrHeld, value_at};
+ghost use Rattle.bw_column.specs.Keeping.{AreKept};
+ghost use Rattle.bw_column.specs.Places.{ArePutFrom, overwritten, put_values, rank};
+ghost use Rattle.bw_column.specs.Values.{IsNullOrHeld};
 
 use crate::bits::has_bit;
-use crate::codes::{code_of, encode_all};
+use crate::codes::encode_all;
 use crate::column::Column;
+use crate::kept::KeptCodes;
 use bw_cells::presence;
 use bw_mask::Mask;
 
 /// Below how many set places of a word each is put by itself.
 const FEW: u32 = 8;
 
-/// Fills `out` with the values of the set places from `at` on, of which the first has the value of this number, and with
-/// nulls where a place is not set. Answers the number of the value of the next set place.
-fn spread(
+/// Fills `out` with what there is for the set places from `at` on, of which the first has the one of this number, and with
+/// `none` where a place is not set. Answers the number of the next set place's.
+fn spread<T: Copy>(
     places: &Mask,
     at: usize,
-    values: &[Option<i64>],
+    list: &[T],
     first: usize,
-    out: &mut [Option<i64>],
+    none: T,
+    out: &mut [T],
 ) -> usize
     requires few { length out.old ≤ 64 }
     requires small { len places.now ≤ 2 ^ 24 }
     requires inside { at + length out.old ≤ len places.now }
     requires first { first ≡ rank places.now at }
-    requires count { count_by (λ row. row) places.now.rows ≡ length values.now }
-    requires some { 0 < length values.now }
+    requires count { count_by (λ row. row) places.now.rows ≡ length list.now }
+    requires some { 0 < length list.now }
     ensures next { result ≡ rank places.now (at + length out.old) }
     ensures long { length out.new ≡ length out.old }
-    ensures each { (i : ℕ) → i < length out.old → value_at out.new i ≡ (if row_at places.now (at + i) then value_at values.now (rank places.now (at + i)) else None) }
+    ensures each { (i : ℕ) → i < length out.old → slice_index_or out.new i none ≡ (if row_at places.now (at + i) then slice_index_or list.now (rank places.now (at + i)) none else none) }
 {
     let rows = places.bits(at, out.len());
-    let last = values.len() - 1;
+    let last = list.len() - 1;
     let mut next = first;
-    // No branch a place: past the last value there is no set place, and the last one is read to no end.
+    // No branch a place: past the last one there is no set place, and the last is read to no end.
     for i in 0..out.len() {
-        let value = values[next.min(last)];
+        let here = list[next.min(last)];
         let is_set = has_bit(rows, i);
-        out[i] = if is_set { value } else { None };
+        out[i] = if is_set { here } else { none };
         if is_set {
             next += 1;
         }
@@ -101,9 +104,56 @@ impl Column {
         self.put_rows(at, rows, values, codes);
     }
 
-    /// Puts the values in the set places, in order. Where many of a word's places are set, they are put at once.
-    pub(crate) fn put_runs(&mut self, places: &Mask, values: &[Option<i64>])
+    /// Puts the values with their codes in the set places of a word, of which the first has the value of this number.
+    /// Answers the number of the next word's first.
+    fn put_word(
+        &mut self,
+        places: &Mask,
+        start: usize,
+        values: &[Option<i64>],
+        codes: &KeptCodes,
+        first: usize,
+    ) -> usize
+        requires word { start % 64 ≡ 0 }
+        requires inside { start < len places.now }
+        requires first { first ≡ rank places.now start }
+        requires some { 0 < length values.now }
         requires coded { All (IsCoded self.old.encoding) values.now }
+        requires codes { AreKept (codes_for self.old.encoding values.now) codes.now }
+        requires held { All (IsNullOrHeld self.old.layout) values.now }
+        requires few { length self.old.values ≤ 2 ^ 24 }
+        requires places { len places.now ≡ length self.old.values }
+        requires count { count_by (λ row. row) places.now.rows ≡ length values.now }
+        ensures next { result ≡ rank places.now (start + min (len places.now - start) 64) }
+        ensures put { ArePutFrom places.now values.now start (min (len places.now - start) 64) self.new.values self.old.values }
+        ensures layout { self.new.layout ≡ self.old.layout }
+        ensures encoding { self.new.encoding ≡ self.old.encoding }
+    {
+        let n = (places.len() - start).min(64);
+        let rows = places.bits(start, n);
+        let mut run = [None; 64];
+        let block = &mut run[..n];
+        let next = spread(places, start, values, first, None, block);
+        match codes {
+            KeptCodes::Distances => {
+                self.put_block(start, rows, block);
+                next
+            }
+            KeptCodes::Places(kept) => {
+                let mut list = [0; 64];
+                let block_codes = &mut list[..n];
+                spread(places, start, kept.as_slice(), first, 0, block_codes);
+                self.put_rows(start, rows, block, block_codes);
+                next
+            }
+        }
+    }
+
+    /// Puts the values with their codes in the set places, in order. Where many of a word's places are set, they are put
+    /// at once.
+    pub(crate) fn put_runs(&mut self, places: &Mask, values: &[Option<i64>], codes: &KeptCodes)
+        requires coded { All (IsCoded self.old.encoding) values.now }
+        requires codes { AreKept (codes_for self.old.encoding values.now) codes.now }
         requires held { All (IsNullOrHeld self.old.layout) values.now }
         requires few { length self.old.values ≤ 2 ^ 24 }
         requires places { len places.now ≡ length self.old.values }
@@ -113,22 +163,18 @@ impl Column {
         ensures encoding { self.new.encoding ≡ self.old.encoding }
     {
         let end = places.len();
-        let mut run = [None; 64];
         let mut at = 0;
         let mut next = 0;
         while let Some(place) = places.next_from(at) {
             let start = place - place % 64;
             let n = (end - start).min(64);
-            let rows = places.bits(start, n);
-            if start < at || rows.count_ones() < FEW {
-                let code = code_of(&self.encoding, values[next]);
+            if start < at || places.bits(start, n).count_ones() < FEW {
+                let code = codes.code_of(&self.encoding, values, next);
                 self.put(place, values[next], code);
                 at = place + 1;
                 next += 1;
             } else {
-                let block = &mut run[..n];
-                next = spread(places, start, values, next, block);
-                self.put_block(start, rows, block);
+                next = self.put_word(places, start, values, codes, next);
                 at = start + n;
             }
         }
