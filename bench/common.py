@@ -66,10 +66,11 @@ def rows_of_a_statement(next_row):
     return rows
 
 
-def filling(table, columns, rows):
-    """Statements that make a table of these columns and insert these rows, which are tuples."""
+def filling(table, columns, rows, choice=""):
+    """Statements that make a table of these columns and insert these rows, which are tuples. Each column has the layout and the
+    kind that the choice names, which sqlite3 doesn't know."""
     rows = list(rows)
-    yield f"CREATE TABLE {table} ({', '.join(column + ' INTEGER' for column in columns)});\n"
+    yield f"CREATE TABLE {table} ({', '.join(f'{column} INTEGER{choice}' for column in columns)});\n"
     for start in range(0, len(rows), ROWS_A_STATEMENT):
         yield insert(map(written, rows[start : start + ROWS_A_STATEMENT]), table)
 
@@ -114,10 +115,11 @@ def sqlite_run(program, fill, timed):
 def quickest(fill, timed, beside=True):
     """The processor time that each program takes for the timed statements over the tables that are filled, the least of
     some rounds; of bitcol that of the whole script less that of a script which only fills. Each round takes all runs in
-    turn, since a machine's speed swings. What is shown goes to no file. Without `beside` bitcol runs alone."""
+    turn, since a machine's speed swings. What is shown goes to no file. Without `beside` bitcol runs alone; `beside` may be the
+    statements with which sqlite3 fills its tables."""
     runs = {"filling": bitcol_run("filled.sql", fill), "bitcol": bitcol_run("timed.sql", fill + timed)}
     if beside and (program := sqlite3()):
-        runs["sqlite3"] = sqlite_run(program, fill, timed)
+        runs["sqlite3"] = sqlite_run(program, fill if beside is True else beside, timed)
     rounds = [{name: run() for name, run in runs.items()} for _ in range(ROUNDS)]
     least = {name: min(times[name] for times in rounds) for name in runs}
     least["bitcol"] -= least.pop("filling")

@@ -1,5 +1,5 @@
 -- What one look at the codes of rows tells.
-use Rattle.std.specs.Prelude.{Bool, List, is_some, length, slice_index, sum, true, ℕ, ◌&&◌, ◌-◌, ◌<◌, ◌^◌, ◌≡◌}
+use Rattle.std.specs.Prelude.{Bool, List, None, if◌then◌else◌, is_some, length, slice_index, sum, true, ℕ, ◌&&◌, ◌-◌, ◌<◌, ◌^◌, ◌≡◌}
 use Rattle.std.specs.List.{items_where_true}
 use Rattle.bw_mask.specs.Masks.{MaskRows, row_at}
 use Rattle.bw_code.specs.Encodings.{width}
@@ -21,5 +21,5 @@ pub record IsTally (sum_asked : Bool) (rows : List Bool) (known : ℕ → Bool) 
 
 -- the sum of the values of rows, where it is asked for, and the nearest to each end of their codes
 pub record IsTold (column : ColumnView) (rows : MaskRows) (sum_asked : Bool) (far : Distances) (told : Told) : Type 0 where
-  pub sum : sum_asked ≡ true → told.sum ≡ functions.sum (chosen column rows)
+  pub sum : told.sum ≡ (if sum_asked then functions.sum (chosen column rows) else None)
   pub nearest : AreNearest (length (codes_for column.encoding column.values)) (λ r. row_at rows r && is_some (value_at column.values r)) (slice_index (codes_for column.encoding column.values)) (2 ^ width column.encoding - 1) far told.nearest

@@ -1,6 +1,6 @@
 //! The least and the greatest value of some rows, by the distances of their codes from the ends.
 
-ghost use Rattle.std.specs.Prelude.{All, Some, is_some, length, slice_get, slice_index, true, ◌&&◌, ◌-◌, ◌<◌, ◌^◌, ◌≡◌, ◌≤◌};
+ghost use Rattle.std.specs.Prelude.{All, None, Some, if◌then◌else◌, is_some, length, slice_get, slice_index, true, ◌&&◌, ◌-◌, ◌<◌, ◌^◌, ◌≡◌, ◌≤◌};
 ghost use Rattle.bw_mask.specs.Masks.{len, row_at};
 ghost use Rattle.bw_code.specs.Encodings.{width};
 ghost use Rattle.bw_column.specs.Codes.{codes_for};
@@ -39,7 +39,7 @@ pub(crate) fn end_told(
     requires held { All (IsNullOrHeld column.now.layout) column.now.values }
     requires some { 0 < length (chosen column.now rows.now) }
     requires nearest { asked ≡ true → IsNearest (length (codes_for column.now.encoding column.now.values)) (λ r. row_at rows.now r && is_some (value_at column.now.values r)) (slice_index (codes_for column.now.encoding column.now.values)) end (2 ^ width column.now.encoding - 1) (2 ^ 64 - 1) nearest }
-    ensures { asked ≡ true → result ≡ slice_get (sorted (chosen column.now rows.now)) (end_of end (length (chosen column.now rows.now))) }
+    ensures { result ≡ (if asked then slice_get (sorted (chosen column.now rows.now)) (end_of end (length (chosen column.now rows.now))) else None) }
 {
     if asked {
         Some(end_value(column, rows, end, nearest))

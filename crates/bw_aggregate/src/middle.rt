@@ -82,7 +82,6 @@ fn median_code(
     requires some { 0 < count }
     requires few { length column.now.values ≤ 2 ^ 24 }
     requires segments { segments ≡ (length column.now.values + 255) / 256 }
-    requires fit { Fit (width column.now.encoding) (codes_for column.now.encoding column.now.values) }
     ensures { IfOk result (IsNthCode (items_where_true rows.now.rows (codes_for column.now.encoding column.now.values)) ((count - 1) / 2)) }
 {
     let bits = column.encoding().width();

@@ -37,7 +37,6 @@ fn rows_that_may_be_nearer(
     requires there { q < segments_of (count codes.now) }
     requires few { count codes.now ≤ 2 ^ 24 }
     requires narrow { codes.now.width ≤ 64 }
-    requires fit { Fit codes.now.width codes.now.codes }
     ensures left { (j : ℕ) → j < 256 → row_in result j ≡ true → row_in rows.now j ≡ true }
     ensures out { (j : ℕ) → j < 256 → row_in rows.now j ≡ true → row_in result j ≡ false → best ≤ distance end (2 ^ codes.now.width - 1) (code_at codes.now (256 * q + j)) }
 {
@@ -67,7 +66,6 @@ fn nearest_of(codes: &VerticalColumn, q: usize, rows: &[u64; 4], end: End, best:
     requires there { q < segments_of (count codes.now) }
     requires few { count codes.now ≤ 2 ^ 24 }
     requires narrow { codes.now.width ≤ 64 }
-    requires fit { Fit codes.now.width codes.now.codes }
     requires some { nat_lt 0 (marked 256 (row_in rows.now)) ≡ true }
     ensures { IsNearest 256 (row_in rows.now) (λ j. code_at codes.now (256 * q + j)) end (2 ^ codes.now.width - 1) best result }
 {
@@ -92,7 +90,6 @@ fn nearest_in_segment(codes: &VerticalColumn, q: usize, rows: &[u64; 4], end: En
     requires there { q < segments_of (count codes.now) }
     requires few { count codes.now ≤ 2 ^ 24 }
     requires narrow { codes.now.width ≤ 64 }
-    requires fit { Fit codes.now.width codes.now.codes }
     ensures { IsNearest 256 (row_in rows.now) (λ j. code_at codes.now (256 * q + j)) end (2 ^ codes.now.width - 1) best result }
 {
     let left = rows_that_may_be_nearer(codes, q, rows, end, best);
@@ -108,7 +105,7 @@ fn nearest_in_segment(codes: &VerticalColumn, q: usize, rows: &[u64; 4], end: En
 const FIRST_GROUPS: usize = 3;
 
 /// As many of the first groups as there are, of codes of so many bits.
-fn first_groups(width: u32) -> usize
+pub(crate) fn first_groups(width: u32) -> usize
     requires { width ≤ 64 }
     ensures within { 4 * result ≤ width }
     ensures some { width < 4 * result + 64 }
@@ -158,7 +155,6 @@ fn nearest_among(
     requires there { q < segments_of (count codes.now) }
     requires few { count codes.now ≤ 2 ^ 24 }
     requires narrow { codes.now.width ≤ 64 }
-    requires fit { Fit codes.now.width codes.now.codes }
     requires within { 4 * groups ≤ codes.now.width }
     requires some { codes.now.width < 4 * groups + 64 }
     requires near { MayBeNearer (row_in rows.now) (row_in near.now) (λ j. code_at codes.now (256 * q + j)) end (2 ^ codes.now.width - 1) (2 ^ (codes.now.width - 4 * groups)) }
@@ -178,17 +174,20 @@ fn nearest_among(
 }
 
 /// The least distances of the rows of segment q from both ends, or `best` where none is nearer. No plane is read where no end is
-/// looked for, and where there is no row.
+/// looked for, and where there is no row. So many first groups are looked at before it is asked whether a row is left.
 pub(crate) fn nearest_to_ends(
     codes: &VerticalColumn,
     q: usize,
     rows: &[u64; 4],
+    groups: usize,
     best: Distances,
 ) -> Distances
     requires there { q < segments_of (count codes.now) }
     requires few { count codes.now ≤ 2 ^ 24 }
     requires narrow { codes.now.width ≤ 64 }
     requires fit { Fit codes.now.width codes.now.codes }
+    requires within { 4 * groups ≤ codes.now.width }
+    requires some { codes.now.width < 4 * groups + 64 }
     ensures { AreNearest 256 (row_in rows.now) (λ j. code_at codes.now (256 * q + j)) (2 ^ codes.now.width - 1) best result }
 {
     if best.are_none() {
@@ -197,7 +196,6 @@ pub(crate) fn nearest_to_ends(
     if !has_row(rows) {
         return best;
     }
-    let groups = first_groups(codes.width());
     let NearRows { least, greatest } = near_rows(codes, q, rows, groups);
     Distances {
         least: nearest_among(codes, q, rows, &least, groups, End::Least, best.least),

@@ -87,7 +87,6 @@ pub(crate) fn segment_sum(codes: &VerticalColumn, q: usize, rows: &[u64; 4]) -> 
     requires there { q < segments_of (count codes.now) }
     requires few { count codes.now ≤ 2 ^ 24 }
     requires narrow { codes.now.width ≤ 64 }
-    requires fit { Fit codes.now.width codes.now.codes }
     ensures sum { (need : List Bool) → length need ≡ count codes.now → AreRows need q rows.now → result ≡ sum (codes_between need codes.now.codes (256 * q) (256 * q + 256)) }
     ensures small { result ≤ 2 ^ 97 }
 {

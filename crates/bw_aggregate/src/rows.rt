@@ -4,6 +4,7 @@ ghost use Rattle.std.specs.Prelude.{if◌then◌else◌, length, nat_lt, not, sl
 ghost use Rattle.bw_mask.specs.Masks.{row_in};
 ghost use Rattle.bw_aggregate.specs.Marks.{marked};
 
+use bw_lane::{count_and_words, count_words};
 use std::simd::prelude::*;
 
 /// Word i, and 0 past the last.
@@ -49,20 +50,17 @@ pub(crate) fn count_rows(rows: &[u64]) -> usize
     ensures is { result ≡ marked 256 (row_in rows.now) }
     ensures few { result ≤ 256 }
 {
-    let ones = rows[0].count_ones() + rows[1].count_ones();
-    (ones + rows[2].count_ones() + rows[3].count_ones()) as usize
+    count_words(rows) as usize
 }
 
 /// How many rows are in both.
-// Word by word, since the counts are taken so.
 pub(crate) fn count_both(a: &[u64], b: &[u64]) -> usize
     requires a { length a.now ≡ 4 }
     requires b { length b.now ≡ 4 }
     ensures is { result ≡ marked 256 (λ j. row_in a.now j && row_in b.now j) }
     ensures few { result ≤ 256 }
 {
-    let ones = (a[0] & b[0]).count_ones() + (a[1] & b[1]).count_ones();
-    (ones + (a[2] & b[2]).count_ones() + (a[3] & b[3]).count_ones()) as usize
+    count_and_words(a, b) as usize
 }
 
 pub(crate) fn has_row(rows: &[u64]) -> bool

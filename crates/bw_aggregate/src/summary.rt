@@ -1,6 +1,6 @@
 //! What set functions say of a column's values in some rows.
 
-ghost use Rattle.std.specs.Prelude.{All, IfOk, if◌then◌else◌, length, true, ◌+◌, ◌-◌, ◌/◌, ◌<◌, ◌≡◌, ◌≤◌, ◌^◌};
+ghost use Rattle.std.specs.Prelude.{All, IfOk, None, if◌then◌else◌, length, ◌+◌, ◌-◌, ◌/◌, ◌<◌, ◌≡◌, ◌≤◌, ◌^◌};
 ghost use Rattle.bw_mask.specs.Masks.{len};
 ghost use Rattle.bw_column.specs.Values.{IsNullOrHeld};
 ghost use Rattle.bw_model.specs.SetFunctions.{median};
@@ -116,7 +116,7 @@ fn median_told(
     requires few { length column.now.values ≤ 2 ^ 24 }
     requires held { All (IsNullOrHeld column.now.layout) column.now.values }
     requires segments { segments ≡ (length column.now.values + 255) / 256 }
-    ensures { IfOk result (λ value. asked ≡ true → value ≡ median (chosen column.now rows.now)) }
+    ensures { IfOk result (λ value. value ≡ (if asked then median (chosen column.now rows.now) else None)) }
 {
     if !asked {
         return Ok(None);

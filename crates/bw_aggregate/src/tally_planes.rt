@@ -10,7 +10,7 @@ ghost use Rattle.bw_aggregate.specs.PlaneSums.{AreRows};
 ghost use Rattle.bw_aggregate.specs.Tallies.{IsTally};
 
 use crate::end::Distances;
-use crate::nearest_planes::nearest_to_ends;
+use crate::nearest_planes::{first_groups, nearest_to_ends};
 use crate::plane_sums::segment_sum;
 use crate::rows::{rows_at, rows_with};
 use crate::tally::Tally;
@@ -23,7 +23,6 @@ fn sum_if(asked: bool, codes: &VerticalColumn, q: usize, rows: &[u64; 4]) -> u12
     requires there { q < segments_of (count codes.now) }
     requires few { count codes.now ≤ 2 ^ 24 }
     requires narrow { codes.now.width ≤ 64 }
-    requires fit { Fit codes.now.width codes.now.codes }
     ensures sum { asked ≡ true → (need : List Bool) → length need ≡ count codes.now → AreRows need q rows.now → result ≡ sum (codes_between need codes.now.codes (256 * q) (256 * q + 256)) }
     ensures unasked { asked ≡ false → result ≡ 0 }
     ensures small { result ≤ 2 ^ 97 }
@@ -47,18 +46,18 @@ pub(crate) fn tally_by_planes(
     requires len { len rows.now ≡ count codes.now }
     requires nonnull_len { len nonnull.now ≡ count codes.now }
     requires narrow { codes.now.width ≤ 64 }
-    requires fit { Fit codes.now.width codes.now.codes }
     ensures { IsTally sum rows.now.rows (λ r. row_at rows.now r && row_at nonnull.now r) codes.now.codes (2 ^ codes.now.width - 1) far result }
 {
     let words = rows.words();
     let nonnull_words = nonnull.words();
+    let groups = first_groups(codes.width());
     let mut total = 0;
     let mut best = far;
     'segments: for q in 0..codes.len().div_ceil(256) {
         let rows = rows_at(words, q as u32);
         let known = rows_with(&rows, &rows_at(nonnull_words, q as u32), true);
         total += sum_if(sum, codes, q, &rows);
-        best = nearest_to_ends(codes, q, &known, best);
+        best = nearest_to_ends(codes, q, &known, groups, best);
     }
     Tally {
         sum: total,

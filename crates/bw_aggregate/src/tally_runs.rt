@@ -83,7 +83,6 @@ pub(crate) fn tally_in_runs<C: CodeColumn>(
     requires len { len rows.now ≡ count (C.seen column.now) }
     requires nonnull_len { len nonnull.now ≡ count (C.seen column.now) }
     requires narrow { (C.seen column.now).width ≤ 64 }
-    requires fit { Fit (C.seen column.now).width (C.seen column.now).codes }
     ensures { IsTally sum rows.now.rows (λ r. row_at rows.now r && row_at nonnull.now r) (C.seen column.now).codes (2 ^ (C.seen column.now).width - 1) far result }
 {
     let top = greatest_code(column.width());

@@ -1,8 +1,7 @@
 //! What the codes of a column tell of some rows by one look.
 
-ghost use Rattle.std.specs.Prelude.{Some, is_some, length, true, ◌&&◌, ◌-◌, ◌<◌, ◌^◌, ◌≡◌, ◌≤◌};
+ghost use Rattle.std.specs.Prelude.{None, Some, if◌then◌else◌, is_some, length, ◌&&◌, ◌-◌, ◌<◌, ◌^◌, ◌≡◌, ◌≤◌};
 ghost use Rattle.bw_mask.specs.Masks.{len, row_at};
-ghost use Rattle.bw_code.specs.Columns.{Fit};
 ghost use Rattle.bw_code.specs.Encodings.{width};
 ghost use Rattle.bw_column.specs.Codes.{codes_for};
 ghost use Rattle.bw_column.specs.Values.{value_at};
@@ -31,7 +30,6 @@ pub(crate) struct Told {
 /// `far` where none is nearer. Planes tell the sum by counts. Nothing is read where nothing is asked for.
 fn code_tally(column: &Column, rows: &Mask, sum: bool, far: Distances) -> Tally
     requires len { len rows.now ≡ length column.now.values }
-    requires fit { Fit (width column.now.encoding) (codes_for column.now.encoding column.now.values) }
     ensures { IsTally sum rows.now.rows (λ r. row_at rows.now r && is_some (value_at column.now.values r)) (codes_for column.now.encoding column.now.values) (2 ^ width column.now.encoding - 1) far result }
 {
     let (storage, nonnull) = (column.storage(), column.nonnull());
@@ -50,7 +48,7 @@ fn code_tally(column: &Column, rows: &Mask, sum: bool, far: Distances) -> Tally
 fn value_sum_if(asked: bool, column: &Column, rows: &Mask) -> Option<i128>
     requires len { len rows.now ≡ length column.now.values }
     requires some { 0 < length (chosen column.now rows.now) }
-    ensures { asked ≡ true → result ≡ sum (chosen column.now rows.now) }
+    ensures { result ≡ (if asked then sum (chosen column.now rows.now) else None) }
 {
     if asked {
         Some(sum_of_values(column, rows))
@@ -61,7 +59,7 @@ fn value_sum_if(asked: bool, column: &Column, rows: &Mask) -> Option<i128>
 
 /// The sum, where it is asked for.
 fn sum_if(asked: bool, sum: i128) -> Option<i128>
-    ensures { asked ≡ true → result ≡ Some sum }
+    ensures { result ≡ (if asked then Some sum else None) }
 {
     if asked { Some(sum) } else { None }
 }

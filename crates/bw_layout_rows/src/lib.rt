@@ -11,6 +11,8 @@ mod kernels;
 #[cfg(test)]
 mod pairs;
 #[cfg(test)]
+mod runs;
+#[cfg(test)]
 mod seen;
 #[cfg(test)]
 mod shifts;

@@ -6,7 +6,7 @@ use Rattle.bw_code.specs.Encodings.{width}
 use Rattle.bw_column.specs.Codes.{code_for, codes_for}
 use Rattle.bw_aggregate.specs.Descents.{Holds}
 use Rattle.bw_aggregate.proofs.Descents.{descent_end}
-use Rattle.bw_aggregate.proofs.Told.{begins_all}
+use Rattle.bw_aggregate.proofs.Told.{begins_all, fit_by}
 use Rattle.bw_aggregate.proofs.middle.median_code.Goals as goal
 
 pub returns : goal.returns
@@ -15,7 +15,7 @@ returns c =
     let codes = codes_for column.encoding column.values in
     let k = c.width-bits.result in
     let bits : k ≡ width column.encoding = c.width-bits.ensures.is ∙ ap width c.encoding.ensures.is in
-    let fit = subst (λ w. Fit w codes) (sym bits) c.requires.fit in
+    let fit = fit_by column.encoding c.encoding.ensures.sound column.values c.encoding.ensures.coded k (sym bits) in
     let rows = c.args.rows.now.rows in
     let held = items_where_true rows codes in
     let n = (c.args.count - 1) / 2 in

@@ -16,7 +16,7 @@ planes-init c =
     let far = λ (j : ℕ). distance c.args.end (2 ^ k - 1) (code j) in
     let rows = row_in c.args.rows.now in
     let whole : k ≡ k - 0 = omega arith in
-    let start = left_start rows far k (λ j. distance-small c.args.end k (code j) (code_small k codes.codes c.requires.fit (256 * c.args.q + j))) (is_some _ c.requires.some) in
+    let start = left_start rows far k (λ j. distance-small c.args.end k (code j) (code_small k codes.codes c.width-k.ensures.fit (256 * c.args.q + j))) (is_some _ c.requires.some) in
     record { left = subst (λ n. AreLeft rows rows far n 0) whole start; best = omega arith }
 
 pub returns-then-found-best : goal.returns-then-found-best
@@ -33,7 +33,7 @@ returns-then-found-best c =
     let old = subst (λ n. AreLeft rows (row_in c.planes.left) far n c.planes.found) place c.planes.invariant.left in
     let near = λ (j : ℕ). is_near c.args.end (row_in c.plane_at.result.now j) in
     let goes = one_down rows c.planes.left c.nearer_rows-nearer.result c.nearer_or_all-left.result far m c.planes.found near c.has_row-some.result old
-    (λ j h. distance-more c.args.end k m (code j) (omega (arith, within)) (code_small k codes.codes c.requires.fit (256 * c.args.q + j))
+    (λ j h. distance-more c.args.end k m (code j) (omega (arith, within)) (code_small k codes.codes c.width-k.ensures.fit (256 * c.args.q + j))
     ∙ ap (λ b. 2 * front (m + 1) (far j) + cond {A = ℕ} (is_near c.args.end b) 0 1) (sym (c.plane_at.ensures j h)))
     c.nearer_rows-nearer.ensures c.has_row-some.ensures c.nearer_or_all-left.ensures in
     let small : c.planes.found < 2 ^ 63 = small_front c.args.best c.planes.found (k - i) (search rules) (omega (arith, within)) c.planes.invariant.best in
@@ -56,7 +56,7 @@ planes-preserved c =
     let old = subst (λ n. AreLeft rows (row_in c.planes.left) far n c.planes.found) place c.planes.invariant.left in
     let near = λ (j : ℕ). is_near c.args.end (row_in c.plane_at.result.now j) in
     let goes = one_down rows c.planes.left c.nearer_rows-nearer.result c.nearer_or_all-left.result far m c.planes.found near c.has_row-some.result old
-    (λ j h. distance-more c.args.end k m (code j) (omega (arith, within)) (code_small k codes.codes c.requires.fit (256 * c.args.q + j))
+    (λ j h. distance-more c.args.end k m (code j) (omega (arith, within)) (code_small k codes.codes c.width-k.ensures.fit (256 * c.args.q + j))
     ∙ ap (λ b. 2 * front (m + 1) (far j) + cond {A = ℕ} (is_near c.args.end b) 0 1) (sym (c.plane_at.ensures j h)))
     c.nearer_rows-nearer.ensures c.has_row-some.ensures c.nearer_or_all-left.ensures in
     let small : c.planes.found < 2 ^ 63 = small_front c.args.best c.planes.found (k - i) (search rules) (omega (arith, within)) c.planes.invariant.best in

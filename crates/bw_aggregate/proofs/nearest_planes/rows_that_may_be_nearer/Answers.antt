@@ -29,7 +29,7 @@ planes-preserved c =
       out = λ j h r t.
           left_out (left j) (near j) best (far j) (inv.out j h r)
           (λ no_bit.
-          let more = distance-more end k p (code j) (omega (arith, within)) (code_small k codes.codes c.requires.fit (256 * c.args.q + j)) in
+          let more = distance-more end k p (code j) (omega (arith, within)) (code_small k codes.codes c.width-k.ensures.fit (256 * c.args.q + j)) in
           let bit : is_near end (bit_of (code j) p) ≡ false = ap (is_near end) (sym (c.plane_at.ensures j h)) ∙ no_bit in
           let one : ◌≡◌ {A = ℕ} (cond (is_near end (bit_of (code j) p)) 0 1) 1 = ap (λ b. cond {A = ℕ} b 0 1) bit in
           far_by_bit m p best (far j) none (omega (arith, c.planes-test.true)) (omega (arith, more, one)))

@@ -26,7 +26,7 @@ returns-clause-sum c need same rows =
     let whole : c.args.codes.now.width ≡ m + s = omega (arith, width, upto) in
     let from : s ≡ s - 4 * 0 = omega arith in
     let place : m ≡ c.args.codes.now.width - s = ap (λ z. z - s) (sym width) in
-    let fit : All (λ x. x < 2 ^ s) highs = upper_fit m codes s (subst (λ z. All (λ x. x < 2 ^ z) codes) whole c.requires.fit) in
+    let fit : All (λ x. x < 2 ^ s) highs = upper_fit m codes s (subst (λ z. All (λ x. x < 2 ^ z) codes) whole c.width-k.ensures.fit) in
     let made : AreMadeOf codes (c.args.codes.now.width - s) s highs = subst (λ z. AreMadeOf codes z s highs) place (upper_made m codes s) in
     let high : c.planes_sum-upper.result ≡ _ =
     c.planes_sum-upper.ensures need highs (same ∙ sym (length-map codes (upper m))) (subst (λ z. All (λ x. x < 2 ^ z) highs) from fit) (subst (λ z. AreMadeOf codes (c.args.codes.now.width - s) z highs) from made) rows in

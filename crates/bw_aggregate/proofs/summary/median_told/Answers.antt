@@ -12,8 +12,9 @@ median_of-requires-clause-count c =
     c.requires.count ∙ sym (ap length same)
 
 pub returns : goal.returns
-returns c asked =
+returns c =
     let kept = c.in_ok-known.ensures in
     let same = same_values c.in_ok-known.known.rows c.args.rows.now.rows c.args.column.now.values (kept.len ∙ c.requires.len) c.requires.len kept.each in
     let back : to_z w64 (of_z w64 c.in_ok-median_of.field-0) ≡ c.in_ok-median_of.field-0 = search (arith, ints, to_z-of_z) in
-    rw back (c.in_ok-median_of.ensures ∙ ap median same)
+    let asked : c.args.asked ≡ true = c.if-asked.true in
+    rw (asked, back) (c.in_ok-median_of.ensures ∙ ap median same)

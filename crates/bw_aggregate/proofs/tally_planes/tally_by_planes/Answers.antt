@@ -44,7 +44,7 @@ returns c =
     let known = λ (r : ℕ). row_at c.args.rows.now r && row_at c.args.nonnull.now r in
     let whole = λ (asked : c.args.sum ≡ true). c.segments.invariant.total asked ∙ ap sum (between_all rows codes.codes (256 * c.segments.q) c.requires.len (omega (arith, past, c.requires.len))) in
     record {
-      small = told_small c.args.sum c.segments.total (sum (items_where_true rows codes.codes)) whole c.segments.invariant.unasked (chosen_small codes.width rows codes.codes c.requires.narrow (omega (arith, c.len.ensures.count, c.len.ensures.few)) c.requires.fit);
+      small = told_small c.args.sum c.segments.total (sum (items_where_true rows codes.codes)) whole c.segments.invariant.unasked (chosen_small codes.width rows codes.codes c.requires.narrow (omega (arith, c.len.ensures.count, c.len.ensures.few)) c.width.ensures.fit);
       sum = whole;
       nearest = ends_cut (256 * c.segments.q) (count codes) known (code_at codes) (2 ^ codes.width - 1) c.args.far c.segments.best past
           (λ j h. ap (λ b. b && row_at c.args.nonnull.now j) (get_or_past rows j false (omega (arith, h, c.requires.len)))) c.segments.invariant.nearest;
