@@ -83,7 +83,9 @@ module _ {N : Type 0} where
     pub empty_first : AreFirst headers (map (λ c. c.encoding) columns)
     empty_first = record {
       count = length-map columns (λ (c : ColumnView). c.encoding) ∙ are.count;
-      each = λ k e l. rw (get_or-map (λ (c : ColumnView). c.encoding) columns k no_column e (omega (arith, l, are.count))) (are.each k (first_of headers k l) no_column l).fits;
+      each = λ k h e l.
+          let column = are.each k h no_column l in
+          rw (get_or-map (λ (c : ColumnView). c.encoding) columns k no_column e (omega (arith, l, are.count))) record { kind = column.kind; fits = column.fits };
     }
 
   -- the slots of a table, by its headers

@@ -1,9 +1,10 @@
 -- A table: its headers, its slots, and the encoding of each column.
 use Rattle.std.specs.Prelude.{List, Option, [], length, map, slice_index_or, ℕ, ◌<◌, ◌≡◌}
-use Rattle.bw_code.specs.Encodings.{IsFit, kind_of}
+use Rattle.bw_code.specs.Encodings.{kind_of}
 use Rattle.bw_code.specs.declared.encoding.Encoding.{Encoding}
 use Rattle.bw_code.specs.declared.kind.Layout.{Layout}
 use Rattle.bw_table.specs.Changes.{choice_of, chosen_kind, chosen_layout}
+use Rattle.bw_table.specs.Opening.{IsFitted}
 use Rattle.bw_table.specs.Slots.{Slot, SlotsView}
 use Rattle.bw_table.specs.declared.choice.Choice.{Choice}
 use Rattle.bw_table.specs.declared.header.Header.{Header}
@@ -25,10 +26,10 @@ pub record AreHeadersOf {N : Type 0} (headers : List (Header N)) (slots : SlotsV
   pub layouts_are : layouts headers ≡ slots.layouts
   pub kinds_are : map (λ header. header.kind) headers ≡ map kind_of slots.encodings
 
--- as many encodings as headers, each as for no values
+-- as many encodings as headers, each of its header's kind and as for no values
 pub record AreFirst {N : Type 0} (headers : List (Header N)) (encodings : List Encoding) : Type 0 where
   pub count : length encodings ≡ length headers
-  pub each : (k : ℕ) (e : Encoding) → k < length headers → IsFit [] (slice_index_or encodings k e)
+  pub each : (k : ℕ) (h : Header N) (e : Encoding) → k < length headers → IsFitted (slice_index_or headers k h) [] (slice_index_or encodings k e)
 
 -- a header with what is chosen for its column
 abbrev pub header_by : {N : Type 0} → Option Choice → Header N → Header N
