@@ -3,7 +3,8 @@
 
     python3 bench/hostile.py
 
-Each has to end as it should, and its time to grow as its bytes do. Build bitcol first, by `rt run` in crates/bitcol.
+Each has to end as it should, and its time to grow as its bytes do. Table files that claim the most columns and rows and have
+few bytes have to be refused as such in little memory. Build bitcol first, by `rt run` in crates/bitcol.
 """
 
 import os
@@ -16,6 +17,7 @@ from pathlib import Path
 from common import MEGABYTE, built
 
 STACK = 256 * 1024
+LITTLE_MEMORY = 64 * MEGABYTE
 LONGEST_STATEMENT = 65_536
 SIZES = [25 * MEGABYTE, 50 * MEGABYTE, 100 * MEGABYTE]
 
@@ -26,6 +28,7 @@ SYNTAX = "error 10: syntax error"
 TOO_DEEP = "error 12: nested too deeply"
 MOST_ROWS = 16_777_216
 TABLE_FULL = "error 28: table full"
+NOT_TABLE = "error 44: not a table file"
 WRONG_COUNT = "error 42: record 1 has the wrong number of fields"
 
 
@@ -95,18 +98,29 @@ CASES = {
 }
 
 
+# Mark and version of a table file, and its claim of 64 columns and 16,777,216 rows.
+CLAIM = "BITCOL\x01\x00" + "\x40\x00" + "\x00\x00\x00\x01"
+ONE_HEADER = "\x01A\x01\x00"
+CLAIMS = {"nothing after it": "", "64 headers": 64 * ONE_HEADER, "64 headers and a column": 64 * ONE_HEADER + "\x00" * MEGABYTE}
+
+
 def small_stack():
     resource.setrlimit(resource.RLIMIT_STACK, (STACK, STACK))
 
 
-def seconds(program, script, files, replies):
+def little_memory():
+    small_stack()
+    resource.setrlimit(resource.RLIMIT_AS, (LITTLE_MEMORY, LITTLE_MEMORY))
+
+
+def seconds(program, script, files, replies, limits=small_stack):
     with tempfile.TemporaryDirectory() as folder:
         for name, text in files.items():
             (Path(folder) / name).write_text(text)
         source, answers = Path(folder) / "script", Path(folder) / "answers"
         source.write_text(script)
         with source.open("rb") as stdin, answers.open("wb") as stdout:
-            process = subprocess.Popen([program], stdin=stdin, stdout=stdout, cwd=folder, preexec_fn=small_stack)
+            process = subprocess.Popen([program], stdin=stdin, stdout=stdout, cwd=folder, preexec_fn=limits)
             _, status, usage = os.wait4(process.pid, 0)
         process.returncode = os.waitstatus_to_exitcode(status)
         if process.returncode != 0:
@@ -119,6 +133,9 @@ def seconds(program, script, files, replies):
 
 def main():
     program = built("bitcol")
+    for after, bytes_after in CLAIMS.items():
+        seconds(program, "OPEN t FROM 'f';\n", {"f": CLAIM + bytes_after}, [NOT_TABLE], little_memory)
+        print(f"a claim with {after}: refused in {LITTLE_MEMORY // MEGABYTE} MB", flush=True)
     for name, case in CASES.items():
         figures = []
         for size in SIZES:
