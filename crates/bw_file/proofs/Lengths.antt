@@ -1,5 +1,5 @@
 -- How long the parts of a file are.
-use Rattle.std.proofs.Common.{ap, sym, ◌∙◌, List, [], arith, length, refl, suc, ℕ, ◌*◌, ◌+◌, ◌≡◌, ◌≤◌, ◌∷◌}
+use Rattle.std.proofs.Common.{ap, sym, ◌∙◌, List, [], arith, length, refl, suc, zero, ℕ, ◌*◌, ◌+◌, ◌≡◌, ◌≤◌, ◌∷◌}
 use Rattle.std.specs.Prelude.{All}
 use Rattle.std.proofs.lemmas.List.{length-append}
 use Rattle.std.proofs.lemmas.List.Sums.{sum_by-cons}
@@ -35,3 +35,8 @@ headers_long (h ∷ headers) names =
     let rest = headers_long headers (λ i d l. names (suc i) d (omega (arith, l))) in
     let first = name_long h.name (names 0 h (omega arith)) in
     omega (arith, rest, first, sum_by-cons (λ (x : ColumnHeader). 3 + length x.name) h headers)
+
+-- four more of each
+pub four_of_each : (n size : ℕ) → n * (4 + size) ≡ 4 * n + n * size
+four_of_each zero size = omega arith
+four_of_each (suc n) size = omega (arith, four_of_each n size)
