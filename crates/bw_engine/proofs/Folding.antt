@@ -1,5 +1,5 @@
 -- What set functions by places say is what the select list says.
-use Rattle.std.proofs.Common.{◌≡◌, ◌∙◌, ◌+◌, ◌++◌, ◌<◌, Bool, List, None, Option, Some, [], ◌∷◌, ap, arith, count_by, false, get_or, length, map, option_map, pos, refl, subst, suc, sym, take, true, zero, ℕ, ℤ}
+use Rattle.std.proofs.Common.{◌≡◌, ◌∙◌, ◌+◌, ◌++◌, ◌<◌, Bool, List, None, Option, Some, [], ◌∷◌, ap, arith, count_by, false, get_or, if◌then◌else◌, length, map, option_map, pos, refl, subst, suc, sym, take, true, zero, ℕ, ℤ}
 use Rattle.std.proofs.lemmas.List.{length-map, map-append, take_more}
 use Rattle.std.proofs.lemmas.List.Elements.{All-cons, All-nil}
 use Rattle.std.specs.List.{All, items_where_true}
@@ -10,7 +10,7 @@ use Rattle.bw_sql.specs.declared.tree.SelectItem.TheVariants as item
 use Rattle.bw_sql.specs.declared.tree.SetFunction.{SetFunction}
 use Rattle.bw_sql.specs.declared.tree.SetFunction.TheVariants.{Count, Sum, Min, Max, Median}
 use Rattle.bw_model.specs.Select.{columns_in, folded, lines_for, said_of, shown}
-use Rattle.bw_model.specs.SetFunctions.{known}
+use Rattle.bw_model.specs.SetFunctions.{greatest, known, least, median, sum}
 use Rattle.bw_model.specs.Store.{Header, Row, place_of, value_at, value_from}
 use Rattle.bw_model.proofs.Items.{columns_only}
 use Rattle.bw_plan.specs.Selections.{ShowsBy, placed_item}
@@ -136,10 +136,10 @@ shown_numbers f (x ∷ xs) = ap (λ l. shown (f x) ∷ l) (shown_numbers f xs)
 pub tells_all : (functions : List FunctionPlan) (place : ℕ) (asked : Asked) (summary : Summary) (values : List ℤ) → AskFor functions place asked → IsSummary asked values summary
     → (f : SetFunction) (i : ℕ) (d : FunctionPlan) → i < length functions → get_or functions i d ≡ function.Of f place → told_by f summary ≡ number_of f values
 tells_all functions place asked summary values asks is Count i d low at = ap (λ n. Some (pos n)) is.count
-tells_all functions place asked summary values asks is Sum i d low at = is.sum (asks.sum i d low at)
-tells_all functions place asked summary values asks is Min i d low at = is.least (asks.least i d low at)
-tells_all functions place asked summary values asks is Max i d low at = is.greatest (asks.greatest i d low at)
-tells_all functions place asked summary values asks is Median i d low at = is.median (asks.median i d low at)
+tells_all functions place asked summary values asks is Sum i d low at = is.sum ∙ ap (λ b. if b then sum values else None) (asks.sum i d low at)
+tells_all functions place asked summary values asks is Min i d low at = is.least ∙ ap (λ b. if b then least values else None) (asks.least i d low at)
+tells_all functions place asked summary values asks is Max i d low at = is.greatest ∙ ap (λ b. if b then greatest values else None) (asks.greatest i d low at)
+tells_all functions place asked summary values asks is Median i d low at = is.median ∙ ap (λ b. if b then median values else None) (asks.median i d low at)
 
 -- an entry that is there, whatever stands for one that isn't
 pub same_entry : {A : Type 0} (xs : List A) (i : ℕ) (d e : A) → i < length xs → get_or xs i d ≡ get_or xs i e
