@@ -136,10 +136,10 @@ shown_numbers f (x ∷ xs) = ap (λ l. shown (f x) ∷ l) (shown_numbers f xs)
 pub tells_all : (functions : List FunctionPlan) (place : ℕ) (asked : Asked) (summary : Summary) (values : List ℤ) → AskFor functions place asked → IsSummary asked values summary
     → (f : SetFunction) (i : ℕ) (d : FunctionPlan) → i < length functions → get_or functions i d ≡ function.Of f place → told_by f summary ≡ number_of f values
 tells_all functions place asked summary values asks is Count i d low at = ap (λ n. Some (pos n)) is.count
-tells_all functions place asked summary values asks is Sum i d low at = is.sum ∙ ap (λ b. if b then sum values else None) (asks.sum i d low at)
-tells_all functions place asked summary values asks is Min i d low at = is.least ∙ ap (λ b. if b then least values else None) (asks.least i d low at)
-tells_all functions place asked summary values asks is Max i d low at = is.greatest ∙ ap (λ b. if b then greatest values else None) (asks.greatest i d low at)
-tells_all functions place asked summary values asks is Median i d low at = is.median ∙ ap (λ b. if b then median values else None) (asks.median i d low at)
+tells_all functions place asked summary values asks is Sum i d low at = is.sum ∙ ap (λ (b : Bool). if b then sum values else None) (asks.sum i d low at)
+tells_all functions place asked summary values asks is Min i d low at = is.least ∙ ap (λ (b : Bool). if b then least values else None) (asks.least i d low at)
+tells_all functions place asked summary values asks is Max i d low at = is.greatest ∙ ap (λ (b : Bool). if b then greatest values else None) (asks.greatest i d low at)
+tells_all functions place asked summary values asks is Median i d low at = is.median ∙ ap (λ (b : Bool). if b then median values else None) (asks.median i d low at)
 
 -- an entry that is there, whatever stands for one that isn't
 pub same_entry : {A : Type 0} (xs : List A) (i : ℕ) (d e : A) → i < length xs → get_or xs i d ≡ get_or xs i e

@@ -38,16 +38,17 @@ fn chosen_rows<R: Abort + AllocGlobal>(rt: &R) -> Mask
     chosen
 }
 
-/// Puts the codes of a run at its chosen rows, from row `at` on.
-fn put_run<C: CodeColumn>(column: &mut C, chosen: &Mask, at: usize, codes: &[u64])
+/// Puts n codes of a list at the chosen rows, from row `at` on.
+fn put_run<C: CodeColumn>(column: &mut C, chosen: &Mask, codes: &[u64], at: usize, n: usize)
     requires word { at % 64 ≡ 0 }
-    requires few { length codes.now ≤ 64 }
-    requires there { at + length codes.now ≤ length (C.seen column.old).codes }
+    requires few { n ≤ 64 }
+    requires there { at + n ≤ length (C.seen column.old).codes }
+    requires list { at + n ≤ length codes.now }
     requires fit { Fit (C.seen column.old).width codes.now }
     ensures width { (C.seen column.new).width ≡ (C.seen column.old).width }
     ensures count { length (C.seen column.new).codes ≡ length (C.seen column.old).codes }
 {
-    column.put_run(at, chosen.bits(at, codes.len()), codes);
+    column.put_run(at, chosen.bits(at, n), &codes[at..at + n]);
 }
 
 /// Puts one code at the chosen rows of a word.
@@ -69,11 +70,11 @@ fn put_chosen<C: CodeColumn>(column: &mut C, chosen: &Mask, codes: &[u64])
     requires fit { Fit (C.seen column.old).width codes.now }
     ensures count { length (C.seen column.new).codes ≡ 300 }
 {
-    put_run(column, chosen, 0, &codes[..64]);
-    put_run(column, chosen, 64, &codes[64..128]);
-    put_run(column, chosen, 128, &codes[128..192]);
-    put_run(column, chosen, 192, &codes[192..256]);
-    put_run(column, chosen, 256, &codes[256..300]);
+    put_run(column, chosen, codes, 0, 64);
+    put_run(column, chosen, codes, 64, 64);
+    put_run(column, chosen, codes, 128, 64);
+    put_run(column, chosen, codes, 192, 64);
+    put_run(column, chosen, codes, 256, 44);
 }
 
 /// Puts a code of its own at the chosen rows of each word.
