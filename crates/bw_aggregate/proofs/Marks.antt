@@ -9,6 +9,7 @@ use Rattle.std.proofs.lemmas.List.{get_or_past}
 use Rattle.std.proofs.lemmas.Nat.{and_le_l}
 use Rattle.std.proofs.lemmas.Simd.{get_or-zip2}
 use lib.Lanes.{zip2}
+use Rattle.std.specs.List.{zip}
 use Rattle.bw_lane.proofs.Bits.{len_and, row_and}
 use Rattle.bw_mask.specs.Masks.{row_in, rows_of}
 use Rattle.bw_mask.proofs.Counts.{many_is}
@@ -118,17 +119,6 @@ pub marked_words : (words : List ℕ) → length words ≡ 4 → ((k : ℕ) → 
 unfolding marked
 marked_words words four fits = many_is words 256 (record { count = four; clean = λ i h. past words i (omega (arith, four)); small = omega arith }) fits
 
--- four words, one by one
-pub marked_four : (words : List ℕ) → length words ≡ 4 → ((k : ℕ) → get_or words k 0 < 2 ^ 64)
-    → ((count_ones (get_or words 0 0) + count_ones (get_or words 1 0)) + count_ones (get_or words 2 0)) + count_ones (get_or words 3 0) ≡ marked 256 (row_in words)
-marked_four (a ∷ b ∷ c ∷ d ∷ []) four fits =
-    omega (arith, marked_words (a ∷ b ∷ c ∷ d ∷ []) four fits, sum_by-cons count_ones a (b ∷ c ∷ d ∷ []), sum_by-cons count_ones b (c ∷ d ∷ []), sum_by-cons count_ones c (d ∷ []), sum_by-cons count_ones d [])
-marked_four [] four fits = absurd (omega (arith, four))
-marked_four (a ∷ []) four fits = absurd (omega (arith, four))
-marked_four (a ∷ b ∷ []) four fits = absurd (omega (arith, four))
-marked_four (a ∷ b ∷ c ∷ []) four fits = absurd (omega (arith, four))
-marked_four (a ∷ b ∷ c ∷ d ∷ e ∷ rest) four fits = absurd (omega (arith, four))
-
 -- whether one is marked
 pub marked_some : (n : ℕ) (f : ℕ → Bool) → nat_lt 0 (marked n f) ≡ some_below n f
 marked_some n f = by_cases (some_below n f) refl
@@ -141,6 +131,14 @@ marked_some n f = by_cases (some_below n f) refl
           | inr d ↦ grind (arith, nat_tests, d)
         ]
 
+-- the ones of words that are in others, too, added up
+both_summed : (xs ys : List ℕ) → sum_by (λ (p : ℕ × ℕ). count_ones (bit_and p.0 p.1)) (zip xs ys) ≡ sum_by count_ones (zip2 bit_and xs ys)
+both_summed [] ys = refl
+both_summed (x ∷ xs) [] = refl
+both_summed (x ∷ xs) (y ∷ ys) =
+    sum_by-cons (λ (p : ℕ × ℕ). count_ones (bit_and p.0 p.1)) (x, y) (zip xs ys) ∙ ap (λ n. count_ones (bit_and x y) + n) (both_summed xs ys)
+    ∙ sym (sum_by-cons count_ones (bit_and x y) (zip2 bit_and xs ys))
+
 -- the ones of four words that are in four others, too
 module _ (xs ys : List ℕ) (four : length xs ≡ 4) (other : length ys ≡ 4) (fits : (k : ℕ) → get_or xs k 0 < 2 ^ 64) where
   both_fits : (k : ℕ) → get_or (zip2 bit_and xs ys) k 0 < 2 ^ 64
@@ -152,12 +150,7 @@ module _ (xs ys : List ℕ) (four : length xs ≡ 4) (other : length ys ≡ 4) (
         | inr h ↦ let none = get_or_past (zip2 bit_and xs ys) k 0 (omega (arith, h, len_and xs ys four other)) in omega (arith, none)
       ]
 
-  word_both : (k : ℕ) → k < 4 → count_ones (get_or (zip2 bit_and xs ys) k 0) ≡ count_ones (bit_and (get_or xs k 0) (get_or ys k 0))
-  word_both k h = ap count_ones (get_or-zip2 bit_and xs ys k 0 0 0 (omega (arith, h, four)) (omega (arith, h, other)))
-
-  pub marked_both : ((count_ones (bit_and (get_or xs 0 0) (get_or ys 0 0)) + count_ones (bit_and (get_or xs 1 0) (get_or ys 1 0))) + count_ones (bit_and (get_or xs 2 0) (get_or ys 2 0))) + count_ones (bit_and (get_or xs 3 0) (get_or ys 3 0))
-      ≡ marked 256 (λ j. row_in xs j && row_in ys j)
+  pub marked_both : sum_by (λ (p : ℕ × ℕ). count_ones (bit_and p.0 p.1)) (zip xs ys) ≡ marked 256 (λ j. row_in xs j && row_in ys j)
   marked_both =
-      let all = marked_four (zip2 bit_and xs ys) (len_and xs ys four other) both_fits in
-      let same = marked_same 256 (row_in (zip2 bit_and xs ys)) (λ j. row_in xs j && row_in ys j) (row_and xs ys four other) in
-      omega (arith, all, same, word_both 0 (omega arith), word_both 1 (omega arith), word_both 2 (omega arith), word_both 3 (omega arith))
+      both_summed xs ys ∙ marked_words (zip2 bit_and xs ys) (len_and xs ys four other) both_fits
+      ∙ marked_same 256 (row_in (zip2 bit_and xs ys)) (λ j. row_in xs j && row_in ys j) (row_and xs ys four other)

@@ -17,11 +17,6 @@ median_code-requires-clause-count c =
     let e = c.encoding-encoding.ensures in
     c.requires.count ∙ sym (many_codes column.encoding e.sound keep keep column.values c.requires.len c.requires.len c.requires.known.each e.coded)
 
-pub median_code-requires-clause-fit : goal.median_code-requires-clause-fit
-median_code-requires-clause-fit c =
-    let column = c.args.column.now in
-    fit_by column.encoding c.encoding-encoding.ensures.sound column.values c.encoding-encoding.ensures.coded (width column.encoding) refl
-
 pub decode-requires : goal.decode-requires
 decode-requires c =
     let column = c.args.column.now in
