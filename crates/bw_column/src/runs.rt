@@ -121,7 +121,6 @@ impl Column {
         requires coded { All (IsCoded self.old.encoding) values.now }
         requires codes { AreKept (codes_for self.old.encoding values.now) codes.now }
         requires held { All (IsNullOrHeld self.old.layout) values.now }
-        requires few { length self.old.values ≤ 2 ^ 24 }
         requires places { len places.now ≡ length self.old.values }
         requires count { count_by (λ row. row) places.now.rows ≡ length values.now }
         ensures next { result ≡ rank places.now (start + min (len places.now - start) 64) }
@@ -129,7 +128,7 @@ impl Column {
         ensures layout { self.new.layout ≡ self.old.layout }
         ensures encoding { self.new.encoding ≡ self.old.encoding }
     {
-        let n = (places.len() - start).min(64);
+        let n = (self.len() - start).min(64);
         let rows = places.bits(start, n);
         let mut run = [None; 64];
         let block = &mut run[..n];
@@ -141,9 +140,8 @@ impl Column {
             }
             KeptCodes::Places(kept) => {
                 let mut list = [0; 64];
-                let block_codes = &mut list[..n];
-                spread(places, start, kept.as_slice(), first, 0, block_codes);
-                self.put_rows(start, rows, block, block_codes);
+                spread(places, start, kept.as_slice(), first, 0, &mut list[..n]);
+                self.put_rows(start, rows, block, &list[..n]);
                 next
             }
         }
