@@ -1,10 +1,9 @@
 -- Rows of a word that take other values, by the list of the codes and by the mask of what is not null.
-use Rattle.std.proofs.Common.{Bool, List, None, bit_and, bit_or, not, ◌^◌, ◌||◌, Option, ap, arith, false, get_or, if◌then◌else◌, inl, inr, is_some, length, refl, sym, true, ℕ, ℤ, ◌&&◌, ◌-◌, ◌<◌, ◌≡◌, ◌∙◌}
+use Rattle.std.proofs.Common.{List, None, Option, ap, arith, false, get_or, if◌then◌else◌, inl, inr, is_some, length, refl, sym, true, ℕ, ℤ, ◌<◌, ◌≡◌, ◌∙◌}
 use Rattle.std.specs.List.{All}
 use Rattle.std.proofs.lemmas.Bool.{cases_Bool, cases_lt}
 use Rattle.std.proofs.lemmas.List.{get_or-map, get_or_past, length-map}
-use Rattle.bw_mask.specs.Masks.{MaskRows, bit_of, len, row_at}
-use Rattle.bw_mask.proofs.Bits.{bit_of_and, bit_of_andnot, bit_of_or}
+use Rattle.bw_mask.specs.Masks.{MaskRows, len, row_at}
 use Rattle.bw_code.specs.Columns.{CodeList, code_at, count, is_chosen}
 use Rattle.bw_code.specs.Lists.{made}
 use Rattle.bw_code.specs.declared.encoding.Encoding.{Encoding}
@@ -14,24 +13,6 @@ use Rattle.bw_column.specs.Codes.{AreRowCodes, IsCoded, code_for, codes_for, val
 use Rattle.bw_column.specs.Values.{IsNullOrHeld, value_at}
 use Rattle.bw_column.proofs.Held.{storable}
 use Rattle.bw_column.proofs.Rows.{back}
-
-choice : (a b row : Bool) → ((a && not row) || (b && row)) ≡ (if row then b else a)
-choice true true true = refl
-choice true true false = refl
-choice true false true = refl
-choice true false false = refl
-choice false true true = refl
-choice false true false = refl
-choice false false true = refl
-choice false false false = refl
-
--- bits of a word that take those of another
-pub blended_bit : (rows new old r : ℕ) → rows < 2 ^ 64 → r < 64 → bit_of (bit_or (bit_and old (2 ^ 64 - 1 - rows)) (bit_and new rows)) r ≡ (if bit_of rows r then bit_of new r else bit_of old r)
-blended_bit rows new old r small h =
-    bit_of_or (bit_and old (2 ^ 64 - 1 - rows)) (bit_and new rows) r
-    ∙ ap (λ (b : Bool). b || bit_of (bit_and new rows) r) (bit_of_andnot old rows r small h)
-    ∙ ap (λ (b : Bool). (bit_of old r && not (bit_of rows r)) || b) (bit_of_and new rows r)
-    ∙ choice (bit_of old r) (bit_of new r) (bit_of rows r)
 
 pub code_any : (e : Encoding) (values : List (Option ℤ)) (i : ℕ) → get_or (codes_for e values) i 0 ≡ code_for e (value_at values i)
 code_any e values i =

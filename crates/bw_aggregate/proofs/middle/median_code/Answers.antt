@@ -1,7 +1,6 @@
-use Rattle.std.proofs.Common.{ap, arith, length, subst, sym, ◌-◌, ◌/◌, ◌≡◌, ◌<◌, ◌∙◌}
+use Rattle.std.proofs.Common.{ap, arith, length, sym, ◌-◌, ◌/◌, ◌≡◌, ◌<◌, ◌∙◌}
 use Rattle.std.proofs.lemmas.List.{length-map}
 use Rattle.std.specs.List.{items_where_true}
-use Rattle.bw_code.specs.Columns.{Fit}
 use Rattle.bw_code.specs.Encodings.{width}
 use Rattle.bw_column.specs.Codes.{code_for, codes_for}
 use Rattle.bw_aggregate.specs.Descents.{Holds}

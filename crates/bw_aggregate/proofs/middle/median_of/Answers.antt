@@ -1,12 +1,11 @@
-use Rattle.std.proofs.Common.{ap, arith, refl, sym, w64, ◌-◌, ◌/◌, ◌≡◌, ◌∙◌}
+use Rattle.std.proofs.Common.{ap, arith, sym, w64, ◌-◌, ◌/◌, ◌≡◌, ◌∙◌}
 use Rattle.std.proofs.lemmas.Int.{ints, to_z-of_z}
 use Rattle.std.specs.Prelude.{slice_get}
-use Rattle.bw_code.specs.Encodings.{width}
 use Rattle.bw_model.specs.SetFunctions.{sorted}
 use Rattle.bw_aggregate.specs.Chosen.{chosen}
 use Rattle.bw_column.proofs.Held.{all_storable}
 use Rattle.bw_aggregate.proofs.SortedValues.{is_code, nth_is}
-use Rattle.bw_aggregate.proofs.Told.{fit_by, many_codes}
+use Rattle.bw_aggregate.proofs.Told.{many_codes}
 use Rattle.bw_aggregate.proofs.middle.median_of.Goals as goal
 use mir.Val.{of_z, to_z}
 

@@ -1,4 +1,4 @@
-use Rattle.std.proofs.Common.{arith, ◌∙◌}
+use Rattle.std.proofs.Common.{arith}
 use Rattle.bw_mask.specs.Masks.{row_in}
 use Rattle.bw_aggregate.proofs.Marks.{marked_few, marked_words}
 use Rattle.bw_aggregate.proofs.rows.count_rows.Goals as goal

@@ -17,5 +17,5 @@ returns c =
     let kept = c.in_ok-known.ensures in
     let same = same_values c.in_ok-known.known.rows c.args.rows.now.rows c.args.column.now.values (kept.len ∙ c.requires.len) c.requires.len kept.each in
     let back : to_z w64 (of_z w64 c.in_ok-median_of.field-0) ≡ c.in_ok-median_of.field-0 = search (arith, ints, to_z-of_z) in
-    let asked : c.args.asked ≡ true = grind (common_steps, c.if-not-asked.false) in
+    let asked : c.args.asked ≡ true = grind (arith, common_steps, c.if-not-asked.false) in
     rw (asked, back) (c.in_ok-median_of.ensures ∙ ap median same)

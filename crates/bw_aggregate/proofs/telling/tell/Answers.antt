@@ -2,9 +2,7 @@ use Rattle.std.proofs.Common.{Bool, None, Option, arith, if◌then◌else◌, in
 use Rattle.std.proofs.lemmas.Bool.{cases_Bool}
 use Rattle.std.proofs.lemmas.Int.{ints, to_z-of_z}
 use Rattle.std.specs.Int.{w128}
-use Rattle.bw_code.specs.Encodings.{width}
 use Rattle.bw_aggregate.proofs.Sums.{sum_offset}
-use Rattle.bw_aggregate.proofs.Told.{fit_by}
 use Rattle.bw_aggregate.proofs.telling.tell.Goals as goal
 use mir.Val.{of_z, to_z}
 

@@ -2,7 +2,7 @@ use Rattle.std.proofs.Common.{ap, arith, inl, inr, refl, sym, ◌+◌, ◌-◌, 
 use Rattle.std.proofs.lemmas.Bool.{cases_lt, lt-ltb}
 use Rattle.bw_mask.specs.Masks.{bit_of, row_at}
 use Rattle.bw_code.proofs.Runs.{chosen_below, chosen_from}
-use Rattle.bw_column.proofs.Chosen.{blended_bit}
+use Rattle.bw_vertical.proofs.Blends.{blended_bit}
 use Rattle.bw_column.proofs.runs.put_presence.Goals as goal
 
 pub returns-clause-rows : goal.returns-clause-rows
