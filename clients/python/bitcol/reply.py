@@ -11,6 +11,7 @@ from collections.abc import Iterator
 from typing import Any, Union
 
 from .errors import InterfaceError, ProgrammingError, Refused, refusal
+from .lines import LineIndex
 from .optional import numpy_module, pandas_module
 
 Cell = Union[int, str, None]
@@ -67,7 +68,7 @@ class Reply:
     an answer with rows, and is empty otherwise. `refusal` is the exception of a refused statement, or None.
     """
 
-    __slots__ = ("_body", "_cells", "count", "headings", "refusal")
+    __slots__ = ("_body", "_cells", "_index", "count", "headings", "refusal")
 
     def __init__(
         self,
@@ -81,6 +82,7 @@ class Reply:
         self.refusal = refusal
         self._body = body
         self._cells: list[Any] | None = None
+        self._index: LineIndex | None = None
 
     def rows(self) -> list[Row]:
         """All rows, a tuple each, NULL as None. InterfaceError where the answer has no rows to show."""
@@ -100,6 +102,16 @@ class Reply:
             end = self._body.index(b"\n", end) + 1
         return self._rows_between(0, end)
 
+    def lines_at(self, first: int, limit: int) -> str:
+        """The lines of the rows from this one on, counted from 0, at most so many, as the program wrote them. The
+        others aren't read, so any part of a long answer comes at once. InterfaceError as of batches."""
+        if self._cells is not None or not self.headings:
+            return "".join(_line_of(row, "NULL") for row in self.rows()[first : first + limit])
+        if self._index is None:
+            self._index = LineIndex(self._body)
+        start, end = self._index.start_of(first), self._index.start_of(first + limit)
+        return self._body[start:end].decode("ascii")
+
     def batches(self) -> Iterator[list[Row]]:
         """All rows in order, some at a time, none of which is kept: an answer of millions of rows takes less memory so.
         InterfaceError where the answer has no rows to show."""
@@ -113,7 +125,7 @@ class Reply:
         """The rows as lines of CSV, some at a time, with this text for NULL. InterfaceError as of batches."""
         if self._cells is not None or not self.headings or self._names_tables():
             for rows in self.batches():
-                yield "".join(",".join(null if cell is None else str(cell) for cell in row) + "\n" for row in rows)
+                yield "".join(_line_of(row, null) for row in rows)
         else:
             for start, end in self._parts():
                 yield self._body[start:end].decode("ascii").replace("NULL", null)
@@ -210,6 +222,11 @@ def reply_of(data: bytes) -> Reply:
     first, last = data.index(b"\n"), data.rindex(_LAST_LINE)
     headings = tuple(data[:first].decode().split(","))
     return Reply(int(data[last + len(_LAST_LINE) : -1]), headings, data[first + 1 : last + 1])
+
+
+def _line_of(row: Row, null: str) -> str:
+    """The line of a row, with this text for NULL."""
+    return ",".join(null if cell is None else str(cell) for cell in row) + "\n"
 
 
 def _integers(body: bytes) -> list[Any]:

@@ -23,6 +23,8 @@ COLUMN_LIMIT, ROW_LIMIT = 64, 16_777_216
 FILE_BYTES = 268_435_456
 
 _FRONT = struct.Struct("<6sHHI")  # mark, version, columns, rows
+# The front, and for each column a name of at most 128 bytes with its length, a layout and a kind.
+HEADERS_BYTES = _FRONT.size + COLUMN_LIMIT * (1 + 128 + 2)
 
 
 class Layout(IntEnum):
@@ -78,8 +80,34 @@ def encode(columns: Sequence[Column]) -> list[Bytes]:
     return pieces
 
 
+@dataclass(frozen=True)
+class ColumnHeader:
+    """What a file tells of a column before its cells."""
+
+    name: str
+    layout: Layout
+    kind: Kind
+
+
+def headers_of(data: bytes) -> list[ColumnHeader]:
+    """The headers of a table file's columns. No more than its first HEADERS_BYTES are needed. DataError, with the
+    reason, where the bytes are none."""
+    headers, _, _ = _front(data)
+    return headers
+
+
 def decode(data: bytes) -> list[Column]:
     """The columns of a table file. DataError, with the reason, where the bytes are none."""
+    headers, rows, at = _front(data)
+    size = presence_size(rows) + WORD_BYTES * rows
+    if len(data) != at + len(headers) * size:
+        raise _no_table_file("another length than its headers tell")
+    found = [_cells(data, at + place * size, rows) for place in range(len(headers))]
+    return [Column(header.name, cells, header.layout, header.kind) for header, cells in zip(headers, found)]
+
+
+def _front(data: bytes) -> tuple[list[ColumnHeader], int, int]:
+    """The headers, the number of rows, and where the cells begin."""
     if len(data) < _FRONT.size:
         raise _no_table_file("it is cut off")
     mark, version, width, rows = _FRONT.unpack_from(data)
@@ -93,17 +121,13 @@ def decode(data: bytes) -> list[Column]:
     for _ in range(width):
         header, at = _header(data, at)
         headers.append(header)
-    if len({name for name, _, _ in headers}) < width:
+    if len({header.name for header in headers}) < width:
         raise _no_table_file("a name twice")
-    size = presence_size(rows) + WORD_BYTES * rows
-    if len(data) != at + width * size:
-        raise _no_table_file("another length than its headers tell")
-    found = [_cells(data, at + place * size, rows) for place in range(width)]
-    return [Column(name, cells, layout, kind) for (name, layout, kind), cells in zip(headers, found)]
+    return headers, rows, at
 
 
-def _header(data: bytes, at: int) -> tuple[tuple[str, Layout, Kind], int]:
-    """The name, layout and kind at this byte, and where the next part begins."""
+def _header(data: bytes, at: int) -> tuple[ColumnHeader, int]:
+    """The header at this byte, and where the next part begins."""
     end = at + 1 + data[at] if at < len(data) else at
     if end + 2 > len(data):
         raise _no_table_file("a header is cut off")
@@ -111,7 +135,7 @@ def _header(data: bytes, at: int) -> tuple[tuple[str, Layout, Kind], int]:
     if not NAME.fullmatch(name) or name != name.upper() or name in RESERVED:
         raise _no_table_file(f"no name: {name!r}")
     try:
-        return (name, Layout(data[end]), Kind(data[end + 1])), end + 2
+        return ColumnHeader(name, Layout(data[end]), Kind(data[end + 1])), end + 2
     except ValueError as fault:
         raise _no_table_file(str(fault)) from None
 

@@ -61,6 +61,35 @@ class Meaning(unittest.TestCase):
                 reply_of(data).rows()
 
 
+class Parts(unittest.TestCase):
+    def test_lines_of_a_short_answer(self) -> None:
+        reply = reply_of(b"A,B\n1,NULL\n-2,5\n3,4\nrows 3\n")
+        self.assertEqual(reply.lines_at(0, 2), "1,NULL\n-2,5\n")
+        self.assertEqual(reply.lines_at(2, 5), "3,4\n")
+        self.assertEqual((reply.lines_at(1, 0), reply.lines_at(3, 1), reply.lines_at(10**9, 1)), ("", "", ""))
+        reply.rows()
+        self.assertEqual(reply.lines_at(0, 2), "1,NULL\n-2,5\n")
+
+    def test_lines_of_an_answer_without(self) -> None:
+        self.assertEqual(reply_of(b"A\nrows 0\n").lines_at(0, 5), "")
+        self.assertEqual(reply_of(b"TABLE,COLUMNS,ROWS\nT,1,0\nrows 1\n").lines_at(0, 5), "T,1,0\n")
+        with self.assertRaisesRegex(bitcol.InterfaceError, "no rows"):
+            reply_of(b"ok 3\n").lines_at(0, 1)
+
+    def test_each_line_around_blocks(self) -> None:
+        """Rows 0 to 3999 are of 5 bytes, then come 16,384 rows of 2: blocks end within lines and between them."""
+        reply = reply_of(b"A\n" + b"1234\n" * 4000 + b"7\n" * 16_384 + b"rows 20384\n")
+        for row in (0, 1, 3275, 3276, 3277, 3999, 4000, 4001, 10_383, 10_384, 10_385, 12_191, 12_192, 12_193, 20_383):
+            expected = ["1234\n" if place < 4000 else "7\n" for place in (row, row + 1) if place < 20_384]
+            self.assertEqual(reply.lines_at(row, 2), "".join(expected), row)
+
+    def test_the_longest_answer(self) -> None:
+        """16,777,216 rows, of which the last is another one."""
+        reply = reply_of(b"A\n" + b"5\n" * (2**24 - 1) + b"-8\nrows 16777216\n")
+        self.assertEqual(reply.lines_at(2**24 - 2, 3), "5\n-8\n")
+        self.assertEqual(reply.lines_at(2**23, 1), "5\n")
+
+
 class Refusals(unittest.TestCase):
     def test_the_class_of_each_number(self) -> None:
         classes = {

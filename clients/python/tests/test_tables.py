@@ -12,7 +12,7 @@ from unittest import mock
 import bitcol
 from bitcol import Kind, Layout, Table
 from bitcol.cells import cells_of
-from bitcol.table_file import Column, decode, encode
+from bitcol.table_file import HEADERS_BYTES, Column, ColumnHeader, decode, encode, headers_of
 from tests.support import GREATEST, LEAST, SessionTestCase, random_column
 
 # The worked file of docs/TABLE_FILE.md: a column A, V and OFFSET, with the rows 3, NULL and -1.
@@ -102,6 +102,15 @@ class Format(unittest.TestCase):
         with mock.patch("bitcol.table_file.FILE_BYTES", len(WORKED) - 1):
             with self.assertRaisesRegex(bitcol.DataError, "at most 30 bytes, not 31"):
                 Table.of({"a": [3, None, -1]}).file_pieces()
+
+    def test_headers_of_the_front_of_a_file(self) -> None:
+        names = [f"C{place:02}" + "X" * 125 for place in range(64)]
+        columns = [Column(name, cells_of(range(1000)), Layout.S, Kind.DICTIONARY) for name in names]
+        data = b"".join(encode(columns))
+        expected = [ColumnHeader(name, Layout.S, Kind.DICTIONARY) for name in names]
+        self.assertEqual(headers_of(data[:HEADERS_BYTES]), expected)
+        with self.assertRaisesRegex(bitcol.DataError, "a header is cut off"):
+            headers_of(data[: HEADERS_BYTES - 1])
 
     def test_kinds_of_columns(self) -> None:
         expected = cells_of([0, 1, 2])
