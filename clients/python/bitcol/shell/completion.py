@@ -18,6 +18,8 @@ WORDS = sorted(RESERVED - _NOT_YET | {"DICTIONARY", "HEADER", "LOAD", "OFFSET", 
 # After these a table's name stands.
 _BEFORE_TABLES = {"FROM", "INTO", "LOAD", "REBUILD", "SAVE", "TABLE", "UPDATE"}
 _WORD = re.compile(r"[A-Za-z]\w*")
+# Between two words: what stands around words in statements. A point and a slash are parts of commands and files.
+DELIMITERS = " \t\n,;()=<>!+*'\""
 _COMMENT = re.compile(r"--[^\n]*")
 _TEXT = re.compile(r"'[^']*'")
 
@@ -35,7 +37,7 @@ def completions(before: str, word: str, catalog: Catalog) -> list[str]:
         return _of_command(before, word, catalog)
     if not before.strip() and word.startswith("."):
         return [name for name in command_words() if name.startswith(word)]
-    return _of_statement(before, word, catalog)
+    return statement_completions(before, word, catalog)
 
 
 def _of_command(before: str, word: str, catalog: Catalog) -> list[str]:
@@ -58,7 +60,8 @@ def _of_argument(command: Command, place: int, word: str, catalog: Catalog) -> l
     return [choice for choice in chosen_words(argument) if choice.startswith(word)]
 
 
-def _of_statement(before: str, word: str, catalog: Catalog) -> list[str]:
+def statement_completions(before: str, word: str, catalog: Catalog) -> list[str]:
+    """What the word may become that stands after `before`, the start of a statement."""
     code = _TEXT.sub(" ", _COMMENT.sub(" ", before))
     if "'" in code:
         return files(word)

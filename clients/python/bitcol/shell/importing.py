@@ -19,6 +19,14 @@ from .store import Store
 
 
 @dataclass(frozen=True)
+class Source:
+    """A file: where it is, and what it is called, in what is said of it and by its table."""
+
+    path: str
+    label: str
+
+
+@dataclass(frozen=True)
 class Imported:
     """A table that was made of a file, and lines on what is called otherwise than there."""
 
@@ -43,18 +51,17 @@ def split_word(word: str) -> tuple[str, str | None]:
     return word, None
 
 
-def imports_of(store: Store, path: str, table: str | None) -> list[Import]:
+def imports_of(store: Store, path: str, table: str | None, label: str | None = None) -> list[Import]:
     """What is to be made of a file: a table of this name, or of the file's. Of an SQLite file, the table of this name,
-    or all. A Fault where the file can't be read."""
-    if is_special(path):
-        # What isn't kept can't be looked at twice.
-        return [Import(path, lambda tell: _of_csv(store, path, table, tell))]
-    first = _first_bytes(path)
+    or all. A label is what the file is called in place of its path. A Fault where the file can't be read."""
+    source = Source(path, path if label is None else label)
+    # What isn't kept can't be looked at twice.
+    first = b"" if is_special(path) else _first_bytes(source)
     if first.startswith(sqlite_import.MARK):
-        return [_sqlite(store, path, name) for name in _chosen(path, table)]
+        return [_sqlite(store, source, name) for name in _chosen(source, table)]
     if first.startswith(TABLE_FILE_MARK):
-        return [Import(path, lambda _: _of_table_file(store, path, table))]
-    return [Import(path, lambda tell: _of_csv(store, path, table, tell))]
+        return [Import(source.label, lambda _: _of_table_file(store, source, table))]
+    return [Import(source.label, lambda tell: _of_csv(store, source, table, tell))]
 
 
 def is_special(path: str) -> bool:
@@ -66,69 +73,70 @@ def is_special(path: str) -> bool:
     return not stat.S_ISREG(mode) and not stat.S_ISDIR(mode)
 
 
-def _first_bytes(path: str) -> bytes:
+def _first_bytes(source: Source) -> bytes:
     try:
-        with open(path, "rb") as file:
+        with open(source.path, "rb") as file:
             return file.read(len(sqlite_import.MARK))
     except OSError as fault:
-        raise Fault(f"{path}: {reason_of(fault)}") from None
+        raise Fault(f"{source.label}: {reason_of(fault)}") from None
     except ValueError as fault:
-        raise Fault(f"{path!r}: {fault}") from None
+        raise Fault(f"{source.label!r}: {fault}") from None
 
 
-def _table_name(path: str, table: str | None) -> tuple[str, list[str]]:
+def _table_name(label: str, table: str | None) -> tuple[str, list[str]]:
     """The name for a table: this one, or the file's, and a line where it can't be that."""
-    word = Path(path).stem if table is None else table
+    word = Path(label).stem if table is None else table
     name = name_of(word, "T")
     return name, [] if name == word.upper() else [f"table {word!r} is called {name}"]
 
 
-def _of_csv(store: Store, path: str, table: str | None, tell: Tell) -> Imported:
-    name, notes = _table_name(path, table)
+def _of_csv(store: Store, source: Source, table: str | None, tell: Tell) -> Imported:
+    name, notes = _table_name(source.label, table)
     try:
-        with open(path, "rb") as file:
+        with open(source.path, "rb") as file:
             status = os.fstat(file.fileno())
             size = status.st_size if stat.S_ISREG(status.st_mode) else 0
             rows, more = CsvTable(store, name).fill(file, size, tell)
     except OSError as fault:
-        raise Fault(f"{path}: {reason_of(fault)}") from None
+        raise Fault(f"{source.label}: {reason_of(fault)}") from None
     except Fault as fault:
-        raise Fault(f"{path}: {fault}") from None
+        raise Fault(f"{source.label}: {fault}") from None
     except Refused as refusal:
-        raise _named(refusal, path, name) from None
+        raise _named(refusal, source.label, name) from None
     return Imported(name, rows, notes + more)
 
 
-def _of_table_file(store: Store, path: str, table: str | None) -> Imported:
-    name, notes = _table_name(path, table)
+def _of_table_file(store: Store, source: Source, table: str | None) -> Imported:
+    name, notes = _table_name(source.label, table)
     try:
-        with store.making(name, lambda session: session.open(name, path)) as rows:
+        with store.making(name, lambda session: session.open(name, source.path)) as rows:
             return Imported(name, rows, notes)
     except Refused as refusal:
-        raise _named(refusal, path, name) from None
+        raise _named(refusal, source.label, name) from None
 
 
-def _chosen(path: str, table: str | None) -> list[str]:
+def _chosen(source: Source, table: str | None) -> list[str]:
     """The tables of an SQLite file that are wanted: all, or the one of this name, as SQLite compares names."""
     try:
-        names = sqlite_import.table_names(path)
+        names = sqlite_import.table_names(source.path)
     except Fault as fault:
-        raise Fault(f"{path}: {fault}") from None
+        raise Fault(f"{source.label}: {fault}") from None
     chosen = names if table is None else [name for name in names if name.lower() == table.lower()]
     if not chosen:
         there = f"it has {', '.join(names)}" if names else "it has none"
-        raise Fault(f"{path}: there is no table {table!r}; {there}" if table else f"{path}: the file has no tables")
+        missing = f"there is no table {table!r}; {there}" if table else "the file has no tables"
+        raise Fault(f"{source.label}: {missing}")
     return chosen
 
 
-def _sqlite(store: Store, path: str, table: str) -> Import:
+def _sqlite(store: Store, source: Source, table: str) -> Import:
     """One table of an SQLite file."""
-    label = f"{path}, table {table}"
+    label = f"{source.label}, table {table}"
 
     def run(tell: Tell) -> Imported:
-        name, notes = _table_name(path, table)
+        name, notes = _table_name(source.label, table)
         try:
-            words, columns = sqlite_import.read_table(path, table, tell)
+            words, columns = sqlite_import.read_table(source.path, table, tell)
             names, more = column_names(words)
             made = Table.of(dict(zip(names, columns)))
             with store.making(name, lambda session: session.write_table(name, made)) as rows:

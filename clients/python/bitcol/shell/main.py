@@ -72,7 +72,8 @@ def _parser() -> argparse.ArgumentParser:
     parser = argparse.ArgumentParser(
         prog="python3 -m bitcol",
         description="A shell over tables of nullable integers, whose answers are proved.",
-        epilog="Without -c it reads statements and commands from standard input; .help lists the commands.",
+        epilog="Without -c it reads statements and commands from standard input; .help lists the commands."
+        " python3 -m bitcol web serves a page in place of it.",
     )
     parser.add_argument(
         "files",
@@ -108,14 +109,14 @@ def _run(options: argparse.Namespace, console: Console) -> Status:
     except ProgramEnded:
         return Status.FAILED
     except (KeyboardInterrupt, OSError):
-        _leave(store)
+        leave(store)
         raise
     if not shell.has_store:
         return Status.FAILED
     return Status.REFUSED if shell.failures and not is_typed else Status.DONE
 
 
-def _leave(store: Store) -> None:
+def leave(store: Store) -> None:
     """Ends a store that may be in the middle of a call. A call that takes longer is left with the whole process, whose
     end is the end of the program too: the interpreter can't end in an orderly way beside it."""
     if not store.close(SECONDS_TO_LEAVE):

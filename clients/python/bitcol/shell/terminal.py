@@ -12,14 +12,12 @@ from types import FrameType
 from typing import Any
 
 from ..errors import Error
-from .completion import completions
+from .completion import DELIMITERS, completions
 from .shell import Shell
 from .statements import Pending, StatementBuffer
 
 PROMPTS = {Pending.NOTHING: "bitcol> ", Pending.STATEMENT: "   ...> ", Pending.TEXT: "     '> "}
 HISTORY_LINES = 10_000
-# Between two words: what stands around words in statements. A point and a slash are parts of commands and files.
-_DELIMITERS = " \t\n,;()=<>!+*'\""
 
 
 def interact(shell: Shell) -> None:
@@ -114,7 +112,7 @@ class _LineEditing:
         self._found: list[str] = []
         self._history = history_path()
         self._remembered = 0
-        readline.set_completer_delims(_DELIMITERS)
+        readline.set_completer_delims(DELIMITERS)
         readline.set_completer(self._complete)
         readline.parse_and_bind("tab: complete")
         readline.set_history_length(HISTORY_LINES)
