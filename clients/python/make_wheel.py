@@ -22,6 +22,8 @@ from pathlib import Path
 HERE = Path(__file__).resolve().parent
 TOP = HERE.parent.parent
 PROGRAM, FILE = 0o755, 0o644
+# The files of the package that go into the wheel: modules, and the parts of the page.
+SUFFIXES = (".py", ".typed", ".html", ".css", ".js", ".svg")
 # A wheel's files need a time, and nobody reads it: the first that a zip can hold.
 TIME = (1980, 1, 1, 0, 0, 0)
 
@@ -51,7 +53,7 @@ def program() -> Path:
 def members(version: str, tag: str) -> Iterator[Member]:
     """All files of the wheel but RECORD."""
     for path in sorted((HERE / "bitcol").rglob("*")):
-        if path.suffix in (".py", ".typed"):
+        if path.suffix in SUFFIXES:
             yield Member(path.relative_to(HERE).as_posix(), path.read_bytes())
     yield Member("bitcol/bin/bitcol", program().read_bytes(), PROGRAM)
     about = f"bitcol-{version}.dist-info"

@@ -82,6 +82,9 @@ class Wheel(InFolder):
         self.assertEqual(run(place / "bin/bitcol", PYTHONPATH=str(place), folder=self.folder), REPLIES)
         shell = (sys.executable, "-B", "-m", "bitcol")
         self.assertEqual(run(*shell, PYTHONPATH=str(place), PATH="/usr/bin:/bin", folder=self.folder), "A\n-1\n")
+        parts = [path.name for path in (CLIENTS / "python/bitcol/web/page").iterdir()]
+        self.assertIn("page.html", parts)
+        self.assertEqual(sorted(path.name for path in (place / "bitcol/web/page").iterdir()), sorted(parts))
 
     @unittest.skipUnless(importlib.util.find_spec("pip"), "pip is not installed")
     def test_pip_makes_one_of_the_folder(self) -> None:

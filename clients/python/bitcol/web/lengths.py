@@ -1,0 +1,72 @@
+"""How long an answer will be, before it is asked for.
+
+An answer is in memory as a whole. One that the memory doesn't hold would end the program in the middle of its answer,
+and its tables with it. So the rows of a long one are counted first.
+"""
+
+from __future__ import annotations
+
+import re
+from dataclasses import dataclass
+
+from ..errors import Refused
+from ..session import Session
+from ..shell.fault import Fault
+from .answers import ANSWER_CELLS
+
+_PIECE = re.compile(r"'[^']*'|--[^\n]*|[A-Za-z]\w*")
+
+
+@dataclass(frozen=True)
+class Selection:
+    """A SELECT in three parts: `SELECT ..`, `FROM table`, and the condition, which may be empty."""
+
+    items: str
+    source: str
+    condition: str
+
+    @property
+    def without_rows(self) -> str:
+        """A SELECT with the same headings and no row. What stands before may end with a comment."""
+        return f"{self.items}{self.source}\nWHERE 1 = 0"
+
+    @property
+    def counting(self) -> str:
+        """A SELECT of the number of its rows."""
+        return f"SELECT COUNT(*) {self.source}{self.condition}"
+
+
+def selection_of(statement: str) -> Selection | None:
+    """The parts of a SELECT, or None where the statement is none."""
+    words = [(found[0].upper(), found.start()) for found in _PIECE.finditer(statement) if found[0][0].isalpha()]
+    starts = dict(reversed(words))
+    if not words or words[0][0] != "SELECT" or "FROM" not in starts:
+        return None
+    source, condition = starts["FROM"], starts.get("WHERE", len(statement))
+    if condition < source:
+        return None
+    return Selection(statement[:source], statement[source:condition], statement[condition:])
+
+
+def check_length(session: Session, statement: str, most: int = ANSWER_CELLS) -> None:
+    """A Fault where the answer would have more than so many cells. A statement that is to be refused has none here."""
+    selection = selection_of(statement)
+    if selection is None:
+        return
+    try:
+        width = len(session.execute(selection.without_rows).headings)
+        if width * max(table.rows for table in session.tables()) <= most:
+            return
+        rows = session.execute(selection.counting).scalar()
+    except Refused:
+        return
+    if rows * width > most and not _is_one_row(selection):
+        raise Fault(
+            f"the answer has {rows} rows of {width} columns, which is {rows * width} cells, and the page takes {most}: "
+            "choose fewer columns or rows, or SAVE the table"
+        )
+
+
+def _is_one_row(selection: Selection) -> bool:
+    """Whether it is one of set functions."""
+    return "(" in _PIECE.sub("", selection.items)

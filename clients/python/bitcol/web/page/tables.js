@@ -1,0 +1,81 @@
+// The list of tables: their rows and columns, and, where one is opened, the layouts and kinds of these.
+
+import { counted, find, make } from "./elements.js";
+import { getJson, save } from "./server.js";
+
+/** The list of tables. `insert` puts a word into the editor; `attempt` does something, and tells why it can't. */
+export class Tables {
+  constructor(insert, attempt) {
+    this.list = find("tables");
+    this.insert = insert;
+    this.attempt = attempt;
+    this.opened = new Set();
+    this.shown = "";
+  }
+
+  /** Shows these tables. Those that are open stay open. */
+  show(tables) {
+    find("no-tables").hidden = tables.length > 0;
+    const text = JSON.stringify(tables);
+    if (text === this.shown) {
+      // What has the focus keeps it.
+      this.list.querySelectorAll("details[open]").forEach((details) => this.#tellLayouts(details));
+      return;
+    }
+    this.shown = text;
+    const focused = document.activeElement?.closest?.("#tables summary")?.dataset.table;
+    this.list.replaceChildren(...tables.map((table) => this.#entry(table)));
+    if (focused) this.list.querySelector(`summary[data-table="${focused}"]`)?.focus();
+  }
+
+  #entry(table) {
+    const summary = make("summary", {}, make("b", {}, table.name), " ", counted(table.rows, "row"));
+    summary.dataset.table = table.name;
+    const details = make("details", { open: this.opened.has(table.name) }, summary);
+    details.append(this.#columns(table), this.#tools(table));
+    details.dataset.table = table.name;
+    details.addEventListener("toggle", () => {
+      if (details.open) {
+        this.opened.add(table.name);
+        this.#tellLayouts(details);
+      } else {
+        this.opened.delete(table.name);
+      }
+    });
+    return make("li", {}, details);
+  }
+
+  #columns(table) {
+    const headings = ["Column", "Type", "Layout", "Kind"].map((heading) => make("th", { scope: "col" }, heading));
+    const rows = table.columns.map((column) => {
+      const properties = { type: "button", className: "word", title: "Put it into the statement" };
+      const name = make("button", properties, column.name);
+      name.addEventListener("click", () => this.insert(column.name));
+      return make("tr", {}, make("td", {}, name), make("td", {}, column.type), make("td"), make("td"));
+    });
+    return make("table", {}, make("thead", {}, make("tr", {}, ...headings)), make("tbody", {}, ...rows));
+  }
+
+  #tools(table) {
+    const button = (text, form) => {
+      const made = make("button", { type: "button" }, text);
+      made.setAttribute("aria-label", `${text}: ${table.name}`);
+      made.addEventListener("click", () => this.attempt(() => save("table", { table: table.name, form })));
+      return made;
+    };
+    return make("p", { className: "tools" }, button("Save as CSV", "csv"), button("Save as a table file", "table"));
+  }
+
+  /** The store writes a table file for these, so they are asked for where somebody looks. */
+  async #tellLayouts(details) {
+    await this.attempt(async () => {
+      const found = await getJson("layouts", { table: details.dataset.table });
+      const rows = details.querySelectorAll("tbody tr");
+      found.forEach(({ layout, kind }, place) => {
+        if (!rows[place]) return;
+        rows[place].children[2].textContent = layout;
+        rows[place].children[3].textContent = kind;
+      });
+    });
+  }
+}

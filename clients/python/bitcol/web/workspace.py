@@ -1,0 +1,240 @@
+"""What all windows of a page share: a store with its tables, and the answers that are kept.
+
+What is asked of the store is carried out in turns, so neither the statements of two windows nor a statement and a file
+that is being imported come between each other.
+"""
+
+from __future__ import annotations
+
+import contextlib
+import os
+import tempfile
+import threading
+import time
+from collections.abc import Iterator
+from dataclasses import dataclass, field
+from pathlib import Path
+
+from ..errors import Error, OperationalError, ProgramEnded
+from ..reply import Reply
+from ..script import checked_name
+from ..session import Session
+from ..shell.completion import DELIMITERS, Catalog, statement_completions
+from ..shell.exporting import export_table
+from ..shell.importing import Imported, imports_of
+from ..shell.shell import columns_by_table
+from ..shell.statements import Statement, StatementBuffer
+from ..shell.store import Store
+from ..table_file import HEADERS_BYTES, ColumnHeader, headers_of
+from .answers import Answers
+from .lengths import check_length
+
+TOO_LONG = "the answer is too long for the memory of this process"
+# What begins a statement that changes no table.
+_READING = ("SELECT", "TABLES", "SAVE")
+
+
+@dataclass(frozen=True)
+class Outcome:
+    """What became of a statement: the reply, with the number under which it is kept if it has rows, and the seconds
+    that it took; or an error."""
+
+    statement: Statement
+    reply: Reply | None = None
+    answer: int | None = None
+    seconds: float | None = None
+    error: str | None = None
+
+
+@dataclass(frozen=True)
+class TableShape:
+    """A table as it stands: its name, its columns, and its number of rows."""
+
+    name: str
+    columns: tuple[str, ...]
+    rows: int
+
+
+@dataclass(frozen=True)
+class Message:
+    """What all windows are to know, by its number from 1."""
+
+    number: int
+    text: str
+    is_error: bool
+
+
+@dataclass
+class FileOutcome:
+    """What became of a file: the tables that were made of it, and why others weren't."""
+
+    imported: list[Imported] = field(default_factory=list)
+    errors: list[str] = field(default_factory=list)
+
+
+class Workspace:
+    """A store that is used in turns, by calls from any thread."""
+
+    def __init__(self, store: Store) -> None:
+        self.answers = Answers()
+        self._store = store
+        self._turn = threading.Lock()
+        self._has_program = True
+        self._catalog = Catalog()
+        self._headers: dict[str, list[ColumnHeader]] = {}
+        self._messages: list[Message] = []
+
+    def run(self, script: str) -> list[Outcome]:
+        """Carries out the statements of a script, one after the other, and gives what became of each. Those after a
+        refused one are carried out too, and none after the end of the program. OperationalError where there is none."""
+        outcomes: list[Outcome] = []
+        with contextlib.suppress(ProgramEnded), self._taking_turns() as store:
+            for statement in statements_in(script):
+                if not statement.text.upper().startswith(_READING):
+                    self._headers.clear()
+                try:
+                    outcomes.append(self._carried_out(store, statement))
+                except ProgramEnded as fault:
+                    outcomes.append(Outcome(statement, error=str(fault)))
+                    raise
+                except (Error, MemoryError) as fault:
+                    text = TOO_LONG if isinstance(fault, MemoryError) else str(fault)
+                    outcomes.append(Outcome(statement, error=text))
+        return outcomes
+
+    def import_file(self, path: str, label: str, table: str | None = None) -> FileOutcome:
+        """Makes tables of a file that is called so: a CSV file, a table file, or an SQLite file. What can't be made is
+        told. ProgramEnded, and OperationalError as of run."""
+        outcome = FileOutcome()
+        with self._taking_turns() as store:
+            self._headers.clear()
+            try:
+                for job in imports_of(store, path, table, label):
+                    try:
+                        imported = job.run(lambda _: None)
+                    except ProgramEnded:
+                        raise
+                    except Error as fault:
+                        outcome.errors.append(str(fault))
+                    else:
+                        notes = [f"{job.label}: {note}" for note in imported.notes]
+                        outcome.imported.append(Imported(imported.table, imported.rows, notes))
+            except ProgramEnded:
+                raise
+            except Error as fault:
+                outcome.errors.append(str(fault))
+        return outcome
+
+    def tables(self) -> list[TableShape]:
+        """The tables, in the order in which they were made. ProgramEnded, and OperationalError as of run."""
+        with self._taking_turns() as store:
+            shapes = store.call(_shapes)
+        self._catalog = Catalog({shape.name: shape.columns for shape in shapes})
+        return shapes
+
+    def headers(self, table: str) -> list[ColumnHeader]:
+        """The names, layouts and kinds of a table's columns. No statement tells the latter two: a table file does, so
+        one is written. Raises what a session's save does."""
+        name = checked_name(table)
+        with self._taking_turns() as store:
+            if name not in self._headers:
+                with self.folder() as folder:
+                    path = folder / "table"
+                    store.call(lambda session: session.save(name, path))
+                    self._headers[name] = _headers_in(path)
+            return self._headers[name]
+
+    def export(self, table: str, path: Path) -> int:
+        """Writes a table to a file, by the suffix of its name. See export_table."""
+        with self._taking_turns() as store:
+            return export_table(store, table, os.fspath(path))
+
+    def completions(self, before: str) -> tuple[str, list[str]]:
+        """The word at the end of a script's start, and what it may become, by the tables that were there when they were
+        last listed. It waits for no statement."""
+        start = max(before.rfind(delimiter) for delimiter in DELIMITERS) + 1
+        buffer = StatementBuffer()
+        for line in before[:start].split("\n"):
+            buffer.add(line)
+        # The buffer ends each line, and the last one goes on.
+        statement = buffer.text.removesuffix("\n")
+        return before[start:], statement_completions(statement, before[start:], self._catalog)
+
+    def tell(self, text: str, is_error: bool = False) -> None:
+        """Tells all windows something."""
+        self._messages.append(Message(len(self._messages) + 1, text, is_error))
+
+    def messages(self, after: int) -> list[Message]:
+        """What is to be told to a window that knows the messages up to this number."""
+        return self._messages[after:]
+
+    @contextlib.contextmanager
+    def folder(self) -> Iterator[Path]:
+        """A folder for files, which is gone when the context ends. OperationalError where there can be none."""
+        try:
+            room = tempfile.TemporaryDirectory(prefix="bitcol-", ignore_cleanup_errors=True)
+        except OSError as fault:
+            raise OperationalError(f"no temporary folder: {fault}") from fault
+        with room as name:
+            yield Path(name).resolve()
+
+    def _carried_out(self, store: Store, statement: Statement) -> Outcome:
+        """What becomes of a statement that isn't refused."""
+
+        def carry_out(session: Session) -> tuple[Reply, float]:
+            check_length(session, statement.text)
+            start = time.perf_counter()
+            reply = session.execute(statement.text)
+            return reply, time.perf_counter() - start
+
+        reply, seconds = store.call(carry_out)
+        return Outcome(statement, reply, self.answers.keep(reply) if reply.headings else None, seconds)
+
+    @contextlib.contextmanager
+    def _taking_turns(self) -> Iterator[Store]:
+        """The store, while nobody else uses it. Where its program ends, ProgramEnded is raised, and another program is
+        started. OperationalError where none can be."""
+        with self._turn:
+            if not self._has_program:
+                self._start()
+            try:
+                yield self._store
+            except ProgramEnded as fault:
+                self._has_program = False
+                self._headers.clear()
+                self._catalog = Catalog()
+                self.tell(str(fault), is_error=True)
+                with contextlib.suppress(OperationalError):
+                    self._start()
+                raise
+
+    def _start(self) -> None:
+        """Starts another program. OperationalError where it can't be started."""
+        try:
+            self._store.restart()
+        except OperationalError as fault:
+            self.tell(str(fault), is_error=True)
+            raise
+        self._has_program = True
+        self.tell("another program was started, and it has no tables")
+
+
+def statements_in(script: str) -> list[Statement]:
+    """The statements of a script, the last of which needs no `;`."""
+    buffer = StatementBuffer()
+    statements = [statement for line in script.split("\n") for statement in buffer.add(line)]
+    last = buffer.finish()
+    return statements if last is None else [*statements, last]
+
+
+def _shapes(session: Session) -> list[TableShape]:
+    columns = columns_by_table(session)
+    return [TableShape(table.name, columns[table.name], table.rows) for table in session.tables()]
+
+
+def _headers_in(path: Path) -> list[ColumnHeader]:
+    try:
+        with path.open("rb") as file:
+            return headers_of(file.read(HEADERS_BYTES))
+    except OSError as fault:
+        raise OperationalError(f"a temporary file can't be read: {fault}") from fault
