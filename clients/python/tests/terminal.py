@@ -79,10 +79,16 @@ class ShellTestCase(unittest.TestCase):
         self.assertEqual((ended.stdout, ended.stderr, ended.returncode), (out, "", 0))
 
     def assert_fails(
-        self, words: tuple[object, ...], errors: str, out: str = "", status: int = 1, typed: str = ""
+        self,
+        words: tuple[object, ...],
+        errors: str,
+        out: str = "",
+        status: int = 1,
+        typed: str = "",
+        **variables: str,
     ) -> None:
         """Runs the shell behind pipes: it is to write exactly this on standard error, and end with this status."""
-        ended = self.run_shell(*words, typed=typed)
+        ended = self.run_shell(*words, typed=typed, **variables)
         self.assertEqual((ended.stderr, ended.stdout, ended.returncode), (errors, out, status))
 
     def terminal(self, *words: object, **variables: str) -> Terminal:

@@ -1,0 +1,194 @@
+"""Parts of the page's server, and of the page, each by itself."""
+
+from __future__ import annotations
+
+import shutil
+import subprocess
+import sys
+import unittest
+from pathlib import Path
+
+import bitcol
+from bitcol.reply import Reply, reply_of
+from bitcol.shell.fault import Fault
+from bitcol.shell.store import Store
+from bitcol.web.answers import Answers
+from bitcol.web.lengths import check_length, selection_of
+from bitcol.web.workspace import Workspace, statements_in
+from tests.support import SessionTestCase
+from tests.test_door import ScriptedDoor
+
+PAGE = Path(bitcol.__file__).resolve().parent / "web/page"
+FULL = 16_777_216
+
+# What the page's modules compute, worked by hand.
+MODULES = """
+import assert from "node:assert/strict";
+import { orderBy, range, scale, ticks } from "./chart.js";
+import { exchanged } from "./editor.js";
+import { rowAt, topOf, widthOf } from "./grid.js";
+import { cellsOf } from "./rows.js";
+import { address } from "./server.js";
+
+assert.deepEqual(ticks(0, 100, 5), [0, 20, 40, 60, 80, 100]);
+assert.deepEqual(ticks(-7, 12, 4), [-5, 0, 5, 10]);
+assert.deepEqual(ticks(3, 5, 10), [3, 4, 5]);
+assert.deepEqual(ticks(7, 7, 5), [7]);
+// Not -0.
+assert.deepEqual(ticks(-2147483648, 2147483647, 2), [0]);
+
+const up = scale({ least: -10, greatest: 30 }, 400, 0);
+assert.deepEqual([up(-10), up(0), up(30)], [400, 300, 0]);
+assert.equal(scale({ least: 5, greatest: 5 }, 0, 100)(5), 50);
+assert.deepEqual(range([[3, NaN, -2], [8]]), { least: -2, greatest: 8 });
+assert.equal(range([[NaN], []]), null);
+assert.deepEqual(orderBy(Float64Array.of(5, NaN, -1, 5, 2)), [2, 4, 0, 3]);
+
+// 1,000,000 rows, of which 20 are seen: the last that can be the first is 999,980.
+assert.equal(rowAt(0, 4_999_000, 1_000_000, 20), 0);
+assert.equal(rowAt(4_999_000, 4_999_000, 1_000_000, 20), 999_980);
+assert.equal(rowAt(2_499_500, 4_999_000, 1_000_000, 20), 499_990);
+assert.equal(topOf(499_990, 4_999_000, 1_000_000, 20), 2_499_500);
+assert.equal(topOf(999_999, 4_999_000, 1_000_000, 20), 4_999_000);
+assert.equal(rowAt(0, 0, 5, 20), 0);
+assert.equal(topOf(3, 0, 5, 20), 0);
+assert.deepEqual(["A", "MEDIAN(SECONDS)", "X".repeat(128)].map((heading) => widthOf(heading, false)), [13, 17, 42]);
+
+assert.deepEqual(cellsOf("1,NULL\\n18014398501093376,2\\n"), [["1", "NULL"], ["18014398501093376", "2"]]);
+assert.deepEqual(cellsOf(""), []);
+assert.deepEqual(exchanged("SELECT se FROM t", 9, "se", "seconds"), { text: "SELECT seconds FROM t", place: 14 });
+assert.equal(address("rows", { answer: 1, columns: undefined, name: "a b&c" }), "rows?answer=1&name=a+b%26c");
+assert.equal(address("state"), "state");
+"""
+
+
+def answer(rows: int, headings: str = "A") -> Reply:
+    """An answer of so many rows, with the same cell in all."""
+    line = b",".join([b"5"] * (headings.count(",") + 1))
+    return reply_of(headings.encode() + b"\n" + (line + b"\n") * rows + b"rows %d\n" % rows)
+
+
+class Keeping(unittest.TestCase):
+    def test_the_oldest_goes_first(self) -> None:
+        answers = Answers(cells=10, answers=9)
+        numbers = [answers.keep(answer(4)) for _ in range(2)]
+        self.assertEqual(numbers, [1, 2])
+        # Whoever looks at the first keeps it.
+        answers.get(1)
+        self.assertEqual(answers.keep(answer(1, "A,B")), 3)
+        self.assertEqual(len(answers.get(1)), 4)
+        self.assertEqual(answers.keep(answer(1)), 4)
+        with self.assertRaisesRegex(Fault, "isn't kept any more"):
+            answers.get(2)
+        self.assertEqual([len(answers.get(number)) for number in (1, 3, 4)], [4, 1, 1])
+
+    def test_the_last_is_kept_whatever_its_length(self) -> None:
+        answers = Answers(cells=10, answers=9)
+        answers.keep(answer(4))
+        self.assertEqual(len(answers.get(answers.keep(answer(50)))), 50)
+        with self.assertRaises(Fault):
+            answers.get(1)
+
+    def test_so_many_answers(self) -> None:
+        answers = Answers(cells=10, answers=2)
+        for _ in range(3):
+            answers.keep(answer(0))
+        with self.assertRaises(Fault):
+            answers.get(1)
+        self.assertEqual([len(answers.get(number)) for number in (2, 3)], [0, 0])
+
+
+class Lengths(SessionTestCase):
+    def test_the_parts_of_a_select(self) -> None:
+        parts = selection_of("select a -- FROM\n, b FROM t -- WHERE\nwhere a = 1")
+        assert parts is not None
+        found = (parts.items, parts.source, parts.condition)
+        self.assertEqual(found, ("select a -- FROM\n, b ", "FROM t -- WHERE\n", "where a = 1"))
+        self.assertEqual(parts.counting, "SELECT COUNT(*) FROM t -- WHERE\nwhere a = 1")
+        self.assertEqual(parts.without_rows, "select a -- FROM\n, b FROM t -- WHERE\n\nWHERE 1 = 0")
+        parts = selection_of("SELECT * FROM t")
+        assert parts is not None
+        self.assertEqual((parts.source, parts.condition), ("FROM t", ""))
+        for statement in ("TABLES", "DELETE FROM t", "SELECT a", "SELECT a WHERE b FROM t", "", "'SELECT a FROM t'"):
+            self.assertIsNone(selection_of(statement), statement)
+
+    def test_answers_at_the_limit_and_past_it(self) -> None:
+        self.session.write_table("t", {"a": range(10), "b": range(10)})
+        self.session.write_table("u", {"a": range(99)})
+        for statement in (
+            "SELECT a, b FROM t -- all",
+            "SELECT a FROM t WHERE b < 9",
+            "SELECT a, a, a, a FROM t WHERE b < 5",
+            "SELECT COUNT(*), SUM(a), SUM(a), SUM(a), SUM(a), SUM(a) FROM u",
+            "SELECT nothing FROM u",
+            "SELECT a, b FROM u WHERE nothing = 1",
+            "INSERT INTO t VALUES (1, 2)",
+        ):
+            check_length(self.session, statement, 20)
+        self.session.execute("INSERT INTO t VALUES (1, 2)")
+        with self.assertRaisesRegex(Fault, "the answer has 11 rows of 2 columns, which is 22 cells, and the page takes 20"):
+            check_length(self.session, "SELECT * FROM t", 20)
+        with self.assertRaisesRegex(Fault, "21 rows of 1 columns"):
+            check_length(self.session, "SELECT a FROM u WHERE a > 77", 20)
+
+
+class LongAnswers(unittest.TestCase):
+    def workspace(self, *replies: bytes) -> Workspace:
+        """A workspace whose store answers this."""
+        self.door = ScriptedDoor(*replies)
+        self.store = Store(lambda: bitcol.Session(door=self.door))
+        self.addCleanup(self.store.close)
+        return Workspace(self.store)
+
+    def test_a_full_table_of_four_columns_is_answered(self) -> None:
+        tables = b"TABLE,COLUMNS,ROWS\nT,4,%d\nrows 1\n" % FULL
+        rows = b"A,A,A,A\n" + b"1,2,3,4\n" * 3 + b"rows 3\n"
+        workspace = self.workspace(b"A,A,A,A\nrows 0\n", tables, rows)
+        (outcome,) = workspace.run("SELECT a, a, a, a FROM t")
+        self.assertEqual((outcome.error, outcome.answer), (None, 1))
+        self.assertEqual(workspace.answers.get(1).lines_at(2, 1), "1,2,3,4\n")
+
+    def test_one_of_five_is_refused_before_it_is_asked_for(self) -> None:
+        tables = b"TABLE,COLUMNS,ROWS\nT,5,%d\nrows 1\n" % FULL
+        headings = b"A,B,C,D,E\nrows 0\n"
+        workspace = self.workspace(headings, tables, b"COUNT(*)\n%d\nrows 1\n" % FULL, b"ok\n")
+        first, second = workspace.run("SELECT * FROM t; DROP TABLE u")
+        self.assertEqual(
+            first.error,
+            "the answer has 16777216 rows of 5 columns, which is 83886080 cells, and the page takes 67108864: "
+            "choose fewer columns or rows, or SAVE the table",
+        )
+        self.assertIsNone(second.error)
+        sent = [b"SELECT * FROM t\nWHERE 1 = 0;", b"TABLES;", b"SELECT COUNT(*) FROM t;", b"DROP TABLE u\n;"]
+        self.assertEqual(self.door.scripts, sent)
+
+
+class Statements(unittest.TestCase):
+    def test_their_texts_and_lines(self) -> None:
+        found = statements_in("-- a;\nTABLES; SELECT ';'\n;\n\nDROP TABLE t -- last")
+        expected = [("TABLES", 2), ("SELECT ';'\n", 2), ("DROP TABLE t -- last\n", 5)]
+        self.assertEqual([(each.text, each.line) for each in found], expected)
+
+
+class Modules(unittest.TestCase):
+    @unittest.skipUnless(shutil.which("node"), "node is not installed")
+    def test_what_the_modules_of_the_page_compute(self) -> None:
+        ended = subprocess.run(
+            ["node", "--input-type=module"], input=MODULES, capture_output=True, text=True, cwd=PAGE, check=False
+        )
+        self.assertEqual((ended.returncode, ended.stderr), (0, ""))
+
+    def test_the_page_names_nothing_elsewhere(self) -> None:
+        for path in PAGE.iterdir():
+            text = path.read_text(encoding="utf-8").replace("http://www.w3.org/2000/svg", "")
+            for word in ("http:", "https:", "//cdn", "innerHTML", "eval("):
+                self.assertNotIn(word, text, path.name)
+
+
+def setUpModule() -> None:
+    if not shutil.which("node"):
+        print("node is not installed: the page's modules are not tried by themselves", file=sys.stderr)
+
+
+if __name__ == "__main__":
+    unittest.main()
