@@ -173,7 +173,7 @@ class Page(WebTestCase):
         self.run_script("SELECT day, seconds FROM visits WHERE seconds > 20 OR seconds IS NULL")
         self.assertEqual(self.cells(), [["1", "30"], ["1", "NULL"], ["2", "45"]])
         self.assertIn("3 rows", self.text("#answer-size"))
-        self.assertRegex(self.text("#replies li"), r"SELECT day, seconds FROM .*\n+3 rows \d+\.\d{3} s")
+        self.assertRegex(self.text("#replies li"), r"SELECT day, seconds FROM .*\n+3 rows \d+\.\d\d ms")
         self.run_script("SELECT nothing FROM visits")
         self.assertRegex(self.text("#replies li"), r"^SELECT nothing FROM visits\n+error 22: no such column$")
         # The error left the answer as it was.
@@ -287,12 +287,50 @@ class Page(WebTestCase):
         self.assertEqual((folder / "answer-1.csv").read_text(), 'SECONDS\n30\n""\n45\n')
         self.find("#tables summary").click()
         buttons = self.browser.find_elements("css selector", "#tables .tools button")
-        for button, name in zip(buttons, ("VISITS.csv", "VISITS.table")):
+        for button, name in zip(buttons[1:], ("VISITS.csv", "VISITS.table")):
             button.click()
             self.wait(lambda path=folder / name: path.exists())
         self.assertEqual((folder / "VISITS.csv").read_text(), "DAY,SECONDS\n1,30\n1,\n2,45\n3,20\n")
         saved = Table.of_file((folder / "VISITS.table").read_bytes())
         self.assertEqual(saved.columns(), {"DAY": [1, 1, 2, 3], "SECONDS": [30, None, 45, 20]})
+
+    def test_rows_of_a_table_are_shown(self) -> None:
+        self.open(self.write("visits.csv", VISITS))
+        self.find("#tables summary").click()
+        self.find("#tables .tools button").click()
+        self.wait(lambda: self.text("#answer-size") == "4 rows, 2 columns")
+        self.assertEqual(self.cells(), [["1", "30"], ["1", "NULL"], ["2", "45"], ["3", "20"]])
+
+    def test_another_window_shares_the_store(self) -> None:
+        self.open(self.write("visits.csv", VISITS))
+        first = self.browser.current_window_handle
+        self.find("header a").click()
+        (second,) = set(self.browser.window_handles) - {first}
+        self.browser.switch_to.window(second)
+        try:
+            self.wait_for("#tables", "VISITS 4 rows")
+            self.run_script("DELETE FROM visits WHERE day = 1; CREATE TABLE t (a INT)")
+        finally:
+            self.browser.close()
+            self.browser.switch_to.window(first)
+        self.js("dispatchEvent(new Event('focus'))")
+        self.wait(lambda: self.text("#tables").split("\n") == ["VISITS 2 rows", "T 0 rows"])
+
+    def test_an_answer_that_is_kept_no_more(self) -> None:
+        server = self.open(self.long_table())
+        self.run_script("SELECT a FROM long")
+        self.assertEqual(self.cells()[0], ["0"])
+        for _ in range(4):
+            server.run("SELECT COUNT(*) FROM long;" * 50)
+        self.find("#grid").click()
+        self.press_with(Keys.CONTROL, Keys.END)
+        self.wait_for("#grid .error", "this answer isn't kept any more: run its statement again")
+        time.sleep(0.5)
+        self.assertLess(len(self.loaded("rows?")), 6)
+        self.find("#show-plot").click()
+        self.wait_for("#plot-caption", "isn't kept any more")
+        said = [entry["message"] for entry in self.browser.get_log("browser")]
+        self.assertEqual([text for text in said if "422" not in text], [])
 
     def test_a_program_that_died(self) -> None:
         program, number = self.observed_program()

@@ -126,7 +126,8 @@ class Lengths(SessionTestCase):
         ):
             check_length(self.session, statement, 20)
         self.session.execute("INSERT INTO t VALUES (1, 2)")
-        with self.assertRaisesRegex(Fault, "the answer has 11 rows of 2 columns, which is 22 cells, and the page takes 20"):
+        message = "the answer has 11 rows of 2 columns, which is 22 cells, and the page takes 20"
+        with self.assertRaisesRegex(Fault, message):
             check_length(self.session, "SELECT * FROM t", 20)
         with self.assertRaisesRegex(Fault, "21 rows of 1 columns"):
             check_length(self.session, "SELECT a FROM u WHERE a > 77", 20)

@@ -68,8 +68,11 @@ def as_error(text: str, status: HTTPStatus) -> Response:
 
 def _page_parts() -> dict[str, Route]:
     """The files of the page, by their names. The address itself is the page's HTML."""
-    files = [file for file in resources.files(__package__).joinpath("page").iterdir() if file.is_file()]
-    parts = {file.name: _part(Response(_KINDS[file.name.rpartition(".")[2]], file.read_bytes())) for file in files}
+    parts = {}
+    for file in resources.files(__package__).joinpath("page").iterdir():
+        kind = _KINDS.get(file.name.rpartition(".")[2])
+        if kind is not None:
+            parts[file.name] = _part(Response(kind, file.read_bytes()))
     parts[""] = parts.pop("page.html")
     return parts
 

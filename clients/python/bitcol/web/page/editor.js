@@ -41,22 +41,23 @@ export class Editor {
     this.#write(this.area.selectionStart, this.area.selectionEnd, word);
   }
 
-  /** Whether something may be run. */
+  /** Whether something is being run. */
+  get isBusy() {
+    return find("run").disabled;
+  }
+
   set isBusy(isBusy) {
     find("run").disabled = isBusy;
-    this.running = isBusy;
   }
 
   #run() {
     this.#close();
-    if (this.running) return;
     const { selectionStart, selectionEnd, value } = this.area;
     this.run(selectionStart < selectionEnd ? value.slice(selectionStart, selectionEnd) : value);
   }
 
   #typed(event) {
     sessionStorage.setItem(KEPT, this.area.value);
-    clearTimeout(this.timer);
     this.#close();
     if (event.inputType === "insertText" && /\w$/.test(event.data ?? "")) {
       this.timer = setTimeout(() => this.#complete(false), QUIET_MILLISECONDS);
@@ -93,6 +94,7 @@ export class Editor {
   async #complete(isAsked) {
     const place = this.area.selectionStart;
     const before = this.area.value.slice(0, place);
+    this.asked = before;
     let found;
     try {
       found = await postJson("complete", {}, before);
@@ -100,7 +102,8 @@ export class Editor {
       // Without completions a word is typed to its end.
       return;
     }
-    if (this.area.selectionStart !== place || this.area.value.slice(0, place) !== before) return;
+    // What was done meanwhile may have made the question an old one.
+    if (this.asked !== before || this.area.selectionStart !== place) return;
     const words = found.words.filter((word) => word !== found.word);
     if (!words.length || document.activeElement !== this.area) return;
     this.word = found.word;
@@ -127,6 +130,8 @@ export class Editor {
   }
 
   #close() {
+    clearTimeout(this.timer);
+    this.asked = null;
     this.list.hidden = true;
     this.chosen = -1;
     this.area.removeAttribute("aria-activedescendant");

@@ -14,7 +14,7 @@ const QUIET_MILLISECONDS = 300;
 const grid = new Grid();
 const plot = new Plot();
 const replies = new Replies(show);
-const tables = new Tables((word) => editor.insert(word), attempt);
+const tables = new Tables((word) => editor.insert(word), run, attempt);
 const editor = new Editor(run);
 new Files(() => limits.fileBytes, (text, isError) => replies.addMessage(text, isError), attempt, refresh);
 const limits = { fileBytes: Infinity };
@@ -39,6 +39,7 @@ async function attempt(action) {
 
 /** Carries out a script, and shows the last answer with rows. */
 async function run(script) {
+  if (editor.isBusy) return;
   editor.isBusy = true;
   await attempt(async () => {
     const outcomes = await postJson("run", {}, script);

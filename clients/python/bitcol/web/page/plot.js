@@ -97,14 +97,13 @@ export class Plot {
 
   /** What is drawn, in words: the names with their colours, and the rows that aren't drawn. */
   *#caption(rows, chosen) {
-    const all = colours().series;
     if (!this.drawn) {
       yield "There is no value but NULL.";
       return;
     }
     for (const [place, { name, numbers }] of this.drawn.series.entries()) {
       const mark = make("span", { className: "mark" });
-      mark.style.background = all[place % all.length];
+      mark.style.background = `var(--series-${place + 1})`;
       const found = range([numbers]);
       const extent = found ? `${found.least} to ${found.greatest}` : "NULL alone";
       yield make("span", { className: "series" }, mark, ` ${name}: ${extent}`);

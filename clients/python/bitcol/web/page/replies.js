@@ -36,7 +36,7 @@ export class Replies {
       return make("li", {}, statement, make("p", { className: "error" }, place + outcome.error));
     }
     const said = make("p", { className: "said" }, make("span", {}, reply(outcome)));
-    said.append(" ", make("span", { className: "time" }, `${outcome.seconds.toFixed(3)} s`));
+    said.append(" ", make("span", { className: "time" }, time(outcome.seconds)));
     if (outcome.answer !== null) {
       const button = make("button", { type: "button" }, "Show");
       button.setAttribute("aria-label", `Show the answer to ${outcome.statement}`);
@@ -45,6 +45,10 @@ export class Replies {
     }
     return make("li", {}, statement, said);
   }
+}
+
+function time(seconds) {
+  return seconds < 1 ? `${(1000 * seconds).toFixed(2)} ms` : `${seconds.toFixed(3)} s`;
 }
 
 function reply(outcome) {

@@ -18,6 +18,7 @@ export class Rows {
     this.fault = "";
     this.pages = new Map();
     this.awaited = new Map();
+    this.missing = new Set();
   }
 
   /** The cells of a row, or undefined while they aren't here. */
@@ -29,8 +30,12 @@ export class Rows {
   want(first, last) {
     const from = Math.floor(first / PAGE_ROWS);
     const to = Math.floor(Math.max(last - 1, first) / PAGE_ROWS);
+    if (first >= last) return;
     for (const [page, controller] of this.awaited) {
-      if (page < from || page > to) controller.abort();
+      if (page < from || page > to) {
+        controller.abort();
+        this.awaited.delete(page);
+      }
     }
     for (let page = from; page <= to; page++) this.#wantPage(page);
   }
@@ -48,7 +53,8 @@ export class Rows {
       this.pages.set(page, cells);
       return;
     }
-    if (this.awaited.has(page)) return;
+    // What couldn't be had once isn't asked for again and again.
+    if (this.awaited.has(page) || this.missing.has(page)) return;
     const controller = new AbortController();
     this.awaited.set(page, controller);
     try {
@@ -57,11 +63,13 @@ export class Rows {
       this.fault = "";
       while (this.pages.size > MOST_PAGES) this.pages.delete(this.pages.keys().next().value);
     } catch (fault) {
-      if (fault.name !== "AbortError") this.fault = fault.message;
+      if (fault.name === "AbortError") return;
+      this.fault = fault.message;
+      this.missing.add(page);
     } finally {
       if (this.awaited.get(page) === controller) this.awaited.delete(page);
     }
-    if (!controller.signal.aborted) this.changed();
+    this.changed();
   }
 }
 

@@ -3,12 +3,12 @@
 import { counted, find, make } from "./elements.js";
 import { getJson, save } from "./server.js";
 
-/** The list of tables. `insert` puts a word into the editor; `attempt` does something, and tells why it can't. */
+/** The list of tables. `insert` puts a word into the editor, `run` carries out a statement, and `attempt` does something
+ * and tells why it can't be done where it can't. */
 export class Tables {
-  constructor(insert, attempt) {
+  constructor(insert, run, attempt) {
+    Object.assign(this, { insert, run, attempt });
     this.list = find("tables");
-    this.insert = insert;
-    this.attempt = attempt;
     this.opened = new Set();
     this.shown = "";
   }
@@ -57,13 +57,20 @@ export class Tables {
   }
 
   #tools(table) {
-    const button = (text, form) => {
+    const button = (text, action) => {
       const made = make("button", { type: "button" }, text);
       made.setAttribute("aria-label", `${text}: ${table.name}`);
-      made.addEventListener("click", () => this.attempt(() => save("table", { table: table.name, form })));
+      made.addEventListener("click", action);
       return made;
     };
-    return make("p", { className: "tools" }, button("Save as CSV", "csv"), button("Save as a table file", "table"));
+    const saving = (form) => () => this.attempt(() => save("table", { table: table.name, form }));
+    return make(
+      "p",
+      { className: "tools" },
+      button("Show rows", () => this.run(`SELECT * FROM ${table.name}`)),
+      button("Save as CSV", saving("csv")),
+      button("Save as a table file", saving("table")),
+    );
   }
 
   /** The store writes a table file for these, so they are asked for where somebody looks. */
