@@ -371,6 +371,8 @@ class Page(WebTestCase):
 
     def test_picture(self) -> None:
         """What WEB.md shows."""
+        self.browser.set_window_size(1200, 1190)
+        self.addCleanup(self.browser.set_window_size, 1200, 1000)
         rows = [f"{day},{40 + day * 37 % 23},{600 + day * 91 % 340}\n" for day in range(1, 31)]
         self.open(self.write("visits.csv", "day,visits,seconds\n" + "".join(rows)))
         self.find("#tables summary").click()

@@ -3,8 +3,8 @@
 import { counted, find, make } from "./elements.js";
 import { getJson, save } from "./server.js";
 
-/** The list of tables. `insert` puts a word into the editor, `run` carries out a statement, and `attempt` does something
- * and tells why it can't be done where it can't. */
+/** The list of tables. `insert` puts a word into the editor, `run` carries out a statement, and `attempt` does
+ * something and tells why it can't be done where it can't. */
 export class Tables {
   constructor(insert, run, attempt) {
     Object.assign(this, { insert, run, attempt });

@@ -1,0 +1,80 @@
+"""The page's document: its examples are run, and its limits are those of the server."""
+
+from __future__ import annotations
+
+import contextlib
+import re
+import shlex
+import socket
+import subprocess
+import sys
+import threading
+import unittest
+from pathlib import Path
+
+from bitcol.web import answers, routes
+from tests.terminal import SECONDS, ShellTestCase, environment
+from tests.test_shell_page import FENCE, runs_of
+
+PAGE = Path(__file__).resolve().parent.parent / "WEB.md"
+ADDRESS = re.compile(r"http://127\.0\.0\.1:\d+/[\w-]{32}/")
+LAST_LINE = "Ctrl-C ends it"
+TAKEN = 8000
+
+
+class Page(ShellTestCase):
+    def test_examples(self) -> None:
+        # Where somebody has it already, it is taken too.
+        with contextlib.suppress(OSError):
+            self.addCleanup(socket.create_server(("127.0.0.1", TAKEN)).close)
+        commands = 0
+        for fence in FENCE.finditer(PAGE.read_text(encoding="utf-8")):
+            if fence["kind"] == "csv":
+                self.write(fence["file"], fence["body"])
+                continue
+            for command, output in runs_of(fence["body"]):
+                self.assertEqual(self.output(command), ADDRESS.sub("ADDRESS", output), command)
+                commands += 1
+        self.assertEqual(commands, 3)
+
+    def output(self, command: str) -> str:
+        """What a command writes up to its end, or until it serves the page. Addresses are left out."""
+        process = subprocess.Popen(
+            # What is the whole command takes the place of the system's shell, so that to end it is to end that.
+            ["sh", "-c", ("" if ";" in command else "exec ") + command.replace("python3", shlex.quote(sys.executable))],
+            stdout=subprocess.PIPE,
+            stderr=subprocess.STDOUT,
+            stdin=subprocess.DEVNULL,
+            text=True,
+            cwd=self.folder,
+            env=environment(self.folder.parent),
+        )
+        timer = threading.Timer(SECONDS, process.kill)
+        timer.start()
+        assert process.stdout is not None
+        written = ""
+        for line in process.stdout:
+            written += line
+            if line.startswith(LAST_LINE):
+                break
+        process.kill()
+        process.wait()
+        timer.cancel()
+        process.stdout.close()
+        return ADDRESS.sub("ADDRESS", written)
+
+    def test_limits(self) -> None:
+        text = PAGE.read_text(encoding="utf-8")
+        for what, limit in (
+            ("text of the editor, when it is run", f"{routes.TEXT_BYTES:,} bytes"),
+            ("file that is dropped or chosen", f"{routes.FILE_BYTES:,} bytes"),
+            ("cells of an answer", f"{answers.ANSWER_CELLS:,}: four columns of a full table"),
+            ("cells of all answers that are kept, if it is more than one answer", f"{answers.KEPT_CELLS:,}"),
+            ("answers that are kept", f"{answers.KEPT_ANSWERS:,}"),
+            ("rows that are sent to the page at once", f"{routes.WINDOW_ROWS:,}"),
+        ):
+            self.assertIn(f"| {what} | {limit} |\n", text)
+
+
+if __name__ == "__main__":
+    unittest.main()
