@@ -232,6 +232,46 @@ class Page(WebTestCase):
         self.assertIn("A: 0 to 999999", self.text("#plot-caption"))
         self.assertGreater(self.js(PIXELS, "--series-1"), 50)
 
+    def test_many_columns(self) -> None:
+        names = [f"c{place}" for place in range(64)]
+        rows = [",".join(str(100 * row + place) for place in range(64)) for row in range(100)]
+        self.open(self.write("wide.csv", "\n".join([",".join(names), *rows])))
+        self.run_script("SELECT * FROM wide")
+        self.find("#grid").click()
+        self.press(Keys.END)
+        self.press(*[Keys.ARROW_DOWN] * 50)
+        self.press(Keys.ARROW_LEFT)
+        self.assertEqual(self.shown_cell(), str(100 * self.current_row() + 62))
+        self.press(Keys.HOME, Keys.ARROW_DOWN)
+        self.assertEqual(self.shown_cell(), str(100 * self.current_row()))
+        self.press_with(Keys.CONTROL, Keys.END)
+        self.assertEqual((self.current_row(), self.shown_cell()), (99, "9963"))
+
+    def current_row(self) -> int:
+        return int(self.js("return document.getElementById('current-cell').dataset.row"))
+
+    def shown_cell(self) -> str:
+        """The current cell, which is to be seen whole, and not below the numbers of the rows."""
+        text, is_shown = self.js(
+            "const cell = document.getElementById('current-cell'), box = document.getElementById('grid');"
+            "const at = cell.getBoundingClientRect(), around = box.getBoundingClientRect();"
+            "const numbers = cell.parentElement.firstChild.getBoundingClientRect();"
+            "return [cell.textContent, at.left >= numbers.right - 1 && at.right <= around.right + 1"
+            "  && at.top >= around.top && at.bottom <= around.bottom]"
+        )
+        self.assertTrue(is_shown, text)
+        return str(text)
+
+    def test_a_file_is_chosen(self) -> None:
+        self.open()
+        self.find("#import-name").send_keys("first one")
+        self.find("#import-file").send_keys(str(self.write("visits.csv", VISITS)))
+        self.wait_for("#tables", "FIRST_ONE 4 rows")
+        self.assertIn("visits.csv: table 'first one' is called FIRST_ONE", self.text("#replies"))
+        self.assertEqual(self.find("#import-name").get_attribute("value"), "")
+        self.find("#import-file").send_keys(str(self.write("visits.csv", VISITS)))
+        self.wait_for("#tables", "VISITS 4 rows")
+
     def test_words_are_completed_by_keys(self) -> None:
         self.open(self.write("visits.csv", VISITS))
         self.js("document.getElementById('script').focus()")

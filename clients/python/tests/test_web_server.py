@@ -2,16 +2,17 @@
 
 from __future__ import annotations
 
+import os
 import socket
 import sqlite3
-import threading
+import time
 import unittest
 from concurrent.futures import ThreadPoolExecutor
 from pathlib import Path
 
 from bitcol import Table
 from tests.terminal import SECONDS
-from tests.web import Server, WebTestCase
+from tests.web import WebTestCase
 
 POLICY = (
     "default-src 'none'; script-src 'self'; style-src 'self'; img-src 'self'; connect-src 'self'; "
@@ -255,6 +256,7 @@ class Statements(WebTestCase):
         self.assertEqual(server.get("layouts", table="T").json, second)
         self.assertEqual(server.get("layouts", table="v").json, {"error": "error 20: no such table"})
         self.assertEqual(server.get("layouts", table="FROM").status, 422)
+        self.assertEqual(server.post("run?x", "TABLES").json["error"], "the words after the ?: bad query field: 'x'")
 
     def test_words_are_completed(self) -> None:
         server = self.start(self.write("visits.csv", VISITS))
@@ -446,6 +448,27 @@ class Ends(WebTestCase):
         self.assertEqual(server.end(), ("", 0))
         with self.assertRaises(ProcessLookupError):
             self.kill_program(number)
+
+    def test_a_statement_does_not_keep_the_server(self) -> None:
+        """The program takes a statement and answers nothing for five seconds: the server waits for two."""
+        program = self.write("slow", "#!/bin/sh\nhead -c 1 > taken\nexec sleep 5\n")
+        program.chmod(0o755)
+        server = self.start(BITCOL=str(program))
+        with ThreadPoolExecutor(1) as window:
+            asked = window.submit(server.post, "run", "TABLES")
+            limit = time.monotonic() + SECONDS
+            while not (self.folder / "taken").exists() or not (self.folder / "taken").read_bytes():
+                self.assertLess(time.monotonic(), limit)
+                time.sleep(0.01)
+            self.assertEqual(server.end(), ("", 130))
+            self.assertIsInstance(asked.exception(SECONDS), ConnectionError)
+
+    def test_a_file_with_a_name_that_is_no_text(self) -> None:
+        path = os.fsdecode(os.fsencode(str(self.folder)) + b"/\xe9.csv")
+        Path(path).write_text("a\n1\n")
+        server = self.start(path)
+        self.assertEqual([table["name"] for table in server.state()["tables"]], ["T"])
+        self.assertIn("is called T", server.lines[0])
 
     def test_a_request_does_not_keep_the_server(self) -> None:
         server = self.start()

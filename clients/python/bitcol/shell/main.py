@@ -7,7 +7,7 @@ import contextlib
 import io
 import os
 import sys
-from collections.abc import Sequence
+from collections.abc import Callable, Sequence
 from enum import IntEnum
 from functools import partial
 from typing import TextIO
@@ -41,12 +41,18 @@ def main(words: Sequence[str] | None = None) -> int:
     if isinstance(sys.stdin, io.TextIOWrapper):
         # What is typed and isn't UTF-8 is refused where it is used. A line ends where the language says so.
         sys.stdin.reconfigure(errors="surrogateescape", newline="\n")
+    return run_on_console(partial(_run, options))
+
+
+def run_on_console(run: Callable[[Console], Status]) -> Status:
+    """Runs this on a console of the standard streams, and gives its status, or that of what ended it: an interrupt, or
+    output that can't be written."""
     if sys.stdout is None or sys.stderr is None:
         # Whoever closes one of them doesn't want to hear of it.
         return Status.FAILED
     console = Console(_buffered(sys.stdout), _buffered(sys.stderr))
     try:
-        status = _run(options, console)
+        status = run(console)
         console.out.flush()
         return status
     except KeyboardInterrupt:

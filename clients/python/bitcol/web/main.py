@@ -6,13 +6,14 @@ import argparse
 import contextlib
 import errno
 import signal
-import sys
 from collections.abc import Sequence
+from functools import partial
 
 from ..errors import OperationalError, ProgramEnded
-from ..shell.fault import reason_of
+from ..shell.console import Console
+from ..shell.fault import Fault, reason_of
 from ..shell.importing import split_word
-from ..shell.main import Status, leave
+from ..shell.main import Status, leave, run_on_console
 from ..shell.render import counted
 from ..shell.store import Store
 from .server import PageServer
@@ -23,25 +24,13 @@ GREATEST_PORT = 65_535
 
 def main(words: Sequence[str]) -> int:
     """Serves the page as these words say, until an interrupt, and gives the status."""
-    options = _parser().parse_intermixed_args(words)
-    try:
-        store = Store()
-    except OperationalError as fault:
-        return _failed(str(fault))
-    try:
-        return _serve(Workspace(store), options)
-    except KeyboardInterrupt:
-        return Status.INTERRUPTED
-    finally:
-        # Whoever presses Ctrl-C again waits for no more than the end of the store.
-        signal.signal(signal.SIGINT, signal.SIG_IGN)
-        leave(store)
+    return run_on_console(partial(_run, _parser().parse_intermixed_args(words)))
 
 
 def _parser() -> argparse.ArgumentParser:
     parser = argparse.ArgumentParser(
         prog="python3 -m bitcol web",
-        description="Serves a page over tables of nullable integers to the browser of this machine.",
+        description="Serves a page over tables of nullable integers to the browsers of this machine.",
         epilog="Ctrl-C ends it, and its tables with it.",
     )
     parser.add_argument(
@@ -61,37 +50,50 @@ def _port(word: str) -> int:
     return int(word)
 
 
-def _serve(workspace: Workspace, options: argparse.Namespace) -> Status:
+def _run(options: argparse.Namespace, console: Console) -> Status:
+    try:
+        store = Store()
+    except OperationalError as fault:
+        console.fault(f"error: {fault}")
+        return Status.FAILED
+    try:
+        _serve(Workspace(store), options, console)
+        return Status.DONE
+    except (Fault, ProgramEnded) as fault:
+        console.fault(f"error: {fault}")
+        return Status.FAILED
+    finally:
+        # Whoever presses Ctrl-C again waits for no more than the end of the store.
+        signal.signal(signal.SIGINT, signal.SIG_IGN)
+        leave(store)
+
+
+def _serve(workspace: Workspace, options: argparse.Namespace, console: Console) -> None:
+    """Serves until an interrupt. A Fault where the port can't be had."""
     try:
         server = PageServer(workspace, options.port)
     except OSError as fault:
         reason = "is taken" if fault.errno == errno.EADDRINUSE else f"can't be had: {reason_of(fault)}"
-        return _failed(f"port {options.port} {reason}")
+        raise Fault(f"port {options.port} {reason}") from None
     with contextlib.closing(server.socket):
         for word in options.files:
-            try:
-                _import(workspace, word)
-            except ProgramEnded as fault:
-                return _failed(str(fault))
+            _import(workspace, word, console)
         with contextlib.suppress(KeyboardInterrupt):
-            print(f"The page is at {server.guard.address}\nCtrl-C ends it, and its tables with it.", flush=True)
+            console.line(f"The page is at {server.guard.address}")
+            console.line("Ctrl-C ends it, and its tables with it.")
+            console.out.flush()
             server.serve_forever()
-    return Status.DONE
 
 
-def _import(workspace: Workspace, word: str) -> None:
-    """Makes tables of a file that the command line names. The page tells what it tells here."""
+def _import(workspace: Workspace, word: str, console: Console) -> None:
+    """Makes tables of a file that the command line names. The page tells what is told here."""
     path, table = split_word(word)
-    outcome = workspace.import_file(path, path, table)
+    with console.progress(path) as progress:
+        outcome = workspace.import_file(path, path, table, progress.tell)
     for imported in outcome.imported:
         for line in [*imported.notes, f"{imported.table}: {counted(imported.rows, 'row')}"]:
-            print(line, flush=True)
+            console.line(line)
             workspace.tell(line)
     for error in outcome.errors:
-        print(f"error: {error}", file=sys.stderr, flush=True)
+        console.fault(f"error: {error}")
         workspace.tell(error, is_error=True)
-
-
-def _failed(text: str) -> Status:
-    print(f"error: {text}", file=sys.stderr)
-    return Status.FAILED

@@ -13,7 +13,6 @@ from ..errors import ProgramEnded
 from ..shell.fault import Fault, reason_of
 from ..shell.render import Mode, rendered
 from ..shell.types import INTEGER
-from .answers import ANSWER_CELLS
 from .requests import BadRequest, Body, Query
 from .workspace import FileOutcome, Outcome, TableShape, Workspace
 
@@ -82,7 +81,7 @@ def _part(response: Response) -> Route:
 
 
 def _state(workspace: Workspace, query: Query, _: Body) -> Response:
-    """The tables, the messages after the number that the window knows, and the limits."""
+    """The tables, the messages after the number that the window knows, and the limit of a file."""
     try:
         tables = list(map(_table, workspace.tables()))
     except ProgramEnded:
@@ -92,7 +91,7 @@ def _state(workspace: Workspace, query: Query, _: Body) -> Response:
         {"number": message.number, "text": message.text, "isError": message.is_error}
         for message in workspace.messages(query.number("after"))
     ]
-    return as_json({"tables": tables, "messages": messages, "fileBytes": FILE_BYTES, "answerCells": ANSWER_CELLS})
+    return as_json({"tables": tables, "messages": messages, "fileBytes": FILE_BYTES})
 
 
 def _table(shape: TableShape) -> dict[str, Any]:

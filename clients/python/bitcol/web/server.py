@@ -3,7 +3,6 @@
 from __future__ import annotations
 
 import secrets
-import socket
 import sys
 import traceback
 from collections.abc import Iterable, Iterator
@@ -12,7 +11,7 @@ from http.server import BaseHTTPRequestHandler, ThreadingHTTPServer
 from socketserver import TCPServer
 from typing import Any
 
-from ..errors import Error, OperationalError
+from ..errors import Error, OperationalError, Refused
 from .guard import HEADERS, LOOPBACK, Guard
 from .requests import BadRequest, Body, CutOff, Query
 from .routes import GETS, POSTS, Response, Route, as_error
@@ -40,8 +39,8 @@ class PageServer(ThreadingHTTPServer):
         self.server_name, self.server_port = LOOPBACK, self.server_address[1]
 
     def handle_error(self, request: Any, client_address: Any) -> None:
-        """Tells of an error that a request made, unless it is that nobody waits for its response."""
-        if not isinstance(sys.exc_info()[1], (ConnectionError, TimeoutError, CutOff)):
+        """Tells of an error that a request made, unless it is that its connection is gone."""
+        if not isinstance(sys.exc_info()[1], (OSError, CutOff)):
             traceback.print_exc()
 
 
@@ -50,8 +49,6 @@ class Handler(BaseHTTPRequestHandler):
 
     server: PageServer
     protocol_version = "HTTP/1.1"
-    server_version = "bitcol"
-    sys_version = ""
     timeout = SECONDS
 
     def do_GET(self) -> None:  # noqa: N802 - the standard library gives the name
@@ -68,6 +65,10 @@ class Handler(BaseHTTPRequestHandler):
         self.close_connection = True
         self._send(as_error(message or status.phrase, status))
 
+    def version_string(self) -> str:
+        """What the header Server says."""
+        return "bitcol"
+
     def log_message(self, *_: Any) -> None:
         """Writes nothing: the address has the word in it."""
 
@@ -83,9 +84,10 @@ class Handler(BaseHTTPRequestHandler):
             return
         body = self._body(route.limit)
         if body is not None:
-            self._send(self._response(route, words, body))
+            response = self._response(route, words, body)
             # What a refused request has left would be taken for the next one.
             self.close_connection = self.close_connection or body.left > 0
+            self._send(response)
 
     def _body(self, limit: int) -> Body | None:
         """The body of a request, or None where it was refused for its form or its length."""
@@ -105,6 +107,8 @@ class Handler(BaseHTTPRequestHandler):
             return route.answer(self.server.workspace, Query.of(words), body)
         except BadRequest as fault:
             return as_error(str(fault), HTTPStatus.BAD_REQUEST)
+        except Refused as fault:
+            return as_error(str(fault), HTTPStatus.UNPROCESSABLE_ENTITY)
         except OperationalError as fault:
             return as_error(str(fault), HTTPStatus.SERVICE_UNAVAILABLE)
         except Error as fault:

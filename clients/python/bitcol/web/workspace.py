@@ -20,6 +20,7 @@ from ..reply import Reply
 from ..script import checked_name
 from ..session import Session
 from ..shell.completion import DELIMITERS, Catalog, statement_completions
+from ..shell.csv_import import Tell
 from ..shell.exporting import export_table
 from ..shell.importing import Imported, imports_of
 from ..shell.shell import columns_by_table
@@ -71,6 +72,16 @@ class FileOutcome:
     imported: list[Imported] = field(default_factory=list)
     errors: list[str] = field(default_factory=list)
 
+    @contextlib.contextmanager
+    def taking_errors(self) -> Iterator[None]:
+        """Puts an error that ends the context among the others. ProgramEnded is none of the file."""
+        try:
+            yield
+        except ProgramEnded:
+            raise
+        except Error as fault:
+            self.errors.append(str(fault))
+
 
 class Workspace:
     """A store that is used in turns, by calls from any thread."""
@@ -102,27 +113,19 @@ class Workspace:
                     outcomes.append(Outcome(statement, error=text))
         return outcomes
 
-    def import_file(self, path: str, label: str, table: str | None = None) -> FileOutcome:
+    def import_file(
+        self, path: str, label: str, table: str | None = None, tell: Tell = lambda _: None
+    ) -> FileOutcome:
         """Makes tables of a file that is called so: a CSV file, a table file, or an SQLite file. What can't be made is
-        told. ProgramEnded, and OperationalError as of run."""
+        told, and `tell` is told how far it is. ProgramEnded, and OperationalError as of run."""
         outcome = FileOutcome()
-        with self._taking_turns() as store:
+        with self._taking_turns() as store, outcome.taking_errors():
             self._headers.clear()
-            try:
-                for job in imports_of(store, path, table, label):
-                    try:
-                        imported = job.run(lambda _: None)
-                    except ProgramEnded:
-                        raise
-                    except Error as fault:
-                        outcome.errors.append(str(fault))
-                    else:
-                        notes = [f"{job.label}: {note}" for note in imported.notes]
-                        outcome.imported.append(Imported(imported.table, imported.rows, notes))
-            except ProgramEnded:
-                raise
-            except Error as fault:
-                outcome.errors.append(str(fault))
+            for job in imports_of(store, path, table, label):
+                with outcome.taking_errors():
+                    imported = job.run(tell)
+                    notes = [f"{job.label}: {note}" for note in imported.notes]
+                    outcome.imported.append(Imported(imported.table, imported.rows, notes))
         return outcome
 
     def tables(self) -> list[TableShape]:

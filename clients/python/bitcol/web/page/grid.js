@@ -149,7 +149,15 @@ export class Grid {
     const seen = this.#seen;
     const first = Math.min(Math.max(this.first, this.current.row - seen + 1), this.current.row);
     this.#place(first);
-    find("current-cell")?.scrollIntoView({ block: "nearest", inline: "nearest" });
+    this.#reveal(find("current-cell"));
+  }
+
+  /** Scrolls to the side as far as it takes to see a cell, which the numbers of the rows cover otherwise. */
+  #reveal(cell) {
+    if (!cell) return;
+    const least = cell.offsetLeft + cell.offsetWidth - this.box.clientWidth;
+    const greatest = cell.offsetLeft - this.head.firstChild.offsetWidth;
+    this.box.scrollLeft = Math.min(Math.max(this.box.scrollLeft, least), greatest);
   }
 
   /** Draws the rows that are seen, and asks for those that aren't here. */

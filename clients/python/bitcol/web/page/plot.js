@@ -25,10 +25,16 @@ export class Plot {
 
   /** Takes another answer. It is drawn where the plot is open. */
   show(outcome) {
+    const before = this.outcome;
     this.reading?.abort();
     this.outcome = outcome;
     this.drawn = null;
     const { headings, rows } = outcome;
+    // An answer like the last one is drawn as that one was.
+    if (before && rows > BARS === before.rows > BARS && String(headings) === String(before.headings)) {
+      this.#update();
+      return;
+    }
     const names = headings[0] === "TABLE" ? headings.slice(1) : headings;
     const skipped = headings.length - names.length;
     const option = (name, value) => make("option", { value }, name);
