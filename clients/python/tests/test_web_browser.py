@@ -78,6 +78,8 @@ class Page(WebTestCase):
         options.binary_location = shutil.which("chromium")
         for word in ("--headless=new", "--window-size=1200,1000", "--disable-gpu", "--disable-dev-shm-usage"):
             options.add_argument(word)
+        # A name of somebody else's that leads here.
+        options.add_argument("--host-resolver-rules=MAP evil.example 127.0.0.1")
         if os.geteuid() == 0:
             # The browser's sandbox isn't for the system's administrator.
             options.add_argument("--no-sandbox")
@@ -391,6 +393,62 @@ class Page(WebTestCase):
         self.run_script("TABLES")
         self.wait_for("#replies", "the server doesn't answer")
         self.browser.get_log("browser")
+
+    def test_other_pages_are_refused(self) -> None:
+        """A page of another server sends what this page sends, and even knows the word."""
+        visits = self.write("visits.csv", VISITS)
+        server, other = self.start(visits), self.start()
+        self.browser.get(other.address)
+        # The policy of a page that means no good lets it send this.
+        self.browser.execute_cdp_cmd("Page.setBypassCSP", {"enabled": True})
+        self.addCleanup(self.browser.execute_cdp_cmd, "Page.setBypassCSP", {"enabled": False})
+        self.browser.get(other.address)
+        for mode in ("no-cors", "cors"):
+            said = self.browser.execute_async_script(
+                "const done = arguments[arguments.length - 1];"
+                "fetch(arguments[0], {method: 'POST', mode: arguments[1], body: 'DROP TABLE visits'})"
+                "  .then((response) => done(response.type), () => done('failed'))",
+                server.address + "run",
+                mode,
+            )
+            self.assertEqual(said, "failed", mode)
+        self.assertEqual([table["name"] for table in server.state()["tables"]], ["VISITS"])
+        self.browser.get(server.address.replace("127.0.0.1", "evil.example"))
+        self.assertIn("the header Host names another server", self.text("body"))
+        self.browser.get_log("browser")
+
+    def test_the_policy_holds(self) -> None:
+        """Neither a script in the page nor a part from elsewhere is loaded."""
+        self.open()
+        violated = self.browser.execute_async_script(
+            "const done = arguments[arguments.length - 1], found = [];"
+            "addEventListener('securitypolicyviolation', (event) => found.push(event.effectiveDirective));"
+            "const add = (tag, properties) =>"
+            "  document.body.append(Object.assign(document.createElement(tag), properties));"
+            "add('script', {textContent: 'window.wasRun = true'});"
+            "add('script', {src: 'http://evil.example:1/a.js'});"
+            "add('img', {src: 'http://evil.example:1/a.png'});"
+            "add('iframe', {src: 'http://evil.example:1/'});"
+            "fetch('http://evil.example:1/').catch(() => {});"
+            "setTimeout(() => done(found.sort()), 500)"
+        )
+        self.assertEqual(violated, ["connect-src", "frame-src", "img-src", "script-src-elem", "script-src-elem"])
+        self.assertIsNone(self.js("return window.wasRun"))
+        self.browser.get_log("browser")
+
+    def test_texts_are_no_markup(self) -> None:
+        self.open()
+        self.drop("<img src=x onerror=alert(1)>.csv", "<b>a</b>\n<i>\n")
+        self.wait_for("#replies", "<img src=x onerror=alert(1)>.csv: line 2, column '<b>a</b>': '<i>' is no integer")
+        self.run_script("SELECT '<img src=x>' FROM t")
+        self.wait_for("#replies", "SELECT '<img src=x>' FROM t")
+        self.assertEqual(self.js("return document.querySelectorAll('#replies img, #replies b, #replies i').length"), 0)
+
+    def test_a_text_that_is_too_long(self) -> None:
+        self.open()
+        self.js("document.getElementById('script').value = 'TABLES;' + ' '.repeat(2 ** 20)")
+        self.find("#run").click()
+        self.wait_for("#replies", "what is to be run has 1048583 bytes, and the page takes 1048576")
 
     def test_dark_and_light(self) -> None:
         self.open()

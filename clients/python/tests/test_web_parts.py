@@ -27,7 +27,7 @@ import assert from "node:assert/strict";
 import { orderBy, range, scale, ticks } from "./chart.js";
 import { exchanged } from "./editor.js";
 import { rowAt, topOf, widthOf } from "./grid.js";
-import { cellsOf } from "./rows.js";
+import { Rows, cellsOf } from "./rows.js";
 import { address } from "./server.js";
 
 assert.deepEqual(ticks(0, 100, 5), [0, 20, 40, 60, 80, 100]);
@@ -57,6 +57,20 @@ assert.deepEqual(["A", "MEDIAN(SECONDS)", "X".repeat(128)].map((heading) => widt
 assert.deepEqual(cellsOf("1,NULL\\n18014398501093376,2\\n"), [["1", "NULL"], ["18014398501093376", "2"]]);
 assert.deepEqual(cellsOf(""), []);
 assert.deepEqual(exchanged("SELECT se FROM t", 9, "se", "seconds"), { text: "SELECT seconds FROM t", place: 14 });
+// Of two pages of rows that somebody scrolls over, the one that is come back to is asked for anew.
+globalThis.fetch = (target, { signal }) => new Promise((resolve, reject) => {
+  signal.addEventListener("abort", () => reject(new DOMException("", "AbortError")));
+  setTimeout(() => resolve(new Response("7\\n".repeat(256))), 20);
+});
+let changes = 0;
+const rows = new Rows(1, 10_000, () => { changes += 1; });
+rows.want(0, 10);
+rows.want(5000, 5010);
+rows.want(0, 10);
+assert.equal(rows.row(3), undefined);
+await new Promise((resolve) => setTimeout(resolve, 200));
+assert.deepEqual([rows.row(3), rows.row(5000), changes], [["7"], undefined, 1]);
+
 assert.equal(address("rows", { answer: 1, columns: undefined, name: "a b&c" }), "rows?answer=1&name=a+b%26c");
 assert.equal(address("state"), "state");
 """

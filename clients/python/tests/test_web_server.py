@@ -265,6 +265,8 @@ class Statements(WebTestCase):
         self.assertEqual(server.post("complete", "TABLES;\nSELECT a FROM ").json, {"word": "", "words": ["VISITS"]})
         words = ["DAY", "DELETE", "DICTIONARY", "DROP"]
         self.assertEqual(server.post("complete", "SELECT SUM(D").json, {"word": "D", "words": words})
+        files = {"word": "vis", "words": ["visits.csv"]}
+        self.assertEqual(server.post("complete", "LOAD visits FROM 'vis").json, files)
         # A point begins no command here.
         self.assertEqual(server.post("complete", ".im").json, {"word": ".im", "words": []})
 

@@ -81,7 +81,7 @@ def _part(response: Response) -> Route:
 
 
 def _state(workspace: Workspace, query: Query, _: Body) -> Response:
-    """The tables, the messages after the number that the window knows, and the limit of a file."""
+    """The tables, the messages after the number that the window knows, and the limits of files and of the editor."""
     try:
         tables = list(map(_table, workspace.tables()))
     except ProgramEnded:
@@ -91,7 +91,7 @@ def _state(workspace: Workspace, query: Query, _: Body) -> Response:
         {"number": message.number, "text": message.text, "isError": message.is_error}
         for message in workspace.messages(query.number("after"))
     ]
-    return as_json({"tables": tables, "messages": messages, "fileBytes": FILE_BYTES})
+    return as_json({"tables": tables, "messages": messages, "fileBytes": FILE_BYTES, "textBytes": TEXT_BYTES})
 
 
 def _table(shape: TableShape) -> dict[str, Any]:

@@ -195,8 +195,8 @@ class Workspace:
 
     @contextlib.contextmanager
     def _taking_turns(self) -> Iterator[Store]:
-        """The store, while nobody else uses it. Where its program ends, ProgramEnded is raised, and another program is
-        started. OperationalError where none can be."""
+        """The store, while nobody else uses it. Where its program ends, ProgramEnded is raised, and the next turn begins
+        with another program. OperationalError where none can be started."""
         with self._turn:
             if not self._has_program:
                 self._start()
@@ -207,8 +207,6 @@ class Workspace:
                 self._headers.clear()
                 self._catalog = Catalog()
                 self.tell(str(fault), is_error=True)
-                with contextlib.suppress(OperationalError):
-                    self._start()
                 raise
 
     def _start(self) -> None:

@@ -17,7 +17,7 @@ const replies = new Replies(show);
 const tables = new Tables((word) => editor.insert(word), run, attempt);
 const editor = new Editor(run);
 new Files(() => limits.fileBytes, (text, isError) => replies.addMessage(text, isError), attempt, refresh);
-const limits = { fileBytes: Infinity };
+const limits = { fileBytes: Infinity, textBytes: Infinity };
 let known = 0;
 let shown = null;
 let awaited = 0;
@@ -40,6 +40,11 @@ async function attempt(action) {
 /** Carries out a script, and shows the last answer with rows. */
 async function run(script) {
   if (editor.isBusy) return;
+  const bytes = new Blob([script]).size;
+  if (bytes > limits.textBytes) {
+    replies.addMessage(`what is to be run has ${bytes} bytes, and the page takes ${limits.textBytes}`, true);
+    return;
+  }
   editor.isBusy = true;
   await attempt(async () => {
     const outcomes = await postJson("run", {}, script);
@@ -70,6 +75,7 @@ async function refresh() {
   await attempt(async () => {
     const state = await getJson("state", { after: known });
     limits.fileBytes = state.fileBytes;
+    limits.textBytes = state.textBytes;
     for (const { number, text, isError } of state.messages) {
       if (number > known) replies.addMessage(text, isError);
       known = Math.max(known, number);
