@@ -178,6 +178,14 @@ class LongAnswers(unittest.TestCase):
         self.assertEqual(self.door.scripts, sent)
 
 
+    def test_a_table_of_five_is_no_csv(self) -> None:
+        tables = b"TABLE,COLUMNS,ROWS\nT,5,%d\nrows 1\n" % FULL
+        workspace = self.workspace(b"A,B,C,D,E\nrows 0\n", tables, b"COUNT(*)\n%d\nrows 1\n" % FULL)
+        with self.assertRaisesRegex(Fault, "16777216 rows of 5 columns"):
+            workspace.export("t", Path("never.csv"))
+        self.assertEqual(len(self.door.scripts), 3)
+
+
 class Statements(unittest.TestCase):
     def test_their_texts_and_lines(self) -> None:
         found = statements_in("-- a;\nTABLES; SELECT ';'\n;\n\nDROP TABLE t -- last")

@@ -254,7 +254,8 @@ class Statements(WebTestCase):
         server.run("SELECT * FROM t; REBUILD t (a USING S)")
         second = [{"layout": "S", "kind": "DICTIONARY"}, {"layout": "P", "kind": "OFFSET"}]
         self.assertEqual(server.get("layouts", table="T").json, second)
-        self.assertEqual(server.get("layouts", table="v").json, {"error": "error 20: no such table"})
+        error = {"error": "layouts of V, from a table file: error 20: no such table"}
+        self.assertEqual(server.get("layouts", table="v").json, error)
         self.assertEqual(server.get("layouts", table="FROM").status, 422)
         self.assertEqual(server.post("run?x", "TABLES").json["error"], "the words after the ?: bad query field: 'x'")
 

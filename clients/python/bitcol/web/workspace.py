@@ -15,13 +15,14 @@ from collections.abc import Iterator
 from dataclasses import dataclass, field
 from pathlib import Path
 
-from ..errors import Error, OperationalError, ProgramEnded
+from ..errors import Error, OperationalError, ProgramEnded, Refused
 from ..reply import Reply
 from ..script import checked_name
 from ..session import Session
 from ..shell.completion import DELIMITERS, Catalog, statement_completions
 from ..shell.csv_import import Tell
 from ..shell.exporting import export_table
+from ..shell.fault import Fault
 from ..shell.importing import Imported, imports_of
 from ..shell.shell import columns_by_table
 from ..shell.statements import Statement, StatementBuffer
@@ -137,20 +138,27 @@ class Workspace:
 
     def headers(self, table: str) -> list[ColumnHeader]:
         """The names, layouts and kinds of a table's columns. No statement tells the latter two: a table file does, so
-        one is written. Raises what a session's save does."""
+        one is written. A Fault where that is refused."""
         name = checked_name(table)
         with self._taking_turns() as store:
             if name not in self._headers:
                 with self.folder() as folder:
                     path = folder / "table"
-                    store.call(lambda session: session.save(name, path))
+                    try:
+                        store.call(lambda session: session.save(name, path))
+                    except Refused as refusal:
+                        raise Fault(f"layouts of {name}, from a table file: {refusal}") from None
                     self._headers[name] = _headers_in(path)
             return self._headers[name]
 
     def export(self, table: str, path: Path) -> int:
-        """Writes a table to a file, by the suffix of its name. See export_table."""
+        """Writes a table to a file, by the suffix of its name. See export_table; and a Fault where CSV is wanted and the
+        rows are too many for an answer."""
+        name = checked_name(table)
         with self._taking_turns() as store:
-            return export_table(store, table, os.fspath(path))
+            if path.suffix == ".csv":
+                store.call(lambda session: check_length(session, f"SELECT * FROM {name}"))
+            return export_table(store, name, os.fspath(path))
 
     def completions(self, before: str) -> tuple[str, list[str]]:
         """The word at the end of a script's start, and what it may become, by the tables that were there when they were
@@ -195,8 +203,8 @@ class Workspace:
 
     @contextlib.contextmanager
     def _taking_turns(self) -> Iterator[Store]:
-        """The store, while nobody else uses it. Where its program ends, ProgramEnded is raised, and the next turn begins
-        with another program. OperationalError where none can be started."""
+        """The store, while nobody else uses it. Where its program ends, ProgramEnded is raised, and the next turn
+        begins with another program. OperationalError where none can be started."""
         with self._turn:
             if not self._has_program:
                 self._start()
