@@ -6,59 +6,16 @@ The variable BITCOL_PICTURE names a file for a picture of the page.
 
 from __future__ import annotations
 
-import array
 import os
-import shutil
 import sys
-import tempfile
 import time
 import unittest
-from collections.abc import Callable
 from pathlib import Path
-from typing import Any
 
 from bitcol import Table
-from tests.terminal import SECONDS
-from tests.web import Server, WebTestCase
+from tests.browser import LONG, MISSING, PIXELS, BrowserTestCase, Keys
 
-try:
-    from selenium import webdriver
-    from selenium.webdriver.chrome.service import Service
-    from selenium.webdriver.common.keys import Keys
-except ImportError:
-    webdriver = None  # type: ignore[assignment]
-
-MISSING = [
-    name
-    for name, found in (
-        ("chromium", shutil.which("chromium")),
-        ("chromedriver", shutil.which("chromedriver")),
-        ("selenium", webdriver),
-    )
-    if found is None
-]
 VISITS = "day,seconds\n1,30\n1,\n2,45\n3,20\n"
-LONG = 1_000_000
-# A file that is dropped on the page, as a browser tells of one.
-DROP = """
-const files = new DataTransfer();
-files.items.add(new File([arguments[1]], arguments[0]));
-for (const kind of ["dragover", "drop"])
-  document.body.dispatchEvent(new DragEvent(kind, {dataTransfer: files, bubbles: true, cancelable: true}));
-"""
-# How many pixels of the chart have this colour.
-PIXELS = """
-const canvas = document.getElementById("canvas");
-const pen = document.createElement("canvas").getContext("2d");
-pen.fillStyle = getComputedStyle(document.documentElement).getPropertyValue(arguments[0]).trim();
-pen.fillRect(0, 0, 1, 1);
-const [red, green, blue] = pen.getImageData(0, 0, 1, 1).data;
-const data = canvas.getContext("2d", {willReadFrequently: true}).getImageData(0, 0, canvas.width, canvas.height).data;
-let found = 0;
-for (let at = 0; at < data.length; at += 4)
-  if (data[at] === red && data[at + 1] === green && data[at + 2] === blue && data[at + 3] === 255) found++;
-return found;
-"""
 
 
 def setUpModule() -> None:
@@ -67,105 +24,7 @@ def setUpModule() -> None:
 
 
 @unittest.skipIf(MISSING, f"{', '.join(MISSING)} not installed")
-class Page(WebTestCase):
-    browser: Any
-
-    @classmethod
-    def setUpClass(cls) -> None:
-        cls.room = tempfile.TemporaryDirectory()
-        cls.addClassCleanup(cls.room.cleanup)
-        options = webdriver.ChromeOptions()
-        options.binary_location = shutil.which("chromium")
-        for word in ("--headless=new", "--window-size=1200,1000", "--disable-gpu", "--disable-dev-shm-usage"):
-            options.add_argument(word)
-        # A name of somebody else's that leads here.
-        options.add_argument("--host-resolver-rules=MAP evil.example 127.0.0.1")
-        if os.geteuid() == 0:
-            # The browser's sandbox isn't for the system's administrator.
-            options.add_argument("--no-sandbox")
-        options.set_capability("goog:loggingPrefs", {"browser": "ALL"})
-        options.add_experimental_option("prefs", {"download.default_directory": cls.room.name})
-        cls.browser = webdriver.Chrome(service=Service(shutil.which("chromedriver")), options=options)
-        cls.addClassCleanup(cls.browser.quit)
-        cls.browser.set_script_timeout(SECONDS)
-
-    def open(self, *words: object, **variables: str) -> Server:
-        """A server, and its page in the browser, once its tables are listed."""
-        server = self.start(*words, **variables)
-        self.browser.get_log("browser")
-        self.browser.get(server.address)
-        self.wait(lambda: self.loaded("state?"))
-        self.addCleanup(self.assert_quiet)
-        return server
-
-    def assert_quiet(self) -> None:
-        """No fault of the page's parts, and no request that its policy forbids."""
-        said = [entry["message"] for entry in self.browser.get_log("browser")]
-        # What the browser says of these tests, which read the chart.
-        self.assertEqual([text for text in said if "getImageData" not in text], [])
-
-    def js(self, script: str, *arguments: object) -> Any:
-        return self.browser.execute_script(script, *arguments)
-
-    def loaded(self, name: str) -> list[str]:
-        """The addresses of what the page loaded, as far as they have this in them."""
-        names: list[str] = self.js("return performance.getEntriesByType('resource').map((part) => part.name)")
-        return [each for each in names if name in each]
-
-    def find(self, selector: str) -> Any:
-        return self.browser.find_element("css selector", selector)
-
-    def text(self, selector: str) -> str:
-        found: str = self.js("return document.querySelector(arguments[0])?.innerText ?? ''", selector)
-        return found
-
-    def wait(self, holds: Callable[[], Any]) -> Any:
-        """What this gives as soon as it gives something true."""
-        limit = time.monotonic() + SECONDS
-        while not (found := holds()):
-            if time.monotonic() > limit:
-                self.fail(f"this doesn't come: {self.text('main')!r}")
-            time.sleep(0.05)
-        return found
-
-    def wait_for(self, selector: str, text: str) -> None:
-        self.wait(lambda: text in self.text(selector))
-
-    def press(self, *keys: str) -> None:
-        """Presses keys where the focus is, one after the other."""
-        webdriver.ActionChains(self.browser).send_keys(*keys).perform()
-
-    def press_with(self, holding: str, key: str) -> None:
-        webdriver.ActionChains(self.browser).key_down(holding).send_keys(key).key_up(holding).perform()
-
-    def run_script(self, script: str) -> None:
-        """Types a script in place of what is there, and runs it, by the keyboard alone."""
-        self.js("document.getElementById('script').focus()")
-        self.press_with(Keys.CONTROL, "a")
-        before = self.js("return document.querySelectorAll('#replies li').length")
-        # No list of completions is to come between the keys.
-        self.press(script + " ")
-        self.press_with(Keys.CONTROL, Keys.ENTER)
-        self.wait(lambda: self.js("return document.querySelectorAll('#replies li').length") > before)
-        self.wait(lambda: not self.find("#run").get_attribute("disabled"))
-
-    def cells(self) -> list[list[str]]:
-        """The cells of the rows that the grid shows, once none is awaited."""
-        self.wait(lambda: self.find("#grid").get_attribute("aria-busy") == "false")
-        found: list[list[str]] = self.js(
-            "return [...document.querySelectorAll('#grid .seen .row')].map("
-            "(row) => [...row.querySelectorAll('[role=gridcell]')].map((cell) => cell.textContent))"
-        )
-        return found
-
-    def drop(self, name: str, content: str) -> None:
-        self.js(DROP, name, content)
-
-    def long_table(self) -> Path:
-        """A table file whose column A has 0 up to 999,999, and B their negatives."""
-        table = Table.of({"a": array.array("i", range(LONG)), "b": array.array("i", range(0, -LONG, -1))})
-        return self.write("long.table", b"".join(table.file_pieces()))
-
+class Page(BrowserTestCase):
     def test_from_a_file_to_a_chart(self) -> None:
         server = self.open()
         self.assertIn("There are no tables yet", self.text("nav"))
@@ -192,6 +51,32 @@ class Page(WebTestCase):
             self.assertGreater(self.js(PIXELS, "--series-1"), 4, form)
         self.assertIn("SECONDS: 30 to 45", self.text("#plot-caption"))
         self.assertEqual([name for name in self.loaded("") if not name.startswith(server.address)], [])
+
+    def test_bars_are_as_tall_as_their_values(self) -> None:
+        """Four bars: 100, no bar for NULL, 50 and 25, so their areas are as 4 to 2 to 1."""
+        self.open(self.write("t.csv", "x,y\n1,100\n2,\n3,50\n4,25\n"))
+        self.run_script("SELECT x, y FROM t")
+        self.find("#show-plot").click()
+        self.wait_for("#plot-caption", "bars by X, 4 rows")
+        left, right, width = 76, 14, self.js("return document.getElementById('canvas').clientWidth")
+        room = (width - left - right) / 4
+        areas = [self.js(PIXELS, "--series-1", left + place * room, left + (place + 1) * room) for place in range(4)]
+        self.assertEqual(areas[1], 0)
+        self.assertAlmostEqual(areas[0] / areas[2], 2, delta=0.05)
+        self.assertAlmostEqual(areas[0] / areas[3], 4, delta=0.1)
+
+    def test_what_is_selected_is_run(self) -> None:
+        self.open(self.write("visits.csv", VISITS))
+        self.run_script("SELECT day FROM visits; SELECT COUNT(*) FROM visits")
+        self.assertEqual(self.cells(), [["4"]])
+        self.js("document.getElementById('script').setSelectionRange(0, 22)")
+        self.press_with(Keys.CONTROL, Keys.ENTER)
+        self.wait(lambda: self.text("#answer-size") == "4 rows, 1 column")
+        self.assertEqual(self.cells(), [["1"], ["1"], ["2"], ["3"]])
+        # The answer before is brought back from the replies, where it stands last but for the file's message.
+        self.js("[...document.querySelectorAll('#replies button')].at(-1).click()")
+        self.wait(lambda: self.text("#answer-title") == "Answer to SELECT COUNT(*) FROM visits")
+        self.assertEqual(self.cells(), [["4"]])
 
     def test_files_that_are_refused_or_renamed(self) -> None:
         self.open()
@@ -248,21 +133,6 @@ class Page(WebTestCase):
         self.assertEqual(self.shown_cell(), str(100 * self.current_row()))
         self.press_with(Keys.CONTROL, Keys.END)
         self.assertEqual((self.current_row(), self.shown_cell()), (99, "9963"))
-
-    def current_row(self) -> int:
-        return int(self.js("return document.getElementById('current-cell').dataset.row"))
-
-    def shown_cell(self) -> str:
-        """The current cell, which is to be seen whole, and not below the numbers of the rows."""
-        text, is_shown = self.js(
-            "const cell = document.getElementById('current-cell'), box = document.getElementById('grid');"
-            "const at = cell.getBoundingClientRect(), around = box.getBoundingClientRect();"
-            "const numbers = cell.parentElement.firstChild.getBoundingClientRect();"
-            "return [cell.textContent, at.left >= numbers.right - 1 && at.right <= around.right + 1"
-            "  && at.top >= around.top && at.bottom <= around.bottom]"
-        )
-        self.assertTrue(is_shown, text)
-        return str(text)
 
     def test_a_file_is_chosen(self) -> None:
         self.open()

@@ -6,6 +6,7 @@ import shutil
 import subprocess
 import sys
 import unittest
+from email.message import Message
 from pathlib import Path
 
 import bitcol
@@ -13,6 +14,7 @@ from bitcol.reply import Reply, reply_of
 from bitcol.shell.fault import Fault
 from bitcol.shell.store import Store
 from bitcol.web.answers import Answers
+from bitcol.web.guard import Guard
 from bitcol.web.lengths import check_length, selection_of
 from bitcol.web.workspace import Workspace, statements_in
 from tests.support import SessionTestCase
@@ -80,6 +82,30 @@ def answer(rows: int, headings: str = "A") -> Reply:
     """An answer of so many rows, with the same cell in all."""
     line = b",".join([b"5"] * (headings.count(",") + 1))
     return reply_of(headings.encode() + b"\n" + (line + b"\n") * rows + b"rows %d\n" % rows)
+
+
+class Guarding(unittest.TestCase):
+    def fault(self, guard: Guard, target: str, **headers: str) -> str | None:
+        message = Message()
+        for name, value in headers.items():
+            message[name.replace("_", "-")] = value
+        return guard.fault(target, message)
+
+    def test_the_port_that_browsers_leave_out(self) -> None:
+        guard = Guard("word", 80)
+        self.assertEqual(guard.address, "http://127.0.0.1/word/")
+        self.assertIsNone(self.fault(guard, "/word/", Host="127.0.0.1", Origin="http://127.0.0.1"))
+        self.assertIsNone(self.fault(guard, "/word/run?a=/b/", Host="localhost"))
+        for headers in ({"Host": "127.0.0.1:80"}, {"Host": "127.0.0.1", "Origin": "http://localhost"}, {}):
+            self.assertIsNotNone(self.fault(guard, "/word/", **headers), headers)
+
+    def test_what_follows_the_word(self) -> None:
+        guard = Guard("word", 1)
+        self.assertEqual(guard.rest("/word/"), ("", ""))
+        self.assertEqual(guard.rest("/word/rows?first=1&a=/x/"), ("rows", "first=1&a=/x/"))
+        # A word in the query is no word of the address.
+        self.assertIsNotNone(self.fault(guard, "/x?/word/", Host="127.0.0.1:1"))
+        self.assertIsNotNone(self.fault(guard, "/w\u00f6rd/", Host="127.0.0.1:1"))
 
 
 class Keeping(unittest.TestCase):

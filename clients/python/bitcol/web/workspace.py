@@ -152,8 +152,8 @@ class Workspace:
             return self._headers[name]
 
     def export(self, table: str, path: Path) -> int:
-        """Writes a table to a file, by the suffix of its name. See export_table; and a Fault where CSV is wanted and the
-        rows are too many for an answer."""
+        """Writes a table to a file, by the suffix of its name, and gives the number of rows. See export_table; and a
+        Fault where CSV is wanted and the rows are too many for an answer."""
         name = checked_name(table)
         with self._taking_turns() as store:
             if path.suffix == ".csv":
