@@ -114,6 +114,11 @@ class Page(BrowserTestCase):
         self.js(grid + "grid.dispatchEvent(new WheelEvent('wheel', {deltaY: 240, cancelable: true}))")
         self.wait(lambda: int(self.cells()[0][1]) == first + 10)
         self.assertLess(len(self.loaded("rows?")), 40)
+        # At the end the page scrolls on.
+        wheel = "return grid.dispatchEvent(new WheelEvent('wheel', {deltaY: arguments[0], cancelable: true}))"
+        self.assertFalse(self.js(grid + wheel, 100))
+        self.press_with(Keys.CONTROL, Keys.END)
+        self.assertEqual([self.js(grid + wheel, turn) for turn in (100, -10, 10)], [True, False, True])
         self.find("#show-plot").click()
         self.wait_for("#plot-caption", "lines by B, 1,000,000 rows")
         self.assertIn("A: 0 to 999999", self.text("#plot-caption"))
@@ -156,7 +161,18 @@ class Page(BrowserTestCase):
         self.press(" w")
         self.wait(lambda: not self.find("#completions").get_attribute("hidden"))
         self.assertEqual(self.text("#completions").split("\n"), ["where", "with"])
-        self.press(Keys.ARROW_DOWN, Keys.ENTER, " seconds > 20")
+        self.press(Keys.ARROW_DOWN, Keys.ENTER, " ")
+        self.press_with(Keys.CONTROL, " ")
+        self.wait(lambda: not self.find("#completions").get_attribute("hidden"))
+        # Of all words the last is chosen from the first by a step back, and is seen.
+        self.press(Keys.ARROW_UP)
+        chosen = self.js(
+            "const list = document.getElementById('completions');"
+            "const word = list.querySelector('[aria-selected=true]');"
+            "return [word.textContent, word.offsetTop + word.offsetHeight <= list.scrollTop + list.clientHeight]"
+        )
+        self.assertEqual(chosen, ["WITH", True])
+        self.press(Keys.ESCAPE, "seconds > 20")
         self.press(Keys.ESCAPE)
         self.press_with(Keys.CONTROL, Keys.ENTER)
         self.wait(lambda: self.text("#answer-size").startswith("2 rows"))

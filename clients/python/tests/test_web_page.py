@@ -12,7 +12,7 @@ import threading
 import unittest
 from pathlib import Path
 
-from bitcol.web import answers, routes
+from bitcol.web import answers, routes, server
 from tests.terminal import SECONDS, ShellTestCase, environment
 from tests.test_shell_page import FENCE, runs_of
 
@@ -74,6 +74,18 @@ class Page(ShellTestCase):
             ("rows that are sent to the page at once", f"{routes.WINDOW_ROWS:,}"),
         ):
             self.assertIn(f"| {what} | {limit} |\n", text)
+        self.assertIn(f"a random word of {8 * server.WORD_BYTES} bits", text)
+
+    def test_limits_of_charts(self) -> None:
+        text = " ".join(PAGE.read_text(encoding="utf-8").split())
+        module = (Path(routes.__file__).parent / "page/plot.js").read_text(encoding="utf-8")
+        bars, rows, series = (
+            int(re.search(rf"const {name} = ([\d_]+);", module)[1])  # type: ignore[index]
+            for name in ("BARS", "MOST_ROWS", "MOST_SERIES")
+        )
+        self.assertEqual(series, 6)
+        self.assertIn("Bars, lines or points are drawn of up to six columns", text)
+        self.assertIn(f"Bars are drawn of the first {bars} rows, and lines and points of the first {rows:,};", text)
 
 
 if __name__ == "__main__":

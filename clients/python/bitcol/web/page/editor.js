@@ -4,7 +4,7 @@ import { find, make } from "./elements.js";
 import { postJson } from "./server.js";
 
 const QUIET_MILLISECONDS = 150;
-const MOST_SHOWN = 12;
+const MOST_SHOWN = 500;
 // What the window keeps of the text when it is loaded again.
 const KEPT = "script";
 
@@ -118,8 +118,12 @@ export class Editor {
   #choose(place) {
     this.chosen = place;
     [...this.list.children].forEach((option, number) => option.setAttribute("aria-selected", String(number === place)));
-    if (place >= 0) this.area.setAttribute("aria-activedescendant", `word-${place}`);
-    else this.area.removeAttribute("aria-activedescendant");
+    if (place < 0) {
+      this.area.removeAttribute("aria-activedescendant");
+      return;
+    }
+    this.area.setAttribute("aria-activedescendant", `word-${place}`);
+    this.list.children[place].scrollIntoView({ block: "nearest" });
   }
 
   #take(place) {

@@ -28,7 +28,9 @@ export function widthOf(heading, isText) {
 export class Grid {
   constructor() {
     this.box = find("grid");
+    // The first row that is seen, and the part of a row by which the wheel was turned beyond it.
     this.first = 0;
+    this.turned = 0;
     this.current = { row: 0, column: 0 };
     this.box.addEventListener("scroll", () => this.#scrolled());
     this.box.addEventListener("wheel", (event) => this.#wheeled(event), { passive: false });
@@ -103,14 +105,18 @@ export class Grid {
 
   #wheeled(event) {
     if (!this.rows || event.ctrlKey || event.shiftKey || Math.abs(event.deltaX) > Math.abs(event.deltaY)) return;
-    const pixels = event.deltaMode === WheelEvent.DOM_DELTA_PIXEL;
-    this.turned = (this.turned ?? 0) + (pixels ? event.deltaY / this.#rowHeight : event.deltaY * WHEEL_LINE);
+    const isAtEnd = event.deltaY < 0 ? this.first === 0 : this.first >= this.rows.count - this.#seen;
+    if (isAtEnd) {
+      // The page scrolls on.
+      this.turned = 0;
+      return;
+    }
+    event.preventDefault();
+    const isInPixels = event.deltaMode === WheelEvent.DOM_DELTA_PIXEL;
+    this.turned += isInPixels ? event.deltaY / this.#rowHeight : event.deltaY * WHEEL_LINE;
     const rows = Math.trunc(this.turned);
     this.turned -= rows;
-    const before = this.first;
     this.#place(this.first + rows);
-    // At an end the page scrolls on.
-    if (this.first !== before || Math.abs(this.turned) > 0) event.preventDefault();
   }
 
   #pressed(event) {
