@@ -273,11 +273,11 @@ class Page(BrowserTestCase):
         self.assertEqual(len(self.cells()), 4)
 
     def test_a_server_that_ended(self) -> None:
-        server = self.start()
-        self.browser.get(server.address)
+        server = self.open()
         server.end()
-        self.run_script("TABLES")
+        self.find("#run").click()
         self.wait_for("#replies", "the server doesn't answer")
+        self.wait(lambda: self.text("#status") == "")
         self.browser.get_log("browser")
 
     def test_other_pages_are_refused(self) -> None:
