@@ -1,4 +1,4 @@
-//! Words of bits, combined and counted: four words at a time, and a plain loop for the rest.
+//! Words of bits: combined four at a time, with a plain loop for the rest, and counted one by one.
 
 ghost use Rattle.std.specs.Prelude.{bit_and, bit_or, length, slice_index, ℕ, ◌-◌, ◌<◌, ◌^◌, ◌≡◌, ◌≤◌};
 ghost use Rattle.std.specs.List.{sum_by, zip};

@@ -13,7 +13,7 @@ use std::process::Abort;
 /// The rows where a truth is true, those where it is false, and the units that were read for it.
 pub(crate) type Outcome = (u64, u64, u64);
 
-fn check_value<R: Abort>(rt: &R, value: Option<i64>, layout: Layout)
+pub(crate) fn check_value<R: Abort>(rt: &R, value: Option<i64>, layout: Layout)
     ensures { IsNullOrHeld layout value }
 {
     if let Some(x) = value {
@@ -24,7 +24,7 @@ fn check_value<R: Abort>(rt: &R, value: Option<i64>, layout: Layout)
     }
 }
 
-fn check_values<R: Abort>(rt: &R, values: &[Option<i64>], layout: Layout)
+pub(crate) fn check_values<R: Abort>(rt: &R, values: &[Option<i64>], layout: Layout)
     ensures held { All (IsNullOrHeld layout) values.now }
     ensures few { length values.now ≤ 2 ^ 24 }
 {
@@ -71,7 +71,7 @@ fn span_of(column: &Column) -> Option<(i64, u32)> {
 }
 
 /// Sees the values of a column.
-fn see_values<R: Abort + AllocGlobal>(rt: &R, column: &Column, values: &[Option<i64>]) {
+pub(crate) fn see_values<R: Abort + AllocGlobal>(rt: &R, column: &Column, values: &[Option<i64>]) {
     assert!(rt; all_of(rt, column).as_slice() == values);
 }
 

@@ -1,0 +1,168 @@
+//! Values put in place of others at rows of many words, in each layout and kind, against a list.
+
+ghost use Rattle.std.specs.Prelude.{length, vec_len, ◌≡◌};
+ghost use Rattle.bw_mask.specs.Masks.{len};
+
+use crate::columns::{check_value, check_values, column_of, see_values};
+use bw_code::{Kind, Layout};
+use bw_column::Column;
+use bw_mask::Mask;
+use std::process::Abort;
+
+/// Four whole words, and a part of one: 44 rows.
+const ROWS: usize = 300;
+
+const LAYOUTS: [Layout; 4] = [Layout::P, Layout::V, Layout::H, Layout::S];
+
+const KINDS: [Kind; 2] = [Kind::Offset, Kind::Dictionary];
+
+/// What all chosen rows are set to: a value that the columns have, NULL, one that none has, and one far from all.
+const LITERALS: [Option<i64>; 4] = [Some(40), None, Some(-3), Some(-2_000_000_000)];
+
+/// How far apart the numbers lie in the rounds.
+const STEPS: [i64; 3] = [1, 1_000_003, 20_000_003];
+
+/// Whether a row takes another value: in no row of a word, in all, in a few, in its first and its last, or in most.
+fn is_chosen(round: usize, row: usize) -> bool {
+    match (row / 64).wrapping_add(round) % 5 {
+        0 => false,
+        1 => true,
+        2 => row % 13 == 5,
+        3 => row % 64 == 0 || row % 64 == 63,
+        _ => row % 3 != 1,
+    }
+}
+
+/// A value of a row: one of 97 numbers, in later rounds spread over more bits, and NULL in each eleventh row.
+fn value_at(round: usize, row: usize) -> Option<i64> {
+    if row.wrapping_add(round) % 11 == 4 {
+        return None;
+    }
+    let number = row.wrapping_mul(row).wrapping_add(round) % 97;
+    Some((number as i64).wrapping_mul(STEPS[round % 3]))
+}
+
+fn values_of<R: Abort + AllocGlobal>(rt: &R, round: usize) -> Vec<Option<i64>>
+    ensures { vec_len result ≡ 300 }
+{
+    let mut values = Vec::new(rt.alloc());
+    for row in 0..ROWS {
+        values.push(value_at(round, row)).expect(rt, "memory");
+    }
+    values
+}
+
+/// The values of the chosen rows alone, of the next round.
+fn taken<R: Abort + AllocGlobal>(rt: &R, round: usize) -> Vec<Option<i64>> {
+    let mut values = Vec::new(rt.alloc());
+    for row in 0..ROWS {
+        if is_chosen(round, row) {
+            values
+                .push(value_at(round.wrapping_add(1), row))
+                .expect(rt, "memory");
+        }
+    }
+    values
+}
+
+fn chosen_rows<R: Abort + AllocGlobal>(rt: &R, round: usize) -> Mask
+    ensures { len result ≡ 300 }
+{
+    let mut chosen = Mask::filled(rt.alloc(), ROWS, false).expect(rt, "memory");
+    for row in 0..ROWS {
+        chosen.set(row, is_chosen(round, row));
+    }
+    chosen
+}
+
+/// The column with the values in the chosen rows.
+fn overwritten<R: Abort + AllocGlobal>(
+    rt: &R,
+    mut column: Column,
+    places: &Mask,
+    values: &[Option<i64>],
+) -> Column {
+    check_values(rt, values, column.layout());
+    assert!(rt; places.count() == values.len() && places.len() == column.len());
+    let prepared = column
+        .room_for(rt.alloc(), &values, false)
+        .expect(rt, "memory");
+    column.overwrite(prepared, places, values);
+    column
+}
+
+/// The column with one value in the chosen rows.
+fn filled<R: Abort + AllocGlobal>(
+    rt: &R,
+    mut column: Column,
+    places: &Mask,
+    value: Option<i64>,
+) -> Column {
+    check_value(rt, value, column.layout());
+    assert!(rt; places.len() == column.len());
+    let prepared = column
+        .room_to_fill(rt.alloc(), value, places.count())
+        .expect(rt, "memory");
+    column.fill(prepared, places, value);
+    column
+}
+
+/// What the rows have after the values of the next round were put in the chosen ones, or this one value.
+fn wanted<R: Abort + AllocGlobal>(
+    rt: &R,
+    round: usize,
+    literal: Option<Option<i64>>,
+) -> Vec<Option<i64>> {
+    let mut values = Vec::new(rt.alloc());
+    for row in 0..ROWS {
+        let value = if is_chosen(round, row) {
+            literal.unwrap_or(value_at(round.wrapping_add(1), row))
+        } else {
+            value_at(round, row)
+        };
+        values.push(value).expect(rt, "memory");
+    }
+    values
+}
+
+fn check_values_put<R: Abort + AllocGlobal>(rt: &R, layout: Layout, kind: Kind, round: usize) {
+    let column = column_of(rt, &values_of(rt, round), layout, kind);
+    let column = overwritten(rt, column, &chosen_rows(rt, round), &taken(rt, round));
+    see_values(rt, &column, &wanted(rt, round, None));
+}
+
+fn check_literal_put<R: Abort + AllocGlobal>(
+    rt: &R,
+    layout: Layout,
+    kind: Kind,
+    round: usize,
+    literal: Option<i64>,
+) {
+    let column = column_of(rt, &values_of(rt, round), layout, kind);
+    let column = filled(rt, column, &chosen_rows(rt, round), literal);
+    see_values(rt, &column, &wanted(rt, round, Some(literal)));
+}
+
+#[test]
+fn values_of_runs(rt: HostRuntime) {
+    for layout in LAYOUTS {
+        for kind in KINDS {
+            for round in 0..15 {
+                check_values_put(&rt, layout, kind, round);
+            }
+        }
+    }
+}
+
+#[test]
+fn literals_of_runs(rt: HostRuntime) {
+    for layout in LAYOUTS {
+        for kind in KINDS {
+            for round in 0..5 {
+                for literal in LITERALS {
+                    check_literal_put(&rt, layout, kind, round, literal);
+                }
+            }
+        }
+    }
+}
