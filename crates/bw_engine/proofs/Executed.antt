@@ -1,5 +1,5 @@
 -- What a statement comes to, from what it answers by its tests.
-use Rattle.std.proofs.Common.{◌≡◌, ◌∙◌, ◌⊎◌, inl, inr, ℕ, Bool, true, false, not, List, Option, None, Some, is_none, is_some, Result, Ok, Err, OnErr, MatchOption, option_map, [], if◌then◌else◌, nat_le, nat_lt, refl, sym, ap, subst, arith}
+use Rattle.std.proofs.Common.{◌≡◌, ◌∙◌, ◌⊎◌, inl, inr, ℕ, Bool, true, false, not, List, Option, None, Some, is_none, is_some, Result, Ok, Err, OnErr, OnOk, MatchOption, [], if◌then◌else◌, nat_le, nat_lt, refl, sym, ap, subst, arith}
 use Rattle.std.specs.Bool.{then_some}
 use Rattle.std.specs.Borrow.{Bor}
 use Rattle.std.specs.Option.{option_copied}
@@ -8,8 +8,8 @@ use Rattle.std.proofs.lemmas.Bool.Decides.{nat_tests}
 use Rattle.bw_sql.specs.Tree.{StatementTree, save, statement_of}
 use Rattle.bw_sql.specs.declared.tree.Statement.{Statement}
 use Rattle.bw_model.specs.Contents.{SaysTo}
-use Rattle.bw_model.specs.FileUse.{FileUse, file_read, file_use, no_file, reads, unless_refused, use_in, writes}
-use Rattle.bw_model.specs.Refusals.{first_that_holds, over, refused_early, tests_of}
+use Rattle.bw_model.specs.FileUse.{file_read, file_use, no_file, reads, unless_refused, use_in, writes}
+use Rattle.bw_model.specs.Refusals.{first_that_holds, over, refused_early}
 use Rattle.bw_model.specs.Step.{Step, WantsMemory, carried_out, refused_or}
 use Rattle.bw_model.specs.Store.{Store, Table}
 use Rattle.bw_model.specs.declared.content.Content.{Content}
@@ -19,12 +19,12 @@ use Rattle.bw_model.specs.declared.refusal.Refusal.TheVariants.{OutOfMemory, Ove
 use Rattle.bw_model.specs.declared.reply.Reply.{Reply}
 use Rattle.bw_model.specs.declared.reply.Reply.TheVariants.{Count, Done, Refused, Rows}
 use Rattle.bw_model.proofs.Unchanged.{early_first, never_refuses}
-use Rattle.bw_engine.specs.Files.{CarriesFile, Executes, IsAnswered, IsNoSave, OnRefusedOrSaved, Replies, RepliesBy, Saves, SavesOr, saving_of}
-use Rattle.bw_engine.specs.Outcomes.{CarriesOut, MayRefuseStep, reply_of}
+use Rattle.bw_engine.specs.Files.{CarriesFile, Executes, IsAnswered, IsNoSave, LeavesBy, RepliesBy, SavesOr, saving_of}
+use Rattle.bw_engine.specs.Outcomes.{CarriesOut, reply_of}
+use Rattle.bw_engine.specs.StoredChanges.{ChangesStored}
 use Rattle.bw_engine.specs.Stores.{Stored, store_of}
 use Rattle.bw_engine.specs.declared.file_answer.FileAnswer.{FileAnswer}
 use Rattle.bw_engine.specs.declared.file_answer.FileAnswer.TheVariants as file
-use Rattle.bw_engine.specs.declared.outcome.Outcome.{Outcome}
 use Rattle.bw_engine.specs.declared.outcome.Outcome.TheVariants as outcome
 use Rattle.bw_engine.specs.declared.outcome.Saving.{Saving}
 use Rattle.bw_engine.proofs.Steps.{steps}
@@ -108,13 +108,19 @@ module _ (tables : Stored) (name given : List ℕ) (answer : FileAnswer) where
       let p = refused_save (refused_early (store_of tables) saves_it) e refl h in
       (subst (λ read. RepliesBy read (store_of tables) saves_it answer (Refused e) (store_of tables)) (sym (read_none (refused_early (store_of tables) saves_it) given)) p.0, p.1)
 
--- where a statement is refused all stays
-pub unchanged : (tables after : Stored) (said : Content) (statement : StatementTree) (r : Result Reply Refusal) → CarriesOut (store_of tables) said statement r (store_of after) → OnErr r (after ≡ tables) → OnRefusedOrSaved (outcome.Reply (reply_of r)) (after ≡ tables)
-unchanged tables after said statement (Ok (Refused refusal)) h stays = absurd (never_refuses (store_of tables) said statement refusal (ap (λ (p : Reply × Store). p.0) h.1))
-unchanged tables after said statement (Ok Done) h stays = tt
-unchanged tables after said statement (Ok (Count n)) h stays = tt
-unchanged tables after said statement (Ok (Rows shown)) h stays = tt
-unchanged tables after said statement (Err e) h stays = stays
+-- what a statement makes of slots and encodings
+pub leaves : (tables after : Stored) (said : Content) (statement : StatementTree) (r : Result Reply Refusal) → CarriesOut (store_of tables) said statement r (store_of after) → OnErr r (after ≡ tables) → OnOk r (ChangesStored tables statement after)
+    → LeavesBy tables statement (outcome.Reply (reply_of r)) after
+leaves tables after said statement (Ok (Refused refusal)) h stays changes = absurd (never_refuses (store_of tables) said statement refusal (ap (λ (p : Reply × Store). p.0) h.1))
+leaves tables after said statement (Ok Done) h stays changes = changes
+leaves tables after said statement (Ok (Count n)) h stays changes = changes
+leaves tables after said statement (Ok (Rows shown)) h stays changes = changes
+leaves tables after said statement (Err e) h stays changes = stays
+
+pub leaves_all : (tables : Stored) (said : Content) (statement : StatementTree) (r : Result Reply Refusal) → CarriesOut (store_of tables) said statement r (store_of tables) → ChangesStored tables statement tables
+    → LeavesBy tables statement (outcome.Reply (reply_of r)) tables
+leaves_all tables said statement (Ok reply) h changes = leaves tables tables said statement (Ok reply) h tt changes
+leaves_all tables said statement (Err e) h changes = refl
 
 taken : (answer : FileAnswer) (says : List ℕ → Content → Type 0) (X : Type 0) → IsAnswered answer says (λ said. X) X → X
 taken file.NotAsked says X h = h
@@ -123,24 +129,24 @@ taken file.TooLarge says X h = h
 taken file.NoMemory says X h = h
 taken (file.Bytes bytes) says X h = h.2
 
-on_error : (tables after : Stored) (r : Result Reply Refusal) (e : Refusal) → r ≡ Err e → OnErr r (after ≡ tables) → OnRefusedOrSaved (outcome.Reply (reply_of r)) (after ≡ tables)
-on_error tables after (Ok reply) e is stays = cc
-on_error tables after (Err x) e is stays = stays
+on_error : (tables after : Stored) (statement : StatementTree) (r : Result Reply Refusal) (e : Refusal) → r ≡ Err e → OnErr r (after ≡ tables) → LeavesBy tables statement (outcome.Reply (reply_of r)) after
+on_error tables after statement (Ok reply) e is stays = cc
+on_error tables after statement (Err x) e is stays = stays
 
-pub unchanged_reading : (tables after : Stored) (statement : StatementTree) (answer : FileAnswer) (r : Result Reply Refusal) → CarriesFile (store_of tables) statement answer r (store_of after) → OnErr r (after ≡ tables)
-    → OnRefusedOrSaved (outcome.Reply (reply_of r)) (after ≡ tables)
-unchanged_reading tables after statement answer r carries stays = by (refused_early (store_of tables) statement) carries
+pub leaves_reading : (tables after : Stored) (statement : StatementTree) (answer : FileAnswer) (r : Result Reply Refusal) → CarriesFile (store_of tables) statement answer r (store_of after) → OnErr r (after ≡ tables)
+    → OnOk r (ChangesStored tables statement after) → LeavesBy tables statement (outcome.Reply (reply_of r)) after
+leaves_reading tables after statement answer r carries stays changes = by (refused_early (store_of tables) statement) carries
   where
     by : (o : Option Refusal) → MatchOption o (IsAnswered answer (SaysTo (store_of tables) statement) (λ said. CarriesOut (store_of tables) said statement r (store_of after)) (r ≡ Err OutOfMemory)) (λ refusal. r ≡ Err refusal)
-        → OnRefusedOrSaved (outcome.Reply (reply_of r)) (after ≡ tables)
+        → LeavesBy tables statement (outcome.Reply (reply_of r)) after
     by None h =
-        taken answer (SaysTo (store_of tables) statement) (OnRefusedOrSaved (outcome.Reply (reply_of r)) (after ≡ tables))
-        (answered_so answer (SaysTo (store_of tables) statement) _ _ _ _ (λ said h. unchanged tables after said statement r h stays) (λ is. on_error tables after r OutOfMemory is stays) h)
-    by (Some refusal) h = on_error tables after r refusal h stays
+        taken answer (SaysTo (store_of tables) statement) (LeavesBy tables statement (outcome.Reply (reply_of r)) after)
+        (answered_so answer (SaysTo (store_of tables) statement) _ _ _ _ (λ said h. leaves tables after said statement r h stays changes) (λ is. on_error tables after statement r OutOfMemory is stays) h)
+    by (Some refusal) h = on_error tables after statement r refusal h stays
 
-pub unchanged_saving : (tables : Stored) (r : Result Saving Refusal) → OnRefusedOrSaved (saving_of r) (tables ≡ tables)
-unchanged_saving tables (Ok handed) = refl
-unchanged_saving tables (Err e) = refl
+pub leaves_saving : (tables : Stored) (statement : StatementTree) (r : Result Saving Refusal) → LeavesBy tables statement (saving_of r) tables
+leaves_saving tables statement (Ok handed) = refl
+leaves_saving tables statement (Err e) = refl
 
 -- whether a statement that reads a file isn't refused early
 pub not_over : (o : Option Table) → is_some o ≡ is_none (first_that_holds (over o (λ table. [])))

@@ -11,6 +11,8 @@ pub mod LiveLaws
 pub mod LiveRows
 pub mod Loaded
 pub mod Loading
+pub mod NewTables
+pub mod OneStored
 pub mod Opened
 pub mod Replies
 mod RunLaws

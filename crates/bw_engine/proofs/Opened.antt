@@ -1,11 +1,10 @@
 -- The table that an OPEN adds is the one that its file holds.
-use Rattle.std.proofs.Common.{◌≡◌, ◌∙◌, ℕ, ℤ, ◌<◌, ◌≤◌, Bor, Bool, true, false, List, [], ◌∷◌, ◌++◌, get_or, if◌then◌else◌, is_some, length, map, nat_le, nat_lt, Option, None, Some, Result, Ok, Err, IsErrAnd, inl, inr, refl, sym, ap, subst, arith}
+use Rattle.std.proofs.Common.{◌≡◌, ◌∙◌, ℕ, ℤ, ◌<◌, Bor, Bool, true, false, List, [], ◌∷◌, ◌++◌, get_or, if◌then◌else◌, is_some, length, map, nat_le, nat_lt, Option, None, Some, Result, Ok, Err, IsErrAnd, inl, inr, refl, sym, ap, subst, arith}
 use Rattle.std.specs.Prelude.{IsTrue, MatchOption}
 use Rattle.std.specs.Bool.{MatchBool}
 use Rattle.std.specs.List.{All, range_with_len}
 use Rattle.std.specs.Result.{IsOkAnd}
 use Rattle.std.proofs.lemmas.List.{get_or-map, length-map, map-id}
-use Rattle.bw_code.specs.Lists.{made}
 use Rattle.bw_code.proofs.Lists.{made_is, made_len}
 use Rattle.bw_column.specs.Values as values
 use Rattle.bw_file.specs.Format.{Spells}
@@ -18,9 +17,9 @@ use Rattle.bw_model.specs.Contents.{IsTableIn, SaysTo, table_held}
 use Rattle.bw_model.specs.Filing.{Holds, column_of, file_limit, filed, filed_header}
 use Rattle.bw_model.specs.Refusals.{first_that_holds, refused_early, tests_of}
 use Rattle.bw_model.specs.Step.{carried_out}
-use Rattle.bw_model.specs.Store.{AreHeaders, Header, Row, Store, Table, are_distinct, table_limit, table_of, value_at}
+use Rattle.bw_model.specs.Store.{AreHeaders, Header, Store, Table, are_distinct, table_limit, table_of, value_at}
 use Rattle.bw_model.specs.declared.content.Content.{Content}
-use Rattle.bw_model.specs.declared.content.Content.TheVariants.{Held, NotTable, TooLarge}
+use Rattle.bw_model.specs.declared.content.Content.TheVariants.{Held, TooLarge}
 use Rattle.bw_model.specs.declared.refusal.Refusal.{Refusal}
 use Rattle.bw_model.specs.declared.refusal.Refusal.TheVariants.{FileTooLarge, OutOfMemory, OverLimit, TableExists}
 use Rattle.bw_model.specs.declared.reply.Reply.{Reply}

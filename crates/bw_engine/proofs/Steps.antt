@@ -1,11 +1,11 @@
 -- The store by name, and the step from what a statement answers.
-use Rattle.std.proofs.Common.{◌≡◌, inl, inr, ℕ, Bool, true, false, List, [], ◌∷◌, ◌++◌, length, Option, None, Some, is_some, option_map, Result, Ok, Err, OnErr, if◌then◌else◌, refl, sym, ap, ◌∙◌}
+use Rattle.std.proofs.Common.{◌≡◌, inl, inr, ℕ, Bool, true, false, List, [], ◌∷◌, ◌++◌, length, Option, None, Some, is_some, option_map, Result, Ok, Err, OnErr, OnOk, if◌then◌else◌, refl, sym, ap, ◌∙◌}
 use Rattle.std.specs.Map.{lookup, remove_entry, set_value}
 use Rattle.std.specs.Str.{bytes_eq}
 use Rattle.std.proofs.lemmas.Bool.{true≢false}
 use Rattle.std.proofs.lemmas.List.{length-map}
-use Rattle.std.proofs.lemmas.Result.{on_err_weaker}
-use Rattle.bw_sql.specs.Tree.{StatementTree, create_table, delete, drop_table, insert, list_tables, load, open_table, rebuild, save, select, update}
+use Rattle.std.proofs.lemmas.Result.{on_err_weaker, on_ok_weaker}
+use Rattle.bw_sql.specs.Tree.{StatementTree}
 use Rattle.bw_model.specs.Refusals.{Tests, first_that_holds, over}
 use Rattle.bw_model.specs.Step.{Step, carried_out, refused_or, table_or_none, with_table, without_table}
 use Rattle.bw_model.specs.Store.{Store, Table, table_of}
@@ -17,6 +17,7 @@ use Rattle.bw_model.specs.declared.reply.Reply.TheVariants.{Refused}
 use Rattle.bw_plan.specs.Checks.{Answers, MayRefuse}
 use Rattle.bw_plan.proofs.Tests.{answers_same}
 use Rattle.bw_engine.specs.Outcomes.{CarriesOut, reply_of}
+use Rattle.bw_engine.specs.StoredChanges.{IsChanged}
 use Rattle.bw_engine.specs.Stores.{Stored, StoredTable, store_of, table_in}
 
 push_map : {A B : Type 0} (f : A → B) (b : Bool) (x : A) (o : Option A) → (if b then Some (f x) else option_map f o) ≡ option_map f (if b then Some x else o)
@@ -93,6 +94,9 @@ module _ (tables : Stored) (name : List ℕ) (table : StoredTable) (there : look
         let stored = ap store_of is ∙ changed_in tables name table new change there p.1 in
         λ j. (replied j, stored j))
         answers
+
+    pub changes_stored : (Change : StoredTable → StoredTable → Type 0) (r : Result Reply Refusal) → OnOk r (Change table new) → OnOk r (IsChanged Change tables name after)
+    changes_stored Change r changed = on_ok_weaker r (λ c. record { old = table; new = new; there = there; changed = c; set = is }) changed
 
     pub keeps_tables : (r : Result Reply Refusal) → OnErr r (new ≡ table) → OnErr r (after ≡ tables)
     keeps_tables r stays = on_err_weaker r (λ same. is ∙ ap (set_value (bytes_eq name) tables) same ∙ same_in tables name table there) stays

@@ -9,8 +9,8 @@ use Rattle.bw_sql.specs.declared.tree.FirstRecord.{FirstRecord}
 use Rattle.bw_file.specs.Table as filed
 use Rattle.bw_file.specs.declared.header.ColumnHeader.{ColumnHeader}
 use Rattle.bw_table.specs.Opening.{rows_across}
-use Rattle.bw_model.specs.Contents.{IsTableIn, SaysTo, first_of, is_missing_file, is_no_table, is_too_large, lines_or_fault}
-use Rattle.bw_model.specs.FileUse.{FileUse, file_read, file_use, no_file, reads, writes}
+use Rattle.bw_model.specs.Contents.{SaysTo, first_of, is_missing_file, is_no_table, is_too_large, lines_or_fault}
+use Rattle.bw_model.specs.FileUse.{FileUse, file_read, file_use, writes}
 use Rattle.bw_model.specs.Filing.{Holds, file_limit}
 use Rattle.bw_model.specs.Refusals.{Tests, fault_test, first_that_holds, refused_early}
 use Rattle.bw_model.specs.Step.{Step, WantsMemory}
@@ -22,6 +22,8 @@ use Rattle.bw_model.specs.declared.refusal.Refusal.TheVariants.{FileTooLarge, No
 use Rattle.bw_model.specs.declared.reply.Reply.{Reply}
 use Rattle.bw_model.specs.declared.reply.Reply.TheVariants.{Refused}
 use Rattle.bw_engine.specs.Outcomes.{CarriesOut}
+use Rattle.bw_engine.specs.StoredChanges.{LeavesStored}
+use Rattle.bw_engine.specs.Stores.{Stored}
 use Rattle.bw_engine.specs.declared.file_answer.FileAnswer.{FileAnswer}
 use Rattle.bw_engine.specs.declared.file_answer.FileAnswer.TheVariants as file
 use Rattle.bw_engine.specs.declared.outcome.Outcome.{Outcome}
@@ -118,8 +120,7 @@ abbrev pub saving_of : Result Saving Refusal → Outcome
 saving_of (Ok saving) = outcome.Save saving
 saving_of (Err e) = outcome.Reply (Refused e)
 
--- P where a statement is refused or hands bytes out
-abbrev pub OnRefusedOrSaved : Outcome → Type 0 → Type 0
-OnRefusedOrSaved (outcome.Reply (Refused refusal)) P = P
-OnRefusedOrSaved (outcome.Save saving) P = P
-OnRefusedOrSaved _ P = Unit {0}
+-- what a statement makes of slots and encodings: nothing where it hands bytes out
+abbrev pub LeavesBy : Stored → StatementTree → Outcome → Stored → Type 0
+LeavesBy tables statement (outcome.Reply reply) after = LeavesStored tables statement reply after
+LeavesBy tables statement (outcome.Save saving) after = after ≡ tables

@@ -4,4 +4,5 @@ pub mod Found
 pub mod Outcomes
 pub mod Runs
 pub mod Saving
+pub mod StoredChanges
 pub mod Stores

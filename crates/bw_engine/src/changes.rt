@@ -1,6 +1,6 @@
 //! UPDATE, DELETE and REBUILD.
 
-ghost use Rattle.std.specs.Prelude.{◌≡◌, length, option_map, OnErr};
+ghost use Rattle.std.specs.Prelude.{◌≡◌, length, option_map, OnErr, OnOk};
 ghost use Rattle.bw_model.specs.Changes.{with_choices, with_updates, without_found};
 ghost use Rattle.bw_model.specs.Condition.{found_rows};
 ghost use Rattle.bw_model.specs.Refusals.{chosen_columns, delete_tests, rebuild_tests, update_tests};
@@ -9,6 +9,7 @@ ghost use Rattle.bw_sql.specs.Tree.{condition_of, statement_of};
 ghost use Rattle.bw_sql.specs.declared.tree.Statement.TheVariants as statements;
 ghost use Rattle.bw_model.specs.declared.content.Content.TheVariants.{Nothing};
 ghost use Rattle.bw_engine.specs.Outcomes.{CarriesOut};
+ghost use Rattle.bw_engine.specs.StoredChanges.{BuildsAnew, ChangesStored, KillsFound, SetsFound};
 ghost use Rattle.bw_engine.specs.Stores.{store_of, table_in};
 ghost use Rattle.bw_plan.specs.Checks.{Answers};
 
@@ -27,6 +28,7 @@ pub(crate) fn update(
     statement: Update,
 ) -> Result<Reply, Refusal>
     ensures reply { CarriesOut (store_of tables.old.entries) Nothing (statement_of (statements.Update statement)) result (store_of tables.new.entries) }
+    ensures stored { OnOk result (ChangesStored tables.old.entries (statement_of (statements.Update statement)) tables.new.entries) }
     ensures refused { OnErr result (tables.new.entries ≡ tables.old.entries) }
 {
     let Update {
@@ -47,6 +49,7 @@ pub(crate) fn delete(
     statement: Delete,
 ) -> Result<Reply, Refusal>
     ensures reply { CarriesOut (store_of tables.old.entries) Nothing (statement_of (statements.Delete statement)) result (store_of tables.new.entries) }
+    ensures stored { OnOk result (ChangesStored tables.old.entries (statement_of (statements.Delete statement)) tables.new.entries) }
     ensures refused { OnErr result (tables.new.entries ≡ tables.old.entries) }
 {
     let Delete { table, condition } = statement;
@@ -63,6 +66,7 @@ pub(crate) fn rebuild(
     statement: Rebuild,
 ) -> Result<Reply, Refusal>
     ensures reply { CarriesOut (store_of tables.old.entries) Nothing (statement_of (statements.Rebuild statement)) result (store_of tables.new.entries) }
+    ensures stored { OnOk result (ChangesStored tables.old.entries (statement_of (statements.Rebuild statement)) tables.new.entries) }
     ensures refused { OnErr result (tables.new.entries ≡ tables.old.entries) }
 {
     let Rebuild { table, choices } = statement;
@@ -80,6 +84,7 @@ fn update_rows(
     condition: &Option<Condition>,
 ) -> Result<Reply, Refusal>
     ensures reply { Answers (update_tests sets.now (option_map condition_of condition.now) (table_in table.old)) result (λ reply. (reply ≡ Count (length (found_rows (table_in table.old) (option_map condition_of condition.now)))) × (table_in table.new ≡ with_updates sets.now (option_map condition_of condition.now) (table_in table.old))) }
+    ensures stored { OnOk result (SetsFound sets.now (option_map condition_of condition.now) table.old table.new) }
     ensures refused { OnErr result (table.new ≡ table.old) }
 {
     let plan = resolve_update(alloc, &table.headers(), sets, condition)?;
@@ -95,6 +100,7 @@ fn delete_rows(
     condition: &Option<Condition>,
 ) -> Result<Reply, Refusal>
     ensures reply { Answers (delete_tests (option_map condition_of condition.now) (table_in table.old)) result (λ reply. (reply ≡ Count (length (found_rows (table_in table.old) (option_map condition_of condition.now)))) × (table_in table.new ≡ without_found (option_map condition_of condition.now) (table_in table.old))) }
+    ensures stored { OnOk result (KillsFound (option_map condition_of condition.now) table.old table.new) }
     ensures refused { OnErr result (table.new ≡ table.old) }
 {
     let condition = resolve_delete(alloc, &table.headers(), condition)?;
@@ -110,6 +116,7 @@ fn rebuild_columns(
     choices: &[LayoutChoice],
 ) -> Result<Reply, Refusal>
     ensures reply { Answers (rebuild_tests (chosen_columns choices.now) (table_in table.old)) result (λ reply. (reply ≡ Done) × (table_in table.new ≡ with_choices choices.now (table_in table.old))) }
+    ensures stored { OnOk result (BuildsAnew choices.now table.old table.new) }
     ensures refused { OnErr result (table.new ≡ table.old) }
 {
     let choices = resolve_rebuild(alloc, &table.headers(), choices)?;

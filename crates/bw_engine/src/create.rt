@@ -1,6 +1,6 @@
 //! CREATE TABLE.
 
-ghost use Rattle.std.specs.Prelude.{◌≡◌, ◌++◌, ◌≤◌, ◌<◌, [], ◌∷◌, length, map, ◌==◌, nat_le, nat_lt, not, ◌||◌, IfOk, IsTrue, OnErr};
+ghost use Rattle.std.specs.Prelude.{◌≡◌, ◌++◌, ◌≤◌, ◌<◌, [], ◌∷◌, length, map, ◌==◌, nat_le, nat_lt, not, ◌||◌, IfOk, IsTrue, OnErr, OnOk};
 ghost use Rattle.std.specs.List.{list_any};
 ghost use Rattle.std.specs.Str.{bytes_eq};
 ghost use Rattle.bw_model.specs.Refusals.{create_tests};
@@ -9,6 +9,7 @@ ghost use Rattle.bw_sql.specs.Tree.{statement_of};
 ghost use Rattle.bw_sql.specs.declared.tree.Statement.TheVariants as statements;
 ghost use Rattle.bw_model.specs.declared.content.Content.TheVariants.{Nothing};
 ghost use Rattle.bw_engine.specs.Outcomes.{CarriesOut};
+ghost use Rattle.bw_engine.specs.StoredChanges.{ChangesStored, IsNew};
 ghost use Rattle.bw_engine.specs.Stores.{store_of, table_in};
 ghost use Rattle.bw_plan.specs.Columns.{columns_of};
 ghost use Rattle.bw_plan.specs.Checks.{Decides};
@@ -34,6 +35,7 @@ pub(crate) fn create_table(
     statement: CreateTable,
 ) -> Result<Reply, Refusal>
     ensures reply { CarriesOut (store_of tables.old.entries) Nothing (statement_of (statements.CreateTable statement)) result (store_of tables.new.entries) }
+    ensures stored { OnOk result (ChangesStored tables.old.entries (statement_of (statements.CreateTable statement)) tables.new.entries) }
     ensures refused { OnErr result (tables.new.entries ≡ tables.old.entries) }
 {
     let CreateTable { table, columns } = statement;
@@ -118,7 +120,8 @@ fn empty_table(alloc: Global, columns: Vec<ColumnDefinition>) -> Result<Table, A
     requires some { 0 < length columns.items }
     requires few { length columns.items ≤ 64 }
     requires distinct { IsTrue (are_distinct (map (λ c. c.name) columns.items)) }
-    ensures { IfOk result (λ table. table_in table ≡ record { headers = map header_of columns.items; rows = [] }) }
+    ensures table { IfOk result (λ table. table_in table ≡ record { headers = map header_of columns.items; rows = [] }) }
+    ensures is_new { IfOk result IsNew }
 {
     let headers = headers_for(alloc, columns)?;
     Table::create(alloc, headers)

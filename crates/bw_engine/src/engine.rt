@@ -6,7 +6,7 @@ ghost use Rattle.bw_model.specs.FileUse.{file_read, file_use};
 ghost use Rattle.bw_model.specs.Refusals.{refused_early};
 ghost use Rattle.bw_sql.specs.Tree.{load, open_table, statement_of};
 ghost use Rattle.bw_sql.specs.declared.tree.FirstRecord.{FirstRecord as WhichFirst};
-ghost use Rattle.bw_engine.specs.Files.{Executes, OnRefusedOrSaved, saving_of};
+ghost use Rattle.bw_engine.specs.Files.{Executes, LeavesBy, saving_of};
 ghost use Rattle.bw_engine.specs.Outcomes.{reply_of};
 ghost use Rattle.bw_engine.specs.Stores.{store_of};
 ghost use Rattle.bw_engine.specs.declared.outcome.Outcome.TheVariants as outcomes;
@@ -82,7 +82,7 @@ impl Engine {
     /// where `wants` names one; what a SAVE writes is handed out.
     pub fn execute(&mut self, statement: Statement, file: FileAnswer<'_>) -> Outcome
         ensures outcome { Executes (store_of self.old) (statement_of statement) file.entry result (store_of self.new) }
-        ensures unchanged { OnRefusedOrSaved result (self.new ≡ self.old) }
+        ensures stored { LeavesBy self.old (statement_of statement) result self.new }
     {
         carry_out(self.alloc, &mut self.tables, statement, file)
     }
@@ -110,7 +110,7 @@ fn carry_out(
     file: FileAnswer<'_>,
 ) -> Outcome
     ensures outcome { Executes (store_of tables.old.entries) (statement_of statement) file.entry result (store_of tables.new.entries) }
-    ensures unchanged { OnRefusedOrSaved result (tables.new.entries ≡ tables.old.entries) }
+    ensures stored { LeavesBy tables.old.entries (statement_of statement) result tables.new.entries }
 {
     match statement {
         Statement::CreateTable(create) => replied(create_table(alloc, tables, create)),

@@ -1,6 +1,6 @@
 //! INSERT.
 
-ghost use Rattle.std.specs.Prelude.{◌≡◌, length, OnErr};
+ghost use Rattle.std.specs.Prelude.{◌≡◌, length, OnErr, OnOk};
 ghost use Rattle.bw_model.specs.Insert.{target_columns, with_rows};
 ghost use Rattle.bw_model.specs.Refusals.{insert_tests};
 ghost use Rattle.bw_model.specs.declared.reply.Reply.TheVariants.{Count};
@@ -8,6 +8,7 @@ ghost use Rattle.bw_sql.specs.Tree.{statement_of};
 ghost use Rattle.bw_sql.specs.declared.tree.Statement.TheVariants as statements;
 ghost use Rattle.bw_model.specs.declared.content.Content.TheVariants.{Nothing};
 ghost use Rattle.bw_engine.specs.Outcomes.{CarriesOut};
+ghost use Rattle.bw_engine.specs.StoredChanges.{ChangesStored, Grows};
 ghost use Rattle.bw_engine.specs.Stores.{store_of, table_in};
 ghost use Rattle.bw_plan.specs.Columns.{columns_of};
 ghost use Rattle.bw_plan.specs.Checks.{Answers};
@@ -27,6 +28,7 @@ pub(crate) fn insert(
     statement: Insert,
 ) -> Result<Reply, Refusal>
     ensures reply { CarriesOut (store_of tables.old.entries) Nothing (statement_of (statements.Insert statement)) result (store_of tables.new.entries) }
+    ensures stored { OnOk result (ChangesStored tables.old.entries (statement_of (statements.Insert statement)) tables.new.entries) }
     ensures refused { OnErr result (tables.new.entries ≡ tables.old.entries) }
 {
     let Insert {
@@ -48,6 +50,7 @@ fn insert_rows(
     rows: ValueRows,
 ) -> Result<Reply, Refusal>
     ensures reply { Answers (insert_tests (target_columns (columns_of table.old.headers) columns.now) rows (table_in table.old)) result (λ reply. (reply ≡ Count (length rows)) × (table_in table.new ≡ with_rows columns.now rows (table_in table.old))) }
+    ensures stored { OnOk result (Grows table.old table.new) }
     ensures refused { OnErr result (table.new ≡ table.old) }
 {
     let count = rows.len();

@@ -1,6 +1,6 @@
 //! LOAD.
 
-ghost use Rattle.std.specs.Prelude.{◌≡◌, ◌+◌, ◌∷◌, [], All, Err, OnErr, length, nat_lt};
+ghost use Rattle.std.specs.Prelude.{◌≡◌, ◌+◌, ◌∷◌, [], All, Err, OnErr, OnOk, length, nat_lt};
 ghost use Rattle.bw_column.specs.Values.{IsNullOrInteger};
 ghost use Rattle.bw_model.specs.Contents.{first_of, lines_in};
 ghost use Rattle.bw_model.specs.Refusals.{load_tests};
@@ -12,6 +12,7 @@ ghost use Rattle.bw_model.specs.declared.reply.Reply.TheVariants.{Count};
 ghost use Rattle.bw_sql.specs.Tree.{statement_of};
 ghost use Rattle.bw_sql.specs.declared.tree.Statement.TheVariants as statements;
 ghost use Rattle.bw_engine.specs.Files.{AnswersFile, CarriesFile, IsAnswered, SaysLines, Within, lines_tests};
+ghost use Rattle.bw_engine.specs.StoredChanges.{ChangesStored, Grows};
 ghost use Rattle.bw_engine.specs.Stores.{rows_in, store_of, table_in};
 
 use crate::file_answer::{FileAnswer, bytes_of};
@@ -31,6 +32,7 @@ pub(crate) fn load(
     file: FileAnswer<'_>,
 ) -> Result<Reply, Refusal>
     ensures reply { CarriesFile (store_of tables.old.entries) (statement_of (statements.Load statement)) file.entry result (store_of tables.new.entries) }
+    ensures stored { OnOk result (ChangesStored tables.old.entries (statement_of (statements.Load statement)) tables.new.entries) }
     ensures refused { OnErr result (tables.new.entries ≡ tables.old.entries) }
 {
     let Load {
@@ -54,6 +56,7 @@ fn load_file(
     ensures reply { IsAnswered file.entry (Within (SaysLines (length table.old.headers) first))
         (λ said. AnswersFile (load_tests said (table_in table.old)) result (λ reply. (reply ≡ Count (length (lines_in said))) × (table_in table.new ≡ with_lines (lines_in said) (table_in table.old))))
         (result ≡ Err OutOfMemory) }
+    ensures stored { OnOk result (Grows table.old table.new) }
     ensures refused { OnErr result (table.new ≡ table.old) }
 {
     let rows = rows_in_file(alloc, file, table.headers().len(), first)?;
@@ -88,6 +91,7 @@ fn load_rows(alloc: Global, table: &mut Table, rows: CsvRows) -> Result<Reply, R
     requires wide { All (λ row. length row ≡ length table.old.headers) rows }
     requires integers { All (λ row. All IsNullOrInteger row) rows }
     ensures reply { AnswersFile ((TableFull, nat_lt row_limit (length (rows_in table.old.slots) + length rows)) ∷ []) result (λ reply. (reply ≡ Count (length rows)) × (table_in table.new ≡ with_lines rows (table_in table.old))) }
+    ensures stored { OnOk result (Grows table.old table.new) }
     ensures refused { OnErr result (table.new ≡ table.old) }
 {
     let count = rows.len();

@@ -1,6 +1,6 @@
 //! OPEN.
 
-ghost use Rattle.std.specs.Prelude.{◌≡◌, Err, IfOk, OnErr, map};
+ghost use Rattle.std.specs.Prelude.{◌≡◌, Err, IfOk, OnErr, OnOk, map};
 ghost use Rattle.bw_model.specs.Contents.{IsTableIn};
 ghost use Rattle.bw_model.specs.declared.content.Content.TheVariants.{Held};
 ghost use Rattle.bw_model.specs.declared.refusal.Refusal.TheVariants.{OutOfMemory};
@@ -9,6 +9,7 @@ ghost use Rattle.bw_plan.specs.Words.{word_of_kind, word_of_layout};
 ghost use Rattle.bw_sql.specs.Tree.{statement_of};
 ghost use Rattle.bw_sql.specs.declared.tree.Statement.TheVariants as statements;
 ghost use Rattle.bw_engine.specs.Files.{AnswersFile, CarriesFile, IsAnswered, Within, table_tests, unfiled, unfiled_header};
+ghost use Rattle.bw_engine.specs.StoredChanges.{ChangesStored, IsNew};
 ghost use Rattle.bw_engine.specs.Stores.{store_of, table_in};
 
 use crate::create::TABLE_LIMIT;
@@ -30,6 +31,7 @@ pub(crate) fn open_table(
     file: FileAnswer<'_>,
 ) -> Result<Reply, Refusal>
     ensures reply { CarriesFile (store_of tables.old.entries) (statement_of (statements.Open statement)) file.entry result (store_of tables.new.entries) }
+    ensures stored { OnOk result (ChangesStored tables.old.entries (statement_of (statements.Open statement)) tables.new.entries) }
     ensures refused { OnErr result (tables.new.entries ≡ tables.old.entries) }
 {
     let Open { table, file: _ } = statement;
@@ -60,7 +62,8 @@ fn table_in_file<'a>(alloc: Global, file: FileAnswer<'a>) -> Result<TableFile<'a
 
 /// The table of these columns.
 fn opened(alloc: Global, parts: TableFile<'_>) -> Result<Table, AllocError>
-    ensures { IfOk result (λ table. table_in table ≡ unfiled parts.entry) }
+    ensures table { IfOk result (λ table. table_in table ≡ unfiled parts.entry) }
+    ensures is_new { IfOk result IsNew }
 {
     let rows = parts.rows();
     let (headers, columns) = parts.into_headers_and_columns();

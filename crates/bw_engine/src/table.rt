@@ -6,9 +6,10 @@ ghost use Rattle.bw_mask.specs.Masks.{len};
 ghost use Rattle.bw_model.specs.Store.{AreHeaders, row_limit};
 ghost use Rattle.bw_plan.specs.Columns.{columns_of};
 ghost use Rattle.bw_plan.specs.Sets.{AreSettable};
-ghost use Rattle.bw_table.specs.Changes.{slots_with, slots_without};
+ghost use Rattle.bw_table.specs.Changes.{AreInserted, AreRebuilt, AreUpdated, slots_with, slots_without};
 ghost use Rattle.bw_table.specs.Opening.{rows_across};
-ghost use Rattle.bw_table.specs.Tables.{AreChosen};
+ghost use Rattle.bw_table.specs.Tables.{AreChosen, slots_in};
+ghost use Rattle.bw_engine.specs.StoredChanges.{IsNew};
 ghost use Rattle.bw_engine.specs.Stores.{rows_in};
 
 use bw_cells::Measured;
@@ -48,6 +49,7 @@ impl Table {
         requires { AreHeaders (columns_of headers.items) }
         ensures headers { IfOk result (λ t. t.headers ≡ headers.items) }
         ensures slots { IfOk result (λ t. t.slots ≡ []) }
+        ensures is_new { IfOk result IsNew }
     {
         Ok(Table {
             table: SlotTable::create(alloc, headers)?,
@@ -69,6 +71,7 @@ impl Table {
         requires integers { All (All IsNullOrInteger) (map C.cells columns.now) }
         ensures headers { IfOk result (λ t. t.headers ≡ headers.items) }
         ensures rows { IfOk result (λ t. rows_in t.slots ≡ rows_across rows (map C.cells columns.now)) }
+        ensures is_new { IfOk result IsNew }
     {
         Ok(Table {
             table: SlotTable::of_columns(alloc, headers, rows, columns)?,
@@ -114,6 +117,7 @@ impl Table {
         requires room { length (rows_in self.old.slots) + length rows.now ≤ row_limit }
         ensures headers { self.new.headers ≡ self.old.headers }
         ensures rows { OnOk result (rows_in self.new.slots ≡ rows_in self.old.slots ++ rows.now) }
+        ensures inserted { OnOk result (AreInserted (slots_in self.old) rows.now (slots_in self.new)) }
         ensures unchanged { OnErr result (self.new ≡ self.old) }
     {
         match self.table.insert(alloc, rows) {
@@ -135,6 +139,7 @@ impl Table {
         requires settable { AreSettable (length self.old.headers) sets.now }
         ensures headers { self.new.headers ≡ self.old.headers }
         ensures slots { OnOk result (self.new.slots ≡ slots_with found.now sets.now self.old.slots) }
+        ensures updated { OnOk result (AreUpdated found.now sets.now (slots_in self.old) (slots_in self.new)) }
         ensures unchanged { OnErr result (self.new ≡ self.old) }
     {
         self.table.update(alloc, found, sets)
@@ -145,6 +150,7 @@ impl Table {
         requires { len found.now ≡ length self.old.slots }
         ensures headers { self.new.headers ≡ self.old.headers }
         ensures slots { self.new.slots ≡ slots_without found.now self.old.slots }
+        ensures encodings { self.new.encodings ≡ self.old.encodings }
     {
         self.table.delete(found);
     }
@@ -157,6 +163,7 @@ impl Table {
     ) -> Result<(), AllocError>
         ensures headers { OnOk result (AreChosen choices.now self.old.headers self.new.headers) }
         ensures rows { OnOk result (rows_in self.new.slots ≡ rows_in self.old.slots) }
+        ensures rebuilt { OnOk result (AreRebuilt choices.now (slots_in self.old) (slots_in self.new)) }
         ensures unchanged { OnErr result (self.new ≡ self.old) }
     {
         self.table.rebuild(alloc, choices)

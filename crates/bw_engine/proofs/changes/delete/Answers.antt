@@ -3,7 +3,7 @@ use Rattle.bw_sql.specs.Tree.{condition_of}
 use Rattle.bw_model.specs.Changes.{without_found}
 use Rattle.bw_model.specs.Refusals.{delete_tests}
 use Rattle.bw_engine.proofs.Replies.{says_found}
-use Rattle.bw_engine.proofs.Steps.{changes_table, keeps_tables, no_table}
+use Rattle.bw_engine.proofs.Steps.{changes_stored, changes_table, keeps_tables, no_table}
 use Rattle.bw_engine.proofs.changes.delete.Goals as goal
 
 pub returns-in-Some-clause-reply : goal.returns-in-Some-clause-reply
@@ -18,3 +18,7 @@ returns-in-Some-clause-refused c =
 
 pub returns-clause-reply : goal.returns-clause-reply
 returns-clause-reply c = no_table c.args.tables.now.entries c.args.statement.table (delete_tests (option_map condition_of c.args.statement.condition)) (sym c.in-None.ensures.value)
+
+pub returns-in-Some-clause-stored : goal.returns-in-Some-clause-stored
+returns-in-Some-clause-stored c =
+    changes_stored c.args.tables.now.entries c.args.statement.table c.in-Some.table.now (sym c.in-Some.ensures.value) c.delete_rows.new.table _ (c.get_mut.follows.holds c.delete_rows.new.table).0 _ c.delete_rows.result c.delete_rows.ensures.stored

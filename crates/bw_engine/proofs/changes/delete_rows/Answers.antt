@@ -21,3 +21,9 @@ returns-clause-reply c =
         deleted_table table c.delete.new.self condition plan found told.1 are c.delete.ensures.headers c.delete.ensures.slots,
       ),
     )
+
+pub returns-clause-stored : goal.returns-clause-stored
+returns-clause-stored c =
+    let told = rw c.headers.ensures.value at c.in_ok-condition.ensures in
+    let are = rw told.1 at c.in_ok-found.ensures.found in
+    record { found = c.in_ok-found.found; are = are; slots = c.delete.ensures.slots; encodings = c.delete.ensures.encodings }

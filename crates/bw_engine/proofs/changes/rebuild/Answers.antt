@@ -2,7 +2,7 @@ use Rattle.std.proofs.Common.{sym}
 use Rattle.bw_model.specs.Changes.{with_choices}
 use Rattle.bw_model.specs.Refusals.{chosen_columns, rebuild_tests}
 use Rattle.bw_engine.proofs.Replies.{says_done}
-use Rattle.bw_engine.proofs.Steps.{changes_table, keeps_tables, no_table}
+use Rattle.bw_engine.proofs.Steps.{changes_stored, changes_table, keeps_tables, no_table}
 use Rattle.bw_engine.proofs.changes.rebuild.Goals as goal
 
 pub returns-in-Some-clause-reply : goal.returns-in-Some-clause-reply
@@ -17,3 +17,7 @@ returns-in-Some-clause-refused c =
 
 pub returns-clause-reply : goal.returns-clause-reply
 returns-clause-reply c = no_table c.args.tables.now.entries c.args.statement.table (rebuild_tests (chosen_columns c.args.statement.choices.items)) (sym c.in-None.ensures.value)
+
+pub returns-in-Some-clause-stored : goal.returns-in-Some-clause-stored
+returns-in-Some-clause-stored c =
+    changes_stored c.args.tables.now.entries c.args.statement.table c.in-Some.table.now (sym c.in-Some.ensures.value) c.rebuild_columns.new.table _ (c.get_mut.follows.holds c.rebuild_columns.new.table).0 _ c.rebuild_columns.result (rw c.as_slice.ensures.value at c.rebuild_columns.ensures.stored)

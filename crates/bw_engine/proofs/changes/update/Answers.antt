@@ -3,7 +3,7 @@ use Rattle.bw_sql.specs.Tree.{condition_of}
 use Rattle.bw_model.specs.Changes.{with_updates}
 use Rattle.bw_model.specs.Refusals.{update_tests}
 use Rattle.bw_engine.proofs.Replies.{says_found}
-use Rattle.bw_engine.proofs.Steps.{changes_table, keeps_tables, no_table}
+use Rattle.bw_engine.proofs.Steps.{changes_stored, changes_table, keeps_tables, no_table}
 use Rattle.bw_engine.proofs.changes.update.Goals as goal
 
 pub returns-in-Some-clause-reply : goal.returns-in-Some-clause-reply
@@ -19,3 +19,7 @@ returns-in-Some-clause-refused c =
 
 pub returns-clause-reply : goal.returns-clause-reply
 returns-clause-reply c = no_table c.args.tables.now.entries c.args.statement.table (update_tests c.args.statement.sets.items (option_map condition_of c.args.statement.condition)) (sym c.in-None.ensures.value)
+
+pub returns-in-Some-clause-stored : goal.returns-in-Some-clause-stored
+returns-in-Some-clause-stored c =
+    changes_stored c.args.tables.now.entries c.args.statement.table c.in-Some.table.now (sym c.in-Some.ensures.value) c.update_rows.new.table _ (c.get_mut.follows.holds c.update_rows.new.table).0 _ c.update_rows.result (rw c.as_slice.ensures.value at c.update_rows.ensures.stored)

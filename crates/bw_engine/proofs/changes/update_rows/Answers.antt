@@ -43,3 +43,9 @@ returns-clause-reply c =
             (rw c.as_slice.ensures.value at c.in_ok-update.ensures.slots),
       ),
     )
+
+pub returns-clause-stored : goal.returns-clause-stored
+returns-clause-stored c =
+    let told = rw c.headers.ensures.value at c.in_ok-plan.ensures.plan in
+    let are = rw told.1.1 at c.in_ok-found.ensures.found in
+    record { found = c.in_ok-found.found; are = are; sets = c.in_ok-plan.plan.sets.items; named = told.1.0; updated = rw c.as_slice.ensures.value at c.in_ok-update.ensures.updated }

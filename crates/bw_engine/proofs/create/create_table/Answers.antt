@@ -18,5 +18,17 @@ returns-clause-reply c =
     ap store_of (c.in_ok-insert.ensures.entries
     ∙ insert_entry-new bytes_eq c.args.tables.now name c.in_ok-new.new (absent-none (lookup (bytes_eq name) tables) absent))
     ∙ stored_more tables name c.in_ok-new.new
-    ∙ ap (λ table. store_of tables ++ (name, table) ∷ []) c.in_ok-new.ensures in
+    ∙ ap (λ table. store_of tables ++ (name, table) ∷ []) c.in_ok-new.ensures.table in
     (tested.0, ap (λ s. (Done, s)) after)
+
+pub returns-clause-stored : goal.returns-clause-stored
+returns-clause-stored c =
+    let tables = c.args.tables.now.entries in
+    let name = c.args.statement.table in
+    let tested = rw c.as_slice.ensures.value at c.in_ok-check.ensures in
+    let absent = sym (some_map table_in (lookup (bytes_eq name) tables)) ∙ ap is_some (sym (found_in tables name)) ∙ (passes (map (λ c. c.name) c.args.statement.columns.items) name (store_of tables) tested.0).absent in
+    record {
+      table = c.in_ok-new.new;
+      is_new = c.in_ok-new.ensures.is_new;
+      added = c.in_ok-insert.ensures.entries ∙ insert_entry-new bytes_eq c.args.tables.now name c.in_ok-new.new (absent-none (lookup (bytes_eq name) tables) absent);
+    }

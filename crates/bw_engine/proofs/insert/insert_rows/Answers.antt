@@ -92,3 +92,6 @@ returns-clause-reply c =
       none,
       (ap (λ n. Count n) c.len-count.ensures, λ j. record { headers = columns_of (c.insert.ensures.headers j); rows = stored j }),
     )
+
+pub returns-clause-stored : goal.returns-clause-stored
+returns-clause-stored c = record { rows = c.new.result; inserted = c.in_ok-insert.ensures.inserted }

@@ -49,3 +49,6 @@ returns-clause-reply c =
       no_test _ TableFull _ (le-ltb row_limit (length (rows_in table.slots) + length c.args.rows) (omega arith)),
       (ap (λ n. Count n) c.len-count.ensures, λ j. record { headers = columns_of (c.insert.ensures.headers j); rows = stored j }),
     )
+
+pub returns-clause-stored : goal.returns-clause-stored
+returns-clause-stored c = record { rows = c.of_integers.result; inserted = c.in_ok-insert.ensures.inserted }

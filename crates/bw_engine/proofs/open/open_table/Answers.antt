@@ -65,6 +65,16 @@ returns-clause-reply c =
     let after =
     ap store_of (c.in_ok-insert.ensures.entries ∙ insert_entry-new bytes_eq c.args.tables.now name c.in_ok-new.new (absent-none (lookup (bytes_eq name) tables) none))
     ∙ stored_more tables name c.in_ok-new.new
-    ∙ ap (λ table. store ++ (name, table) ∷ []) c.in_ok-new.ensures in
+    ∙ ap (λ table. store ++ (name, table) ∷ []) c.in_ok-new.ensures.table in
     open_adds store name c.args.statement.file (open_accepted store name c.args.statement.file absent room) c.args.file c.in_ok-parts.parts c.in_ok-parts.ensures c.row_count-count.result (store_of c.insert.new.self.entries)
-    (c.row_count-count.ensures.value ∙ ap (λ (table : Table). length table.rows) c.in_ok-new.ensures) after
+    (c.row_count-count.ensures.value ∙ ap (λ (table : Table). length table.rows) c.in_ok-new.ensures.table) after
+
+pub returns-clause-stored : goal.returns-clause-stored
+returns-clause-stored c =
+    let tables = c.args.tables.now.entries in
+    let name = c.args.statement.table in
+    record {
+      table = c.in_ok-new.new;
+      is_new = c.in_ok-new.ensures.is_new;
+      added = c.in_ok-insert.ensures.entries ∙ insert_entry-new bytes_eq c.args.tables.now name c.in_ok-new.new (absent-none (lookup (bytes_eq name) tables) (sym c.contains_key.ensures ∙ c.if-contains_key.false));
+    }

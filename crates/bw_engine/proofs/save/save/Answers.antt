@@ -1,4 +1,4 @@
-use Rattle.std.proofs.Common.{inr, refl, subst, sym}
+use Rattle.std.proofs.Common.{inr, refl, sym}
 use Rattle.bw_sql.specs.Tree.{save}
 use Rattle.bw_model.specs.Refusals.{save_tests}
 use Rattle.bw_engine.specs.Stores.{store_of, table_in}
