@@ -37,9 +37,13 @@ KINDS = {"OFFSET": of_distances, "DICTIONARY": of_entries}
 
 
 def four_columns(rows, value):
-    """Two columns to be set, one that is below 0 at half the rows, and one that is 1 at every other row."""
+    """Two columns to be set, one that is below 0 at half the rows, and one that is 1 at every other row. In two rows each of the
+    first two has the ends of both, so that neither is encoded anew where it takes the values of the other."""
     generator = random.Random(rows)
-    return ((value(generator), value(generator), generator.choice((-1, 1)), i % 2) for i in range(rows))
+    values = [(value(generator), value(generator)) for _ in range(rows)]
+    least, most = min(map(min, values)), max(map(max, values))
+    values[:2] = (least, most), (most, least)
+    return ((*pair, generator.choice((-1, 1)), i % 2) for i, pair in enumerate(values))
 
 
 def two_columns(rows):
