@@ -31,3 +31,11 @@ null_or_held l (Some x) h = integer_held l x h
 
 pub all_held : (l : Layout) (values : List (Option ℤ)) → All IsNullOrInteger values → All (IsNullOrHeld l) values
 all_held l values all k d h = null_or_held l _ (all k d h)
+
+-- plain codes hold what any layout holds
+plain : (value : Option ℤ) → IsNullOrStorable value → IsNullOrHeld layouts.P value
+plain None h = tt
+plain (Some x) h = h
+
+pub all_plain : (l : Layout) (values : List (Option ℤ)) → All (IsNullOrHeld l) values → All (IsNullOrHeld layouts.P) values
+all_plain l values all k d h = plain _ (storable l _ (all k d h))

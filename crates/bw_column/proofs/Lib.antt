@@ -1,4 +1,5 @@
 pub mod Bases
+pub mod Between
 pub mod Blocks
 pub mod Changed
 pub mod Chosen
@@ -9,6 +10,7 @@ pub mod Held
 pub mod Known
 pub mod Listed
 pub mod Narrow
+pub mod Ordered
 pub mod Overwriting
 pub mod PairRows
 pub mod Pieces

@@ -2,6 +2,7 @@ pub mod Codes
 pub mod Columns
 pub mod Comparisons
 pub mod Extremes
+pub mod Copies
 pub mod Costs
 pub mod Keeping
 pub mod Places

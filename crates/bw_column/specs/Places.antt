@@ -1,9 +1,18 @@
 -- Values put in the set places of a mask, in order.
-use Rattle.std.specs.Prelude.{List, Option, count_by, if◌then◌else◌, length, take, ℕ, ℤ, ◌+◌, ◌-◌, ◌<◌, ◌≡◌, ◌≤◌}
-use Rattle.bw_mask.specs.Masks.{MaskRows, row_at}
+use Rattle.std.specs.Prelude.{List, Option, count_by, if◌then◌else◌, length, map, take, ℕ, ℤ, ◌+◌, ◌-◌, ◌<◌, ◌≡◌, ◌≤◌}
+use Rattle.std.specs.List.{filter, range_with_len}
+use Rattle.bw_mask.specs.Masks.{MaskRows, len, row_at}
 use Rattle.bw_code.specs.Columns.{is_chosen}
 use Rattle.bw_code.specs.Lists.{made}
 use Rattle.bw_column.specs.Values.{value_at}
+
+-- the set places below n, in order
+abbrev pub set_below : MaskRows → ℕ → List ℕ
+set_below places n = filter (row_at places) (range_with_len 0 n)
+
+-- the values that stand in the set places, in order
+abbrev pub chosen_values : MaskRows → List (Option ℤ) → List (Option ℤ)
+chosen_values places values = map (value_at values) (set_below places (len places))
 
 -- how many places below i are set
 abbrev pub rank : MaskRows → ℕ → ℕ

@@ -37,7 +37,7 @@ pub(crate) fn code_of(encoding: &Encoding, value: Option<i64>) -> u64
 }
 
 /// The greatest code by an offset.
-fn greatest_code(offset: Offset) -> u64
+pub(crate) fn greatest_code(offset: Offset) -> u64
     ensures { result ≡ 2 ^ offset.width - 1 }
 {
     u64::MAX >> (64 - offset.width)

@@ -9,6 +9,7 @@ mod column;
 mod column_planes;
 mod compare;
 mod compare_anew;
+mod copying;
 mod distances;
 mod ends;
 mod extending;

@@ -1,9 +1,10 @@
 //! Values put at some of 64 rows of a column at a time.
 
-ghost use Rattle.std.specs.Prelude.{All, None, count_by, false, if◌then◌else◌, length, min, slice_index_or, ℕ, ◌%◌, ◌+◌, ◌-◌, ◌<◌, ◌^◌, ◌≡◌, ◌≤◌};
+ghost use Rattle.std.specs.Prelude.{All, None, count_by, false, if◌then◌else◌, length, min, slice_index, slice_index_or, ℕ, ◌%◌, ◌+◌, ◌-◌, ◌<◌, ◌^◌, ◌≡◌, ◌≤◌};
 ghost use Rattle.bw_mask.specs.Masks.{SameShape, bit_of, len, row_at};
 ghost use Rattle.bw_code.specs.Columns.{is_chosen};
-ghost use Rattle.bw_column.specs.Codes.{IsCoded, codes_for};
+ghost use Rattle.bw_code.specs.Lists.{made};
+ghost use Rattle.bw_column.specs.Codes.{IsCoded, IsRowCode, codes_for, value_from};
 ghost use Rattle.bw_column.specs.Keeping.{AreKept};
 ghost use Rattle.bw_column.specs.Places.{ArePutFrom, overwritten, put_values, rank};
 ghost use Rattle.bw_column.specs.Values.{IsNullOrHeld};
@@ -66,6 +67,23 @@ pub(crate) fn put_presence(nonnull: &mut Mask, at: usize, n: usize, rows: u64, p
 }
 
 impl Column {
+    /// Puts codes at some of at most 64 rows from row `at` on, which is the first of a word's: row at + i takes code i where bit
+    /// i of the word is set, and is not null where bit i of `present` is. Every other row keeps its value.
+    pub(crate) fn put_coded(&mut self, at: usize, rows: u64, codes: &[u64], present: u64)
+        requires word { at % 64 ≡ 0 }
+        requires few { length codes.now ≤ 64 }
+        requires there { at + length codes.now ≤ length self.old.values }
+        requires given { (i : ℕ) → length codes.now ≤ i → bit_of rows i ≡ false }
+        requires each { (k : ℕ) → k < length codes.now → IsRowCode self.old.encoding (slice_index codes.now k) (bit_of present k) }
+        requires held { All (IsNullOrHeld self.old.layout) (made (length codes.now) (λ k. value_from self.old.encoding (slice_index codes.now k) (bit_of present k))) }
+        ensures values { self.new.values ≡ put_values self.old.values at rows (made (length codes.now) (λ k. value_from self.old.encoding (slice_index codes.now k) (bit_of present k))) }
+        ensures layout { self.new.layout ≡ self.old.layout }
+        ensures encoding { self.new.encoding ≡ self.old.encoding }
+    {
+        self.codes.put_run(at, rows, codes);
+        put_presence(&mut self.nonnull, at, codes.len(), rows, present);
+    }
+
     /// Puts values with their codes at some of at most 64 rows from row `at` on, which is the first of a word's: row at + i
     /// takes value i where bit i of the word is set. Every other row keeps its value.
     fn put_rows(&mut self, at: usize, rows: u64, values: &[Option<i64>], codes: &[u64])
@@ -80,8 +98,8 @@ impl Column {
         ensures layout { self.new.layout ≡ self.old.layout }
         ensures encoding { self.new.encoding ≡ self.old.encoding }
     {
-        self.codes.put_run(at, rows, codes);
-        put_presence(&mut self.nonnull, at, values.len(), rows, presence(values));
+        let _sound = self.encoding();
+        self.put_coded(at, rows, codes, presence(values));
     }
 
     /// Puts values, each of which has a code, at some of at most 64 rows from row `at` on, as `put_rows`.

@@ -5,7 +5,8 @@ use Rattle.std.proofs.lemmas.Bool.{cases_Bool, cases_eq, cases_lt, eq-eqb, eqb-t
 use Rattle.std.proofs.lemmas.List.{drop_more, get_or-drop, get_or_default, length-drop, get_or-set_same, get_or-set_other, get_or_push, get_or_append_left, length_push, length-map}
 use Rattle.std.proofs.lemmas.List.Elements.{All-head, All-tail}
 use Rattle.std.proofs.lemmas.Map.Entries.{lookup_head, lookup_tail}
-use Rattle.bw_mask.specs.Masks.{MaskRows}
+use Rattle.bw_mask.specs.Masks.{MaskRows, len}
+use Rattle.bw_code.specs.Encodings.{kind_of}
 use Rattle.bw_column.specs.Columns.{ColumnView, Keeps}
 use Rattle.bw_column.specs.Preparing.{IsEncodingFor, IsPreparedFor, Preparation}
 use Rattle.bw_column.specs.declared.kept.KeptCodes.{KeptCodes}
@@ -15,8 +16,10 @@ use Rattle.bw_column.specs.Places.{overwritten}
 use Rattle.bw_table.specs.Changes.{places, set_of, value_for}
 use Rattle.bw_table.specs.Slots.{row_of}
 use Rattle.bw_table.specs.Halves.{AllKept}
-use Rattle.bw_table.specs.Sets.{gathered, taken, AllSet, AreReadyFor, IsReadyFor, IsSet}
+use Rattle.bw_table.specs.Sets.{gathered, taken, AllSet, AreReadyFor, FitsCopy, IsReadyFor, IsSet}
 use Rattle.bw_table.specs.declared.taking.Change.{Change}
+use Rattle.bw_table.specs.declared.taking.Taken.{Taken}
+use Rattle.bw_table.specs.declared.taking.Taken.TheVariants.{Copied, Each, Same}
 use Rattle.bw_table.specs.declared.setting.SetTo.{SetTo}
 use Rattle.bw_table.proofs.Places.{count_places, map_alike}
 use Rattle.bw_table.proofs.Readied.{one_less, popped}
@@ -62,6 +65,15 @@ module _ (new old : ColumnView) (values : List (Option ℤ)) (keeps : Keeps new 
 pub still_ready : (new old : ColumnView) (values : List (Option ℤ)) (prepared : Preparation) → Keeps new old → IsPreparedFor old values false prepared → IsPreparedFor new values false prepared
 still_ready new old values prepared keeps is = still_ready_by new old values keeps prepared.step prepared.codes is
 
+-- a copy fits a column as long as that keeps its encoding and layout
+pub fits_kept : (new old : ColumnView) (n : ℕ) (values : Taken) → Keeps new old → FitsCopy old n values → FitsCopy new n values
+fits_kept new old n (Each values) keeps is = tt
+fits_kept new old n (Same value) keeps is = tt
+fits_kept new old n (Copied copy) keeps is = (
+  record { kind = ap kind_of keeps.encoding ∙ is.0.kind; coded = rw keeps.encoding is.0.coded; held = rw keeps.layout is.0.held },
+  is.1,
+)
+
 module _ (new old : List ColumnView) (kept : AllKept new old) (found : MaskRows) where
   pub gathered_kept : (to : SetTo) → gathered new found to ≡ gathered old found to
   gathered_kept to = map_alike (λ i. value_for to (row_of new i)) (λ i. value_for to (row_of old i)) (places found) (λ k d l. ap (value_for to) (kept_row new old kept (get_or (places found) k d)))
@@ -70,6 +82,7 @@ module _ (new old : List ColumnView) (kept : AllKept new old) (found : MaskRows)
   ready_kept set change is = record {
     values = is.values ∙ sym (gathered_kept set.1);
     ready = λ c. still_ready (get_or new set.0 c) (get_or old set.0 c) (taken found change.values) change.prepared (kept.each set.0 c) (is.ready c);
+    fits = λ c. fits_kept (get_or new set.0 c) (get_or old set.0 c) (len found) change.values (kept.each set.0 c) (is.fits c);
   }
 
   -- one set more is ready
@@ -139,6 +152,9 @@ module _ {found : MaskRows} {sets : List (ℕ × SetTo)} {cur old : List ColumnV
 
     pub prepared_here : IsPreparedFor column (taken found change.values) false change.prepared
     prepared_here = still_ready column (get_or old here.0 column) (taken found change.values) change.prepared (keeps_here column) (t.ready.ready column)
+
+    pub fits_here : FitsCopy column (len found) change.values
+    fits_here = fits_kept column (get_or old here.0 column) (len found) change.values (keeps_here column) (t.ready.fits column)
 
     -- and an overwrite does what the set says
     pub more_set : (x : ColumnView) (values : List (Option ℤ)) → values ≡ (taken found change.values) → x.values ≡ overwritten found values column.values → x.layout ≡ column.layout → IsEncodingFor column.values column.encoding values x.encoding → AllSet found (drop n sets) (set cur here.0 x) old

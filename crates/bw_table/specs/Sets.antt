@@ -1,10 +1,11 @@
 -- Columns that are set in the rows of a mask, in two halves, and columns built anew from such rows.
-use Rattle.std.specs.Prelude.{List, None, Option, Some, [], count_by, false, length, map, replicate, slice_index_or, ℕ, ℤ, ◌<◌, ◌≡◌}
+use Rattle.std.specs.Prelude.{List, None, Option, Some, [], count_by, false, length, map, replicate, slice_index_or, ⊤, ℕ, ℤ, ◌<◌, ◌≡◌}
 use Rattle.std.specs.List.{filter, range_with_len}
-use Rattle.bw_mask.specs.Masks.{MaskRows, bit_of}
+use Rattle.bw_mask.specs.Masks.{MaskRows, bit_of, len}
 use Rattle.bw_code.specs.Encodings.{IsFit, kind_of}
 use Rattle.bw_column.specs.Columns.{ColumnView, Keeps}
-use Rattle.bw_column.specs.Places.{overwritten}
+use Rattle.bw_column.specs.Copies.{CanCopy}
+use Rattle.bw_column.specs.Places.{chosen_values, overwritten}
 use Rattle.bw_column.specs.Preparing.{IsEncodingFor, IsPreparedFor}
 use Rattle.bw_column.specs.Values.{known, value_at}
 use Rattle.bw_table.specs.Changes.{choice_of, chosen_kind, chosen_layout, places, set_of, value_for}
@@ -15,7 +16,7 @@ use Rattle.bw_table.specs.declared.setting.SetTo.{SetTo}
 use Rattle.bw_table.specs.declared.setting.SetTo.TheVariants.{Column}
 use Rattle.bw_table.specs.declared.taking.Change.{Change}
 use Rattle.bw_table.specs.declared.taking.Taken.{Taken}
-use Rattle.bw_table.specs.declared.taking.Taken.TheVariants.{Each, Same}
+use Rattle.bw_table.specs.declared.taking.Taken.TheVariants.{Copied, Each, Same}
 
 -- what a column is set to in the rows of a mask, in order
 abbrev pub gathered : List ColumnView → MaskRows → SetTo → List (Option ℤ)
@@ -29,11 +30,19 @@ picked rows run = map (value_at run) (filter (bit_of rows) (range_with_len 0 (le
 abbrev pub taken : MaskRows → Taken → List (Option ℤ)
 taken mask (Each values) = values.items
 taken mask (Same value) = replicate (count_by (λ row. row) mask.rows) value
+taken mask (Copied column) = chosen_values mask column.values
+
+-- a copy has a value for each of n rows, and the column takes them by its codes
+abbrev pub FitsCopy : ColumnView → ℕ → Taken → Type 0
+FitsCopy column n (Each values) = ⊤
+FitsCopy column n (Same value) = ⊤
+FitsCopy column n (Copied copy) = CanCopy column copy × (length copy.values ≡ n)
 
 -- the change has the values of the set, and is prepared for its column as it stands
 pub record IsReadyFor (columns : List ColumnView) (found : MaskRows) (set : ℕ × SetTo) (change : Change) : Type 0 where
   pub values : taken found change.values ≡ gathered columns found set.1
   pub ready : (c : ColumnView) → IsPreparedFor (slice_index_or columns set.0 c) (taken found change.values) false change.prepared
+  pub fits : (c : ColumnView) → FitsCopy (slice_index_or columns set.0 c) (len found) change.values
 
 abbrev pub AreReadyFor : List ColumnView → MaskRows → List (ℕ × SetTo) → List Change → Type 0
 AreReadyFor columns found sets changes = (j : ℕ) (s : ℕ × SetTo) (d : Change) → j < length changes → IsReadyFor columns found (slice_index_or sets j s) (slice_index_or changes j d)

@@ -1,12 +1,11 @@
 //! The values of a column in the rows of a mask.
 
-ghost use Rattle.std.specs.Prelude.{All, IfOk, length, map, take, vec_len, ◌<◌, ◌^◌, ◌≡◌, ◌≤◌};
+ghost use Rattle.std.specs.Prelude.{All, IfOk, length, take, vec_len, ◌<◌, ◌≡◌, ◌≤◌};
 ghost use Rattle.bw_mask.specs.Masks.{bit_of, len};
-ghost use Rattle.bw_column.specs.Values.{IsNullOrInteger, value_at};
-ghost use Rattle.bw_table.specs.Changes.{places};
-ghost use Rattle.bw_table.specs.Sets.{gathered, picked};
+ghost use Rattle.bw_column.specs.Places.{chosen_values};
+ghost use Rattle.bw_column.specs.Values.{IsNullOrInteger};
+ghost use Rattle.bw_table.specs.Sets.{picked};
 
-use crate::setting::SetTo;
 use bw_column::Column;
 use bw_mask::Mask;
 use std::alloc::{AllocError, Global};
@@ -41,14 +40,14 @@ fn pick(run: &[Option<i64>], rows: u64, out: &mut [Option<i64>; 64]) -> usize
 }
 
 /// The values of the rows of a mask, in order. Where many of a word's rows are asked for, the word's are read at once.
-fn gather_column(
+pub(crate) fn gather(
     column: &Column,
     alloc: Global,
     mask: &Mask,
 ) -> Result<Vec<Option<i64>>, AllocError>
     requires long { length column.now.values ≡ len mask.now }
     requires integers { All IsNullOrInteger column.now.values }
-    ensures values { IfOk result (λ values. values.items ≡ map (value_at column.now.values) (places mask.now)) }
+    ensures values { IfOk result (λ values. values.items ≡ chosen_values mask.now column.now.values) }
     ensures integers { IfOk result (λ values. All IsNullOrInteger values.items) }
     ensures few { IfOk result (λ values. vec_len values ≤ len mask.now) }
 {
@@ -71,21 +70,4 @@ fn gather_column(
         }
     }
     Ok(values)
-}
-
-/// The values of column k in the rows of a mask, in order.
-pub(crate) fn gather(
-    columns: &Vec<Column>,
-    alloc: Global,
-    mask: &Mask,
-    k: usize,
-) -> Result<Vec<Option<i64>>, AllocError>
-    requires there { k < vec_len columns.now }
-    requires long { All (λ column. length column.values ≡ len mask.now) columns.now.items }
-    requires integers { All (λ column. All IsNullOrInteger column.values) columns.now.items }
-    ensures values { IfOk result (λ values. values.items ≡ gathered columns.now.items mask.now (SetTo.Column k)) }
-    ensures integers { IfOk result (λ values. All IsNullOrInteger values.items) }
-    ensures few { IfOk result (λ values. vec_len values ≤ len mask.now) }
-{
-    gather_column(&columns[k], alloc, mask)
 }

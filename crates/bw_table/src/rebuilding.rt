@@ -2,6 +2,7 @@
 
 ghost use Rattle.std.specs.Prelude.{All, IfOk, length, ◌^◌, ◌≡◌, ◌≤◌};
 ghost use Rattle.bw_code.specs.Encodings.{IsFit, kind_of};
+ghost use Rattle.bw_column.specs.Places.{chosen_values};
 ghost use Rattle.bw_column.specs.Values.{IsNullOrInteger, known};
 ghost use Rattle.bw_mask.specs.Masks.{len};
 ghost use Rattle.bw_table.specs.Changes.{chosen_kind, chosen_layout};
@@ -9,28 +10,51 @@ ghost use Rattle.bw_table.specs.Sets.{AllBuilt};
 
 use crate::choice::{Choice, choice_of, chosen_kind, chosen_layout};
 use crate::gathering::gather;
+use bw_cells::Measured;
 use bw_column::Column;
 use bw_mask::Mask;
 use std::alloc::{AllocError, Global};
 
 /// A column of these values, in the layout and of the kind that are chosen, or those of the column `own`.
 #[tactic(auto, using(bw_column::proofs::Held::all_held))]
-fn built_as(
+fn built_as<C: Measured>(
     alloc: Global,
     own: &Column,
     choice: Option<Choice>,
-    values: &[Option<i64>],
+    values: &C,
 ) -> Result<Column, AllocError>
-    requires integers { All IsNullOrInteger values.now }
-    requires few { length values.now ≤ 2 ^ 24 }
-    ensures values { IfOk result (λ c. c.values ≡ values.now) }
+    requires integers { All IsNullOrInteger (C.cells values.now) }
+    requires few { length (C.cells values.now) ≤ 2 ^ 24 }
+    ensures values { IfOk result (λ c. c.values ≡ C.cells values.now) }
     ensures layout { IfOk result (λ c. c.layout ≡ chosen_layout choice own.now.layout) }
-    ensures fits { IfOk result (λ c. IsFit (known values.now) c.encoding) }
+    ensures fits { IfOk result (λ c. IsFit (known (C.cells values.now)) c.encoding) }
     ensures kind { IfOk result (λ c. kind_of c.encoding ≡ chosen_kind choice (kind_of own.now.encoding)) }
 {
     let layout = chosen_layout(choice, own.layout());
     let kind = chosen_kind(choice, own.kind());
-    Column::build(alloc, &values, layout, kind)
+    Column::build(alloc, values, layout, kind)
+}
+
+/// A column built anew from its values in the rows of a mask. Where these are all of its rows, no list of them is made.
+fn built_anew(
+    alloc: Global,
+    own: &Column,
+    mask: &Mask,
+    choice: Option<Choice>,
+) -> Result<Column, AllocError>
+    requires long { length own.now.values ≡ len mask.now }
+    requires integers { All IsNullOrInteger own.now.values }
+    requires few { len mask.now ≤ 2 ^ 24 }
+    ensures values { IfOk result (λ c. c.values ≡ chosen_values mask.now own.now.values) }
+    ensures layout { IfOk result (λ c. c.layout ≡ chosen_layout choice own.now.layout) }
+    ensures fits { IfOk result (λ c. IsFit (known (chosen_values mask.now own.now.values)) c.encoding) }
+    ensures kind { IfOk result (λ c. kind_of c.encoding ≡ chosen_kind choice (kind_of own.now.encoding)) }
+{
+    if mask.count() == own.len() {
+        return built_as(alloc, own, choice, own);
+    }
+    let values = gather(own, alloc, mask)?;
+    built_as(alloc, own, choice, &values.as_slice())
 }
 
 /// Each column built anew from its values in the rows of a mask, as the choices say.
@@ -47,8 +71,7 @@ pub(crate) fn build_anew(
 {
     let mut built = Vec::with_capacity(alloc, columns.len())?;
     for k in 0..columns.len() {
-        let values = gather(columns, alloc, mask, k)?;
-        let column = built_as(alloc, &columns[k], choice_of(choices, k), &values)?;
+        let column = built_anew(alloc, &columns[k], mask, choice_of(choices, k))?;
         built.push(column)?;
     }
     Ok(built)

@@ -40,7 +40,7 @@ pub(crate) fn prepare_sets(
     let mut changes = Vec::with_capacity(alloc, sets.len())?;
     for set in sets {
         let (k, to) = *set;
-        let values = values_for(columns, alloc, found, to)?;
+        let values = values_for(columns, alloc, found, k, to)?;
         let prepared = make_ready(&mut columns[k], alloc, found, &values)?;
         changes.push(Change { prepared, values })?;
     }

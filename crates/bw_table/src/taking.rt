@@ -1,13 +1,13 @@
 //! What a column takes in the rows of a mask: a value for each of them, or one for all.
 
-ghost use Rattle.std.specs.Prelude.{All, IfOk, count_by, false, length, vec_len, ◌^◌, ◌≡◌, ◌≤◌};
+ghost use Rattle.std.specs.Prelude.{All, IfOk, count_by, false, length, slice_index_or, vec_len, ◌<◌, ◌^◌, ◌≡◌, ◌≤◌};
 ghost use Rattle.bw_mask.specs.Masks.{len};
-ghost use Rattle.bw_column.specs.Columns.{Keeps};
-ghost use Rattle.bw_column.specs.Places.{overwritten};
+ghost use Rattle.bw_column.specs.Columns.{ColumnView, Keeps};
+ghost use Rattle.bw_column.specs.Places.{chosen_values, overwritten};
 ghost use Rattle.bw_column.specs.Preparing.{IsEncodingFor, IsPreparedFor};
-ghost use Rattle.bw_column.specs.Values.{IsNullOrInteger};
+ghost use Rattle.bw_column.specs.Values.{IsNullOrHeld, IsNullOrInteger};
 ghost use Rattle.bw_table.specs.Changes.{IsSetTo};
-ghost use Rattle.bw_table.specs.Sets.{gathered, taken};
+ghost use Rattle.bw_table.specs.Sets.{FitsCopy, gathered, taken};
 
 use crate::gathering::gather;
 use crate::setting::SetTo;
@@ -22,6 +22,8 @@ pub(crate) enum Taken {
     Each(Vec<Option<i64>>),
     /// The same for all rows, and no list of it.
     Same(Option<i64>),
+    /// Those of a copy of a column, which is read again when they are taken.
+    Copied(Column),
 }
 
 /// What one column takes: the values, and what it has prepared for them.
@@ -31,21 +33,51 @@ pub(crate) struct Change {
     pub(crate) values: Taken,
 }
 
-/// The values that a column is set to in the rows of a mask.
+/// Whether so many of a column's rows are meant that a copy of all of it costs less than a list of their values.
+fn are_many(mask: &Mask) -> bool {
+    mask.len() / 8 < mask.count()
+}
+
+/// The values of a column in the rows of a mask, for another column to take.
+fn values_from(
+    target: &Column,
+    column: &Column,
+    alloc: Global,
+    mask: &Mask,
+) -> Result<Taken, AllocError>
+    requires long { length column.now.values ≡ len mask.now }
+    requires held { All (IsNullOrHeld target.now.layout) column.now.values }
+    requires integers { All IsNullOrInteger column.now.values }
+    ensures values { IfOk result (λ values. taken mask.now values ≡ chosen_values mask.now column.now.values) }
+    ensures fits { IfOk result (FitsCopy target.now (len mask.now)) }
+{
+    if are_many(mask) {
+        if let Some(copy) = target.copy_of(alloc, column)? {
+            return Ok(Taken::Copied(copy));
+        }
+    }
+    Ok(Taken::Each(gather(column, alloc, mask)?))
+}
+
+/// The values that column k is set to in the rows of a mask.
+#[tactic(auto, using(bw_column::proofs::Held::all_held))]
 pub(crate) fn values_for(
     columns: &Vec<Column>,
     alloc: Global,
     mask: &Mask,
+    k: usize,
     to: SetTo,
 ) -> Result<Taken, AllocError>
+    requires named { k < vec_len columns.now }
     requires to { IsSetTo (vec_len columns.now) to }
     requires long { All (λ column. length column.values ≡ len mask.now) columns.now.items }
     requires integers { All (λ column. All IsNullOrInteger column.values) columns.now.items }
-    ensures { IfOk result (λ values. taken mask.now values ≡ gathered columns.now.items mask.now to) }
+    ensures values { IfOk result (λ values. taken mask.now values ≡ gathered columns.now.items mask.now to) }
+    ensures fits { (d : ColumnView) → IfOk result (FitsCopy (slice_index_or columns.now.items k d) (len mask.now)) }
 {
     match to {
         SetTo::Value(x) => Ok(Taken::Same(x)),
-        SetTo::Column(k) => Ok(Taken::Each(gather(columns, alloc, mask, k)?)),
+        SetTo::Column(from) => values_from(&columns[k], &columns[from], alloc, mask),
     }
 }
 
@@ -60,12 +92,14 @@ pub(crate) fn make_ready(
     requires integers { All IsNullOrInteger (taken mask.now values.now) }
     requires count { length (taken mask.now values.now) ≤ 2 ^ 24 }
     requires few { length column.old.values ≤ 2 ^ 24 }
+    requires fits { FitsCopy column.old (len mask.now) values.now }
     ensures prepared { IfOk result (IsPreparedFor column.new (taken mask.now values.now) false) }
     ensures keeps { Keeps column.new column.old }
 {
     match values {
         Taken::Each(list) => column.room_for(alloc, &list.as_slice(), false),
         Taken::Same(value) => column.room_to_fill(alloc, *value, mask.count()),
+        Taken::Copied(copy) => column.room_to_copy(mask, copy),
     }
 }
 
@@ -74,6 +108,7 @@ pub(crate) fn take(column: &mut Column, mask: &Mask, change: Change)
     requires prepared { IsPreparedFor column.old (taken mask.now change.values) false change.prepared }
     requires mask { len mask.now ≡ length column.old.values }
     requires count { count_by (λ row. row) mask.now.rows ≡ length (taken mask.now change.values) }
+    requires fits { FitsCopy column.old (len mask.now) change.values }
     ensures values { column.new.values ≡ overwritten mask.now (taken mask.now change.values) column.old.values }
     ensures layout { column.new.layout ≡ column.old.layout }
     ensures encoding { IsEncodingFor column.old.values column.old.encoding (taken mask.now change.values) column.new.encoding }
@@ -82,5 +117,6 @@ pub(crate) fn take(column: &mut Column, mask: &Mask, change: Change)
     match values {
         Taken::Each(list) => column.overwrite(prepared, mask, &list),
         Taken::Same(value) => column.fill(prepared, mask, value),
+        Taken::Copied(copy) => column.copy_from(mask, &copy),
     }
 }

@@ -107,6 +107,52 @@ fn filled<R: Abort + AllocGlobal>(
     column
 }
 
+/// The column with another's values in the chosen rows. Both have one layout, and codes for the same values.
+fn copied<R: Abort + AllocGlobal>(
+    rt: &R,
+    mut column: Column,
+    other: &Column,
+    places: &Mask,
+) -> Column {
+    let count = other.len();
+    assert!(rt; column.layout() == other.layout());
+    assert!(rt; places.len() == column.len() && count == column.len());
+    let copy = column
+        .copy_of(rt.alloc(), other)
+        .expect(rt, "memory")
+        .expect(rt, "a code for each value");
+    let _prepared = column.room_to_copy(places, &copy).expect(rt, "memory");
+    column.copy_from(places, &copy);
+    column
+}
+
+/// The values of a round from the last row to the first.
+fn turned<R: Abort + AllocGlobal>(rt: &R, round: usize) -> Vec<Option<i64>>
+    ensures { vec_len result ≡ 300 }
+{
+    let mut values = Vec::new(rt.alloc());
+    for row in 0..ROWS {
+        values
+            .push(value_at(round, ROWS - 1 - row))
+            .expect(rt, "memory");
+    }
+    values
+}
+
+/// What the rows have after the chosen ones took the values of the rows turned round.
+fn wanted_of_copy<R: Abort + AllocGlobal>(rt: &R, round: usize) -> Vec<Option<i64>> {
+    let mut values = Vec::new(rt.alloc());
+    for row in 0..ROWS {
+        let from = if is_chosen(round, row) {
+            ROWS - 1 - row
+        } else {
+            row
+        };
+        values.push(value_at(round, from)).expect(rt, "memory");
+    }
+    values
+}
+
 /// What the rows have after the values of the next round were put in the chosen ones, or this one value.
 fn wanted<R: Abort + AllocGlobal>(
     rt: &R,
@@ -141,6 +187,48 @@ fn check_literal_put<R: Abort + AllocGlobal>(
     let column = column_of(rt, &values_of(rt, round), layout, kind);
     let column = filled(rt, column, &chosen_rows(rt, round), literal);
     see_values(rt, &column, &wanted(rt, round, Some(literal)));
+}
+
+fn check_copied<R: Abort + AllocGlobal>(rt: &R, layout: Layout, round: usize) {
+    let column = column_of(rt, &values_of(rt, round), layout, Kind::Offset);
+    let other = column_of(rt, &turned(rt, round), layout, Kind::Offset);
+    let column = copied(rt, column, &other, &chosen_rows(rt, round));
+    see_values(rt, &column, &wanted_of_copy(rt, round));
+}
+
+/// Whether a column of one list has a copy of a column of another.
+fn has_copy<R: Abort + AllocGlobal>(
+    rt: &R,
+    values: &[Option<i64>],
+    others: &[Option<i64>],
+    kind: Kind,
+) -> bool {
+    let column = column_of(rt, values, Layout::V, kind);
+    let other = column_of(rt, others, Layout::V, Kind::Offset);
+    column
+        .copy_of(rt.alloc(), &other)
+        .expect(rt, "memory")
+        .is_some()
+}
+
+#[test]
+fn copies_of_runs(rt: HostRuntime) {
+    for layout in LAYOUTS {
+        for round in 0..15 {
+            check_copied(&rt, layout, round);
+        }
+    }
+}
+
+#[test]
+fn copies_where_each_value_has_a_code(rt: HostRuntime) {
+    let values = [Some(10), None, Some(13)];
+    assert!(rt; has_copy(&rt, &values, &[Some(12), None, Some(13)], Kind::Offset));
+    assert!(rt; has_copy(&rt, &values, &[Some(10), Some(11), Some(13)], Kind::Offset));
+    assert!(rt; !has_copy(&rt, &values, &[Some(9), Some(12), None], Kind::Offset));
+    assert!(rt; !has_copy(&rt, &values, &[Some(12), Some(14), None], Kind::Offset));
+    assert!(rt; !has_copy(&rt, &values, &[Some(14), None, None], Kind::Offset));
+    assert!(rt; !has_copy(&rt, &values, &[Some(12), None, Some(13)], Kind::Dictionary));
 }
 
 #[test]

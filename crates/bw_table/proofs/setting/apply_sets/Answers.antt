@@ -3,7 +3,7 @@ use Rattle.bw_table.specs.Sets.{taken}
 use Rattle.bw_table.specs.declared.setting.SetTo.{SetTo}
 use Rattle.bw_table.specs.declared.setting.SetTo.TheVariants.{Value}
 use Rattle.bw_table.proofs.Readied.{front_is}
-use Rattle.bw_table.proofs.Written.{Turn, counted, keeps_here, more_set, prepared_here, turn}
+use Rattle.bw_table.proofs.Written.{Turn, counted, fits_here, keeps_here, more_set, prepared_here, turn}
 use Rattle.bw_table.proofs.setting.apply_sets.Goals as goal
 
 abbrev here : goal.After-index_mut → ℕ × SetTo
@@ -24,6 +24,9 @@ take-requires-clause-mask c =
     let column = c.index_mut.result.now in
     let low : (here c).0 < length c.args.columns.now.items = omega (arith, (turn_at c).named, (turn_at c).done.count) in
     sym (ap length (keeps_here (turn_at c) column c.index_mut.ensures.value column).values ∙ c.requires.long (here c).0 column low)
+
+pub take-requires-clause-fits : goal.take-requires-clause-fits
+take-requires-clause-fits c = fits_here (turn_at c) c.index_mut.result.now c.index_mut.ensures.value
 
 pub take-requires-clause-count : goal.take-requires-clause-count
 take-requires-clause-count c = counted c.args.columns.now.items c.args.found.now (here c).1 (taken c.args.found.now c.in-Some.change.values) (turn_at c).ready.values

@@ -1,13 +1,14 @@
 use Rattle.std.proofs.Common.{◌≡◌, ◌<◌, arith, length, get_or, set, sym, ◌∙◌, None}
 use Rattle.std.proofs.lemmas.List.{get_or_default, get_or-set_same}
 use Rattle.std.proofs.lemmas.List.Sums.{count_by-le-length}
+use Rattle.bw_mask.specs.Masks.{len}
 use Rattle.bw_column.specs.Columns.{ColumnView, Keeps}
 use Rattle.bw_table.specs.Changes.{IsSetTo}
 use Rattle.bw_table.specs.Sets.{taken}
 use Rattle.bw_table.specs.declared.setting.SetTo.TheVariants.{Value}
 use Rattle.bw_table.proofs.Readied.{kept_set}
 use Rattle.bw_table.proofs.Integers.{integers_gathered, integers_kept}
-use Rattle.bw_table.proofs.Written.{counted, gathered_kept, kept_as_is, more_ready}
+use Rattle.bw_table.proofs.Written.{counted, fits_kept, gathered_kept, kept_as_is, more_ready}
 use Rattle.bw_table.proofs.setting.prepare_sets.Goals as goal
 
 pub loop-set-preserved : goal.loop-set-preserved
@@ -27,8 +28,9 @@ loop-set-preserved c =
       count = omega (arith, c.in_ok-push.ensures.len, c.loop-set.invariant.count);
       ready = rw c.in_ok-push.ensures.items (more_ready (set columns here.0 x) columns kept c.args.found.now sets c.loop-set.changes.items _ n few c.loop-set.invariant.ready (λ s.
           rw (get_or_default sets n s (0, Value None) inside) record {
-            values = c.in_ok-values.ensures ∙ sym (gathered_kept (set columns here.0 x) columns kept c.args.found.now here.1);
+            values = c.in_ok-values.ensures.values ∙ sym (gathered_kept (set columns here.0 x) columns kept c.args.found.now here.1);
             ready = λ d. rw (get_or-set_same columns here.0 x d named) c.in_ok-prepared.ensures.prepared;
+            fits = λ d. rw (get_or-set_same columns here.0 x d named) (fits_kept x (get_or columns here.0 d) (len c.args.found.now) c.in_ok-values.values (keeps d) (c.in_ok-values.ensures.fits d));
           }));
     }
 
@@ -39,10 +41,16 @@ make_ready-requires-clause-integers c =
     let here = get_or c.args.sets.now n (0, Value None) in
     let inside : n < length c.args.sets.now = omega arith in
     let to : IsSetTo (length columns) here.1 = rw (c.loop-set.invariant.kept.count, ← c.args.columns.now.ok.0) (c.requires.values n (0, Value None) inside) in
-    rw c.in_ok-values.ensures (integers_gathered columns (integers_kept columns c.args.columns.now.items c.loop-set.invariant.kept c.requires.integers) c.args.found.now here.1 to)
+    rw c.in_ok-values.ensures.values (integers_gathered columns (integers_kept columns c.args.columns.now.items c.loop-set.invariant.kept c.requires.integers) c.args.found.now here.1 to)
 
 pub make_ready-requires-clause-count : goal.make_ready-requires-clause-count
 make_ready-requires-clause-count c =
     let found = c.args.found.now in
     let here = get_or c.args.sets.now c.loop-set.set-index (0, Value None) in
-    omega (arith, counted c.loop-set.columns.items found here.1 (taken found c.in_ok-values.values) c.in_ok-values.ensures, count_by-le-length (λ row. row) found.rows, c.requires.few)
+    omega (arith, counted c.loop-set.columns.items found here.1 (taken found c.in_ok-values.values) c.in_ok-values.ensures.values, count_by-le-length (λ row. row) found.rows, c.requires.few)
+
+pub values_for-requires-clause-named : goal.values_for-requires-clause-named
+values_for-requires-clause-named c = omega (arith, c.requires.named c.loop-set.set-index (0, Value None) (omega arith), c.loop-set.invariant.kept.count, c.args.columns.now.ok.0, c.loop-set.columns.ok.0)
+
+pub make_ready-requires-clause-fits : goal.make_ready-requires-clause-fits
+make_ready-requires-clause-fits c = rw c.index_mut.ensures.value (c.in_ok-values.ensures.fits c.index_mut.result.now)

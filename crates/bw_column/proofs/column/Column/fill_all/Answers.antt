@@ -2,7 +2,7 @@ use Rattle.std.proofs.Common.{arith, count_by, refl, replicate}
 use Rattle.std.specs.List.{All}
 use Rattle.bw_column.specs.Codes.{IsCoded}
 use Rattle.bw_column.specs.Values.{IsNullOrHeld}
-use Rattle.bw_column.proofs.Filled.{all_filled, some_set}
+use Rattle.bw_column.proofs.Filled.{all_filled, one_for_all, some_set}
 use Rattle.bw_column.proofs.Repeated.{once}
 use Rattle.bw_column.proofs.column.Column.fill_all.Goals as goal
 
@@ -18,4 +18,4 @@ pub fill_with-requires-clause-held : goal.fill_with-requires-clause-held
 fill_with-requires-clause-held c = once (IsNullOrHeld c.args.self.now.layout) (count_by (λ row. row) c.args.places.now.rows) c.args.value (some_set c.args.places.now c.in-Some._place c.in-Some.ensures.1) c.requires.held
 
 pub returns-in_default-clause-values : goal.returns-in_default-clause-values
-returns-in_default-clause-values c = all_filled c.args.places.now c.args.value c.args.self.now.values c.args.self.now.values 0 refl (λ k h. absurd (omega (arith, h))) (λ k h. refl) c.in_default.ensures
+returns-in_default-clause-values c = all_filled c.args.places.now (λ _. c.args.value) c.args.self.now.values c.args.self.now.values 0 refl (λ k h. absurd (omega (arith, h))) (λ k h. refl) (replicate (count_by (λ row. row) c.args.places.now.rows) c.args.value) (one_for_all c.args.places.now c.args.value) c.in_default.ensures

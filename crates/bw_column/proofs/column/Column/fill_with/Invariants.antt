@@ -8,7 +8,7 @@ abbrev pub invariant-loop-place : goal.invariant-loop-place
 invariant-loop-place l = record {
   at : l.at ≤ len l.places;
   len : length l.self.values ≡ length l.fn.self.values;
-  done : (k : ℕ) → k < l.at → get_or l.self.values k None ≡ fill_at l.places l.value l.fn.self.values k;
+  done : (k : ℕ) → k < l.at → get_or l.self.values k None ≡ fill_at l.places (λ _. l.value) l.fn.self.values k;
   rest : (k : ℕ) → l.at ≤ k → get_or l.self.values k None ≡ get_or l.fn.self.values k None;
   layout : l.self.layout ≡ l.fn.self.layout;
   encoding : l.self.encoding ≡ l.fn.self.encoding;

@@ -10,7 +10,7 @@ use Rattle.bw_column.proofs.Overwriting.{below_len}
 use Rattle.bw_table.specs.Changes.{places, places_below}
 use Rattle.bw_table.proofs.Picks.{gathered_run, picked_run}
 use Rattle.bw_table.proofs.Places.{count_places, gathered_all, gathered_next, places_between, places_inside}
-use Rattle.bw_table.proofs.gathering.gather_column.Goals as goal
+use Rattle.bw_table.proofs.gathering.gather.Goals as goal
 
 pub loop-row-preserved-then-rows-lt-FEW : goal.loop-row-preserved-then-rows-lt-FEW
 loop-row-preserved-then-rows-lt-FEW c =

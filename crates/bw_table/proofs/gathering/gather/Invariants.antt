@@ -2,7 +2,7 @@ use Rattle.std.proofs.Common.{◌≡◌, ◌≤◌, ◌-◌, map}
 use Rattle.bw_mask.specs.Masks.{len}
 use Rattle.bw_column.specs.Values.{value_at}
 use Rattle.bw_table.specs.Changes.{places_below}
-use Rattle.bw_table.proofs.gathering.gather_column.Given as goal
+use Rattle.bw_table.proofs.gathering.gather.Given as goal
 
 -- the values of the places below this row
 abbrev pub invariant-loop-row : goal.invariant-loop-row
