@@ -10,7 +10,7 @@ use Rattle.bw_code.specs.Encodings.{IsCode, IsEncoding, value_of, width}
 use Rattle.bw_code.specs.declared.encoding.Encoding.{Encoding}
 use Rattle.bw_column.specs.Codes.{IsCoded, code_for}
 use Rattle.bw_column.specs.Values.{IsNullOrStorable, value_at}
-use Rattle.bw_model.specs.SetFunctions.{known, sorted}
+use Rattle.bw_cells.specs.SetFunctions.{known, sorted}
 use Rattle.bw_aggregate.specs.Descents.{IsNthCode, end_of}
 use Rattle.bw_aggregate.specs.Ends.{IsNearest, distance}
 use Rattle.bw_aggregate.specs.declared.end.End.{End}

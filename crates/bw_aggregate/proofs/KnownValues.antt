@@ -11,7 +11,7 @@ use Rattle.bw_code.proofs.Codes.{code_back, code_low}
 use Rattle.bw_column.specs.Codes.{IsCoded, code_for}
 use Rattle.bw_column.proofs.Rows.{code_is}
 use Rattle.bw_column.specs.Values.{value_at}
-use Rattle.bw_model.specs.SetFunctions.{known}
+use Rattle.bw_cells.specs.SetFunctions.{known}
 use Rattle.bw_aggregate.proofs.Counting.{common, common_at, common_len, count_no, count_yes}
 use Rattle.bw_aggregate.proofs.Values.{IsOwn}
 

@@ -2,7 +2,7 @@
 use Rattle.std.proofs.Common.{Bool, List, [], ap, arith, cond, count_by, false, length, refl, suc, sym, true, zero, ℕ, ℤ, ◌+◌, ◌<◌, ◌<ℤ◌, ◌≡◌, ◌≤◌, ◌≤ℤ◌, ◌∙◌, ◌∷◌, None, Some, int_le}
 use Rattle.std.proofs.lemmas.Int.{by_lt_z, ints}
 use Rattle.std.specs.Prelude.{int_lt, slice_get}
-use Rattle.bw_model.specs.SetFunctions.{put_in, sorted}
+use Rattle.bw_cells.specs.SetFunctions.{put_in, sorted}
 use Rattle.bw_aggregate.proofs.Counting.{count_cons, count_no, count_yes}
 
 pub length-put_in : (x : ℤ) (xs : List ℤ) → length (put_in x xs) ≡ suc (length xs)

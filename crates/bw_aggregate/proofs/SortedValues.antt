@@ -8,7 +8,7 @@ use Rattle.bw_code.specs.Encodings.{IsCode, IsEncoding, value_of}
 use Rattle.bw_code.specs.declared.encoding.Encoding.{Encoding}
 use Rattle.bw_column.specs.Codes.{IsCoded, code_for}
 use Rattle.bw_column.specs.Values.{IsNullOrStorable, value_at}
-use Rattle.bw_model.specs.SetFunctions.{known, sorted}
+use Rattle.bw_cells.specs.SetFunctions.{known, sorted}
 use Rattle.bw_aggregate.specs.Descents.{IsNthCode}
 use Rattle.bw_aggregate.proofs.Counting.{length_chosen}
 use Rattle.bw_aggregate.proofs.KnownValues.{AreKnown, all_of_known, all_own, coded_all, known_is}

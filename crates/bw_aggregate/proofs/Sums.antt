@@ -14,8 +14,8 @@ use Rattle.bw_code.proofs.Codes.{code_back}
 use Rattle.bw_code.specs.Encodings.{IsEncoding}
 use Rattle.bw_code.specs.declared.encoding.Encoding.{Encoding}
 use Rattle.bw_column.specs.Codes.{IsCoded, code_for}
-use Rattle.bw_model.specs.SetFunctions
-use Rattle.bw_model.specs.SetFunctions.{known, total}
+use Rattle.bw_cells.specs.SetFunctions
+use Rattle.bw_cells.specs.SetFunctions.{known, total}
 use Rattle.bw_aggregate.proofs.KnownValues.{AreCoded, coded_all}
 use Rattle.bw_aggregate.specs.Chosen.{value_in}
 

@@ -5,7 +5,7 @@ use Rattle.std.specs.Prelude.{All}
 use Rattle.bw_code.specs.Encodings.{IsEncoding, width}
 use Rattle.bw_code.specs.declared.encoding.Encoding.{Encoding}
 use Rattle.bw_column.specs.Codes.{IsCoded, code_for}
-use Rattle.bw_model.specs.SetFunctions.{known}
+use Rattle.bw_cells.specs.SetFunctions.{known}
 use Rattle.bw_aggregate.specs.Descents.{BeginsAll}
 use Rattle.bw_aggregate.proofs.Descents.{all_chosen}
 use Rattle.bw_aggregate.proofs.KnownValues.{AreKnown, codes_low, count_known}

@@ -10,7 +10,7 @@ use Rattle.std.specs.Prelude.{All, int_lt}
 use Rattle.bw_code.specs.Encodings.{IsEncoding, code_of, value_of}
 use Rattle.bw_code.specs.declared.encoding.Encoding.{Encoding}
 use Rattle.bw_code.proofs.Codes.{value_less}
-use Rattle.bw_model.specs.SetFunctions.{total}
+use Rattle.bw_cells.specs.SetFunctions.{total}
 use Rattle.bw_aggregate.proofs.Counting.{count_cons, count_no}
 use Rattle.bw_aggregate.specs.Descents.{IsNthCode}
 use Rattle.bw_aggregate.proofs.Ranks.{IsRanked}

@@ -4,7 +4,7 @@ use Rattle.std.specs.List.{items_where_true}
 use Rattle.bw_mask.specs.Masks.{MaskRows, len, row_at}
 use Rattle.bw_column.specs.Columns.{ColumnView}
 use Rattle.bw_column.specs.Values.{value_at}
-use Rattle.bw_model.specs.SetFunctions.{known}
+use Rattle.bw_cells.specs.SetFunctions.{known}
 
 abbrev pub chosen : ColumnView → MaskRows → List ℤ
 chosen column rows = known (items_where_true rows.rows column.values)

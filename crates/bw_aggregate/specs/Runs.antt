@@ -2,7 +2,7 @@
 use Rattle.std.specs.Prelude.{Bool, List, Option, false, length, slice_index_or, sum, take, ℕ, ℤ, ◌%◌, ◌+◌, ◌/◌, ◌<◌, ◌^◌, ◌≡◌, ◌≤◌}
 use Rattle.std.specs.List.{items_where_true}
 use Rattle.bw_mask.specs.Masks.{bit_of}
-use Rattle.bw_model.specs.SetFunctions.{known, total}
+use Rattle.bw_cells.specs.SetFunctions.{known, total}
 
 -- the sum of the codes of the rows in front of place n that are in
 abbrev pub code_sum : List Bool → List ℕ → ℕ → ℕ

@@ -1,6 +1,6 @@
 -- What was asked of values, all of it told by one look at their codes.
 use Rattle.std.specs.Prelude.{List, None, if◌then◌else◌, length, ℤ, ◌≡◌}
-use Rattle.bw_model.specs.SetFunctions.{greatest, least, median, sum}
+use Rattle.bw_cells.specs.SetFunctions.{greatest, least, median, sum}
 use Rattle.bw_aggregate.specs.declared.summary.Asked.{Asked}
 use Rattle.bw_aggregate.specs.declared.summary.Summary.{Summary}
 

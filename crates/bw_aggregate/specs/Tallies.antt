@@ -6,7 +6,7 @@ use Rattle.bw_code.specs.Encodings.{width}
 use Rattle.bw_column.specs.Codes.{codes_for}
 use Rattle.bw_column.specs.Columns.{ColumnView}
 use Rattle.bw_column.specs.Values.{value_at}
-use Rattle.bw_model.specs.SetFunctions as functions
+use Rattle.bw_cells.specs.SetFunctions as functions
 use Rattle.bw_aggregate.specs.Chosen.{chosen}
 use Rattle.bw_aggregate.specs.Ends.{AreNearest}
 use Rattle.bw_aggregate.specs.declared.end.Distances.{Distances}

@@ -5,7 +5,7 @@ ghost use Rattle.bw_mask.specs.Masks.{len, row_at};
 ghost use Rattle.bw_code.specs.Encodings.{width};
 ghost use Rattle.bw_column.specs.Codes.{codes_for};
 ghost use Rattle.bw_column.specs.Values.{IsNullOrHeld, value_at};
-ghost use Rattle.bw_model.specs.SetFunctions.{sorted};
+ghost use Rattle.bw_cells.specs.SetFunctions.{sorted};
 ghost use Rattle.bw_aggregate.specs.Chosen.{chosen};
 ghost use Rattle.bw_aggregate.specs.Descents.{end_of};
 ghost use Rattle.bw_aggregate.specs.Ends.{IsNearest};

@@ -7,7 +7,7 @@ ghost use Rattle.bw_code.specs.Columns.{Fit};
 ghost use Rattle.bw_code.specs.Encodings.{width};
 ghost use Rattle.bw_column.specs.Codes.{codes_for};
 ghost use Rattle.bw_column.specs.Values.{IsNullOrHeld};
-ghost use Rattle.bw_model.specs.SetFunctions.{median};
+ghost use Rattle.bw_cells.specs.SetFunctions.{median};
 ghost use Rattle.bw_aggregate.specs.Chosen.{AreKnownRows, chosen};
 ghost use Rattle.bw_aggregate.specs.Descending.{IsDescent};
 ghost use Rattle.bw_aggregate.specs.Descents.{IsNthCode};

@@ -3,7 +3,7 @@
 ghost use Rattle.std.specs.Prelude.{All, Bool, List, Option, drop, if◌then◌else◌, length, map, pos, slice_index, sum, take, unsigned_abs, unwrap_or, ℕ, ℤ, ◌*◌, ◌+◌, ◌+ℤ◌, ◌<◌, ◌^◌, ◌≡◌, ◌≤◌};
 ghost use Rattle.bw_mask.specs.Masks.{bit_of, len};
 ghost use Rattle.bw_column.specs.Values.{IsNullOrHeld, IsNullOrStorable, value_at};
-ghost use Rattle.bw_model.specs.SetFunctions.{total};
+ghost use Rattle.bw_cells.specs.SetFunctions.{total};
 ghost use Rattle.bw_aggregate.specs.Chosen.{chosen};
 ghost use Rattle.bw_aggregate.specs.Runs.{IsRun, code_sum, lower_half, upper_half, value_total};
 

@@ -2,7 +2,7 @@
 
 ghost use Rattle.std.specs.Prelude.{◌≡◌, IfOk, length};
 ghost use Rattle.bw_mask.specs.Masks.{len};
-ghost use Rattle.bw_model.specs.SetFunctions.{greatest, least, median, sum};
+ghost use Rattle.bw_cells.specs.SetFunctions.{greatest, least, median, sum};
 ghost use Rattle.bw_aggregate.specs.Chosen.{chosen};
 
 use crate::known::known_count;

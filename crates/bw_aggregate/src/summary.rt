@@ -3,7 +3,7 @@
 ghost use Rattle.std.specs.Prelude.{All, IfOk, None, if◌then◌else◌, length, ◌+◌, ◌-◌, ◌/◌, ◌<◌, ◌≡◌, ◌≤◌, ◌^◌};
 ghost use Rattle.bw_mask.specs.Masks.{len};
 ghost use Rattle.bw_column.specs.Values.{IsNullOrHeld};
-ghost use Rattle.bw_model.specs.SetFunctions.{median};
+ghost use Rattle.bw_cells.specs.SetFunctions.{median};
 ghost use Rattle.bw_aggregate.specs.Chosen.{chosen};
 ghost use Rattle.bw_aggregate.specs.Summaries.{IsSummary};
 

@@ -5,7 +5,7 @@ ghost use Rattle.bw_mask.specs.Masks.{len, row_at};
 ghost use Rattle.bw_code.specs.Encodings.{width};
 ghost use Rattle.bw_column.specs.Codes.{codes_for};
 ghost use Rattle.bw_column.specs.Values.{value_at};
-ghost use Rattle.bw_model.specs.SetFunctions.{sum};
+ghost use Rattle.bw_cells.specs.SetFunctions.{sum};
 ghost use Rattle.bw_aggregate.specs.Chosen.{chosen};
 ghost use Rattle.bw_aggregate.specs.Tallies.{IsTally, IsTold};
 

@@ -9,18 +9,10 @@ ghost use Rattle.bw_byteslice.specs.Storing.{byte_of, bytes_of, capacities_of};
 
 use crate::shift::{byte_at, raise};
 use crate::storage::{put_bytes, raise_codes, raise_parts};
+use bw_mask::has_bit;
 
 /// How many rows a run has at most.
 const RUN: usize = 64;
-
-/// Whether bit i is set.
-#[tactic(auto, using(bw_mask::proofs::Bits::bit_test))]
-fn has_bit(word: u64, i: usize) -> bool
-    requires { i < 64 }
-    ensures { result ≡ bit_of word i }
-{
-    word >> i & 1 == 1
-}
 
 /// Whether each row is chosen: row i where bit i is set.
 fn choose(rows: u64, chosen: &mut [bool])
@@ -33,7 +25,9 @@ fn choose(rows: u64, chosen: &mut [bool])
     }
 }
 
-/// Puts bytes, each where its row is chosen. The others stay.
+/// Puts bytes, each where its row is chosen. The others stay. A call of its own: taken into its callers, the loop is not
+/// made of vectors.
+#[inline(never)]
 fn put_chosen(kept: &mut [u8], chosen: &[bool], bytes: &[u8])
     requires chosen { length chosen.now ≡ length kept.old }
     requires long { length kept.old ≤ length bytes.now }

@@ -1,2 +1,3 @@
 pub mod Distances
 pub mod Known
+pub mod SetFunctions

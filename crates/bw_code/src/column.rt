@@ -10,8 +10,7 @@ ghost use Rattle.bw_code.specs.Units.{units_of_pair, units_of_scan};
 
 use crate::compare::{CmpOp, CodeTest};
 use crate::meter::Meter;
-use crate::shift::has_bit;
-use bw_mask::Mask;
+use bw_mask::{Mask, has_bit};
 use std::alloc::{AllocError, Global};
 
 /// A column of at most 16,777,216 codes, each below 2^width. Row i has code i.

@@ -5,22 +5,13 @@ ghost use Rattle.bw_mask.specs.Masks.{bit_of, row_at};
 ghost use Rattle.bw_code.specs.Columns.{Fit};
 ghost use Rattle.bw_code.specs.Shifts.{moved, shifted, IsWord, StaysBelow};
 
-use bw_mask::Mask;
+use bw_mask::{Mask, has_bit};
 
 /// What is added modulo 2^64 to count a code from another base.
 pub fn word_between(from: i64, to: i64) -> u64
     ensures { IsWord (from -ℤ to) result }
 {
     from.cast_unsigned().wrapping_sub(to.cast_unsigned())
-}
-
-/// Whether bit i is set.
-#[tactic(auto, using(bw_mask::proofs::Bits::bit_test))]
-pub(crate) fn has_bit(word: u64, i: usize) -> bool
-    requires { i < 64 }
-    ensures { result ≡ bit_of word i }
-{
-    word >> i & 1 == 1
 }
 
 /// The code, and so much more where it is to move, modulo 2^64.

@@ -4,7 +4,7 @@ ghost use Rattle.std.specs.Prelude.{false, if◌then◌else◌, length, slice_in
 ghost use Rattle.bw_mask.specs.Masks.{bit_of};
 ghost use Rattle.bw_code.specs.Columns.{filled_codes, put_codes};
 
-use crate::shift::has_bit;
+use bw_mask::has_bit;
 
 /// Puts codes, each where its bit is set. The others stay.
 fn put_chosen(kept: &mut [u64], rows: u64, codes: &[u64])

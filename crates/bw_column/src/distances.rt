@@ -8,12 +8,11 @@ ghost use Rattle.bw_code.specs.declared.encoding.Encoding.TheVariants as by;
 ghost use Rattle.bw_column.specs.Codes.{AreRowCodes, values_from};
 ghost use Rattle.bw_column.specs.Storing.{layout_of, list_of};
 
-use crate::bits::has_bit;
 use crate::column::Column;
 use crate::storage::Codes;
 use bw_cells::{Measured, distances_in_run};
 use bw_code::{Encoding, Offset};
-use bw_mask::Mask;
+use bw_mask::{Mask, has_bit};
 
 /// Adds so much to each number whose bit is set, modulo 2^64. Each other becomes 0.
 fn add_where_set(numbers: &mut [u64], set: u64, more: u64)

@@ -10,11 +10,10 @@ ghost use Rattle.bw_column.specs.Extremes.{IsGreatestFrom, IsLeastFrom};
 ghost use Rattle.bw_column.specs.Storing.{list_of};
 ghost use Rattle.bw_column.specs.Values.{known};
 
-use crate::bits::has_bit;
 use crate::column::Column;
 use crate::storage::Codes;
 use bw_code::Ends;
-use bw_mask::Mask;
+use bw_mask::{Mask, has_bit};
 
 /// The least of these codes whose bit is set, or the start where none is below it.
 fn least_from(start: u64, codes: &[u64], present: u64) -> u64

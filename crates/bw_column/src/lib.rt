@@ -1,7 +1,6 @@
 //! Columns of integers and nulls, kept as codes.
 #![tactic(auto)]
 
-mod bits;
 mod building;
 mod change;
 mod codes;

@@ -8,12 +8,11 @@ ghost use Rattle.bw_column.specs.Codes.{AreRowCodes, IsRowCode, value_from, valu
 ghost use Rattle.bw_column.specs.Storing.{layout_of, list_of};
 ghost use Rattle.bw_column.specs.Values.{value_at};
 
-use crate::bits::has_bit;
 use crate::column::Column;
 use crate::storage::Codes;
 use bw_cells::Cells;
 use bw_code::{Encoding, Offset};
-use bw_mask::Mask;
+use bw_mask::{Mask, has_bit};
 
 /// The value of a row, by its code and by whether it is there.
 pub(crate) fn value(encoding: &Encoding, code: u64, there: bool) -> Option<i64>

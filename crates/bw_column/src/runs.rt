@@ -9,12 +9,11 @@ ghost use Rattle.bw_column.specs.Keeping.{AreKept};
 ghost use Rattle.bw_column.specs.Places.{ArePutFrom, overwritten, put_values, rank};
 ghost use Rattle.bw_column.specs.Values.{IsNullOrHeld};
 
-use crate::bits::has_bit;
 use crate::codes::encode_all;
 use crate::column::Column;
 use crate::kept::KeptCodes;
 use bw_cells::presence;
-use bw_mask::Mask;
+use bw_mask::{Mask, has_bit};
 
 /// Below how many set places of a word each is put by itself.
 const FEW: u32 = 8;

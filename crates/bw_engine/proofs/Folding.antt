@@ -10,7 +10,7 @@ use Rattle.bw_sql.specs.declared.tree.SelectItem.TheVariants as item
 use Rattle.bw_sql.specs.declared.tree.SetFunction.{SetFunction}
 use Rattle.bw_sql.specs.declared.tree.SetFunction.TheVariants.{Count, Sum, Min, Max, Median}
 use Rattle.bw_model.specs.Select.{columns_in, folded, lines_for, said_of, shown}
-use Rattle.bw_model.specs.SetFunctions.{greatest, known, least, median, sum}
+use Rattle.bw_cells.specs.SetFunctions.{greatest, known, least, median, sum}
 use Rattle.bw_model.specs.Store.{Header, Row, place_of, value_at, value_from}
 use Rattle.bw_model.proofs.Items.{columns_only}
 use Rattle.bw_plan.specs.Selections.{ShowsBy, placed_item}

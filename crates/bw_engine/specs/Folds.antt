@@ -5,7 +5,7 @@ use Rattle.bw_aggregate.specs.declared.summary.Summary.{Summary}
 use Rattle.bw_engine.specs.declared.folded.ColumnSummary.{ColumnSummary}
 use Rattle.bw_sql.specs.declared.tree.SetFunction.{SetFunction}
 use Rattle.bw_sql.specs.declared.tree.SetFunction.TheVariants.{Count, Sum, Min, Max, Median}
-use Rattle.bw_model.specs.SetFunctions.{greatest, known, least, median, sum}
+use Rattle.bw_cells.specs.SetFunctions.{greatest, known, least, median, sum}
 use Rattle.bw_model.specs.Store.{Row, value_at}
 use Rattle.bw_model.specs.Select.{shown}
 use Rattle.bw_model.specs.declared.answer.Cell.{Cell}

@@ -11,7 +11,7 @@ ghost use Rattle.bw_engine.specs.Runs.{AreRead, line_across, lines_from, slot_li
 ghost use Rattle.bw_engine.specs.Stores.{rows_of_slots};
 
 use bw_column::Column;
-use bw_mask::Mask;
+use bw_mask::{Mask, has_bit};
 use bw_sql::{Name, Value};
 use bw_table::Table;
 use std::alloc::{AllocError, Global};
@@ -159,11 +159,3 @@ fn show_row(values: &mut Vec<Value>, runs: &[Run], i: usize) -> Result<(), Alloc
     Ok(())
 }
 
-/// Whether bit i is set.
-#[tactic(auto, using(bw_mask::proofs::Bits::bit_test))]
-fn has_bit(word: u64, i: usize) -> bool
-    requires { i < 64 }
-    ensures { result ≡ bit_of word i }
-{
-    word >> i & 1 == 1
-}

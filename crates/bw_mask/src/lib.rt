@@ -11,3 +11,4 @@ pub use laws::{and_of_truths, is_tests, not_of_truths, or_of_truths};
 pub use mask::Mask;
 pub use truth::Truth;
 pub use truth_value::TruthValue;
+pub use words::has_bit;

@@ -264,6 +264,16 @@ pub(crate) fn fill_up(words: &mut Vec<u64>, n: usize)
     };
 }
 
+/// Whether bit i of a word is set.
+#[tactic(auto, using(crate::proofs::Bits::bit_test))]
+#[inline]
+pub fn has_bit(word: u64, i: usize) -> bool
+    requires { i < 64 }
+    ensures { result ≡ bit_of word i }
+{
+    word >> i & 1 == 1
+}
+
 /// The place of the lowest bit that is set.
 fn lowest(word: u64) -> usize
     requires { 0 < word }

@@ -11,7 +11,7 @@ use Rattle.std.proofs.lemmas.Bool.{leb-true}
 use Rattle.std.proofs.lemmas.List.Elements.{All-cons, All-head, All-nil, All-tail}
 use Rattle.bw_model.specs.Refusals.{is_in_range}
 use Rattle.bw_model.specs.Select.{folded, shown}
-use Rattle.bw_model.specs.SetFunctions.{known, put_in, sorted, sum, total}
+use Rattle.bw_cells.specs.SetFunctions.{known, put_in, sorted, sum, total}
 use Rattle.bw_model.specs.Store.{Row, Value, row_limit, value_from}
 use Rattle.bw_model.specs.Told.{IsCell}
 use Rattle.bw_model.specs.WellFormed.{IsRow}

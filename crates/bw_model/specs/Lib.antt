@@ -11,7 +11,6 @@ pub mod Named
 pub mod Refusals
 pub mod ReplyText
 pub mod Select
-pub mod SetFunctions
 pub mod Step
 pub mod Store
 pub mod Told

@@ -8,7 +8,7 @@ use Rattle.bw_sql.specs.declared.tree.SetFunction.{SetFunction}
 use Rattle.bw_sql.specs.declared.tree.SetFunction.TheVariants as function
 use Rattle.bw_model.specs.Answers.{Shown}
 use Rattle.bw_model.specs.Condition.{found_rows}
-use Rattle.bw_model.specs.SetFunctions.{greatest, known, least, median, sum}
+use Rattle.bw_cells.specs.SetFunctions.{greatest, known, least, median, sum}
 use Rattle.bw_model.specs.Store.{Header, Row, Table, Value, names, place_of, value_from}
 use Rattle.bw_model.specs.declared.answer.Cell.{Cell}
 use Rattle.bw_model.specs.declared.answer.Cell.TheVariants.{Null, Number}

@@ -12,7 +12,7 @@ use Rattle.bw_sql.specs.declared.tree.SelectItem.TheVariants as item
 use Rattle.bw_model.specs.Condition.{each_truth, found_rows, is_found, some_truth, truth_at, value_of}
 use Rattle.bw_model.specs.Refusals.{condition_misses, first_that_holds, is_missing, lists_too_long, names_missing, operand_is_missing, over, select_tests, some_names_missing, tests_of}
 use Rattle.bw_model.specs.Select.{answer, columns_in, folded, has_functions, heading_of, is_mixed, lines_for, said_of, shown, shown_items}
-use Rattle.bw_model.specs.SetFunctions.{known}
+use Rattle.bw_cells.specs.SetFunctions.{known}
 use Rattle.bw_model.specs.Step.{outcome_of, refused_or, table_or_none}
 use Rattle.bw_model.specs.Store.{Header, Row, Store, Table, names, place_of, table_of, value_from}
 use Rattle.bw_model.specs.declared.content.Content.{Content}

@@ -7,20 +7,11 @@ ghost use Rattle.bw_column.specs.Values.{IsNullOrInteger};
 ghost use Rattle.bw_table.specs.Sets.{picked};
 
 use bw_column::Column;
-use bw_mask::Mask;
+use bw_mask::{Mask, has_bit};
 use std::alloc::{AllocError, Global};
 
 /// Of how many rows of a word one is read by itself, and the whole word's from there on.
 const FEW: u32 = 8;
-
-/// Whether bit i is set.
-#[tactic(auto, using(bw_mask::proofs::Bits::bit_test))]
-fn has_bit(word: u64, i: usize) -> bool
-    requires { i < 64 }
-    ensures { result ≡ bit_of word i }
-{
-    word >> i & 1 == 1
-}
 
 /// Puts those of at most 64 values whose bit is set to the front of `out`, in order, and answers how many they are.
 fn pick(run: &[Option<i64>], rows: u64, out: &mut [Option<i64>; 64]) -> usize

@@ -14,7 +14,7 @@ use crate::rows::{both, differing, either, lanes_at, put_lanes, without};
 use crate::scan::chosen;
 use bw_code::{CmpOp, Offset, Source};
 use bw_lane::{add_const_step, low_first_step};
-use bw_mask::Mask;
+use bw_mask::{Mask, has_bit};
 
 /// What is added to the codes of two columns so that the sums compare as the values do: of each base what it is above
 /// the lower one.
@@ -35,14 +35,6 @@ impl Lifts {
             right: right.abs_diff(lower),
         }
     }
-}
-
-/// Whether a number has bit n.
-fn has_bit(number: u64, n: usize) -> bool
-    requires { n < 64 }
-    ensures { result ≡ bit_of number n }
-{
-    number >> n & 1 == 1
 }
 
 /// Whether a number has a bit above its n lowest ones.

@@ -1,7 +1,7 @@
 use Rattle.std.proofs.Common.{ap, arith, sym, w64, ◌-◌, ◌/◌, ◌≡◌, ◌∙◌}
 use Rattle.std.proofs.lemmas.Int.{ints, to_z-of_z}
 use Rattle.std.specs.Prelude.{slice_get}
-use Rattle.bw_model.specs.SetFunctions.{sorted}
+use Rattle.bw_cells.specs.SetFunctions.{sorted}
 use Rattle.bw_aggregate.specs.Chosen.{chosen}
 use Rattle.bw_column.proofs.Held.{all_storable}
 use Rattle.bw_aggregate.proofs.SortedValues.{is_code, nth_is}

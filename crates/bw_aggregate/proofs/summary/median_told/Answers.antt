@@ -1,6 +1,6 @@
 use Rattle.std.proofs.Common.{ap, arith, length, sym, true, w64, ◌≡◌, ◌∙◌}
 use Rattle.std.proofs.lemmas.Int.{ints, to_z-of_z}
-use Rattle.bw_model.specs.SetFunctions.{median}
+use Rattle.bw_cells.specs.SetFunctions.{median}
 use Rattle.bw_aggregate.proofs.Told.{same_values}
 use Rattle.bw_aggregate.proofs.summary.median_told.Goals as goal
 use Rattle.std.proofs.lemmas.Grind.{common_steps}

@@ -1,6 +1,6 @@
 use Rattle.std.proofs.Common.{ap, subst, ◌∙◌}
 use Rattle.std.specs.List.{items_where_true}
-use Rattle.bw_model.specs.SetFunctions.{known}
+use Rattle.bw_cells.specs.SetFunctions.{known}
 use Rattle.bw_aggregate.specs.Summaries.{IsSummary}
 use Rattle.bw_engine.proofs.Folding.{chosen_found, tells_all}
 use Rattle.bw_engine.proofs.folded.column_summary.Goals as goal
