@@ -2,6 +2,7 @@
 use Rattle.std.proofs.Common.{◌≡◌, ◌∙◌, ℕ, ◌<◌, Bool, true, false, List, [], ◌∷◌, Option, None, Some, Result, Ok, Err, OnOk, OnErr, ap, arith, get_or, if◌then◌else◌, length, map, option_map, refl, sym}
 use Rattle.std.specs.Str.{bytes_eq}
 use Rattle.std.proofs.lemmas.List.{get_or-map, length-map, same_lists}
+use Rattle.bw_code.specs.declared.header.Header.{Header}
 use Rattle.bw_code.specs.declared.kind.Kind.{Kind}
 use Rattle.bw_sql.specs.declared.tree.KindWord.{KindWord}
 use Rattle.bw_sql.specs.declared.tree.LayoutChoice.{LayoutChoice}
@@ -9,7 +10,6 @@ use Rattle.bw_sql.specs.declared.tree.LayoutWord.{LayoutWord}
 use Rattle.bw_table.specs.Changes.{choice_of, kind_or}
 use Rattle.bw_table.specs.Tables.{AreChosen, header_by}
 use Rattle.bw_table.specs.declared.choice.Choice.{Choice}
-use Rattle.bw_table.specs.declared.header.Header.{Header}
 use Rattle.bw_model.specs.Changes.{chosen_header}
 use Rattle.bw_model.specs.Store.{AreHeaders, names, place_of, word_or}
 use Rattle.bw_model.specs.Store as store

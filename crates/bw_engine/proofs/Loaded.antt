@@ -11,7 +11,7 @@ use Rattle.bw_csvload.specs.declared.fault.CsvFault.{CsvFault}
 use Rattle.bw_csvload.specs.declared.fault.CsvFault.TheVariants as fault
 use Rattle.bw_csvload.proofs.Fits.{rows_in_file}
 use Rattle.bw_table.specs.Rows.{AreWholeRows, rows_from}
-use Rattle.bw_table.specs.declared.header.Header.{Header}
+use Rattle.bw_code.specs.declared.header.Header.{Header}
 use Rattle.bw_sql.specs.Rows.{joined}
 use Rattle.bw_sql.specs.declared.tree.FirstRecord.{FirstRecord}
 use Rattle.bw_model.specs.Contents.{first_of, lines_or_fault}

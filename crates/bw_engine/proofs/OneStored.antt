@@ -9,6 +9,7 @@ use Rattle.bw_mask.specs.Masks.{MaskRows}
 use Rattle.bw_code.specs.Encodings.{IsFit, same_encoding}
 use Rattle.bw_code.specs.Sameness.{same_decides}
 use Rattle.bw_code.specs.declared.encoding.Encoding.{Encoding}
+use Rattle.bw_code.specs.declared.header.Header.{Header}
 use Rattle.bw_code.specs.declared.kind.Kind.{Kind}
 use Rattle.bw_code.specs.declared.kind.Kind.TheVariants.{Dictionary, Offset}
 use Rattle.bw_code.specs.declared.kind.Layout.{Layout}
@@ -21,7 +22,6 @@ use Rattle.bw_table.specs.Changes.{AreAppended, AreInserted, AreRebuilt, Inserts
 use Rattle.bw_table.specs.Slots.{Slot, SlotsView, live_slot, slot_at, slot_column, slot_limit}
 use Rattle.bw_table.specs.Tables.{slots_in}
 use Rattle.bw_table.specs.declared.choice.Choice.{Choice}
-use Rattle.bw_table.specs.declared.header.Header.{Header}
 use Rattle.bw_table.specs.declared.setting.SetTo.{SetTo}
 use Rattle.bw_table.specs.declared.setting.SetTo.TheVariants.{Column, Value}
 use Rattle.bw_sql.specs.Tree.{ConditionTree, StatementTree, create_table, delete, drop_table, insert, list_tables, load, open_table, rebuild, save, select, update}

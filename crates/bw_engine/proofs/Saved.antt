@@ -16,7 +16,7 @@ use Rattle.bw_file.specs.Table as file
 use Rattle.bw_file.specs.Table.{AreHeaders as AreFiled}
 use Rattle.bw_file.specs.declared.header.ColumnHeader.{ColumnHeader}
 use Rattle.bw_table.specs.Slots.{Slot, live_slots, slot_at, slot_column}
-use Rattle.bw_table.specs.declared.header.Header.{Header as StoredHeader}
+use Rattle.bw_code.specs.declared.header.Header.{Header as StoredHeader}
 use Rattle.bw_table.proofs.Places.{map_twice}
 use Rattle.bw_sql.specs.Rows.{joined}
 use Rattle.bw_sql.specs.Tree.{StatementTree, save}

@@ -4,12 +4,12 @@ use Rattle.std.specs.Map.{lookup, remove_entry, set_value}
 use Rattle.std.specs.Str.{bytes_eq}
 use Rattle.bw_mask.specs.Masks.{MaskRows}
 use Rattle.bw_code.specs.declared.encoding.Encoding.{Encoding}
+use Rattle.bw_code.specs.declared.header.Header.{Header}
 use Rattle.bw_table.specs.Changes.{AreInserted, AreRebuilt, AreUpdated, slots_without}
 use Rattle.bw_table.specs.Opening.{IsFitted}
 use Rattle.bw_table.specs.Slots.{live_slot, slot_column}
 use Rattle.bw_table.specs.Tables.{slots_in}
 use Rattle.bw_table.specs.declared.choice.Choice.{Choice}
-use Rattle.bw_table.specs.declared.header.Header.{Header}
 use Rattle.bw_table.specs.declared.setting.SetTo.{SetTo}
 use Rattle.bw_sql.specs.Tree.{ConditionTree, StatementTree, create_table, delete, drop_table, insert, list_tables, load, open_table, rebuild, save, select, update}
 use Rattle.bw_sql.specs.declared.tree.LayoutChoice.{LayoutChoice}

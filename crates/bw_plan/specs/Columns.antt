@@ -1,6 +1,6 @@
 -- The columns of a table, each with the words that spell its layout and its kind.
 use Rattle.std.specs.Prelude.{List, map, ℕ}
-use Rattle.bw_table.specs.declared.header.Header.{Header}
+use Rattle.bw_code.specs.declared.header.Header.{Header}
 use Rattle.bw_model.specs.Store as store
 use Rattle.bw_plan.specs.Words.{word_of_kind, word_of_layout}
 
