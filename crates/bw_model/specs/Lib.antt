@@ -16,3 +16,4 @@ pub mod Step
 pub mod Store
 pub mod Told
 pub mod WellFormed
+pub mod Words
