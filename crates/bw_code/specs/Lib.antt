@@ -3,6 +3,7 @@ pub mod Choosing
 pub mod Columns
 pub mod Encodings
 pub mod Fittings
+pub mod Headers
 pub mod Intervals
 pub mod Lists
 pub mod Meters

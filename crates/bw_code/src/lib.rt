@@ -7,6 +7,7 @@ mod dictionary;
 mod encoding;
 mod ends;
 mod fitting;
+mod header;
 mod kind;
 mod lanes;
 mod laws;
@@ -32,6 +33,7 @@ pub use dictionary::Dictionary;
 pub use encoding::{Encoding, fit};
 pub use ends::Ends;
 pub use fitting::Fitting;
+pub use header::Header;
 pub use kind::{ColumnType, Kind, Layout};
 pub use laws::{
     bits_of_numbers, codes_keep_order, codes_of_values, equal_encodings, fits_of_values,

@@ -6,19 +6,19 @@ use Rattle.std.proofs.lemmas.Bool.{cases_Bool, cases_eq, cases_lt, true≢false}
 use Rattle.std.proofs.lemmas.List.{drop_at, take_at}
 use Rattle.std.proofs.lemmas.List.Elements.{All-cons, All-head, All-nil, All-tail}
 use Rattle.byteorder.specs.Endian.{little_number}
+use Rattle.bw_code.specs.Headers.{column_limit, row_limit}
 use Rattle.bw_code.specs.Lists.{made}
+use Rattle.bw_code.specs.declared.kind.Kind.{Kind}
+use Rattle.bw_code.specs.declared.kind.Kind.TheVariants.{Dictionary, Offset}
+use Rattle.bw_code.specs.declared.kind.Layout.{Layout}
+use Rattle.bw_code.specs.declared.kind.Layout.TheVariants.{H, P, S, V}
 use Rattle.bw_code.proofs.Lists.{made_is}
 use Rattle.bw_sql.specs.Names.{IsName, are_distinct, is_name}
-use Rattle.bw_sql.specs.declared.tree.KindWord.{KindWord}
-use Rattle.bw_sql.specs.declared.tree.KindWord.TheVariants.{Dictionary, Offset}
-use Rattle.bw_sql.specs.declared.tree.LayoutWord.{LayoutWord}
-use Rattle.bw_sql.specs.declared.tree.LayoutWord.TheVariants.{H, P, S, V}
-use Rattle.bw_file.specs.Cells.{IsCell, column_bytes, column_size, presence_size, row_limit}
+use Rattle.bw_file.specs.Cells.{IsCell, column_bytes, column_size, presence_size}
 use Rattle.bw_file.specs.Format.{Spells, spelling}
 use Rattle.bw_file.specs.Headers.{header_bytes, kind_number, layout_number}
 use Rattle.bw_file.specs.Reading.{read_cell}
-use Rattle.bw_file.specs.Table.{AreHeaders, IsTable, Table, column_limit}
-use Rattle.bw_file.specs.declared.header.ColumnHeader.{ColumnHeader}
+use Rattle.bw_file.specs.Table.{AreHeaders, Header, IsTable, Table}
 use Rattle.bw_file.proofs.Fronts.{told_columns, told_rest, told_rows}
 use Rattle.bw_file.proofs.Places.{column_presence, column_words, length-column_bytes, read_cell-spelled}
 use Rattle.bw_model.specs.Contents.{IsTableIn}
@@ -30,17 +30,17 @@ use Rattle.bw_engine.proofs.Opened.{holds_unfiled}
 
 -- headers, read off bytes
 
-abbrev layout_by : ℕ → LayoutWord
+abbrev layout_by : ℕ → Layout
 layout_by zero = P
 layout_by (suc zero) = V
 layout_by (suc (suc zero)) = H
 layout_by (suc (suc (suc n))) = S
 
-abbrev kind_by : ℕ → KindWord
+abbrev kind_by : ℕ → Kind
 kind_by zero = Offset
 kind_by (suc n) = Dictionary
 
-abbrev header_by : List ℕ → List ℕ → ColumnHeader
+abbrev header_by : List ℕ → List ℕ → Header
 header_by name [] = record { name = name; layout = P; kind = Offset }
 header_by name (layout ∷ []) = record { name = name; layout = P; kind = Offset }
 header_by name (layout ∷ kind ∷ rest) = record { name = name; layout = layout_by layout; kind = kind_by kind }
@@ -50,7 +50,7 @@ rest_by [] = []
 rest_by (layout ∷ []) = []
 rest_by (layout ∷ kind ∷ rest) = rest
 
-abbrev header_in : List ℕ → ColumnHeader
+abbrev header_in : List ℕ → Header
 header_in [] = header_by [] []
 header_in (size ∷ bytes) = header_by (take size bytes) (drop size bytes)
 
@@ -58,7 +58,7 @@ abbrev behind : List ℕ → List ℕ
 behind [] = []
 behind (size ∷ bytes) = rest_by (drop size bytes)
 
-abbrev headers_in : ℕ → List ℕ → List ColumnHeader
+abbrev headers_in : ℕ → List ℕ → List Header
 headers_in zero bytes = []
 headers_in (suc n) bytes = header_in bytes ∷ headers_in n (behind bytes)
 
@@ -66,17 +66,17 @@ abbrev after_headers : ℕ → List ℕ → List ℕ
 after_headers zero bytes = bytes
 after_headers (suc n) bytes = after_headers n (behind bytes)
 
-layout_back : (layout : LayoutWord) → layout_by (layout_number layout) ≡ layout
+layout_back : (layout : Layout) → layout_by (layout_number layout) ≡ layout
 layout_back P = refl
 layout_back V = refl
 layout_back H = refl
 layout_back S = refl
 
-kind_back : (kind : KindWord) → kind_by (kind_number kind) ≡ kind
+kind_back : (kind : Kind) → kind_by (kind_number kind) ≡ kind
 kind_back Offset = refl
 kind_back Dictionary = refl
 
-module _ (header : ColumnHeader) (tail : List ℕ) where
+module _ (header : Header) (tail : List ℕ) where
   parted : (header.name ++ layout_number header.layout ∷ kind_number header.kind ∷ []) ++ tail ≡ header.name ++ layout_number header.layout ∷ kind_number header.kind ∷ tail
   parted = append_assoc header.name (layout_number header.layout ∷ kind_number header.kind ∷ []) tail
 
@@ -95,7 +95,7 @@ module _ (header : ColumnHeader) (tail : List ℕ) where
       ap (λ bytes. rest_by (drop (length header.name) bytes)) parted
       ∙ ap rest_by (drop_at header.name rest (length header.name) refl)
 
-headers_back : (headers : List ColumnHeader) (tail : List ℕ) → headers_in (length headers) (flat_map header_bytes headers ++ tail) ≡ headers
+headers_back : (headers : List Header) (tail : List ℕ) → headers_in (length headers) (flat_map header_bytes headers ++ tail) ≡ headers
 headers_back [] tail = refl
 headers_back (header ∷ headers) tail =
     let rest = flat_map header_bytes headers ++ tail in
@@ -104,7 +104,7 @@ headers_back (header ∷ headers) tail =
     ∙ (λ j. header_back header rest j ∷ headers_in (length headers) (behind_back header rest j))
     ∙ ap (λ list. header ∷ list) (headers_back headers tail)
 
-after_back : (headers : List ColumnHeader) (tail : List ℕ) → after_headers (length headers) (flat_map header_bytes headers ++ tail) ≡ tail
+after_back : (headers : List Header) (tail : List ℕ) → after_headers (length headers) (flat_map header_bytes headers ++ tail) ≡ tail
 after_back [] tail = refl
 after_back (header ∷ headers) tail =
     let rest = flat_map header_bytes headers ++ tail in
@@ -210,7 +210,7 @@ cell_told None = inl tt
 cell_told (Some (pos n)) = elim (cases_lt n 2147483648) [ inl h ↦ inl (omega (arith, h)) | inr h ↦ inr (λ fits. omega (arith, h, fits)) ]
 cell_told (Some (negsuc n)) = elim (cases_lt n 2147483648) [ inl h ↦ inl (omega (arith, h)) | inr h ↦ inr (λ fits. omega (arith, h, fits)) ]
 
-headers_told : (headers : List ColumnHeader) → Told (AreHeaders headers)
+headers_told : (headers : List Header) → Told (AreHeaders headers)
 headers_told headers =
     told_by (λ p. record { some = p.0; few = p.1.0; distinct = p.1.1 }) (λ are. (are.some, (are.few, are.distinct)))
     (both {A = 0 < length headers} {B = (length headers ≤ column_limit) × IsTrue (are_distinct (map (λ header. header.name) headers))} (le_told 1 (length headers)) (both (le_told (length headers) column_limit) (true_told (are_distinct (map (λ header. header.name) headers)))))
@@ -220,7 +220,7 @@ table_told t =
     told_by
     (λ p. record { headers = p.0.0; names = p.0.1; few = p.1.0.0; wide = p.1.0.1; long = p.1.1.0; cells = p.1.1.1 })
     (λ is. ((is.headers, is.names), ((is.few, is.wide), (is.long, is.cells))))
-    (both (both (headers_told t.headers) (all_told (λ (header : ColumnHeader). IsName header.name) (λ header. true_told (is_name header.name)) t.headers))
+    (both (both (headers_told t.headers) (all_told (λ (header : Header). IsName header.name) (λ header. true_told (is_name header.name)) t.headers))
     (both (both (le_told t.rows row_limit) (eq_told (length t.columns) (length t.headers)))
     (both (all_told (λ (cells : List (Option ℤ)). length cells ≡ t.rows) (λ cells. eq_told (length cells) t.rows) t.columns) (all_told (All IsCell) (all_told IsCell cell_told) t.columns))))
 

@@ -3,7 +3,6 @@ use Rattle.std.proofs.Common.{◌≡◌, ◌∙◌, inl, inr, ℕ, ◌<◌, Bool
 use Rattle.std.specs.Bool.{MatchBool}
 use Rattle.std.specs.List.{All, flat_map}
 use Rattle.std.proofs.lemmas.Bool.{ltb-false}
-use Rattle.std.proofs.lemmas.List.{length-map}
 use Rattle.bw_column.specs.Values.{IsNullOrInteger}
 use Rattle.bw_csvload.specs.Fitting.{FitsColumns, IsCell, IsOrFault}
 use Rattle.bw_csvload.specs.Rows.{IsFault, rows_of_file}
@@ -11,19 +10,17 @@ use Rattle.bw_csvload.specs.declared.fault.CsvFault.{CsvFault}
 use Rattle.bw_csvload.specs.declared.fault.CsvFault.TheVariants as fault
 use Rattle.bw_csvload.proofs.Fits.{rows_in_file}
 use Rattle.bw_table.specs.Rows.{AreWholeRows, rows_from}
-use Rattle.bw_table.specs.declared.header.Header.{Header}
 use Rattle.bw_sql.specs.Rows.{joined}
 use Rattle.bw_sql.specs.declared.tree.FirstRecord.{FirstRecord}
 use Rattle.bw_model.specs.Contents.{first_of, lines_or_fault}
 use Rattle.bw_model.specs.Filing.{file_limit}
 use Rattle.bw_model.specs.Refusals.{refusal_of_csv}
-use Rattle.bw_model.specs.Store.{AreHeaders, Row, Value}
+use Rattle.bw_model.specs.Store.{AreHeaders, Header, Row, Value}
 use Rattle.bw_model.specs.declared.content.Content.{Content}
 use Rattle.bw_model.specs.declared.content.Content.TheVariants.{Lines, TooLarge}
 use Rattle.bw_model.specs.declared.refusal.Refusal.{Refusal}
 use Rattle.bw_model.specs.declared.refusal.Refusal.TheVariants.{FileTooLarge, OutOfMemory, UnreadableFile}
 use Rattle.bw_model.proofs.Lines.{length-joined}
-use Rattle.bw_plan.specs.Columns.{columns_of, words_of}
 use Rattle.bw_engine.specs.Files.{AnswersFile, IsAnswered, IsBytesOf, SaysLines, Within, lines_tests}
 use Rattle.bw_engine.specs.declared.file_answer.FileAnswer.{FileAnswer}
 use Rattle.bw_engine.specs.declared.file_answer.FileAnswer.TheVariants as file
@@ -82,13 +79,13 @@ flat-joined : {A : Type 0} (rows : List (List A)) → flat_map (λ (row : List A
 flat-joined [] = refl
 flat-joined (row ∷ rows) = ap (λ l. row ++ l) (flat-joined rows)
 
-module _ (headers : List (Header (List ℕ))) (rows : List Row) (n : ℕ) (cells : List Value) (wide : All (λ row. length row ≡ length headers) rows)
-    (same : n ≡ length (columns_of headers)) (valid : AreHeaders (columns_of headers)) (is : cells ≡ flat_map (λ (row : Row). row) rows) where
+module _ (headers : List Header) (rows : List Row) (n : ℕ) (cells : List Value) (wide : All (λ row. length row ≡ length headers) rows)
+    (same : n ≡ length headers) (valid : AreHeaders headers) (is : cells ≡ flat_map (λ (row : Row). row) rows) where
   some : 0 < n
   some = omega (arith, valid.some)
 
   wide_rows : All (λ row. length row ≡ n) rows
-  wide_rows = λ i other within. wide i other within ∙ sym (same ∙ length-map headers words_of)
+  wide_rows = λ i other within. wide i other within ∙ sym same
 
   pub whole_lines : AreWholeRows n cells
   whole_lines = record { some = some; count = length rows; whole = ap length (is ∙ flat-joined rows) ∙ length-joined n rows wide_rows }
@@ -118,13 +115,13 @@ module _ (columns : ℕ) (few : columns < 2 ^ 64) (first : FirstRecord) (rows : 
       by true long is = let lines : h.0 ≡ Lines rows = h.2.1 in absurd (cc)
       by false short is = among_lines (rows_of_file columns (first_of first) bytes.now) (rows_in_file columns few (first_of first) bytes.now (omega (arith, ltb-false file_limit (length bytes.now) short))) (sym is ∙ h.2.1)
 
-module _ (headers : List (Header (List ℕ))) (n : ℕ) (same : n ≡ length (columns_of headers)) (valid : AreHeaders (columns_of headers)) (first : FirstRecord) (rows : List Row) (answer : FileAnswer)
+module _ (headers : List Header) (n : ℕ) (same : n ≡ length headers) (valid : AreHeaders headers) (first : FirstRecord) (rows : List Row) (answer : FileAnswer)
     (h : IsAnswered answer (Within (SaysLines n first)) (AnswersLines (Ok rows)) (◌≡◌ {A = Result (List Row) Refusal} (Ok rows) (Err OutOfMemory))) where
   few : n < 2 ^ 64
   few = omega (arith, same, valid.few)
 
   pub wide_lines : All (λ row. length row ≡ length headers) rows
-  wide_lines = λ i other within. (fitting n few first rows answer h i other within).full ∙ same ∙ length-map headers words_of
+  wide_lines = λ i other within. (fitting n few first rows answer h i other within).full ∙ same
 
   pub integer_lines : All (λ row. All IsNullOrInteger row) rows
   integer_lines = λ i other within k value there. as_cell (get_or (get_or rows i other) k value) ((fitting n few first rows answer h i other within).cells k value there)

@@ -2,7 +2,6 @@
 use Rattle.std.proofs.Common.{◌≡◌, ◌∙◌, inl, inr, ℕ, List, [], length, Option, None, Some, Result, Ok, Err, option_map, MatchOption, refl, sym, ap, subst}
 use Rattle.std.specs.Map.{lookup, set_value}
 use Rattle.std.specs.Str.{bytes_eq}
-use Rattle.std.proofs.lemmas.List.{length-map}
 use Rattle.bw_sql.specs.Tree.{StatementTree, load}
 use Rattle.bw_sql.specs.declared.tree.FirstRecord.{FirstRecord}
 use Rattle.bw_model.specs.Contents.{SaysTo, lines_in, width_of}
@@ -15,7 +14,6 @@ use Rattle.bw_model.specs.declared.refusal.Refusal.{Refusal}
 use Rattle.bw_model.specs.declared.refusal.Refusal.TheVariants.{NoSuchTable, OutOfMemory}
 use Rattle.bw_model.specs.declared.reply.Reply.{Reply}
 use Rattle.bw_model.specs.declared.reply.Reply.TheVariants.{Count}
-use Rattle.bw_plan.specs.Columns.{words_of}
 use Rattle.bw_engine.specs.Files.{AnswersFile, CarriesFile, IsAnswered, SaysLines, Within}
 use Rattle.bw_engine.specs.Outcomes.{CarriesOut}
 use Rattle.bw_engine.specs.Stores.{Stored, StoredTable, store_of, table_in}
@@ -53,7 +51,7 @@ module _ (tables : Stored) (name file_name : List ℕ) (first : FirstRecord) whe
 
     says_lines : (bytes : List ℕ) (said : Content) → Within (SaysLines (length table.headers) first) bytes said → SaysTo (store_of tables) (load name file_name first) bytes said
     says_lines bytes said h =
-        subst (λ n. Within (SaysLines n first) bytes said) (sym (ap width_of is_there ∙ length-map table.headers words_of)) h
+        subst (λ n. Within (SaysLines n first) bytes said) (sym (ap width_of is_there)) h
 
     carries_lines : (said : Content) (r : Result Reply Refusal) → TakesLines table new r said → CarriesOut (store_of tables) said (load name file_name first) r (store_of after)
     carries_lines said (Ok reply) h = changes_table tables name table there new after is (load_tests said) (λ t. Count (length (lines_in said))) (with_lines (lines_in said)) (Ok reply) h

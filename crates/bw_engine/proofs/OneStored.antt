@@ -10,9 +10,7 @@ use Rattle.bw_code.specs.Encodings.{IsFit, same_encoding}
 use Rattle.bw_code.specs.Sameness.{same_decides}
 use Rattle.bw_code.specs.declared.encoding.Encoding.{Encoding}
 use Rattle.bw_code.specs.declared.kind.Kind.{Kind}
-use Rattle.bw_code.specs.declared.kind.Kind.TheVariants.{Dictionary, Offset}
 use Rattle.bw_code.specs.declared.kind.Layout.{Layout}
-use Rattle.bw_code.specs.declared.kind.Layout.TheVariants.{P, V, H, S}
 use Rattle.bw_code.proofs.Fits.{one_fit}
 use Rattle.bw_column.specs.Codes.{IsCoded}
 use Rattle.bw_column.specs.Preparing.{IsEncodingFor}
@@ -21,24 +19,16 @@ use Rattle.bw_table.specs.Changes.{AreAppended, AreInserted, AreRebuilt, Inserts
 use Rattle.bw_table.specs.Slots.{Slot, SlotsView, live_slot, slot_at, slot_column, slot_limit}
 use Rattle.bw_table.specs.Tables.{slots_in}
 use Rattle.bw_table.specs.declared.choice.Choice.{Choice}
-use Rattle.bw_table.specs.declared.header.Header.{Header}
 use Rattle.bw_table.specs.declared.setting.SetTo.{SetTo}
 use Rattle.bw_table.specs.declared.setting.SetTo.TheVariants.{Column, Value}
 use Rattle.bw_sql.specs.Tree.{ConditionTree, StatementTree, create_table, delete, drop_table, insert, list_tables, load, open_table, rebuild, save, select, update}
-use Rattle.bw_sql.specs.declared.tree.KindWord.{KindWord}
-use Rattle.bw_sql.specs.declared.tree.KindWord.TheVariants as kind_words
 use Rattle.bw_sql.specs.declared.tree.LayoutChoice.{LayoutChoice}
-use Rattle.bw_sql.specs.declared.tree.LayoutWord.{LayoutWord}
-use Rattle.bw_sql.specs.declared.tree.LayoutWord.TheVariants as layout_words
 use Rattle.bw_sql.specs.declared.tree.SetClause.{SetClause}
-use Rattle.bw_model.specs.Store as store
-use Rattle.bw_model.specs.Store.{Row, Store, Table, Value as Cell}
+use Rattle.bw_model.specs.Store.{Header, Row, Store, Table, Value as Cell}
 use Rattle.bw_model.specs.declared.reply.Reply.{Reply}
 use Rattle.bw_model.specs.declared.reply.Reply.TheVariants.{Count, Done, Refused, Rows}
-use Rattle.bw_plan.specs.Columns.{columns_of, words_of}
 use Rattle.bw_plan.specs.Plans.{Plan, planned}
 use Rattle.bw_plan.specs.Sets.{AreChoicesFor, AreSetsFor, source_to}
-use Rattle.bw_plan.specs.Words.{word_of_kind, word_of_layout}
 use Rattle.bw_plan.specs.declared.plan.Source.{Source}
 use Rattle.bw_plan.specs.declared.plan.Source.TheVariants.{Constant, Place}
 use Rattle.bw_engine.specs.StoredChanges.{BuildsAnew, ChangesStored, Grows, IsAdded, IsChanged, IsNew, KillsFound, LeavesStored, SetsFound}
@@ -106,7 +96,7 @@ same_rows slots plan f g x y =
 abbrev of_rows : List Bool → MaskRows
 of_rows rows = record { rows = rows; room = 0 }
 
--- what stands for a word
+-- what can be told back
 module _ {A B : Type 0} (f : A → B) (g : B → A) (back : (x : A) → g (f x) ≡ x) where
   all_back : (xs : List A) → map g (map f xs) ≡ xs
   all_back [] = refl
@@ -114,35 +104,6 @@ module _ {A B : Type 0} (f : A → B) (g : B → A) (back : (x : A) → g (f x) 
 
   one_list : (xs ys : List A) → map f xs ≡ map f ys → xs ≡ ys
   one_list xs ys e = sym (all_back xs) ∙ ap (map g) e ∙ all_back ys
-
-abbrev layout_by : LayoutWord → Layout
-layout_by layout_words.P = P
-layout_by layout_words.V = V
-layout_by layout_words.H = H
-layout_by layout_words.S = S
-
-layout_back : (layout : Layout) → layout_by (word_of_layout layout) ≡ layout
-layout_back P = refl
-layout_back V = refl
-layout_back H = refl
-layout_back S = refl
-
-abbrev kind_by : KindWord → Kind
-kind_by kind_words.Offset = Offset
-kind_by kind_words.Dictionary = Dictionary
-
-kind_back : (kind : Kind) → kind_by (word_of_kind kind) ≡ kind
-kind_back Offset = refl
-kind_back Dictionary = refl
-
-abbrev header_by : store.Header → Header (List ℕ)
-header_by header = record { name = header.name; layout = layout_by header.layout; kind = kind_by header.kind }
-
-header_back : (header : Header (List ℕ)) → header_by (words_of header) ≡ header
-header_back header = λ j. record { name = header.name; layout = layout_back header.layout j; kind = kind_back header.kind j }
-
-one_headers : (a b : List (Header (List ℕ))) → columns_of a ≡ columns_of b → a ≡ b
-one_headers a b e = one_list words_of header_by header_back a b e
 
 abbrev place_by : Option ℕ → ℕ
 place_by None = 0
@@ -156,30 +117,22 @@ to_back : (to : SetTo) → to_by (source_to to) ≡ to
 to_back (Value value) = refl
 to_back (Column place) = refl
 
-one_sets : (headers : List store.Header) (clauses : List SetClause) (a b : List (ℕ × SetTo)) → AreSetsFor headers clauses a → AreSetsFor headers clauses b → a ≡ b
+one_sets : (headers : List Header) (clauses : List SetClause) (a b : List (ℕ × SetTo)) → AreSetsFor headers clauses a → AreSetsFor headers clauses b → a ≡ b
 one_sets headers clauses a b x y =
     one_list (λ (set : ℕ × SetTo). (Some set.0, source_to set.1)) (λ (p : Option ℕ × Source). (place_by p.0, to_by p.1)) (λ set j. (set.0, to_back set.1 j)) a b (x ∙ sym y)
 
-maybe_back : (kind : Option Kind) → option_map kind_by (option_map word_of_kind kind) ≡ kind
-maybe_back None = refl
-maybe_back (Some kind) = ap (λ k. Some k) (kind_back kind)
+abbrev choice_by : Option ℕ × (Layout × Option Kind) → ℕ × Choice
+choice_by p = (place_by p.0, record { layout = p.1.0; kind = p.1.1 })
 
-abbrev choice_by : Option ℕ × (LayoutWord × Option KindWord) → ℕ × Choice
-choice_by p = (place_by p.0, record { layout = layout_by p.1.0; kind = option_map kind_by p.1.1 })
-
-choice_back : (choice : ℕ × Choice) → choice_by (Some choice.0, (word_of_layout choice.1.layout, option_map word_of_kind choice.1.kind)) ≡ choice
-choice_back choice = λ j. (choice.0, record { layout = layout_back choice.1.layout j; kind = maybe_back choice.1.kind j })
-
-one_choices : (headers : List store.Header) (clauses : List LayoutChoice) (a b : List (ℕ × Choice)) → AreChoicesFor headers clauses a → AreChoicesFor headers clauses b → a ≡ b
+one_choices : (headers : List Header) (clauses : List LayoutChoice) (a b : List (ℕ × Choice)) → AreChoicesFor headers clauses a → AreChoicesFor headers clauses b → a ≡ b
 one_choices headers clauses a b x y =
-    one_list (λ (choice : ℕ × Choice). (Some choice.0, (word_of_layout choice.1.layout, option_map word_of_kind choice.1.kind)))
-    choice_by choice_back a b (x ∙ sym y)
+    one_list (λ (choice : ℕ × Choice). (Some choice.0, (choice.1.layout, choice.1.kind))) choice_by (λ choice. refl) a b (x ∙ sym y)
 
 -- tables
 
 module _ (a b : StoredTable) (same : table_in a ≡ table_in b) where
   headers_same : a.headers ≡ b.headers
-  headers_same = one_headers a.headers b.headers (ap (λ (t : Table). t.headers) same)
+  headers_same = ap (λ (t : Table). t.headers) same
 
   rows_same : rows_in a.slots ≡ rows_in b.slots
   rows_same = ap (λ (t : Table). t.rows) same
@@ -199,10 +152,10 @@ module _ (a b : StoredTable) (same : table_in a ≡ table_in b) where
       let p = x.fitted k h d low in
       let q = y.fitted k h d (subst (λ hs. k < length hs) headers_same low) in
       one_fit (known (slot_column a.slots k)) (get_or a.encodings k d) (get_or b.encodings k d) p.fits (subst (λ s. IsFit (known (slot_column s k)) (get_or b.encodings k d)) (sym slots) q.fits)
-      (p.kind ∙ ap (λ (hs : List (Header (List ℕ))). (get_or hs k h).kind) headers_same ∙ sym q.kind)) in
+      (p.kind ∙ ap (λ (hs : List Header). (get_or hs k h).kind) headers_same ∙ sym q.kind)) in
       by_parts slots encodings
     where
-      first : (headers : List (Header (List ℕ))) → 0 < length headers → Header (List ℕ)
+      first : (headers : List Header) → 0 < length headers → Header
       first [] l = absurd (omega (arith, l))
       first (header ∷ headers) l = header
 
@@ -215,18 +168,18 @@ module _ (a b : StoredTable) (same : table_in a ≡ table_in b) where
 
     one_killing : (condition : Option ConditionTree) → KillsFound condition old a → KillsFound condition old b → a ≡ b
     one_killing condition x y =
-        let rows = same_rows old.slots (option_map (planned (columns_of old.headers)) condition) x.found y.found x.are y.are in
+        let rows = same_rows old.slots (option_map (planned old.headers) condition) x.found y.found x.are y.are in
         by_parts (x.slots ∙ ap (λ r. slots_without (of_rows r) old.slots) rows ∙ sym y.slots) (x.encodings ∙ sym y.encodings)
 
     one_building : (clauses : List LayoutChoice) → BuildsAnew clauses old a → BuildsAnew clauses old b → a ≡ b
     one_building clauses x y =
-        let choices = one_choices (columns_of old.headers) clauses x.choices y.choices x.named y.named in
+        let choices = one_choices old.headers clauses x.choices y.choices x.named y.named in
         by_view (one_rebuilt y.choices (slots_in old) (slots_in a) (slots_in b) (subst (λ c. AreRebuilt c (slots_in old) (slots_in a)) choices x.rebuilt) y.rebuilt)
 
     one_setting : (clauses : List SetClause) (condition : Option ConditionTree) → SetsFound clauses condition old a → SetsFound clauses condition old b → a ≡ b
     one_setting clauses condition x y =
-        let rows = same_rows old.slots (option_map (planned (columns_of old.headers)) condition) x.found y.found x.are y.are in
-        let sets = one_sets (columns_of old.headers) clauses x.sets y.sets x.named y.named in
+        let rows = same_rows old.slots (option_map (planned old.headers) condition) x.found y.found x.are y.are in
+        let sets = one_sets old.headers clauses x.sets y.sets x.named y.named in
         let slots = x.updated.slots_are ∙ (λ j. slots_with (of_rows (rows j)) (sets j) old.slots) ∙ sym y.updated.slots_are in
         let encodings = same_lists a.encodings b.encodings (x.updated.width ∙ sym y.updated.width) (λ k d l.
         let low : k < length old.encodings = omega (arith, l, x.updated.width) in

@@ -1,23 +1,22 @@
 -- The table that an OPEN adds is the one that its file holds.
 use Rattle.std.proofs.Common.{◌≡◌, ◌∙◌, ℕ, ℤ, ◌<◌, Bor, Bool, true, false, List, [], ◌∷◌, ◌++◌, get_or, if◌then◌else◌, is_some, length, map, nat_le, nat_lt, Option, None, Some, Result, Ok, Err, IsErrAnd, inl, inr, refl, sym, ap, subst, arith}
-use Rattle.std.specs.Prelude.{IsTrue, MatchOption}
+use Rattle.std.specs.Prelude.{MatchOption}
 use Rattle.std.specs.Bool.{MatchBool}
 use Rattle.std.specs.List.{All, range_with_len}
 use Rattle.std.specs.Result.{IsOkAnd}
-use Rattle.std.proofs.lemmas.List.{get_or-map, length-map, map-id}
+use Rattle.std.proofs.lemmas.List.{get_or-map, length-map}
 use Rattle.bw_code.proofs.Lists.{made_is, made_len}
 use Rattle.bw_column.specs.Values as values
 use Rattle.bw_file.specs.Format.{Spells}
 use Rattle.bw_file.specs.Table as file
-use Rattle.bw_file.specs.declared.header.ColumnHeader.{ColumnHeader}
 use Rattle.bw_table.specs.Opening.{row_across, rows_across}
 use Rattle.bw_table.proofs.Places.{map_twice}
 use Rattle.bw_sql.specs.Tree.{open_table}
 use Rattle.bw_model.specs.Contents.{IsTableIn, SaysTo, table_held}
-use Rattle.bw_model.specs.Filing.{Holds, column_of, file_limit, filed, filed_header}
+use Rattle.bw_model.specs.Filing.{Holds, column_of, file_limit, filed}
 use Rattle.bw_model.specs.Refusals.{first_that_holds, refused_early, tests_of}
 use Rattle.bw_model.specs.Step.{carried_out}
-use Rattle.bw_model.specs.Store.{AreHeaders, Header, Store, Table, are_distinct, table_limit, table_of, value_at}
+use Rattle.bw_model.specs.Store.{Store, Table, table_limit, table_of, value_at}
 use Rattle.bw_model.specs.declared.content.Content.{Content}
 use Rattle.bw_model.specs.declared.content.Content.TheVariants.{Held, TooLarge}
 use Rattle.bw_model.specs.declared.refusal.Refusal.{Refusal}
@@ -28,21 +27,10 @@ use Rattle.bw_model.proofs.Lines.{All-map}
 use Rattle.bw_model.proofs.Passing.{if_none}
 use Rattle.bw_plan.proofs.Operanding.{one_value}
 use Rattle.bw_plan.proofs.Tests.{no_test, this_test}
-use Rattle.bw_engine.specs.Files.{AnswersFile, CarriesFile, IsAnswered, IsBytesOf, Within, table_tests, unfiled, unfiled_header}
+use Rattle.bw_engine.specs.Files.{AnswersFile, CarriesFile, IsAnswered, IsBytesOf, Within, table_tests, unfiled}
 use Rattle.bw_engine.specs.Outcomes.{CarriesOut}
 use Rattle.bw_engine.specs.declared.file_answer.FileAnswer.{FileAnswer}
 use Rattle.bw_engine.specs.declared.file_answer.FileAnswer.TheVariants as answer
-
--- headers of a file as a table has them
-pub are_unfiled : (headers : List ColumnHeader) → file.AreHeaders headers → AreHeaders (map unfiled_header headers)
-are_unfiled headers are = record {
-  some = omega (arith, are.some, length-map headers unfiled_header);
-  few = omega (arith, are.few, length-map headers unfiled_header);
-  distinct = subst (λ names. IsTrue (are_distinct names)) (sym (map_twice (λ (header : Header). header.name) unfiled_header headers)) are.distinct;
-}
-
-headers_back : (headers : List ColumnHeader) → map filed_header (map unfiled_header headers) ≡ headers
-headers_back headers = map_twice filed_header unfiled_header headers ∙ map-id headers
 
 -- columns that are read across and then downward
 module _ (rows : ℕ) (columns : List (List (Option ℤ))) (long : All (λ cells. length cells ≡ rows) columns) where
@@ -59,16 +47,15 @@ module _ (rows : ℕ) (columns : List (List (Option ℤ))) (long : All (λ cells
 
 filed_back : (parts : file.Table) → file.IsTable parts → filed (unfiled parts) ≡ parts
 filed_back parts is =
-    let headers = headers_back parts.headers in
     let rows = made_len parts.rows (row_across parts.columns) in
-    let columns = columns_back parts.rows parts.columns is.long (length (map unfiled_header parts.headers)) (is.wide ∙ sym (length-map parts.headers unfiled_header)) in
-    λ j. record { headers = headers j; rows = rows j; columns = sym columns j }
+    let columns = columns_back parts.rows parts.columns is.long (length parts.headers) is.wide in
+    λ j. record { headers = parts.headers; rows = rows j; columns = sym columns j }
 
 -- what the bytes of a table file hold
 pub holds_unfiled : (bytes : List ℕ) (parts : file.Table) → Spells bytes parts → Holds bytes (unfiled parts)
 holds_unfiled bytes parts spells = record {
-  wide = All-map (row_across parts.columns) (length (map unfiled_header parts.headers)) (range_with_len 0 parts.rows)
-      (λ i. length-map parts.columns (λ cells. values.value_at cells i) ∙ spells.table.wide ∙ sym (length-map parts.headers unfiled_header));
+  wide = All-map (row_across parts.columns) (length parts.headers) (range_with_len 0 parts.rows)
+      (λ i. length-map parts.columns (λ cells. values.value_at cells i) ∙ spells.table.wide);
   spells = subst (Spells bytes) (sym (filed_back parts spells.table)) spells;
 }
 

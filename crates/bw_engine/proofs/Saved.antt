@@ -1,6 +1,5 @@
 -- The columns that a SAVE writes are those of the table's rows, and what it answers by its tests.
 use Rattle.std.proofs.Common.{◌≡◌, ◌∙◌, ℕ, ◌+◌, ◌<◌, ◌≤◌, Bool, if◌then◌else◌, List, [], ◌∷◌, ◌++◌, length, map, None, Some, option_map, Result, Ok, Err, IsErrAnd, inl, inr, refl, sym, ap, subst, arith}
-use Rattle.std.specs.Prelude.{IsTrue}
 use Rattle.std.specs.List.{All, filter, range_with_len}
 use Rattle.std.specs.Map.{lookup}
 use Rattle.std.specs.Str.{bytes_eq}
@@ -13,21 +12,16 @@ use Rattle.bw_column.specs.Values as values
 use Rattle.bw_file.specs.Cells.{IsCell}
 use Rattle.bw_file.specs.Format.{Spells}
 use Rattle.bw_file.specs.Table as file
-use Rattle.bw_file.specs.Table.{AreHeaders as AreFiled}
-use Rattle.bw_file.specs.declared.header.ColumnHeader.{ColumnHeader}
 use Rattle.bw_table.specs.Slots.{Slot, live_slots, slot_at, slot_column}
-use Rattle.bw_table.specs.declared.header.Header.{Header as StoredHeader}
-use Rattle.bw_table.proofs.Places.{map_twice}
 use Rattle.bw_sql.specs.Rows.{joined}
 use Rattle.bw_sql.specs.Tree.{StatementTree, save}
-use Rattle.bw_model.specs.Filing.{Holds, column_of, file_limit, filed, filed_header, filed_length}
+use Rattle.bw_model.specs.Filing.{Holds, column_of, file_limit, filed, filed_length}
 use Rattle.bw_model.specs.Refusals.{first_that_holds, over, refused_early, save_tests}
-use Rattle.bw_model.specs.Store.{AreHeaders, Header, Row, Store, Value, are_distinct, table_of, value_at}
+use Rattle.bw_model.specs.Store.{Header, Row, Store, Value, table_of, value_at}
 use Rattle.bw_model.specs.declared.refusal.Refusal.{Refusal}
 use Rattle.bw_model.specs.declared.refusal.Refusal.TheVariants.{FileTooLarge, OutOfMemory}
 use Rattle.bw_model.proofs.Lines.{All-map}
 use Rattle.bw_model.proofs.Names.{map-push}
-use Rattle.bw_plan.specs.Columns.{columns_of, words_of}
 use Rattle.bw_plan.proofs.Operanding.{one_value}
 use Rattle.bw_plan.proofs.Tests.{no_test, this_test}
 use Rattle.bw_engine.specs.Files.{SavesOr}
@@ -112,39 +106,25 @@ is_cell (Some x) integer = integer
 pub are_cells : (columns : List (List Value)) → All (All values.IsNullOrInteger) columns → All (All IsCell) columns
 are_cells columns all k d l i e m = is_cell _ (all k d l i e m)
 
--- headers and columns as a file has them
-pub are_filed : (headers : List Header) → AreHeaders headers → AreFiled (map filed_header headers)
-are_filed headers are = record {
-  some = omega (arith, are.some, length-map headers filed_header);
-  few = omega (arith, are.few, length-map headers filed_header);
-  distinct = subst (λ names. IsTrue (are_distinct names)) (sym (map_twice (λ (header : ColumnHeader). header.name) filed_header headers)) are.distinct;
-}
-
-pub filed_width : (columns : List LiveCells) (rows : List Row) (headers : List ColumnHeader) (stored : List (StoredHeader (List ℕ)))
-    → map saved_cells columns ≡ map (column_of rows) (range_with_len 0 (length stored)) → headers ≡ map filed_header (columns_of stored) → length columns ≡ length headers
-filed_width columns rows headers stored are is =
-    sym (length-map columns saved_cells) ∙ ap length are ∙ length-map-range_with_len (column_of rows) 0 (length stored)
-    ∙ sym (length-map stored words_of) ∙ sym (length-map (columns_of stored) filed_header) ∙ ap length (sym is)
+-- columns as a file has them
+pub filed_width : (columns : List LiveCells) (rows : List Row) (headers : List Header)
+    → map saved_cells columns ≡ map (column_of rows) (range_with_len 0 (length headers)) → length columns ≡ length headers
+filed_width columns rows headers are = sym (length-map columns saved_cells) ∙ ap length are ∙ length-map-range_with_len (column_of rows) 0 (length headers)
 
 pub filed_long : (columns : List LiveCells) (rows : List Row) (n count : ℕ) → map saved_cells columns ≡ map (column_of rows) (range_with_len 0 n) → count ≡ length rows → All (λ cells. length cells ≡ count) (map saved_cells columns)
 filed_long columns rows n count are same =
     subst (All (λ (cells : List Value). length cells ≡ count)) (sym are) (All-map (column_of rows) count (range_with_len 0 n) (λ k. length-map rows (λ row. value_at row k) ∙ sym same))
 
--- a stored table by its columns
-filed_is : (table : StoredTable) (headers : List ColumnHeader) (rows : ℕ) (columns : List (List Value)) → headers ≡ map filed_header (columns_of table.headers) → rows ≡ length (rows_in table.slots)
-    → columns ≡ map (column_of (rows_in table.slots)) (range_with_len 0 (length table.headers)) → ◌≡◌ {A = file.Table} (record { headers = headers; rows = rows; columns = columns }) (filed (table_in table))
-filed_is table headers rows columns heads count are =
-    let all = are ∙ ap (λ n. map (column_of (rows_in table.slots)) (range_with_len 0 n)) (sym (length-map table.headers words_of)) in
-    λ j. record { headers = heads j; rows = count j; columns = all j }
-
--- bytes that spell a stored table hold it
-pub holds_stored : (bytes : List ℕ) (table : StoredTable) (headers : List ColumnHeader) (rows : ℕ) (columns : List (List Value)) → headers ≡ map filed_header (columns_of table.headers) → rows ≡ length (rows_in table.slots)
+-- bytes that spell a stored table by its columns hold it
+pub holds_stored : (bytes : List ℕ) (table : StoredTable) (headers : List Header) (rows : ℕ) (columns : List (List Value)) → headers ≡ table.headers → rows ≡ length (rows_in table.slots)
     → columns ≡ map (column_of (rows_in table.slots)) (range_with_len 0 (length table.headers)) → All (λ slot. length slot.row ≡ length table.headers) table.slots
     → Spells bytes (record { headers = headers; rows = rows; columns = columns }) → Holds bytes (table_in table)
-holds_stored bytes table headers rows columns heads count are wide spells = record {
-  wide = subst (λ n. All (λ (row : Row). length row ≡ n) (rows_in table.slots)) (sym (length-map table.headers words_of)) (live_wide (length table.headers) table.slots wide);
-  spells = subst (Spells bytes) (filed_is table headers rows columns heads count are) spells;
-}
+holds_stored bytes table headers rows columns heads count are wide spells =
+    let filed_is : ◌≡◌ {A = file.Table} (record { headers = headers; rows = rows; columns = columns }) (filed (table_in table)) = λ j. record { headers = heads j; rows = count j; columns = are j } in
+    record {
+      wide = live_wide (length table.headers) table.slots wide;
+      spells = subst (Spells bytes) filed_is spells;
+    }
 
 -- a SAVE of a table that is there
 module _ (tables : Stored) (name file : List ℕ) (table : StoredTable) (there : lookup (bytes_eq name) tables ≡ Some table) where

@@ -11,8 +11,8 @@ use Rattle.bw_code.proofs.Lists.{made_is}
 use Rattle.bw_table.specs.Changes.{new_value, row_with, set_of}
 use Rattle.bw_table.specs.declared.setting.SetTo.{SetTo}
 use Rattle.bw_table.specs.declared.setting.SetTo.TheVariants.{Column, Value}
-use Rattle.bw_sql.specs.declared.tree.LayoutWord.TheVariants.{V}
-use Rattle.bw_sql.specs.declared.tree.KindWord.TheVariants.{Offset}
+use Rattle.bw_code.specs.declared.kind.Layout.TheVariants.{V}
+use Rattle.bw_code.specs.declared.kind.Kind.TheVariants.{Offset}
 use Rattle.bw_sql.specs.declared.tree.SetClause.{SetClause}
 use Rattle.bw_model.specs.Changes.{source_for, updated_row}
 use Rattle.bw_model.specs.Condition.{value_of}

@@ -6,8 +6,8 @@ use Rattle.std.proofs.lemmas.List.{get_or-map, length-map, map-append, take_all,
 use Rattle.bw_sql.specs.Rows.{joined}
 use Rattle.bw_sql.specs.Tree.{ConditionTree, ItemsTree}
 use Rattle.bw_sql.specs.declared.tree.SelectItem.TheVariants as item
-use Rattle.bw_sql.specs.declared.tree.LayoutWord.TheVariants.{V}
-use Rattle.bw_sql.specs.declared.tree.KindWord.TheVariants.{Offset}
+use Rattle.bw_code.specs.declared.kind.Layout.TheVariants.{V}
+use Rattle.bw_code.specs.declared.kind.Kind.TheVariants.{Offset}
 use Rattle.bw_model.specs.Answers.{AreWholeLines, Shown, lines_of}
 use Rattle.bw_model.specs.Cells.{shown_all}
 use Rattle.bw_model.specs.Condition.{found_rows}

@@ -1,5 +1,5 @@
 -- What a statement answers over its file, as it was handed in, and what it hands out to be saved (this product's own).
-use Rattle.std.specs.Prelude.{◌≡◌, ◌⊎◌, ◌∷◌, [], ℕ, List, length, map, nat_lt, Option, Some, None, Result, Ok, Err, MatchOption, MatchResult}
+use Rattle.std.specs.Prelude.{◌≡◌, ◌⊎◌, ◌∷◌, [], ℕ, List, length, nat_lt, Option, Some, None, Result, Ok, Err, MatchOption, MatchResult}
 use Rattle.std.specs.Bool.{MatchBool}
 use Rattle.std.specs.Borrow.{Bor}
 use Rattle.std.specs.Result.{IsOkAnd}
@@ -7,14 +7,13 @@ use Rattle.bw_csvload.specs.Rows.{rows_of_file}
 use Rattle.bw_sql.specs.Tree.{StatementTree, save}
 use Rattle.bw_sql.specs.declared.tree.FirstRecord.{FirstRecord}
 use Rattle.bw_file.specs.Table as filed
-use Rattle.bw_file.specs.declared.header.ColumnHeader.{ColumnHeader}
 use Rattle.bw_table.specs.Opening.{rows_across}
 use Rattle.bw_model.specs.Contents.{SaysTo, first_of, is_missing_file, is_no_table, is_too_large, lines_or_fault}
 use Rattle.bw_model.specs.FileUse.{FileUse, file_read, file_use, writes}
 use Rattle.bw_model.specs.Filing.{Holds, file_limit}
 use Rattle.bw_model.specs.Refusals.{Tests, fault_test, first_that_holds, refused_early}
 use Rattle.bw_model.specs.Step.{Step, WantsMemory}
-use Rattle.bw_model.specs.Store.{Header, Store, Table, table_of}
+use Rattle.bw_model.specs.Store.{Store, Table, table_of}
 use Rattle.bw_model.specs.declared.content.Content.{Content}
 use Rattle.bw_model.specs.declared.content.Content.TheVariants.{Missing, Nothing, TooLarge}
 use Rattle.bw_model.specs.declared.refusal.Refusal.{Refusal}
@@ -96,11 +95,8 @@ abbrev pub table_tests : Content → Tests
 table_tests said = (UnreadableFile, is_missing_file said) ∷ (FileTooLarge, is_too_large said) ∷ (NotTableFile, is_no_table said) ∷ []
 
 -- a table that a file has by its columns, by its rows
-abbrev pub unfiled_header : ColumnHeader → Header
-unfiled_header header = record { name = header.name; layout = header.layout; kind = header.kind }
-
 abbrev pub unfiled : filed.Table → Table
-unfiled parts = record { headers = map unfiled_header parts.headers; rows = rows_across parts.rows parts.columns }
+unfiled parts = record { headers = parts.headers; rows = rows_across parts.rows parts.columns }
 
 -- a statement that reads a file, refused for a reason that needs none, or answered by what was handed in
 abbrev pub CarriesFile : Store → StatementTree → FileAnswer → Result Reply Refusal → Store → Type 0

@@ -9,15 +9,13 @@ use Rattle.bw_table.specs.Opening.{IsFitted}
 use Rattle.bw_table.specs.Slots.{live_slot, slot_column}
 use Rattle.bw_table.specs.Tables.{slots_in}
 use Rattle.bw_table.specs.declared.choice.Choice.{Choice}
-use Rattle.bw_table.specs.declared.header.Header.{Header}
 use Rattle.bw_table.specs.declared.setting.SetTo.{SetTo}
 use Rattle.bw_sql.specs.Tree.{ConditionTree, StatementTree, create_table, delete, drop_table, insert, list_tables, load, open_table, rebuild, save, select, update}
 use Rattle.bw_sql.specs.declared.tree.LayoutChoice.{LayoutChoice}
 use Rattle.bw_sql.specs.declared.tree.SetClause.{SetClause}
-use Rattle.bw_model.specs.Store.{Row}
+use Rattle.bw_model.specs.Store.{Header, Row}
 use Rattle.bw_model.specs.declared.reply.Reply.{Reply}
 use Rattle.bw_model.specs.declared.reply.Reply.TheVariants.{Refused}
-use Rattle.bw_plan.specs.Columns.{columns_of}
 use Rattle.bw_plan.specs.Plans.{planned}
 use Rattle.bw_plan.specs.Sets.{AreChoicesFor, AreSetsFor}
 use Rattle.bw_engine.specs.Stores.{AreFoundIn, Stored, StoredTable, rows_in}
@@ -26,7 +24,7 @@ use Rattle.bw_engine.specs.Stores.{AreFoundIn, Stored, StoredTable, rows_in}
 pub record IsNew (table : StoredTable) : Type 0 where
   pub live : table.slots ≡ map live_slot (rows_in table.slots)
   pub count : length table.encodings ≡ length table.headers
-  pub fitted : (k : ℕ) (h : Header (List ℕ)) (e : Encoding) → k < length table.headers → IsFitted (slice_index_or table.headers k h) (slot_column table.slots k) (slice_index_or table.encodings k e)
+  pub fitted : (k : ℕ) (h : Header) (e : Encoding) → k < length table.headers → IsFitted (slice_index_or table.headers k h) (slot_column table.slots k) (slice_index_or table.encodings k e)
 
 -- rows stand last, in live slots; the dead ones were dropped only where there were not enough slots
 pub record Grows (old new : StoredTable) : Type 0 where
@@ -36,22 +34,22 @@ pub record Grows (old new : StoredTable) : Type 0 where
 -- columns are set in the live slots that the condition finds
 pub record SetsFound (clauses : List SetClause) (condition : Option ConditionTree) (old new : StoredTable) : Type 0 where
   pub found : MaskRows
-  pub are : AreFoundIn old.slots (option_map (planned (columns_of old.headers)) condition) found
+  pub are : AreFoundIn old.slots (option_map (planned old.headers) condition) found
   pub sets : List (ℕ × SetTo)
-  pub named : AreSetsFor (columns_of old.headers) clauses sets
+  pub named : AreSetsFor old.headers clauses sets
   pub updated : AreUpdated found sets (slots_in old) (slots_in new)
 
 -- the live slots that the condition finds are dead
 pub record KillsFound (condition : Option ConditionTree) (old new : StoredTable) : Type 0 where
   pub found : MaskRows
-  pub are : AreFoundIn old.slots (option_map (planned (columns_of old.headers)) condition) found
+  pub are : AreFoundIn old.slots (option_map (planned old.headers) condition) found
   pub slots : new.slots ≡ slots_without found old.slots
   pub encodings : new.encodings ≡ old.encodings
 
 -- the dead slots are dropped, and each column is built anew
 pub record BuildsAnew (clauses : List LayoutChoice) (old new : StoredTable) : Type 0 where
   pub choices : List (ℕ × Choice)
-  pub named : AreChoicesFor (columns_of old.headers) clauses choices
+  pub named : AreChoicesFor old.headers clauses choices
   pub rebuilt : AreRebuilt choices (slots_in old) (slots_in new)
 
 -- a table was added, as the last one

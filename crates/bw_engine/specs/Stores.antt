@@ -4,7 +4,6 @@ use Rattle.bw_mask.specs.Masks.{MaskRows, len, row_at}
 use Rattle.bw_table.specs.Slots.{Slot, live_slots, slot_at}
 use Rattle.bw_table.specs.Tables.{TableView}
 use Rattle.bw_model.specs.Store.{Row, Store, Table}
-use Rattle.bw_plan.specs.Columns.{columns_of}
 use Rattle.bw_plan.specs.Plans.{Plan}
 use Rattle.bw_engine.specs.Found.{is_found_by}
 
@@ -26,7 +25,7 @@ StoredTable = TableView (List ℕ)
 
 -- the table as the model has it: dead slots and encodings left out
 abbrev pub table_in : StoredTable → Table
-table_in table = record { headers = columns_of table.headers; rows = rows_in table.slots }
+table_in table = record { headers = table.headers; rows = rows_in table.slots }
 
 -- tables that are stored, by their names
 abbrev pub Stored : Type 0

@@ -11,7 +11,6 @@ ghost use Rattle.bw_model.specs.declared.content.Content.TheVariants.{Nothing};
 ghost use Rattle.bw_engine.specs.Outcomes.{CarriesOut};
 ghost use Rattle.bw_engine.specs.StoredChanges.{ChangesStored, IsNew};
 ghost use Rattle.bw_engine.specs.Stores.{store_of, table_in};
-ghost use Rattle.bw_plan.specs.Columns.{columns_of};
 ghost use Rattle.bw_plan.specs.Checks.{Decides};
 
 use crate::table::Table;
@@ -131,7 +130,7 @@ fn headers_for(
     alloc: Global,
     columns: Vec<ColumnDefinition>,
 ) -> Result<Vec<Header<Name>>, AllocError>
-    ensures { IfOk result (λ headers. columns_of headers.items ≡ map header_of columns.items) }
+    ensures { IfOk result (λ headers. headers.items ≡ map header_of columns.items) }
 {
     let mut headers = Vec::with_capacity(alloc, columns.len())?;
     for column in columns {

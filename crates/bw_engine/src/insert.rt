@@ -10,7 +10,6 @@ ghost use Rattle.bw_model.specs.declared.content.Content.TheVariants.{Nothing};
 ghost use Rattle.bw_engine.specs.Outcomes.{CarriesOut};
 ghost use Rattle.bw_engine.specs.StoredChanges.{ChangesStored, Grows};
 ghost use Rattle.bw_engine.specs.Stores.{store_of, table_in};
-ghost use Rattle.bw_plan.specs.Columns.{columns_of};
 ghost use Rattle.bw_plan.specs.Checks.{Answers};
 
 use crate::table::Table;
@@ -49,7 +48,7 @@ fn insert_rows(
     columns: &Option<NameList>,
     rows: ValueRows,
 ) -> Result<Reply, Refusal>
-    ensures reply { Answers (insert_tests (target_columns (columns_of table.old.headers) columns.now) rows (table_in table.old)) result (λ reply. (reply ≡ Count (length rows)) × (table_in table.new ≡ with_rows columns.now rows (table_in table.old))) }
+    ensures reply { Answers (insert_tests (target_columns table.old.headers columns.now) rows (table_in table.old)) result (λ reply. (reply ≡ Count (length rows)) × (table_in table.new ≡ with_rows columns.now rows (table_in table.old))) }
     ensures stored { OnOk result (Grows table.old table.new) }
     ensures refused { OnErr result (table.new ≡ table.old) }
 {

@@ -1,25 +1,21 @@
 //! OPEN.
 
-ghost use Rattle.std.specs.Prelude.{◌≡◌, Err, IfOk, OnErr, OnOk, map};
+ghost use Rattle.std.specs.Prelude.{◌≡◌, Err, IfOk, OnErr, OnOk};
 ghost use Rattle.bw_model.specs.Contents.{IsTableIn};
 ghost use Rattle.bw_model.specs.declared.content.Content.TheVariants.{Held};
 ghost use Rattle.bw_model.specs.declared.refusal.Refusal.TheVariants.{OutOfMemory};
-ghost use Rattle.bw_plan.specs.Columns.{columns_of, words_of};
-ghost use Rattle.bw_plan.specs.Words.{word_of_kind, word_of_layout};
 ghost use Rattle.bw_sql.specs.Tree.{statement_of};
 ghost use Rattle.bw_sql.specs.declared.tree.Statement.TheVariants as statements;
-ghost use Rattle.bw_engine.specs.Files.{AnswersFile, CarriesFile, IsAnswered, Within, table_tests, unfiled, unfiled_header};
+ghost use Rattle.bw_engine.specs.Files.{AnswersFile, CarriesFile, IsAnswered, Within, table_tests, unfiled};
 ghost use Rattle.bw_engine.specs.StoredChanges.{ChangesStored, IsNew};
 ghost use Rattle.bw_engine.specs.Stores.{store_of, table_in};
 
 use crate::create::TABLE_LIMIT;
 use crate::file_answer::{FileAnswer, bytes_of};
 use crate::table::Table;
-use bw_code::{Kind, Layout};
-use bw_file::{ColumnHeader, FileFault, TableFile, decode};
+use bw_file::{FileFault, TableFile, decode};
 use bw_model::{Refusal, Reply};
-use bw_sql::{KindWord, LayoutWord, Name, Open};
-use bw_table::Header;
+use bw_sql::{Name, Open};
 use indexmap::IndexMap;
 use std::alloc::{AllocError, Global};
 
@@ -67,53 +63,5 @@ fn opened(alloc: Global, parts: TableFile<'_>) -> Result<Table, AllocError>
 {
     let rows = parts.rows();
     let (headers, columns) = parts.into_headers_and_columns();
-    let headers = stored_headers(alloc, headers)?;
     Table::of_columns(alloc, headers, rows, &columns)
-}
-
-/// The columns as a table has them.
-fn stored_headers(
-    alloc: Global,
-    headers: Vec<ColumnHeader>,
-) -> Result<Vec<Header<Name>>, AllocError>
-    ensures { IfOk result (λ stored. columns_of stored.items ≡ map unfiled_header headers.items) }
-{
-    let mut stored = Vec::with_capacity(alloc, headers.len())?;
-    for header in headers {
-        stored.push(stored_header(header))?;
-    }
-    Ok(stored)
-}
-
-fn stored_header(header: ColumnHeader) -> Header<Name>
-    ensures { words_of result ≡ unfiled_header header }
-{
-    let ColumnHeader { name, layout, kind } = header;
-    Header {
-        name,
-        layout: layout_of(layout),
-        kind: kind_of(kind),
-    }
-}
-
-/// The layout that a word spells.
-fn layout_of(word: LayoutWord) -> Layout
-    ensures { word_of_layout result ≡ word }
-{
-    match word {
-        LayoutWord::P => Layout::P,
-        LayoutWord::V => Layout::V,
-        LayoutWord::H => Layout::H,
-        LayoutWord::S => Layout::S,
-    }
-}
-
-/// The kind that a word spells.
-fn kind_of(word: KindWord) -> Kind
-    ensures { word_of_kind result ≡ word }
-{
-    match word {
-        KindWord::Offset => Kind::Offset,
-        KindWord::Dictionary => Kind::Dictionary,
-    }
 }

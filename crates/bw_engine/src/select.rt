@@ -15,7 +15,6 @@ ghost use Rattle.bw_model.specs.declared.content.Content.TheVariants.{Nothing};
 ghost use Rattle.bw_engine.specs.Outcomes.{CarriesOut};
 ghost use Rattle.bw_engine.specs.Stores.{rows_of_slots, store_of, table_in};
 ghost use Rattle.bw_plan.specs.Checks.{Answers};
-ghost use Rattle.bw_plan.specs.Columns.{columns_of};
 
 use crate::folded::function_cells;
 use crate::found::found_slots;
@@ -54,7 +53,7 @@ fn shown_rows(
     items: SelectItems,
     condition: &Option<Condition>,
 ) -> Result<Reply, Refusal>
-    ensures { Answers (select_tests (shown_items (columns_of table.now.headers) (items_of items)) (option_map condition_of condition.now) (table_in table.now)) result (λ reply. reply ≡ Rows (answer (table_in table.now) (items_of items) (option_map condition_of condition.now))) }
+    ensures { Answers (select_tests (shown_items table.now.headers (items_of items)) (option_map condition_of condition.now) (table_in table.now)) result (λ reply. reply ≡ Rows (answer (table_in table.now) (items_of items) (option_map condition_of condition.now))) }
 {
     let headers = table.headers();
     let plan = resolve_select(alloc, &headers, &items, condition)?;

@@ -4,7 +4,6 @@ ghost use Rattle.std.specs.Prelude.{◌≡◌, ◌+◌, ◌≤◌, ◌++◌, [],
 ghost use Rattle.bw_column.specs.Values.{IsNullOrInteger};
 ghost use Rattle.bw_mask.specs.Masks.{len};
 ghost use Rattle.bw_model.specs.Store.{AreHeaders, row_limit};
-ghost use Rattle.bw_plan.specs.Columns.{columns_of};
 ghost use Rattle.bw_plan.specs.Sets.{AreSettable};
 ghost use Rattle.bw_table.specs.Changes.{AreInserted, AreRebuilt, AreUpdated, slots_with, slots_without};
 ghost use Rattle.bw_table.specs.Opening.{rows_across};
@@ -33,20 +32,19 @@ pub struct Table {
 impl Model for Table {
     ghost use Rattle.std.specs.Prelude.{List, ℕ};
     ghost use Rattle.bw_model.specs.Store.{AreHeaders};
-    ghost use Rattle.bw_plan.specs.Columns.{columns_of};
     ghost use Rattle.bw_table.specs.Tables.{TableView};
 
     ghost Value = { TableView (List ℕ) };
 
     ghost view = { λ t. t.table };
 
-    ghost invariant = { λ t. AreHeaders (columns_of t.table.headers) };
+    ghost invariant = { λ t. AreHeaders t.table.headers };
 }
 
 impl Table {
     /// A table of these columns, without rows.
     pub(crate) fn create(alloc: Global, headers: Vec<Header<Name>>) -> Result<Table, AllocError>
-        requires { AreHeaders (columns_of headers.items) }
+        requires { AreHeaders headers.items }
         ensures headers { IfOk result (λ t. t.headers ≡ headers.items) }
         ensures slots { IfOk result (λ t. t.slots ≡ []) }
         ensures is_new { IfOk result IsNew }
@@ -64,7 +62,7 @@ impl Table {
         rows: usize,
         columns: &[C],
     ) -> Result<Table, AllocError>
-        requires headers { AreHeaders (columns_of headers.items) }
+        requires headers { AreHeaders headers.items }
         requires few { rows ≤ row_limit }
         requires wide { length columns.now ≡ length headers.items }
         requires long { All (λ cells. length cells ≡ rows) (map C.cells columns.now) }
@@ -80,8 +78,8 @@ impl Table {
 
     /// The columns, in order.
     pub(crate) fn headers(&self) -> Headers<'_>
-        ensures value { result ≡ columns_of self.now.headers }
-        ensures valid { AreHeaders (columns_of self.now.headers) }
+        ensures value { result ≡ self.now.headers }
+        ensures valid { AreHeaders self.now.headers }
     {
         Headers::new(self.table.headers())
     }

@@ -8,8 +8,7 @@ use Rattle.byteorder.specs.Numbers.{little_number-reads_back}
 use Rattle.bw_file.specs.Cells.{column_bytes, column_size}
 use Rattle.bw_file.specs.Format.{Spells, front_bytes, spelled_length, spelling}
 use Rattle.bw_file.specs.Headers.{header_bytes}
-use Rattle.bw_file.specs.Table.{IsTable, Table}
-use Rattle.bw_file.specs.declared.header.ColumnHeader.{ColumnHeader}
+use Rattle.bw_file.specs.Table.{Header, IsTable, Table}
 use Rattle.bw_file.proofs.Joined.{columns-same, headers-first, length-columns}
 use Rattle.bw_file.proofs.Lengths.{length-headers}
 
@@ -39,7 +38,7 @@ told_front bytes t s = ap (take 14) s.bytes_are
 pub told_rest : (bytes : List ℕ) (t : Table) → Spells bytes t → take (length bytes - 14) (drop 14 bytes) ≡ flat_map header_bytes t.headers ++ flat_map column_bytes t.columns
 told_rest bytes t s = take_all (length bytes - 14) (drop 14 bytes) (omega (arith, length-drop 14 bytes)) ∙ ap (drop 14) s.bytes_are
 
-abbrev pub table : List ColumnHeader → ℕ → List (List (Option ℤ)) → Table
+abbrev pub table : List Header → ℕ → List (List (Option ℤ)) → Table
 table hs n cs = record { headers = hs; rows = n; columns = cs }
 
 same-table : (t u : Table) → t.headers ≡ u.headers → t.rows ≡ u.rows → t.columns ≡ u.columns → t ≡ u
@@ -75,7 +74,7 @@ spelled bytes rest t h front heads columns =
     }
 
 -- what was read after the front, where the bytes spell a table
-pub told_headers : (bytes : List ℕ) (t : Table) (hs : List ColumnHeader) (rest : List ℕ) (n : ℕ) → Spells bytes t → n ≡ length t.headers
+pub told_headers : (bytes : List ℕ) (t : Table) (hs : List Header) (rest : List ℕ) (n : ℕ) → Spells bytes t → n ≡ length t.headers
     → (length hs ≡ n) × (take (length bytes - 14) (drop 14 bytes) ≡ flat_map header_bytes hs ++ rest) → (hs ≡ t.headers) × (rest ≡ flat_map column_bytes t.columns)
 told_headers bytes t hs rest n s many read =
     headers-first hs t.headers rest (flat_map column_bytes t.columns) (read.0 ∙ many) (sym read.1 ∙ told_rest bytes t s)

@@ -5,13 +5,13 @@ use Rattle.std.proofs.lemmas.List.{append-nil, get_or-map, length-append, length
 use Rattle.std.proofs.lemmas.List.Elements.{All-get_or, All-head, All-tail, All-take}
 use Rattle.std.specs.List.{flat_map}
 use Rattle.std.specs.Prelude.{All}
-use Rattle.bw_sql.specs.declared.tree.KindWord.{KindWord}
-use Rattle.bw_sql.specs.declared.tree.KindWord.TheVariants.{Dictionary, Offset}
-use Rattle.bw_sql.specs.declared.tree.LayoutWord.{LayoutWord}
-use Rattle.bw_sql.specs.declared.tree.LayoutWord.TheVariants.{H, P, S, V}
+use Rattle.bw_code.specs.declared.kind.Kind.{Kind}
+use Rattle.bw_code.specs.declared.kind.Kind.TheVariants.{Dictionary, Offset}
+use Rattle.bw_code.specs.declared.kind.Layout.{Layout}
+use Rattle.bw_code.specs.declared.kind.Layout.TheVariants.{H, P, S, V}
 use Rattle.bw_file.specs.Cells.{IsCell, column_bytes, column_size}
 use Rattle.bw_file.specs.Headers.{header_bytes, kind_number, layout_number}
-use Rattle.bw_file.specs.declared.header.ColumnHeader.{ColumnHeader}
+use Rattle.bw_file.specs.Table.{Header}
 use Rattle.bw_file.proofs.Places.{length-column_bytes, same-column}
 
 -- fronts of one length, and what follows them
@@ -25,7 +25,7 @@ fronts (x ∷ a) (y ∷ b) r s e same =
     let more = fronts a b r s (omega arith) tails in
     (let front = more.0 in cc, more.1)
 
-layouts : (a b : LayoutWord) → layout_number a ≡ layout_number b → a ≡ b
+layouts : (a b : Layout) → layout_number a ≡ layout_number b → a ≡ b
 layouts P P e = refl
 layouts P V e = absurd (omega arith)
 layouts P H e = absurd (omega arith)
@@ -43,20 +43,20 @@ layouts S V e = absurd (omega arith)
 layouts S H e = absurd (omega arith)
 layouts S S e = refl
 
-kinds : (a b : KindWord) → kind_number a ≡ kind_number b → a ≡ b
+kinds : (a b : Kind) → kind_number a ≡ kind_number b → a ≡ b
 kinds Offset Offset e = refl
 kinds Offset Dictionary e = absurd (omega arith)
 kinds Dictionary Offset e = absurd (omega arith)
 kinds Dictionary Dictionary e = refl
 
-abbrev pub header : List ℕ → LayoutWord → KindWord → ColumnHeader
+abbrev pub header : List ℕ → Layout → Kind → Header
 header n l k = record { name = n; layout = l; kind = k }
 
-same-header : (h k : ColumnHeader) → h.name ≡ k.name → h.layout ≡ k.layout → h.kind ≡ k.kind → h ≡ k
+same-header : (h k : Header) → h.name ≡ k.name → h.layout ≡ k.layout → h.kind ≡ k.kind → h ≡ k
 same-header h k a b c = ap (λ n. header n h.layout h.kind) a ∙ ap (λ l. header k.name l h.kind) b ∙ ap (header k.name k.layout) c
 
 -- headers end where the next one begins
-pub header-first : (h k : ColumnHeader) (r s : List ℕ) → header_bytes h ++ r ≡ header_bytes k ++ s → (h ≡ k) × (r ≡ s)
+pub header-first : (h k : Header) (r s : List ℕ) → header_bytes h ++ r ≡ header_bytes k ++ s → (h ≡ k) × (r ≡ s)
 header-first h k r s same =
     let long : length h.name ≡ length k.name = cc in
     let rest : (h.name ++ layout_number h.layout ∷ kind_number h.kind ∷ []) ++ r ≡ (k.name ++ layout_number k.layout ∷ kind_number k.kind ∷ []) ++ s = cc in
@@ -68,7 +68,7 @@ header-first h k r s same =
     let after : r ≡ s = cc in
     (same-header h k names.0 (layouts h.layout k.layout layout) (kinds h.kind k.kind kind), after)
 
-pub headers-first : (hs ks : List ColumnHeader) (r s : List ℕ) → length hs ≡ length ks → flat_map header_bytes hs ++ r ≡ flat_map header_bytes ks ++ s → (hs ≡ ks) × (r ≡ s)
+pub headers-first : (hs ks : List Header) (r s : List ℕ) → length hs ≡ length ks → flat_map header_bytes hs ++ r ≡ flat_map header_bytes ks ++ s → (hs ≡ ks) × (r ≡ s)
 headers-first [] [] r s e same = (refl, same)
 headers-first [] (k ∷ ks) r s e same = absurd (omega arith)
 headers-first (h ∷ hs) [] r s e same = absurd (omega arith)
@@ -112,11 +112,11 @@ cut f xs i d h =
     let next : drop i xs ≡ get_or xs i d ∷ drop (i + 1) xs = rw (add-one i) (drop-cons xs i d h) in
     ap (flat_map f) (sym (take-append-drop i xs)) ∙ flat_map-append f (take i xs) (drop i xs) ∙ ap (λ ys. flat_map f (take i xs) ++ flat_map f ys) next
 
-abbrev pub blank : ColumnHeader
+abbrev pub blank : Header
 blank = header [] P Offset
 
 -- where i headers were read, the next one of those that are spelled stands first in what is left
-pub header_next : (hs read : List ColumnHeader) (tail rest bytes : List ℕ) (i : ℕ) → i < length hs → length read ≡ i
+pub header_next : (hs read : List Header) (tail rest bytes : List ℕ) (i : ℕ) → i < length hs → length read ≡ i
     → bytes ≡ flat_map header_bytes read ++ rest → bytes ≡ flat_map header_bytes hs ++ tail
     → rest ≡ header_bytes (get_or hs i blank) ++ (flat_map header_bytes (drop (i + 1) hs) ++ tail)
 header_next hs read tail rest bytes i h long so_far whole =

@@ -4,9 +4,6 @@ use Rattle.std.specs.Int.{cast_unsigned, w32}
 use Rattle.std.specs.List.{flat_map}
 use Rattle.byteorder.specs.Endian.{little_bytes}
 
-abbrev pub row_limit : ℕ
-row_limit = 16777216
-
 -- NULL or an INTEGER
 abbrev pub IsCell : Option ℤ → Type 0
 IsCell None = ⊤

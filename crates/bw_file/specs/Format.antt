@@ -4,8 +4,7 @@ use Rattle.std.specs.List.{flat_map, sum_by}
 use Rattle.byteorder.specs.Endian.{little_bytes}
 use Rattle.bw_file.specs.Cells.{column_bytes, column_size}
 use Rattle.bw_file.specs.Headers.{header_bytes}
-use Rattle.bw_file.specs.Table.{IsTable, Table}
-use Rattle.bw_file.specs.declared.header.ColumnHeader.{ColumnHeader}
+use Rattle.bw_file.specs.Table.{Header, IsTable, Table}
 
 abbrev pub mark : List ℕ
 mark = codes "BITCOL"
@@ -30,5 +29,5 @@ pub record Spells (bytes : List ℕ) (t : Table) : Type 0 where
   pub bytes_are : bytes ≡ spelling t
 
 -- how long the spelling is of a table of these headers and so many rows
-abbrev pub spelled_length : List ColumnHeader → ℕ → ℕ
+abbrev pub spelled_length : List Header → ℕ → ℕ
 spelled_length headers rows = 14 + sum_by (λ header. 3 + length header.name) headers + length headers * column_size rows

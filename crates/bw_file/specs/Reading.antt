@@ -5,8 +5,9 @@ use Rattle.std.specs.List.{range_with_len}
 use Rattle.byteorder.specs.Endian.{little_number}
 use Rattle.bw_cells.specs.Known.{known}
 use Rattle.bw_code.specs.Fittings.{AreEnds}
+use Rattle.bw_code.specs.Headers.{row_limit}
 use Rattle.bw_code.specs.declared.ends.Ends.{Ends}
-use Rattle.bw_file.specs.Cells.{IsCell, cell_number, presence_size, row_limit}
+use Rattle.bw_file.specs.Cells.{IsCell, cell_number, presence_size}
 
 -- the cell of row i, by the bits that say which are not null and the words
 abbrev pub read_cell : List ℕ → List ℕ → ℕ → Option ℤ

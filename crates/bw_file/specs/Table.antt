@@ -1,19 +1,21 @@
 -- What a table file holds: the headers of the columns, how many rows there are, and the columns.
 use Rattle.std.specs.Prelude.{All, IsTrue, List, Option, length, map, ℕ, ℤ, ◌<◌, ◌≡◌, ◌≤◌}
 use Rattle.bw_sql.specs.Names.{IsName, are_distinct}
-use Rattle.bw_file.specs.Cells.{IsCell, row_limit}
-use Rattle.bw_file.specs.declared.header.ColumnHeader.{ColumnHeader}
+use Rattle.bw_code.specs.Headers.{column_limit, row_limit}
+use Rattle.bw_code.specs.declared.header.Header as code
+use Rattle.bw_file.specs.Cells.{IsCell}
 
-abbrev pub column_limit : ℕ
-column_limit = 64
+-- a column's header: its name is a list of bytes
+abbrev pub Header : Type 0
+Header = code.Header (List ℕ)
 
 pub record Table : Type 0 where
-  pub headers : List ColumnHeader
+  pub headers : List Header
   pub rows : ℕ
   pub columns : List (List (Option ℤ))
 
 -- 1 to 64 columns, each with a name of its own
-pub record AreHeaders (headers : List ColumnHeader) : Type 0 where
+pub record AreHeaders (headers : List Header) : Type 0 where
   pub some : 0 < length headers
   pub few : length headers ≤ column_limit
   pub distinct : IsTrue (are_distinct (map (λ header. header.name) headers))

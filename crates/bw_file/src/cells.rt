@@ -3,7 +3,7 @@
 ghost use Rattle.std.specs.Prelude.{None, Some, drop, get_or, if◌then◌else◌, length, nat_eq, slice_index, ℕ, ◌%◌, ◌*◌, ◌+◌, ◌/◌, ◌<◌, ◌==◌, ◌≡◌, ◌≤◌};
 ghost use Rattle.std.specs.Int.{bit_at, cast_signed, w32};
 ghost use Rattle.byteorder.specs.Endian.{little_number};
-ghost use Rattle.bw_file.specs.Cells.{row_limit};
+ghost use Rattle.bw_code.specs.Headers.{row_limit};
 ghost use Rattle.bw_file.specs.Reading.{cell_by, read_cell};
 
 use byteorder::{ByteOrder, LittleEndian};

@@ -1,7 +1,8 @@
 //! A column that lies in the bytes of a table file.
 
 ghost use Rattle.std.specs.Prelude.{All, IfSome, List, None, Option, length, ◌*◌, ◌++◌, ◌+◌, ◌≡◌, ◌≤◌, ℤ};
-ghost use Rattle.bw_file.specs.Cells.{column_bytes, column_size, presence_size, row_limit, IsCell};
+ghost use Rattle.bw_code.specs.Headers.{row_limit};
+ghost use Rattle.bw_file.specs.Cells.{column_bytes, column_size, presence_size, IsCell};
 
 use crate::cells::read_cells;
 use crate::distances::{presence_of_rows, read_distances};

@@ -2,7 +2,8 @@
 
 ghost use Rattle.std.specs.Prelude.{All, IfOk, IfSome, List, None, OnOk, Option, length, map, ◌*◌, ◌++◌, ◌≡◌, ◌≤◌, ℤ};
 ghost use Rattle.std.specs.List.{flat_map};
-ghost use Rattle.bw_file.specs.Cells.{column_bytes, column_size, row_limit, IsCell};
+ghost use Rattle.bw_code.specs.Headers.{row_limit};
+ghost use Rattle.bw_file.specs.Cells.{column_bytes, column_size, IsCell};
 
 use crate::column::FileColumn;
 use crate::writing::write_column;

@@ -1,9 +1,9 @@
 //! From bytes to the table that they spell.
 
 ghost use Rattle.std.specs.Prelude.{Err, IfOk, length, ◌≡◌, ◌≤◌};
-ghost use Rattle.bw_file.specs.Cells.{row_limit};
+ghost use Rattle.bw_code.specs.Headers.{column_limit, row_limit};
 ghost use Rattle.bw_file.specs.Format.{Spells, spelling};
-ghost use Rattle.bw_file.specs.Table.{IsTable, Table, column_limit};
+ghost use Rattle.bw_file.specs.Table.{IsTable, Table};
 ghost use Rattle.bw_file.specs.declared.fault.FileFault.TheVariants.{NotTable};
 
 use crate::columns::{column_size, columns_in};

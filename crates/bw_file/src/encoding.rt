@@ -1,19 +1,21 @@
 //! From a table to its bytes.
 
 ghost use Rattle.std.specs.Prelude.{All, IfOk, length, map, ◌≡◌, ◌≤◌};
-ghost use Rattle.bw_file.specs.Cells.{row_limit, IsCell};
+ghost use Rattle.bw_code.specs.Headers.{column_limit, row_limit};
+ghost use Rattle.bw_file.specs.Cells.{IsCell};
 ghost use Rattle.bw_file.specs.Format.{spelled_length, spelling, Spells};
-ghost use Rattle.bw_file.specs.Table.{column_limit, AreHeaders, IsTable, Table};
+ghost use Rattle.bw_file.specs.Table.{AreHeaders, IsTable, Table};
 
 use crate::columns::{column_size, put_columns};
 use crate::front::front;
-use crate::header::ColumnHeader;
 use crate::headers::{have_names, headers_size, put_headers};
 use bw_cells::Measured;
+use bw_code::Header;
+use bw_sql::Name;
 use std::alloc::{AllocError, Global};
 
 /// How many bytes spell a table of these headers and so many rows.
-pub fn file_length(headers: &[ColumnHeader], rows: usize) -> u64
+pub fn file_length(headers: &[Header<Name>], rows: usize) -> u64
     requires few { length headers.now ≤ column_limit }
     requires short { rows ≤ row_limit }
     ensures length { result ≡ spelled_length headers.now rows }
@@ -25,7 +27,7 @@ pub fn file_length(headers: &[ColumnHeader], rows: usize) -> u64
 /// The bytes that spell the table of these headers and columns, each of so many rows.
 pub fn encode<C: Measured>(
     alloc: Global,
-    headers: &[ColumnHeader],
+    headers: &[Header<Name>],
     rows: usize,
     columns: &[C],
 ) -> Result<Vec<u8>, AllocError>

@@ -7,7 +7,8 @@ ghost use Rattle.bw_cells.specs.Known.{known};
 ghost use Rattle.bw_code.specs.Fittings.{AreEnds};
 ghost use Rattle.bw_code.specs.declared.ends.Ends.{Ends};
 ghost use Rattle.bw_file.specs.declared.ends.Spelling.TheVariants as found;
-ghost use Rattle.bw_file.specs.Cells.{presence_size, row_limit};
+ghost use Rattle.bw_code.specs.Headers.{row_limit};
+ghost use Rattle.bw_file.specs.Cells.{presence_size};
 ghost use Rattle.bw_file.specs.Reading.{AreSpelled, cells_in};
 
 use crate::cells::{has_bit, has_cell, is_zero, word_at};

@@ -1,9 +1,9 @@
 //! What stands before the headers: mark, version and counts.
 
 ghost use Rattle.std.specs.Prelude.{IfSome, Some, length, take, ◌<◌, ◌^◌, ◌≡◌, ◌≤◌};
-ghost use Rattle.bw_file.specs.Cells.{row_limit};
+ghost use Rattle.bw_code.specs.Headers.{column_limit, row_limit};
 ghost use Rattle.bw_file.specs.Format.{front_bytes, Spells};
-ghost use Rattle.bw_file.specs.Table.{column_limit, Table};
+ghost use Rattle.bw_file.specs.Table.{Table};
 
 use byteorder::{ByteOrder, LittleEndian};
 

@@ -3,19 +3,19 @@
 ghost use Rattle.std.specs.Prelude.{All, IfOk, IfSome, List, None, OnOk, Some, length, map, not, ◌*◌, ◌++◌, ◌+◌, ◌≡◌, ◌≤◌, ℕ, ◌↔◌};
 ghost use Rattle.std.specs.List.{flat_map, list_any, sum_by};
 ghost use Rattle.std.specs.Str.{bytes_eq};
+ghost use Rattle.bw_code.specs.Headers.{column_limit};
 ghost use Rattle.bw_sql.specs.Names.{are_distinct, IsName};
-ghost use Rattle.bw_sql.specs.declared.tree.KindWord.{KindWord};
-ghost use Rattle.bw_sql.specs.declared.tree.LayoutWord.{LayoutWord};
+ghost use Rattle.bw_code.specs.declared.kind.Kind.{Kind};
+ghost use Rattle.bw_code.specs.declared.kind.Layout.{Layout};
 ghost use Rattle.bw_file.specs.Headers.{header_bytes, kind_number, layout_number};
-ghost use Rattle.bw_file.specs.Table.{column_limit};
-ghost use Rattle.bw_file.specs.declared.header.ColumnHeader.{ColumnHeader};
+ghost use Rattle.bw_file.specs.Table.{Header as AnyHeader};
 
-use crate::header::ColumnHeader;
-use bw_sql::{KindWord, LayoutWord, Name, is_name};
+use bw_code::{Header, Kind, Layout};
+use bw_sql::{Name, is_name};
 use std::alloc::{AllocError, Global};
 
 /// How many bytes the headers have.
-pub(crate) fn headers_size(headers: &[ColumnHeader]) -> u64
+pub(crate) fn headers_size(headers: &[Header<Name>]) -> u64
     requires { length headers.now ≤ column_limit }
     ensures size { result ≡ sum_by (λ header. 3 + length header.name) headers.now }
     ensures bound { result ≤ 131 * length headers.now }
@@ -37,7 +37,7 @@ fn name_length(name: &Name) -> u64
 }
 
 /// Puts the bytes of headers last.
-pub(crate) fn put_headers(bytes: &mut Vec<u8>, headers: &[ColumnHeader]) -> Result<(), AllocError>
+pub(crate) fn put_headers(bytes: &mut Vec<u8>, headers: &[Header<Name>]) -> Result<(), AllocError>
     ensures { OnOk result (bytes.new.items ≡ bytes.old.items ++ flat_map header_bytes headers.now) }
 {
     'headers: for i in 0..headers.len() {
@@ -47,7 +47,7 @@ pub(crate) fn put_headers(bytes: &mut Vec<u8>, headers: &[ColumnHeader]) -> Resu
 }
 
 /// Puts the bytes of a header last.
-fn put_header(bytes: &mut Vec<u8>, header: &ColumnHeader) -> Result<(), AllocError>
+fn put_header(bytes: &mut Vec<u8>, header: &Header<Name>) -> Result<(), AllocError>
     ensures { OnOk result (bytes.new.items ≡ bytes.old.items ++ header_bytes header.now) }
 {
     bytes.push(name_length(&header.name) as u8)?;
@@ -57,48 +57,48 @@ fn put_header(bytes: &mut Vec<u8>, header: &ColumnHeader) -> Result<(), AllocErr
     Ok(())
 }
 
-fn layout_number(layout: LayoutWord) -> u8
+fn layout_number(layout: Layout) -> u8
     ensures { result ≡ layout_number layout }
 {
     match layout {
-        LayoutWord::P => 0,
-        LayoutWord::V => 1,
-        LayoutWord::H => 2,
-        LayoutWord::S => 3,
+        Layout::P => 0,
+        Layout::V => 1,
+        Layout::H => 2,
+        Layout::S => 3,
     }
 }
 
-fn kind_number(kind: KindWord) -> u8
+fn kind_number(kind: Kind) -> u8
     ensures { result ≡ kind_number kind }
 {
     match kind {
-        KindWord::Offset => 0,
-        KindWord::Dictionary => 1,
+        Kind::Offset => 0,
+        Kind::Dictionary => 1,
     }
 }
 
 /// The layout of this number.
-fn layout_of(number: u8) -> Option<LayoutWord>
+fn layout_of(number: u8) -> Option<Layout>
     ensures found { IfSome result (λ layout. number ≡ layout_number layout) }
-    ensures none { result ≡ None → (layout : LayoutWord) → number ≡ layout_number layout → ⊥ }
+    ensures none { result ≡ None → (layout : Layout) → number ≡ layout_number layout → ⊥ }
 {
     match number {
-        0 => Some(LayoutWord::P),
-        1 => Some(LayoutWord::V),
-        2 => Some(LayoutWord::H),
-        3 => Some(LayoutWord::S),
+        0 => Some(Layout::P),
+        1 => Some(Layout::V),
+        2 => Some(Layout::H),
+        3 => Some(Layout::S),
         _ => None,
     }
 }
 
 /// The kind of this number.
-fn kind_of(number: u8) -> Option<KindWord>
+fn kind_of(number: u8) -> Option<Kind>
     ensures found { IfSome result (λ kind. number ≡ kind_number kind) }
-    ensures none { result ≡ None → (kind : KindWord) → number ≡ kind_number kind → ⊥ }
+    ensures none { result ≡ None → (kind : Kind) → number ≡ kind_number kind → ⊥ }
 {
     match number {
-        0 => Some(KindWord::Offset),
-        1 => Some(KindWord::Dictionary),
+        0 => Some(Kind::Offset),
+        1 => Some(Kind::Dictionary),
         _ => None,
     }
 }
@@ -108,9 +108,9 @@ pub(crate) fn read_headers<'a>(
     alloc: Global,
     bytes: &'a [u8],
     count: usize,
-) -> Result<Option<(Vec<ColumnHeader>, &'a [u8])>, AllocError>
+) -> Result<Option<(Vec<Header<Name>>, &'a [u8])>, AllocError>
     ensures headers { IfOk result (λ found. IfSome found (λ f. (length f.0.items ≡ count) × (bytes.entry.now ≡ flat_map header_bytes f.0.items ++ f.1.now))) }
-    ensures none { IfOk result (λ found. found ≡ None → (headers : List ColumnHeader) (tail : List ℕ) → length headers ≡ count → All (λ header. IsName header.name) headers
+    ensures none { IfOk result (λ found. found ≡ None → (headers : List AnyHeader) (tail : List ℕ) → length headers ≡ count → All (λ header. IsName header.name) headers
         → bytes.entry.now ≡ flat_map header_bytes headers ++ tail → ⊥) }
 {
     let mut headers = Vec::with_capacity(alloc, count)?;
@@ -130,9 +130,9 @@ pub(crate) fn read_headers<'a>(
 fn read_header<'a>(
     alloc: Global,
     bytes: &'a [u8],
-) -> Result<Option<(ColumnHeader, &'a [u8])>, AllocError>
+) -> Result<Option<(Header<Name>, &'a [u8])>, AllocError>
     ensures header { IfOk result (λ found. IfSome found (λ f. bytes.entry.now ≡ header_bytes f.0 ++ f.1.now)) }
-    ensures none { IfOk result (λ found. found ≡ None → (header : ColumnHeader) (tail : List ℕ) → IsName header.name → bytes.entry.now ≡ header_bytes header ++ tail → ⊥) }
+    ensures none { IfOk result (λ found. found ≡ None → (header : AnyHeader) (tail : List ℕ) → IsName header.name → bytes.entry.now ≡ header_bytes header ++ tail → ⊥) }
 {
     let [size, rest @ ..] = bytes else {
         return Ok(None);
@@ -155,11 +155,11 @@ fn read_header<'a>(
         return Ok(None);
     }
     let name = Name::from_bytes(alloc, name)?;
-    Ok(Some((ColumnHeader { name, layout, kind }, after)))
+    Ok(Some((Header { name, layout, kind }, after)))
 }
 
 /// Whether two headers have one name.
-pub(crate) fn has_name_twice(headers: &[ColumnHeader]) -> bool
+pub(crate) fn has_name_twice(headers: &[Header<Name>]) -> bool
     ensures { result ≡ not (are_distinct (map (λ header. header.name) headers.now)) }
 {
     'names: for i in 0..headers.len() {
@@ -171,14 +171,14 @@ pub(crate) fn has_name_twice(headers: &[ColumnHeader]) -> bool
 }
 
 /// Whether one of the headers has this name.
-fn has_name(headers: &[ColumnHeader], name: &Name) -> bool
+fn has_name(headers: &[Header<Name>], name: &Name) -> bool
     ensures { result ≡ list_any (λ header. bytes_eq name.now header.name) headers.now }
 {
     headers.iter().any(|header| name == &header.name)
 }
 
 /// The headers' names are names. Their type says so: this only reads, and no code is left of it.
-pub(crate) fn have_names(headers: &[ColumnHeader])
+pub(crate) fn have_names(headers: &[Header<Name>])
     ensures { All (λ header. IsName header.name) headers.now }
 {
     for header in headers {

@@ -2,7 +2,8 @@
 
 ghost use Rattle.std.specs.Prelude.{List, None, Option, false, is_some, length, slice_index_or, true, ℕ, ℤ, ◌≡◌, ◌≤◌};
 ghost use Rattle.bw_mask.specs.Masks.{bit_of};
-ghost use Rattle.bw_file.specs.Cells.{presence_bytes, presence_size, row_limit};
+ghost use Rattle.bw_code.specs.Headers.{row_limit};
+ghost use Rattle.bw_file.specs.Cells.{presence_bytes, presence_size};
 ghost use Rattle.bw_file.specs.Reading.{HasNoSpareBit};
 
 use byteorder::{ByteOrder, LittleEndian};

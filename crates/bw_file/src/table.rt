@@ -1,19 +1,21 @@
 //! A table that lies in the bytes of a table file.
 
 ghost use Rattle.std.specs.Prelude.{All, length, ◌≡◌, ◌≤◌};
-ghost use Rattle.bw_file.specs.Cells.{row_limit, IsCell};
+ghost use Rattle.bw_code.specs.Headers.{row_limit};
+ghost use Rattle.bw_file.specs.Cells.{IsCell};
 ghost use Rattle.bw_file.specs.Table.{AreHeaders, IsTable};
 
 use crate::column::FileColumn;
-use crate::header::ColumnHeader;
 use crate::headers::have_names;
+use bw_code::Header;
+use bw_sql::Name;
 use std::marker::Model;
 
 /// A table as a table file holds it: 1 to 64 headers, and for each of them a column of as many cells as there are
 /// rows, lent from the file's bytes. A contract sees headers, rows and columns.
 #[derive(Drop)]
 pub struct TableFile<'a> {
-    headers: Vec<ColumnHeader>,
+    headers: Vec<Header<Name>>,
     rows: usize,
     columns: Vec<FileColumn<'a>>,
 }
@@ -31,7 +33,7 @@ impl<'a> Model for TableFile<'a> {
 impl<'a> TableFile<'a> {
     /// The table of these headers and columns.
     pub(crate) fn new(
-        headers: Vec<ColumnHeader>,
+        headers: Vec<Header<Name>>,
         rows: usize,
         columns: Vec<FileColumn<'a>>,
     ) -> TableFile<'a>
@@ -51,7 +53,7 @@ impl<'a> TableFile<'a> {
     }
 
     /// The headers of the columns, in order.
-    pub fn headers(&self) -> &[ColumnHeader]
+    pub fn headers(&self) -> &[Header<Name>]
         ensures value { result.now ≡ self.now.headers }
         ensures table { IsTable self.now }
     {
@@ -73,7 +75,7 @@ impl<'a> TableFile<'a> {
     }
 
     /// The headers and the columns, to take over.
-    pub fn into_headers_and_columns(self) -> (Vec<ColumnHeader>, Vec<FileColumn<'a>>)
+    pub fn into_headers_and_columns(self) -> (Vec<Header<Name>>, Vec<FileColumn<'a>>)
         ensures headers { result.0.items ≡ self.entry.headers }
         ensures columns { result.1.items ≡ self.entry.columns }
         ensures table { IsTable self.entry }

@@ -4,7 +4,8 @@ ghost use Rattle.std.specs.Prelude.{All, List, Option, length, map, pos, â„¤, â—
 ghost use Rattle.std.specs.List.{flat_map};
 ghost use Rattle.byteorder.specs.Endian.{little_bytes};
 ghost use Rattle.bw_cells.specs.Distances.{distance_from};
-ghost use Rattle.bw_file.specs.Cells.{cell_bytes, column_bytes, column_size, presence_bytes, presence_size, row_limit, IsCell};
+ghost use Rattle.bw_code.specs.Headers.{row_limit};
+ghost use Rattle.bw_file.specs.Cells.{cell_bytes, column_bytes, column_size, presence_bytes, presence_size, IsCell};
 
 use crate::presence::write_presence;
 use bw_cells::Measured;

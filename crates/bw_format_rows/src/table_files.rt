@@ -5,8 +5,9 @@ ghost use Rattle.bw_file.specs.Table.{AreHeaders};
 
 use crate::seen::{see, see_at};
 use bw_cells::{Cells, Measured};
-use bw_file::{ColumnHeader, FileColumn, FileFault, TableFile, decode, encode, file_length};
-use bw_sql::{KindWord, LayoutWord, Name, is_name};
+use bw_code::{Header, Kind, Layout};
+use bw_file::{FileColumn, FileFault, TableFile, decode, encode, file_length};
+use bw_sql::{Name, is_name};
 use std::process::Abort;
 
 // One column A in layout V, OFFSET, of three rows: 3, NULL, -1.
@@ -91,15 +92,15 @@ fn ends_of<C: Measured>(cells: &C) -> Option<(i64, i64)> {
 #[derive(Clone, Copy)]
 struct Column<'a> {
     name: &'a [u8],
-    layout: LayoutWord,
-    kind: KindWord,
+    layout: Layout,
+    kind: Kind,
     cells: &'a [Option<i64>],
     ends: Option<(i64, i64)>,
 }
 
 fn check_column<R: Abort>(
     rt: &R,
-    header: &ColumnHeader,
+    header: &Header<Name>,
     column: &FileColumn<'_>,
     wanted: &Column<'_>,
 ) {
@@ -116,7 +117,7 @@ fn check_column<R: Abort>(
 // Sees that these are the headers and the cells of these columns.
 fn check_columns<R: Abort>(
     rt: &R,
-    headers: &[ColumnHeader],
+    headers: &[Header<Name>],
     columns: &[FileColumn<'_>],
     wanted: &[Column<'_>],
 ) {
@@ -142,16 +143,16 @@ fn changed(at: usize, byte: u8) -> [u8; 31] {
 }
 
 // The header of the example.
-fn headers_of_the_example<R: Abort + AllocGlobal>(rt: &R) -> Vec<ColumnHeader>
+fn headers_of_the_example<R: Abort + AllocGlobal>(rt: &R) -> Vec<Header<Name>>
     ensures headers { AreHeaders result.items }
     ensures one { length result.items ≡ 1 }
 {
     let word = b"A";
     assert!(rt; is_name(word));
-    let header = ColumnHeader {
+    let header = Header {
         name: Name::from_bytes(rt.alloc(), word).expect(rt, "a name"),
-        layout: LayoutWord::V,
-        kind: KindWord::Offset,
+        layout: Layout::V,
+        kind: Kind::Offset,
     };
     Vec::from_array(rt.alloc(), [header]).expect(rt, "headers")
 }
@@ -169,8 +170,8 @@ fn the_example_from_its_table(rt: HostRuntime) {
 fn the_example_to_its_table(rt: HostRuntime) {
     let wanted = Column {
         name: b"A",
-        layout: LayoutWord::V,
-        kind: KindWord::Offset,
+        layout: Layout::V,
+        kind: Kind::Offset,
         cells: &[Some(3), None, Some(-1)],
         ends: Some((-1, 3)),
     };
@@ -241,8 +242,8 @@ fn many_columns_and_rows_that_are_not_there(rt: HostRuntime) {
 const NINE_ROWS_COLUMNS: [Column<'static>; 2] = [
     Column {
         name: b"C1",
-        layout: LayoutWord::P,
-        kind: KindWord::Dictionary,
+        layout: Layout::P,
+        kind: Kind::Dictionary,
         cells: &[
             Some(1),
             None,
@@ -258,8 +259,8 @@ const NINE_ROWS_COLUMNS: [Column<'static>; 2] = [
     },
     Column {
         name: b"X_",
-        layout: LayoutWord::H,
-        kind: KindWord::Offset,
+        layout: Layout::H,
+        kind: Kind::Offset,
         cells: &[
             Some(-2_147_483_648),
             None,
@@ -394,8 +395,8 @@ fn nulls() -> [u8; 31] {
 fn no_ends_of_nulls(rt: HostRuntime) {
     let wanted = Column {
         name: b"A",
-        layout: LayoutWord::V,
-        kind: KindWord::Offset,
+        layout: Layout::V,
+        kind: Kind::Offset,
         cells: &[None, None, None],
         ends: None,
     };

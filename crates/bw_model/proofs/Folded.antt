@@ -1,5 +1,5 @@
 -- What set functions of integers say fits a cell.
-use Rattle.std.proofs.Common.{◌≡◌, ℕ, ℤ, pos, negsuc, ◌+◌, ◌*◌, ◌<◌, ◌≤◌, ◌^◌, ◌+ℤ◌, ◌≤ℤ◌, Bool, true, false, FitsSigned, List, [], ◌∷◌, filter_map, int_le, length, map, slice_get, Option, None, Some, cond, nat_lt, not, if◌then◌else◌, zero, suc, refl, sym, ap, subst, arith, ◌∙◌, inl, inr}
+use Rattle.std.proofs.Common.{◌≡◌, ℕ, ℤ, pos, negsuc, ◌+◌, ◌*◌, ◌≤◌, ◌^◌, ◌+ℤ◌, ◌≤ℤ◌, Bool, true, false, FitsSigned, List, [], ◌∷◌, int_le, length, slice_get, None, Some, cond, nat_lt, not, if◌then◌else◌, zero, suc, refl, sym, ap, arith, ◌∙◌, inl, inr}
 use Rattle.std.specs.Int.{w128}
 use Rattle.std.specs.List.{All, insert, position, position_or_len}
 use Rattle.std.specs.Option.{unwrap_or}
@@ -12,10 +12,8 @@ use Rattle.std.proofs.lemmas.List.Elements.{All-cons, All-head, All-nil, All-tai
 use Rattle.bw_model.specs.Refusals.{is_in_range}
 use Rattle.bw_model.specs.Select.{folded, shown}
 use Rattle.bw_cells.specs.SetFunctions.{known, put_in, sorted, sum, total}
-use Rattle.bw_model.specs.Store.{Row, Value, row_limit, value_from}
+use Rattle.bw_model.specs.Store.{Value, row_limit}
 use Rattle.bw_model.specs.Told.{IsCell}
-use Rattle.bw_model.specs.WellFormed.{IsRow}
-use Rattle.bw_model.specs.declared.answer.Cell.TheVariants.{Number}
 use Rattle.bw_sql.specs.declared.tree.SetFunction.{SetFunction}
 use Rattle.bw_sql.specs.declared.tree.SetFunction.TheVariants.{Count, Sum, Min, Max, Median}
 use Rattle.bw_model.proofs.Passing.{two}

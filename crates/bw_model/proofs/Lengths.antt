@@ -1,10 +1,8 @@
 -- How long a table's file is, at least.
-use Rattle.std.proofs.Common.{◌≡◌, ◌≤◌, ◌<◌, ◌+◌, ◌*◌, ◌∙◌, ℕ, Bool, true, length, map, nat_lt, zero, suc, sym, arith}
-use Rattle.std.specs.List.{sum_by}
+use Rattle.std.proofs.Common.{◌≡◌, ◌≤◌, ◌<◌, ◌*◌, ℕ, true, length, nat_lt, zero, suc, arith}
 use Rattle.std.proofs.lemmas.Bool.{lt-ltb}
-use Rattle.std.proofs.lemmas.List.{length-map}
-use Rattle.bw_file.specs.Cells.{column_size, presence_size}
-use Rattle.bw_model.specs.Filing.{file_limit, filed_header, filed_length}
+use Rattle.bw_file.specs.Cells.{column_size}
+use Rattle.bw_model.specs.Filing.{file_limit, filed_length}
 use Rattle.bw_model.specs.Store.{Table}
 
 once : (n s : ℕ) → 0 < n → s ≤ n * s
@@ -15,7 +13,7 @@ once (suc n) s some = omega arith
 pub rows_within : (table : Table) → 0 < length table.headers → length table.rows ≤ filed_length table
 rows_within table some =
     let rows = length table.rows in
-    let one = once (length (map filed_header table.headers)) (column_size rows) (omega (arith, some, length-map table.headers filed_header)) in
+    let one = once (length table.headers) (column_size rows) some in
     omega (arith, one)
 
 pub too_many_rows : (table : Table) → 0 < length table.headers → file_limit < length table.rows → nat_lt file_limit (filed_length table) ≡ true

@@ -14,7 +14,8 @@ use Rattle.bw_sql.specs.Brought.{names_brought}
 use Rattle.bw_model.specs.Named.{AreNamed, HaveNames}
 use Rattle.bw_model.specs.Refusals.{first_that_holds, open_tests, tests_of}
 use Rattle.bw_model.specs.Step.{Step, carried_out, refused_or, with_lines, with_table}
-use Rattle.bw_model.specs.Store.{Header, Store, Table, header_of, names, table_of, word_or}
+use Rattle.bw_model.specs.Store.{Header, Store, Table, header_of, names, table_of}
+use Rattle.bw_model.specs.Words.{kind_or, layout_of}
 use Rattle.bw_model.specs.declared.content.Content.{Content}
 use Rattle.bw_model.specs.declared.refusal.Refusal.{Refusal}
 use Rattle.bw_model.specs.declared.reply.Reply.{Reply}
@@ -62,7 +63,7 @@ chosen_name [] header = refl
 chosen_name (choice ∷ choices) header = by (bytes_eq header.name choice.column) (chosen_name choices header)
   where
     by : (b : Bool) → (chosen_header choices header).name ≡ header.name
-        → (if b then record { name = header.name; layout = choice.layout; kind = word_or choice.kind header.kind } else chosen_header choices header).name ≡ header.name
+        → (if b then record { name = header.name; layout = layout_of choice.layout; kind = kind_or choice.kind header.kind } else chosen_header choices header).name ≡ header.name
     by true deeper = refl
     by false deeper = deeper
 

@@ -5,27 +5,14 @@ use Rattle.std.specs.List.{All, range_with_len}
 use Rattle.std.proofs.lemmas.List.{ext_get_or}
 use Rattle.std.proofs.lemmas.List.Elements.{All-head, All-tail}
 use Rattle.std.proofs.lemmas.List.FromFn.{get_or-map-range_with_len}
-use Rattle.bw_file.specs.declared.header.ColumnHeader.{ColumnHeader}
 use Rattle.bw_file.proofs.Fronts.{one-table}
 use Rattle.bw_sql.specs.Tree.{StatementTree, create_table, delete, drop_table, insert, list_tables, load, open_table, rebuild, save, select, update}
 use Rattle.bw_model.specs.Contents.{IsReadAs, IsSaid, IsTableIn}
-use Rattle.bw_model.specs.Filing.{Holds, column_of, file_limit, filed, filed_header}
-use Rattle.bw_model.specs.Store.{Header, Row, Store, Table, Value, value_at}
+use Rattle.bw_model.specs.Filing.{Holds, column_of, file_limit, filed}
+use Rattle.bw_model.specs.Store.{Row, Store, Table, Value, value_at}
 use Rattle.bw_model.specs.declared.content.Content.{Content}
 use Rattle.bw_model.specs.declared.content.Content.TheVariants as content
 use Rattle.bw_model.proofs.Said.{value_there}
-
--- headers are told by what is filed of them
-
-abbrev header_from : ColumnHeader → Header
-header_from header = record { name = header.name; layout = header.layout; kind = header.kind }
-
-headers_from : (headers : List Header) → map header_from (map filed_header headers) ≡ headers
-headers_from [] = refl
-headers_from (header ∷ headers) = ap (λ list. header ∷ list) (headers_from headers)
-
-same_headers : (headers others : List Header) → map filed_header headers ≡ map filed_header others → headers ≡ others
-same_headers headers others same = sym (headers_from headers) ∙ ap (map header_from) same ∙ headers_from others
 
 -- rows of one width are told by their columns
 
@@ -64,7 +51,7 @@ same_table table other headers rows = λ j. record { headers = headers j; rows =
 pub one_held : (bytes : List ℕ) (table other : Table) → Holds bytes table → Holds bytes other → table ≡ other
 one_held bytes table other holds held =
     let same = one-table bytes (filed table) (filed other) holds.spells held.spells in
-    let headers = same_headers table.headers other.headers (ap (λ t. t.headers) same) in
+    let headers : table.headers ≡ other.headers = ap (λ t. t.headers) same in
     let wide : All (λ row. length row ≡ length table.headers) other.rows = subst (λ list. All (λ row. length row ≡ length list) other.rows) (sym headers) held.wide in
     same_table table other headers
     (same_rows (length table.headers) table.rows other.rows (ap (λ t. t.rows) same) holds.wide wide

@@ -10,8 +10,8 @@ use Rattle.std.proofs.lemmas.List.Quantifiers.{position-Some}
 use Rattle.std.proofs.lemmas.Slice.Eq.{bytes_eq-Decides}
 use Rattle.bw_sql.specs.Names.{IsName}
 use Rattle.bw_sql.specs.Tree.{ConditionTree, ItemsTree, StatementTree, create_table, delete, drop_table, insert, list_tables, load, open_table, rebuild, save, select, update}
-use Rattle.bw_sql.specs.declared.tree.LayoutWord.TheVariants.{V}
-use Rattle.bw_sql.specs.declared.tree.KindWord.TheVariants.{Offset}
+use Rattle.bw_code.specs.declared.kind.Layout.TheVariants.{V}
+use Rattle.bw_code.specs.declared.kind.Kind.TheVariants.{Offset}
 use Rattle.bw_model.specs.Condition.{found_rows, is_found}
 use Rattle.bw_model.specs.Contents.{MayBeSaid, lines_in, table_held, width_of}
 use Rattle.bw_model.specs.Insert.{target_columns}

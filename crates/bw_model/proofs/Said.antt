@@ -4,7 +4,7 @@ use Rattle.std.specs.Bool.{MatchBool}
 use Rattle.std.specs.List.{All, range_with_len}
 use Rattle.std.proofs.lemmas.Bool.{le-leb, ltb-false, true≢false}
 use Rattle.std.proofs.lemmas.List.{get_or-map, length-map}
-use Rattle.std.proofs.lemmas.List.Elements.{All-cons, All-head, All-nil, All-tail}
+use Rattle.std.proofs.lemmas.List.Elements.{All-nil}
 use Rattle.std.proofs.lemmas.List.FromFn.{get_or-map-range_with_len, length-map-range_with_len}
 use Rattle.bw_csvload.specs.Fitting as csv
 use Rattle.bw_csvload.specs.Rows.{rows_of_file}
@@ -12,14 +12,13 @@ use Rattle.bw_csvload.specs.declared.fault.CsvFault.{CsvFault}
 use Rattle.bw_csvload.specs.declared.fault.CsvFault.TheVariants as fault
 use Rattle.bw_csvload.proofs.Fits.{rows_in_file}
 use Rattle.bw_file.specs.Cells as file
-use Rattle.bw_sql.specs.Names.{IsName}
 use Rattle.bw_sql.specs.Tree.{StatementTree, load, open_table}
 use Rattle.bw_sql.specs.declared.tree.FirstRecord.{FirstRecord}
 use Rattle.bw_model.specs.Contents.{IsReadAs, IsSaid, IsTableIn, MayBeSaid, first_of, is_no_table, lines_in, lines_or_fault, table_held, width_of}
-use Rattle.bw_model.specs.Filing.{Holds, column_of, file_limit, filed_header}
+use Rattle.bw_model.specs.Filing.{Holds, column_of, file_limit}
 use Rattle.bw_model.specs.Named.{HaveNames}
 use Rattle.bw_model.specs.Refusals.{fault_test, is_in_range, refusal_of_csv}
-use Rattle.bw_model.specs.Store.{Header, Row, Store, Table, Value, are_distinct, names, table_of, value_at}
+use Rattle.bw_model.specs.Store.{Header, Row, Store, Table, Value, table_of, value_at}
 use Rattle.bw_model.specs.Told.{IsRefusal}
 use Rattle.bw_model.specs.WellFormed.{IsRow, IsTable}
 use Rattle.bw_model.specs.declared.content.Content.{Content}
@@ -93,16 +92,6 @@ fault_is columns content.NotTable fits = tt
 
 -- table files
 
-names_filed : (headers : List Header) → map (λ header. header.name) (map filed_header headers) ≡ names headers
-names_filed [] = refl
-names_filed (header ∷ headers) = ap (λ list. header.name ∷ list) (names_filed headers)
-
-headers_held : (headers : List Header) → All (λ header. IsName header.name) (map filed_header headers) → HaveNames headers
-headers_held [] all = All-nil (λ header. IsName header.name)
-headers_held (header ∷ headers) all =
-    All-cons (λ h. IsName h.name) header headers (All-head (λ h. IsName h.name) (filed_header header) (map filed_header headers) all)
-    (headers_held headers (All-tail (λ h. IsName h.name) (filed_header header) (map filed_header headers) all))
-
 pub value_there : (row : Row) (k : ℕ) (other : Value) → k < length row → value_at row k ≡ get_or row k other
 value_there [] k other within = absurd (omega arith)
 value_there (value ∷ row) zero other within = refl
@@ -128,18 +117,13 @@ pub record IsHeld (table : Table) : Type 0 where
 held : (bytes : List ℕ) (table : Table) → Holds bytes table → IsHeld table
 held bytes table holds =
     let filed_is = holds.spells.table in
-    let headers = table.headers in
     record {
       is = record {
-        headers = record {
-          some = omega (arith, filed_is.headers.some, length-map headers filed_header);
-          few = omega (arith, filed_is.headers.few, length-map headers filed_header);
-          distinct = subst (λ list. are_distinct list ≡ true) (names_filed headers) filed_is.headers.distinct;
-        };
-        rows = rows_held headers table.rows holds.wide filed_is.cells;
+        headers = filed_is.headers;
+        rows = rows_held table.headers table.rows holds.wide filed_is.cells;
         few = filed_is.few;
       };
-      named = headers_held headers filed_is.names;
+      named = filed_is.names;
     }
 
 -- the table that is said is one, where one is said

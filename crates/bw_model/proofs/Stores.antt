@@ -5,16 +5,16 @@ use Rattle.std.specs.Str.{bytes_eq}
 use Rattle.std.proofs.lemmas.Bool.{ltb-false, true≢false}
 use Rattle.std.proofs.lemmas.List.{set-get_or}
 use Rattle.std.proofs.lemmas.List.Quantifiers.{position-Some}
-use Rattle.bw_sql.specs.Tree.{ConditionTree, ItemsTree, StatementTree, create_table, delete, insert, load, open_table, rebuild, save, select, update}
+use Rattle.bw_sql.specs.Tree.{ConditionTree, ItemsTree, StatementTree, create_table, delete, insert, load, open_table, rebuild, select, update}
 use Rattle.bw_sql.specs.declared.tree.LayoutChoice.{LayoutChoice}
 use Rattle.bw_sql.specs.declared.tree.FirstRecord.{FirstRecord}
 use Rattle.bw_sql.specs.declared.tree.SetClause.{SetClause}
 use Rattle.bw_sql.specs.declared.tree.ColumnDefinition.{ColumnDefinition}
 use Rattle.bw_model.specs.Changes.{with_choices, with_updates, without_found}
 use Rattle.bw_model.specs.Condition.{found_rows}
-use Rattle.bw_model.specs.Contents.{is_no_table, lines_in, table_held}
+use Rattle.bw_model.specs.Contents.{lines_in, table_held}
 use Rattle.bw_model.specs.Insert.{target_columns, with_rows}
-use Rattle.bw_model.specs.Refusals.{Tests, chosen_columns, create_tests, delete_tests, first_that_holds, insert_tests, load_tests, open_tests, over, rebuild_tests, save_tests, select_tests, tests_of, update_tests}
+use Rattle.bw_model.specs.Refusals.{Tests, chosen_columns, create_tests, delete_tests, first_that_holds, insert_tests, load_tests, open_tests, over, rebuild_tests, select_tests, tests_of, update_tests}
 use Rattle.bw_model.specs.Answers.{Shown}
 use Rattle.bw_model.specs.Select.{answer, shown_items}
 use Rattle.bw_model.specs.Step.{carried_out, outcome_of, refused_or, table_or_none, with_lines, with_table}

@@ -8,7 +8,8 @@ use Rattle.bw_sql.specs.declared.tree.Operand.{Operand}
 use Rattle.bw_sql.specs.declared.tree.Operand.TheVariants.{Column}
 use Rattle.bw_sql.specs.declared.tree.SetClause.{SetClause}
 use Rattle.bw_model.specs.Condition.{is_found, value_of}
-use Rattle.bw_model.specs.Store.{Header, Row, Table, word_or}
+use Rattle.bw_model.specs.Store.{Header, Row, Table}
+use Rattle.bw_model.specs.Words.{kind_or, layout_of}
 
 -- where a column's new value comes from; one that isn't set keeps its own
 abbrev pub source_for : List SetClause → List ℕ → Operand
@@ -41,7 +42,7 @@ abbrev pub chosen_header : List LayoutChoice → Header → Header
 chosen_header [] header = header
 chosen_header (choice ∷ choices) header =
     if bytes_eq header.name choice.column
-    then record { name = header.name; layout = choice.layout; kind = word_or choice.kind header.kind }
+    then record { name = header.name; layout = layout_of choice.layout; kind = kind_or choice.kind header.kind }
     else chosen_header choices header
 
 -- the table with its columns as they are chosen to lie; no row changes

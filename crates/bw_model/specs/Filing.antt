@@ -1,17 +1,13 @@
 -- A table as a table file holds it: by its columns (this product's own format).
-use Rattle.std.specs.Prelude.{◌≡◌, ℕ, List, All, length, map, nat_lt}
+use Rattle.std.specs.Prelude.{◌≡◌, ℕ, List, All, length, map}
 use Rattle.std.specs.List.{range_with_len}
 use Rattle.bw_file.specs.Format.{Spells, spelled_length}
 use Rattle.bw_file.specs.Table as file
-use Rattle.bw_file.specs.declared.header.ColumnHeader.{ColumnHeader}
-use Rattle.bw_model.specs.Store.{Header, Row, Table, Value, value_at}
+use Rattle.bw_model.specs.Store.{Row, Table, Value, value_at}
 
 -- the most bytes of a file
 abbrev pub file_limit : ℕ
 file_limit = 268435456
-
-abbrev pub filed_header : Header → ColumnHeader
-filed_header header = record { name = header.name; layout = header.layout; kind = header.kind }
 
 -- column k of rows, downward
 abbrev pub column_of : List Row → ℕ → List Value
@@ -20,7 +16,7 @@ column_of rows k = map (λ row. value_at row k) rows
 -- the table by its columns
 abbrev pub filed : Table → file.Table
 filed table = record {
-  headers = map filed_header table.headers;
+  headers = table.headers;
   rows = length table.rows;
   columns = map (column_of table.rows) (range_with_len 0 (length table.headers));
 }
@@ -32,4 +28,4 @@ pub record Holds (bytes : List ℕ) (table : Table) : Type 0 where
 
 -- how many bytes hold a table
 abbrev pub filed_length : Table → ℕ
-filed_length table = spelled_length (map filed_header table.headers) (length table.rows)
+filed_length table = spelled_length table.headers (length table.rows)

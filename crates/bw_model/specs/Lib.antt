@@ -15,3 +15,4 @@ pub mod Step
 pub mod Store
 pub mod Told
 pub mod WellFormed
+pub mod Words

@@ -1,13 +1,16 @@
 -- What a store holds: tables in the order in which they were made, each with its columns and its rows (SQL-92, tables).
-use Rattle.std.specs.Prelude.{◌<◌, ◌≤◌, ℕ, ℤ, List, [], ◌∷◌, Option, Some, None, map, length, position, slice_get, if◌then◌else◌, IsTrue}
+use Rattle.std.specs.Prelude.{ℕ, ℤ, List, [], ◌∷◌, Option, Some, None, map, position, slice_get, if◌then◌else◌}
 use Rattle.std.specs.Str.{bytes_eq}
+-- the most columns and rows of a table
+pub use Rattle.bw_code.specs.Headers.{column_limit, row_limit}
+use Rattle.bw_code.specs.declared.kind.Kind.TheVariants.{Offset}
+use Rattle.bw_code.specs.declared.kind.Layout.TheVariants.{V}
 -- no name stands twice in the list
 pub use Rattle.bw_sql.specs.Names.{are_distinct}
+-- a column's name, layout and kind; 1 to 64 of them, each with a name of its own
+pub use Rattle.bw_file.specs.Table.{AreHeaders, Header}
 use Rattle.bw_sql.specs.declared.tree.ColumnDefinition.{ColumnDefinition}
-use Rattle.bw_sql.specs.declared.tree.LayoutWord.{LayoutWord}
-use Rattle.bw_sql.specs.declared.tree.LayoutWord.TheVariants.{V}
-use Rattle.bw_sql.specs.declared.tree.KindWord.{KindWord}
-use Rattle.bw_sql.specs.declared.tree.KindWord.TheVariants.{Offset}
+use Rattle.bw_model.specs.Words.{kind_or, layout_or}
 
 -- an integer, or null
 abbrev pub Value : Type 0
@@ -15,12 +18,6 @@ Value = Option ℤ
 
 abbrev pub Row : Type 0
 Row = List Value
-
--- a column's name, and how it lies in memory
-pub record Header : Type 0 where
-  pub name : List ℕ
-  pub layout : LayoutWord
-  pub kind : KindWord
 
 pub record Table : Type 0 where
   pub headers : List Header
@@ -32,20 +29,8 @@ Store = List (List ℕ × Table)
 abbrev pub names : List Header → List (List ℕ)
 names headers = map (λ h. h.name) headers
 
-abbrev pub column_limit : ℕ
-column_limit = 64
-
 abbrev pub table_limit : ℕ
 table_limit = 64
-
-abbrev pub row_limit : ℕ
-row_limit = 16777216
-
--- 1 to 64 columns, each with a name of its own
-pub record AreHeaders (headers : List Header) : Type 0 where
-  pub some : 0 < length headers
-  pub few : length headers ≤ column_limit
-  pub distinct : IsTrue (are_distinct (names headers))
 
 -- the table of this name
 abbrev pub table_of : Store → List ℕ → Option Table
@@ -56,14 +41,9 @@ table_of (entry ∷ store) name = if bytes_eq name entry.0 then Some entry.1 els
 abbrev pub place_of : List Header → List ℕ → Option ℕ
 place_of headers name = position (λ header. bytes_eq name header.name) headers
 
--- the word, or what stands where nothing is said
-abbrev pub word_or : {A : Type 0} → Option A → A → A
-word_or None otherwise = otherwise
-word_or (Some word) otherwise = word
-
--- the column that a definition makes
+-- the column that a definition makes: in layout V and of kind OFFSET where it says none
 abbrev pub header_of : ColumnDefinition → Header
-header_of definition = record { name = definition.name; layout = word_or definition.layout V; kind = word_or definition.kind Offset }
+header_of definition = record { name = definition.name; layout = layout_or definition.layout V; kind = kind_or definition.kind Offset }
 
 abbrev pub value_or_null : Option Value → Value
 value_or_null None = None

@@ -11,7 +11,9 @@ ghost use Rattle.bw_sql.specs.declared.tree.Operand.TheVariants.{Column};
 use crate::condition::{found_rows, is_found, value_of};
 use crate::refusals::{delete_tests, first_that_holds, rebuild_tests, update_tests};
 use crate::reply::Reply;
-use crate::store::{Header, Row, Table, place_of, value_from};
+use crate::store::{Row, Table, place_of, same_header, value_from};
+use crate::words::{kind_or, layout_of};
+use bw_code::Header;
 use bw_sql::{Condition, LayoutChoice, Name, Operand, SetClause, Value};
 use std::alloc::{AllocError, Global};
 
@@ -66,7 +68,7 @@ fn rows_updated(
 
 fn updated_if_found(
     alloc: Global,
-    headers: &[Header],
+    headers: &[Header<Name>],
     sets: &[SetClause],
     condition: &Option<Condition>,
     row: &Row,
@@ -83,7 +85,7 @@ fn updated_if_found(
 /// The row with its columns set, all of them from the row as it was.
 fn updated_row(
     alloc: Global,
-    headers: &[Header],
+    headers: &[Header<Name>],
     sets: &[SetClause],
     row: &Row,
 ) -> Result<Vec<Value>, AllocError>
@@ -91,13 +93,13 @@ fn updated_row(
 {
     let mut new = Vec::new(alloc);
     for header in headers {
-        new.push(updated_value(headers, sets, row, header.name()))?;
+        new.push(updated_value(headers, sets, row, &header.name))?;
     }
     Ok(new)
 }
 
 /// The value of a column of the updated row. A column that isn't set keeps its own.
-fn updated_value(headers: &[Header], sets: &[SetClause], row: &Row, name: &Name) -> Value
+fn updated_value(headers: &[Header<Name>], sets: &[SetClause], row: &Row, name: &Name) -> Value
     ensures { result ≡ value_of headers.now row.now (source_for sets.now name.now) }
 {
     for set in sets {
@@ -179,9 +181,9 @@ fn chosen_columns(alloc: Global, choices: &[LayoutChoice]) -> Result<Vec<Name>, 
 /// The columns as they are chosen to lie.
 fn headers_chosen(
     alloc: Global,
-    headers: &[Header],
+    headers: &[Header<Name>],
     choices: &[LayoutChoice],
-) -> Result<Vec<Header>, AllocError>
+) -> Result<Vec<Header<Name>>, AllocError>
     ensures { IfOk result (λ chosen. chosen.items ≡ map (chosen_header choices.now) headers.now) }
 {
     let mut chosen = Vec::new(alloc);
@@ -194,16 +196,19 @@ fn headers_chosen(
 /// The column as it is chosen to lie. Its kind stays where none is said.
 fn chosen_header(
     alloc: Global,
-    header: &Header,
+    header: &Header<Name>,
     choices: &[LayoutChoice],
-) -> Result<Header, AllocError>
+) -> Result<Header<Name>, AllocError>
     ensures { IfOk result (λ chosen. chosen ≡ chosen_header choices.now header.now) }
 {
     for choice in choices {
-        if header.name() == &choice.column {
-            let kind = choice.kind.unwrap_or(header.kind());
-            return header.with_words(alloc, choice.layout, kind);
+        if header.name == choice.column {
+            return Ok(Header {
+                name: header.name.try_clone(alloc)?,
+                layout: layout_of(choice.layout),
+                kind: kind_or(choice.kind, header.kind),
+            });
         }
     }
-    header.with_words(alloc, header.layout(), header.kind())
+    same_header(alloc, header)
 }

@@ -4,9 +4,10 @@ ghost use Rattle.std.specs.Prelude.{◌≡◌, IfOk, map, option_map};
 ghost use Rattle.bw_model.specs.Condition.{compared, found_rows, is_found, is_one_of, lies_between, order_meets, truth_at, truth_of_word, value_of};
 ghost use Rattle.bw_sql.specs.Tree.{condition_of};
 
-use crate::store::{Header, Row, Table, place_of, value_from};
+use crate::store::{Row, Table, place_of, value_from};
+use bw_code::Header;
 use bw_mask::TruthValue;
-use bw_sql::{CompareOp, Condition, Operand, TruthWord, Value};
+use bw_sql::{CompareOp, Condition, Name, Operand, TruthWord, Value};
 use std::alloc::{AllocError, Global};
 use std::cmp::Ordering;
 
@@ -35,7 +36,7 @@ fn compared(op: CompareOp, left: Value, right: Value) -> TruthValue
     }
 }
 
-pub(crate) fn value_of(headers: &[Header], row: &Row, operand: &Operand) -> Value
+pub(crate) fn value_of(headers: &[Header<Name>], row: &Row, operand: &Operand) -> Value
     ensures { result ≡ value_of headers.now row.now operand.now }
 {
     match operand {
@@ -75,7 +76,7 @@ fn is_one_of(value: Value, entries: &[Value]) -> TruthValue
 
 /// What a condition says of a row of these columns.
 #[tactic(auto, using(bw_mask::proofs::Tables::and_of_assoc, bw_mask::proofs::Tables::or_of_assoc, bw_mask::proofs::Tables::and_of_True, bw_mask::proofs::Tables::or_of_False))]
-pub fn truth_at(headers: &[Header], row: &Row, condition: &Condition) -> TruthValue
+pub fn truth_at(headers: &[Header<Name>], row: &Row, condition: &Condition) -> TruthValue
     ensures { result ≡ truth_at headers.now row.now (condition_of condition.now) }
 {
     match condition {
@@ -113,7 +114,7 @@ pub fn truth_at(headers: &[Header], row: &Row, condition: &Condition) -> TruthVa
 }
 
 /// Every row is found where there is no condition.
-pub(crate) fn is_found(headers: &[Header], condition: &Option<Condition>, row: &Row) -> bool
+pub(crate) fn is_found(headers: &[Header<Name>], condition: &Option<Condition>, row: &Row) -> bool
     ensures { result ≡ is_found headers.now (option_map condition_of condition.now) row.now }
 {
     match condition {

@@ -1,11 +1,13 @@
 //! How long the file of a table is.
 
-ghost use Rattle.std.specs.Prelude.{◌≡◌, ◌≤◌, ◌+◌, ◌*◌, ◌^◌, length, map, nat_lt};
+ghost use Rattle.std.specs.Prelude.{◌≡◌, ◌≤◌, ◌+◌, ◌*◌, ◌^◌, length, nat_lt};
 ghost use Rattle.std.specs.List.{sum_by};
 ghost use Rattle.bw_file.specs.Cells.{column_size};
-ghost use Rattle.bw_model.specs.Filing.{file_limit, filed_header, filed_length};
+ghost use Rattle.bw_model.specs.Filing.{file_limit, filed_length};
 
-use crate::store::{Header, Table};
+use crate::store::Table;
+use bw_code::Header;
+use bw_sql::Name;
 
 /// The most bytes of a file that is read or written.
 pub const FILE_LIMIT: usize = 268_435_456;
@@ -26,13 +28,13 @@ pub(crate) fn is_too_long(table: &Table) -> bool
 }
 
 /// How many bytes the headers take.
-fn headers_size(headers: &[Header]) -> u128
-    ensures size { result ≡ sum_by (λ header. 3 + length header.name) (map filed_header headers.now) }
+fn headers_size(headers: &[Header<Name>]) -> u128
+    ensures size { result ≡ sum_by (λ header. 3 + length header.name) headers.now }
     ensures bound { result ≤ length headers.now * 2 ^ 64 }
 {
     match headers {
         [] => 0,
-        [first, rest @ ..] => 3 + first.name().as_bytes().len() as u128 + headers_size(rest),
+        [first, rest @ ..] => 3 + first.name.as_bytes().len() as u128 + headers_size(rest),
     }
 }
 

@@ -4,14 +4,15 @@ ghost use Rattle.std.specs.Prelude.{◌≡◌, IfOk, map, position};
 ghost use Rattle.std.specs.Str.{bytes_eq};
 ghost use Rattle.bw_model.specs.Insert.{row_for, target_columns};
 
-use crate::store::{Header, Row, names, value_from};
+use crate::store::{Row, names, value_from};
+use bw_code::Header;
 use bw_sql::{Name, NameList, Value, ValueRows};
 use std::alloc::{AllocError, Global};
 
 /// The columns that the values are for: where none is listed, all of them in order.
 pub(crate) fn target_columns(
     alloc: Global,
-    headers: &[Header],
+    headers: &[Header<Name>],
     listed: &Option<NameList>,
 ) -> Result<Vec<Name>, AllocError>
     ensures { IfOk result (λ columns. columns.items ≡ target_columns headers.now listed.now) }
@@ -36,7 +37,7 @@ pub(crate) fn copied(alloc: Global, names: &[Name]) -> Result<Vec<Name>, AllocEr
 /// The row of these values: a column that isn't listed is NULL.
 fn row_for(
     alloc: Global,
-    headers: &[Header],
+    headers: &[Header<Name>],
     list: &[Name],
     values: &Row,
 ) -> Result<Vec<Value>, AllocError>
@@ -44,7 +45,7 @@ fn row_for(
 {
     headers
         .iter()
-        .map(|header| value_from(values.values(), place_among(list, header.name())))
+        .map(|header| value_from(values.values(), place_among(list, &header.name)))
         .collect(alloc)
 }
 
@@ -58,7 +59,7 @@ fn place_among(list: &[Name], name: &Name) -> Option<usize>
 /// The rows of these values, in order.
 pub(crate) fn rows_for(
     alloc: Global,
-    headers: &[Header],
+    headers: &[Header<Name>],
     list: &[Name],
     rows: &[Row],
 ) -> Result<Vec<Row>, AllocError>

@@ -18,6 +18,7 @@ mod set_functions;
 mod steps;
 mod store;
 mod texts;
+mod words;
 
 pub use answer::{Answer, Cell, Cells, Heading};
 pub use condition::{found_rows, truth_at};
@@ -34,5 +35,5 @@ pub use refusal::Refusal;
 pub use reply::Reply;
 pub use select::{answer_of, heading_of};
 pub use steps::step;
-pub use store::{Header, Row, RowList, Store, Table};
+pub use store::{Row, RowList, Store, Table, header_of};
 pub use texts::reply_text;

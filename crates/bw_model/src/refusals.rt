@@ -12,7 +12,8 @@ use crate::content::Content;
 use crate::filing::is_too_long;
 use crate::refusal::Refusal;
 use crate::select::{has_functions, is_column};
-use crate::store::{Header, Row, Table, are_distinct, place_of, table_of};
+use crate::store::{Row, Table, are_distinct, place_of, table_of};
+use bw_code::Header;
 use bw_sql::{Condition, Name, Operand, SelectItem, SetClause, Value};
 
 /// The most columns that a table has.
@@ -41,13 +42,13 @@ pub(crate) fn first_that_holds(tests: &[Test]) -> Option<Refusal>
     }
 }
 
-fn is_missing(headers: &[Header], name: &Name) -> bool
+fn is_missing(headers: &[Header<Name>], name: &Name) -> bool
     ensures { result ≡ is_missing headers.now name.now }
 {
     place_of(headers, name).is_none()
 }
 
-fn operand_is_missing(headers: &[Header], operand: &Operand) -> bool
+fn operand_is_missing(headers: &[Header<Name>], operand: &Operand) -> bool
     ensures { result ≡ operand_is_missing headers.now operand.now }
 {
     match operand {
@@ -57,7 +58,7 @@ fn operand_is_missing(headers: &[Header], operand: &Operand) -> bool
 }
 
 /// Whether the condition names a column that isn't there.
-fn names_missing(headers: &[Header], condition: &Condition) -> bool
+fn names_missing(headers: &[Header<Name>], condition: &Condition) -> bool
     ensures { result ≡ names_missing headers.now (condition_of condition.now) }
 {
     match condition {
@@ -103,7 +104,7 @@ fn has_long_list(condition: &Condition) -> bool
     }
 }
 
-fn condition_misses(headers: &[Header], condition: &Option<Condition>) -> bool
+fn condition_misses(headers: &[Header<Name>], condition: &Option<Condition>) -> bool
     ensures { result ≡ condition_misses headers.now (option_map condition_of condition.now) }
 {
     match condition {
@@ -189,7 +190,7 @@ pub(crate) fn update_tests(
 }
 
 /// Whether a right side is a column that isn't there.
-fn misses_source(headers: &[Header], sets: &[SetClause]) -> bool
+fn misses_source(headers: &[Header<Name>], sets: &[SetClause]) -> bool
     ensures { result ≡ list_any (λ set. operand_is_missing headers.now set.source) sets.now }
 {
     sets.iter()
@@ -265,7 +266,7 @@ fn has_columns(list: &[SelectItem]) -> bool
     list.iter().any(is_column)
 }
 
-fn misses_any(headers: &[Header], columns: &[Name]) -> bool
+fn misses_any(headers: &[Header<Name>], columns: &[Name]) -> bool
     ensures { result ≡ list_any (is_missing headers.now) columns.now }
 {
     columns.iter().any(|name| is_missing(headers, name))

@@ -10,14 +10,15 @@ ghost use Rattle.bw_sql.specs.declared.tree.SelectItem.TheVariants.{Column};
 use crate::answer::{Answer, Cell, Heading};
 use crate::condition::found_rows;
 use crate::set_functions::folded_at;
-use crate::store::{Header, Row, Table, names, place_of, value_from};
+use crate::store::{Row, Table, names, place_of, value_from};
+use bw_code::Header;
 use bw_sql::{Condition, Name, SelectItem, SelectItems, SetFunction, Value};
 use std::alloc::{AllocError, Global};
 
 /// The items that are shown: `*` is all columns in order.
 pub(crate) fn shown_items(
     alloc: Global,
-    headers: &[Header],
+    headers: &[Header<Name>],
     items: &SelectItems,
 ) -> Result<Vec<SelectItem>, AllocError>
     requires { 0 < length headers.now }
@@ -113,7 +114,7 @@ pub(crate) fn shown(value: Value) -> Cell
 /// The line that shows these columns of a row.
 fn line_of(
     alloc: Global,
-    headers: &[Header],
+    headers: &[Header<Name>],
     list: &[Name],
     row: &Row,
 ) -> Result<Vec<Cell>, AllocError>
@@ -127,7 +128,7 @@ fn line_of(
 /// The lines of these rows, one after the other.
 fn lines_of(
     alloc: Global,
-    headers: &[Header],
+    headers: &[Header<Name>],
     list: &[Name],
     rows: &[&Row],
 ) -> Result<Vec<Cell>, AllocError>
@@ -144,7 +145,7 @@ fn lines_of(
 /// What an item says of these rows.
 fn said_of(
     alloc: Global,
-    headers: &[Header],
+    headers: &[Header<Name>],
     rows: &[&Row],
     item: &SelectItem,
 ) -> Result<Cell, AllocError>
@@ -162,7 +163,7 @@ fn said_of(
 /// What each item says of these rows.
 fn said_of_each(
     alloc: Global,
-    headers: &[Header],
+    headers: &[Header<Name>],
     list: &[SelectItem],
     rows: &[&Row],
 ) -> Result<Vec<Cell>, AllocError>
@@ -178,7 +179,7 @@ fn said_of_each(
 /// What the items show of these rows, line after line.
 fn cells_for(
     alloc: Global,
-    headers: &[Header],
+    headers: &[Header<Name>],
     list: &[SelectItem],
     rows: &[&Row],
 ) -> Result<Vec<Cell>, AllocError>

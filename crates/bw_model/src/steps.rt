@@ -24,7 +24,8 @@ use crate::refusals::{
 };
 use crate::reply::Reply;
 use crate::select::{answer_of, columns_in, shown_items};
-use crate::store::{Header, Row, Store, Table, names, place_of_table, same_rows, table_of};
+use crate::store::{Row, Store, Table, header_of, names, place_of_table, same_rows, table_of};
+use bw_code::Header;
 use bw_sql::{
     ColumnDefinition, CreateTable, Delete, Insert, Load, Name, NameList, Open, Rebuild, Save,
     Select, Statement, Update,
@@ -76,12 +77,12 @@ fn create_table(
 }
 
 /// The columns that definitions make.
-fn headers_of(alloc: Global, columns: &[ColumnDefinition]) -> Result<Vec<Header>, AllocError>
+fn headers_of(alloc: Global, columns: &[ColumnDefinition]) -> Result<Vec<Header<Name>>, AllocError>
     ensures { IfOk result (λ headers. headers.items ≡ map header_of columns.now) }
 {
     let mut headers = Vec::new(alloc);
     for column in columns {
-        headers.push(Header::new(alloc, column)?)?;
+        headers.push(header_of(alloc, column)?)?;
     }
     Ok(headers)
 }

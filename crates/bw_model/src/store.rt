@@ -6,7 +6,9 @@ ghost use Rattle.std.specs.Option.{option_copied};
 ghost use Rattle.std.specs.Str.{bytes_eq};
 ghost use Rattle.bw_model.specs.Store.{are_distinct, header_of, names, place_of, table_of, value_at, value_from};
 
-use bw_sql::{ColumnDefinition, KindWord, LayoutWord, Name, Value};
+use crate::words::{kind_or, layout_or};
+use bw_code::{Header, Kind, Layout};
+use bw_sql::{ColumnDefinition, Name, Value};
 use std::alloc::{AllocError, Global};
 use std::marker::Model;
 
@@ -78,83 +80,10 @@ impl RowList {
     }
 }
 
-/// A column of a table: its name, and how it is to lie in memory.
-#[derive(Debug, Drop)]
-pub struct Header {
-    name: Name,
-    layout: LayoutWord,
-    kind: KindWord,
-}
-
-impl Model for Header {
-    ghost use Rattle.bw_model.specs.Store.{Header};
-
-    ghost Value = { Header };
-
-    ghost view = { λ h. record { name = h.name; layout = h.layout; kind = h.kind } };
-}
-
-impl Header {
-    /// The column that a definition makes.
-    pub fn new(alloc: Global, definition: &ColumnDefinition) -> Result<Header, AllocError>
-        ensures { IfOk result (λ header. header ≡ header_of definition.now) }
-    {
-        Ok(Header {
-            name: definition.name.try_clone(alloc)?,
-            layout: definition.layout.unwrap_or(LayoutWord::V),
-            kind: definition.kind.unwrap_or(KindWord::Offset),
-        })
-    }
-
-    /// The column of this name, with this layout and this kind.
-    pub fn of_words(name: Name, layout: LayoutWord, kind: KindWord) -> Header
-        ensures { result ≡ record { name = name; layout = layout; kind = kind } }
-    {
-        Header { name, layout, kind }
-    }
-
-    /// A column of the same name with this layout and this kind.
-    pub fn with_words(
-        &self,
-        alloc: Global,
-        layout: LayoutWord,
-        kind: KindWord,
-    ) -> Result<Header, AllocError>
-        ensures { IfOk result (λ header. header ≡ record { name = self.now.name; layout = layout; kind = kind }) }
-    {
-        Ok(Header {
-            name: self.name.try_clone(alloc)?,
-            layout,
-            kind,
-        })
-    }
-
-    /// How it lies in memory.
-    pub fn layout(&self) -> LayoutWord
-        ensures { result ≡ self.now.layout }
-    {
-        self.layout
-    }
-
-    /// How its values become codes.
-    pub fn kind(&self) -> KindWord
-        ensures { result ≡ self.now.kind }
-    {
-        self.kind
-    }
-
-    /// Its name.
-    pub fn name(&self) -> &Name
-        ensures { result.now ≡ self.now.name }
-    {
-        &self.name
-    }
-}
-
 /// Columns, one at least, and rows. A contract sees the lists of them.
 #[derive(Debug, Drop)]
 pub struct Table {
-    headers: Vec<Header>,
+    headers: Vec<Header<Name>>,
     rows: Vec<Row>,
 }
 
@@ -171,7 +100,7 @@ impl Model for Table {
 
 impl Table {
     /// The table of these columns without rows.
-    pub fn new(alloc: Global, headers: Vec<Header>) -> Table
+    pub fn new(alloc: Global, headers: Vec<Header<Name>>) -> Table
         requires { 0 < length headers.items }
         ensures { result ≡ record { headers = headers.items; rows = [] } }
     {
@@ -182,7 +111,7 @@ impl Table {
     }
 
     /// The table of these columns and rows.
-    pub fn of_rows(headers: Vec<Header>, rows: Vec<Row>) -> Table
+    pub fn of_rows(headers: Vec<Header<Name>>, rows: Vec<Row>) -> Table
         requires { 0 < length headers.items }
         ensures { result ≡ record { headers = headers.items; rows = rows.items } }
     {
@@ -200,7 +129,7 @@ impl Table {
     }
 
     /// The columns, in order.
-    pub fn headers(&self) -> &[Header]
+    pub fn headers(&self) -> &[Header<Name>]
         ensures value { result.now ≡ self.now.headers }
         ensures some { 0 < length self.now.headers }
     {
@@ -222,7 +151,7 @@ impl Table {
     }
 
     /// Puts these columns in place of all columns.
-    pub fn replace_headers(&mut self, headers: Vec<Header>)
+    pub fn replace_headers(&mut self, headers: Vec<Header<Name>>)
         requires { 0 < length headers.items }
         ensures { self.new ≡ record { headers = headers.items; rows = self.old.rows } }
     {
@@ -270,13 +199,35 @@ impl Store {
     }
 }
 
+/// The column that a definition makes: in layout V and of kind OFFSET where it says none.
+pub fn header_of(alloc: Global, definition: &ColumnDefinition) -> Result<Header<Name>, AllocError>
+    ensures { IfOk result (λ header. header ≡ header_of definition.now) }
+{
+    Ok(Header {
+        name: definition.name.try_clone(alloc)?,
+        layout: layout_or(definition.layout, Layout::V),
+        kind: kind_or(definition.kind, Kind::Offset),
+    })
+}
+
+/// The same column.
+pub(crate) fn same_header(alloc: Global, header: &Header<Name>) -> Result<Header<Name>, AllocError>
+    ensures { IfOk result (λ same. same ≡ header.now) }
+{
+    Ok(Header {
+        name: header.name.try_clone(alloc)?,
+        layout: header.layout,
+        kind: header.kind,
+    })
+}
+
 /// The same columns.
-fn same_headers(alloc: Global, headers: &[Header]) -> Result<Vec<Header>, AllocError>
+fn same_headers(alloc: Global, headers: &[Header<Name>]) -> Result<Vec<Header<Name>>, AllocError>
     ensures { IfOk result (λ list. list.items ≡ headers.now) }
 {
     let mut list = Vec::new(alloc);
     for header in headers {
-        list.push(header.with_words(alloc, header.layout(), header.kind())?)?;
+        list.push(same_header(alloc, header)?)?;
     }
     Ok(list)
 }
@@ -293,12 +244,12 @@ pub(crate) fn same_rows(alloc: Global, rows: &[Row]) -> Result<Vec<Row>, AllocEr
 }
 
 /// The names of the columns.
-pub(crate) fn names(alloc: Global, headers: &[Header]) -> Result<Vec<Name>, AllocError>
+pub(crate) fn names(alloc: Global, headers: &[Header<Name>]) -> Result<Vec<Name>, AllocError>
     ensures { IfOk result (λ list. list.items ≡ names headers.now) }
 {
     let mut list = Vec::new(alloc);
     for header in headers {
-        list.push(header.name().try_clone(alloc)?)?;
+        list.push(header.name.try_clone(alloc)?)?;
     }
     Ok(list)
 }
@@ -340,10 +291,10 @@ pub(crate) fn place_of_table(tables: &[(Name, Table)], name: &Name) -> Option<us
 }
 
 /// The place of the column of this name.
-pub(crate) fn place_of(headers: &[Header], name: &Name) -> Option<usize>
+pub(crate) fn place_of(headers: &[Header<Name>], name: &Name) -> Option<usize>
     ensures { result ≡ place_of headers.now name.now }
 {
-    headers.iter().position(|header| name == header.name())
+    headers.iter().position(|header| name == &header.name)
 }
 
 /// The value at this place of a row, or NULL where there is none.

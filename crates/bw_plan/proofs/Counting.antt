@@ -1,6 +1,6 @@
 -- The units of a comparison, and of a BETWEEN.
 use Rattle.std.proofs.Common.{Bool, List, None, Option, Some, [], ◌∷◌, ap, ap₂, arith, false, length, not, refl, sym, true, ℕ, ℤ, ◌&&◌, ◌+◌, ◌≡◌, ◌∙◌}
-use Rattle.std.specs.Prelude.{if◌then◌else◌, is_some}
+use Rattle.std.specs.Prelude.{if◌then◌else◌}
 use Rattle.bw_lex.specs.declared.token.CompareOp.{CompareOp}
 use Rattle.bw_mask.specs.Masks.{MaskRows, len, row_at}
 use Rattle.bw_mask.specs.Truth.{is_value}
@@ -9,11 +9,9 @@ use Rattle.bw_mask.specs.declared.truth_value.TruthValue.{TruthValue}
 use Rattle.bw_mask.specs.declared.truth_value.TruthValue.TheVariants.{False, Unknown}
 use Rattle.bw_code.specs.Encodings.{test_of}
 use Rattle.bw_code.specs.Meters.{raised}
-use Rattle.bw_code.specs.Units.{units_of_fetches}
 use Rattle.bw_column.specs.Columns.{ColumnView}
 use Rattle.bw_column.specs.Comparisons.{AreTruthsAt}
 use Rattle.bw_column.specs.Costs.{units_of_columns, units_of_comparison, units_of_range, units_of_test}
-use Rattle.bw_column.specs.Values.{value_at}
 use Rattle.bw_model.specs.Store.{Value}
 use Rattle.bw_plan.specs.Costs.{Reading, known_in, number_of, of_column, of_constant, read_at, reading_of, units_in_range, units_of_between, units_of_compared, units_of_listed}
 use Rattle.bw_plan.specs.Operands.{cmp_of, mirrored, operand_at}

@@ -2,21 +2,9 @@
 use Rattle.std.proofs.Common.{◌≡◌, ◌∙◌, ℕ, ◌+◌, ◌<◌, ◌≤◌, List, [], ◌∷◌, ◌++◌, Option, None, arith, get_or, length, map, position, sym, take, ap}
 use Rattle.std.specs.Str.{bytes_eq}
 use Rattle.std.proofs.lemmas.List.{get_or-map, length-map, take_all, take_more}
-use Rattle.bw_table.specs.declared.header.Header.{Header}
+use Rattle.bw_code.specs.declared.kind.Kind.TheVariants.{Offset}
+use Rattle.bw_code.specs.declared.kind.Layout.TheVariants.{V}
 use Rattle.bw_model.specs.Store as store
-use Rattle.bw_sql.specs.declared.tree.LayoutWord.TheVariants.{V}
-use Rattle.bw_sql.specs.declared.tree.KindWord.TheVariants.{Offset}
-use Rattle.bw_plan.specs.Columns.{columns_of, words_of}
-use Rattle.bw_plan.proofs.Places.{position-map}
-
-pub columns_count : (headers : List (Header (List ℕ))) → length (columns_of headers) ≡ length headers
-columns_count headers = length-map headers words_of
-
-pub name_at : (headers : List (Header (List ℕ))) (i : ℕ) (h : Header (List ℕ)) (d : store.Header) → i < length headers → (get_or headers i h).name ≡ (get_or (columns_of headers) i d).name
-name_at headers i h d within = ap (λ (header : store.Header). header.name) (sym (get_or-map words_of headers i h d within))
-
-pub place_is : (headers : List (Header (List ℕ))) (name : List ℕ) → position (λ header. bytes_eq name header.name) headers ≡ store.place_of (columns_of headers) name
-place_is headers name = sym (position-map (λ (header : store.Header). bytes_eq name header.name) words_of headers)
 
 -- for each column the place at which it is named
 module _ (headers : List store.Header) (names : List (List ℕ)) (i : ℕ) (sources : List (Option ℕ)) where

@@ -10,7 +10,7 @@ use Rattle.bw_model.specs.Select.{columns_in, has_functions, is_column, is_mixed
 use Rattle.bw_model.specs.Store.{Header, place_of}
 use Rattle.bw_model.proofs.Items.{columns_more}
 use Rattle.bw_model.proofs.Passing.{neither}
-use Rattle.bw_plan.specs.Selections.{is_unplaced, placed_item}
+use Rattle.bw_plan.specs.Selections.{is_unplaced}
 
 last : (b : Bool) → (b || false) ≡ b
 last true = refl

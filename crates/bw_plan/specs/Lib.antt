@@ -1,8 +1,6 @@
 pub mod Checks
-pub mod Columns
 pub mod Costs
 pub mod Operands
 pub mod Plans
 pub mod Selections
 pub mod Sets
-pub mod Words

@@ -1,5 +1,5 @@
 -- What a SELECT shows, with places for names.
-use Rattle.std.specs.Prelude.{Bool, List, None, Option, Some, false, is_some, map, not, option_map, true, ℕ, ◌≡◌}
+use Rattle.std.specs.Prelude.{Bool, List, None, Option, Some, false, is_some, map, not, option_map, true, ◌≡◌}
 use Rattle.bw_sql.specs.declared.tree.SelectItem.{SelectItem}
 use Rattle.bw_sql.specs.declared.tree.SelectItem.TheVariants as item
 use Rattle.bw_model.specs.Select.{columns_in, has_functions}

@@ -1,17 +1,17 @@
 -- Columns that are set, and columns that are laid anew, by their places (SQL-92, searched update statement; REBUILD is this product's own).
 use Rattle.std.specs.Prelude.{◌≡◌, ◌≢◌, ◌<◌, ℕ, List, Option, Some, map, option_map}
 use Rattle.std.specs.List.{All, AllPairs}
-use Rattle.bw_sql.specs.declared.tree.KindWord.{KindWord}
+use Rattle.bw_code.specs.declared.kind.Kind.{Kind}
+use Rattle.bw_code.specs.declared.kind.Layout.{Layout}
 use Rattle.bw_sql.specs.declared.tree.LayoutChoice.{LayoutChoice}
-use Rattle.bw_sql.specs.declared.tree.LayoutWord.{LayoutWord}
 use Rattle.bw_sql.specs.declared.tree.SetClause.{SetClause}
 use Rattle.bw_table.specs.Changes.{IsSetTo}
 use Rattle.bw_table.specs.declared.choice.Choice.{Choice}
 use Rattle.bw_table.specs.declared.setting.SetTo.{SetTo}
 use Rattle.bw_table.specs.declared.setting.SetTo.TheVariants.{Column, Value}
 use Rattle.bw_model.specs.Store.{Header, place_of}
+use Rattle.bw_model.specs.Words.{kind_of, layout_of}
 use Rattle.bw_plan.specs.Plans.{source_of}
-use Rattle.bw_plan.specs.Words.{word_of_kind, word_of_layout}
 use Rattle.bw_plan.specs.declared.plan.Source.{Source}
 use Rattle.bw_plan.specs.declared.plan.Source.TheVariants.{Constant, Place}
 
@@ -34,5 +34,5 @@ pub record AreSettable (columns : ℕ) (sets : List (ℕ × SetTo)) : Type 0 whe
 -- the choices of a REBUILD, each with the place of its column
 abbrev pub AreChoicesFor : List Header → List LayoutChoice → List (ℕ × Choice) → Type 0
 AreChoicesFor headers choices placed =
-    ◌≡◌ {A = List (Option ℕ × (LayoutWord × Option KindWord))} (map (λ choice. (Some choice.0, (word_of_layout choice.1.layout, option_map word_of_kind choice.1.kind))) placed)
-    (map (λ choice. (place_of headers choice.column, (choice.layout, choice.kind))) choices)
+    ◌≡◌ {A = List (Option ℕ × (Layout × Option Kind))} (map (λ choice. (Some choice.0, (choice.1.layout, choice.1.kind))) placed)
+    (map (λ choice. (place_of headers choice.column, (layout_of choice.layout, option_map kind_of choice.kind))) choices)

@@ -8,7 +8,6 @@ ghost use Rattle.bw_model.specs.Store.{AreHeaders, are_distinct};
 ghost use Rattle.bw_plan.specs.Checks.{Answers, Decides, condition_tests, listed_tests, set_tests};
 ghost use Rattle.bw_plan.specs.Plans.{plan_of, planned, source_of, value_by};
 ghost use Rattle.bw_plan.specs.Sets.{AreChoicesFor, AreSetsFor, AreSettable, source_to};
-ghost use Rattle.bw_plan.specs.Words.{word_of_kind, word_of_layout};
 ghost use Rattle.bw_sql.specs.Tree.{condition_of};
 
 use crate::headers::Headers;
@@ -16,9 +15,9 @@ use crate::insertion::is_integer;
 use crate::plan::{RowCondition, Source};
 use crate::resolution::{check_condition, has_long_lists, is_missing, misses, source};
 use crate::selection::plan_if_any;
-use bw_code::{Kind, Layout};
+use crate::words::choice_for;
 use bw_model::Refusal;
-use bw_sql::{Condition, KindWord, LayoutChoice, LayoutWord, Name, Operand, SetClause};
+use bw_sql::{Condition, LayoutChoice, Name, Operand, SetClause};
 use bw_table::{Choice, SetTo};
 use std::alloc::{AllocError, Global};
 
@@ -257,36 +256,4 @@ fn placed_choices(
         placed.push((place, choice_for(choice.layout, choice.kind)))?;
     }
     Ok(placed)
-}
-
-/// What these words choose.
-fn choice_for(layout: LayoutWord, kind: Option<KindWord>) -> Choice
-    ensures layout { word_of_layout result.layout ≡ layout }
-    ensures kind { option_map word_of_kind result.kind ≡ kind }
-{
-    Choice {
-        layout: layout_of(layout),
-        kind: kind_of(kind),
-    }
-}
-
-fn layout_of(word: LayoutWord) -> Layout
-    ensures { word_of_layout result ≡ word }
-{
-    match word {
-        LayoutWord::P => Layout::P,
-        LayoutWord::V => Layout::V,
-        LayoutWord::H => Layout::H,
-        LayoutWord::S => Layout::S,
-    }
-}
-
-fn kind_of(word: Option<KindWord>) -> Option<Kind>
-    ensures { option_map word_of_kind result ≡ word }
-{
-    match word {
-        Some(KindWord::Offset) => Some(Kind::Offset),
-        Some(KindWord::Dictionary) => Some(Kind::Dictionary),
-        None => None,
-    }
 }

@@ -13,11 +13,13 @@ mod predicate_truth;
 mod range_truth;
 mod resolution;
 mod selection;
+mod words;
 
 pub use changes::{UpdatePlan, resolve_delete, resolve_rebuild, resolve_update};
 pub use evaluation::evaluate;
-pub use headers::{Headers, header_for};
+pub use headers::Headers;
 pub use insertion::resolve_insert;
 pub use plan::{Predicate, RowCondition, Source};
 pub use resolution::plans_keep_truth;
 pub use selection::{FunctionPlan, SelectPlan, ShownPlan, resolve_select};
+pub use words::header_for;

@@ -4,7 +4,7 @@ use crate::harness::statement_in;
 use crate::seen::{see, see_at, see_bytes};
 use bw_engine::{Engine, FileAnswer, Outcome};
 use bw_mask::TruthValue;
-use bw_model::{Header, Reply, Row, Table, answer_of, found_rows, truth_at};
+use bw_model::{Reply, Row, Table, answer_of, found_rows, header_of, truth_at};
 use bw_shell::{Folder, FolderFault, MemoryFolder};
 use bw_sql::{
     CompareOp, Condition, CreateTable, Insert, Part, Select, Span, SqlFault, Statement, Symbol,
@@ -96,7 +96,7 @@ fn three_rows<R: Abort + AllocGlobal>(rt: &R) -> Table {
     let create = create_in(rt, "CREATE TABLE t (a INT)");
     let mut headers = Vec::new(rt.alloc());
     for column in &create.columns {
-        let header = Header::new(rt.alloc(), column).expect(rt, "memory");
+        let header = header_of(rt.alloc(), column).expect(rt, "memory");
         headers.push(header).expect(rt, "memory");
     }
     assert!(rt; headers.len() == 1);

@@ -4,7 +4,7 @@ use bw_cells::Cells;
 use bw_csvload::{CsvRows, FirstRecord as CsvFirst, rows};
 use bw_engine::FILE_LIMIT;
 use bw_file::{FileColumn, FileFault, TableFile, decode};
-use bw_model::{Content, Header, Row, RowList, Store, Table};
+use bw_model::{Content, Row, RowList, Store, Table};
 use bw_shell::{Folder, FolderFault, MemoryFolder};
 use bw_sql::{FirstRecord, Load, Statement, Value};
 use std::process::Abort;
@@ -91,13 +91,7 @@ fn table_in<R: Abort + AllocGlobal>(rt: &R, file: TableFile<'_>) -> Table {
         rows.push(row_at(rt, file.columns(), i))
             .expect(rt, "memory");
     }
-    let (columns, _) = file.into_headers_and_columns();
-    let mut headers = Vec::new(rt.alloc());
-    for column in columns {
-        headers
-            .push(Header::of_words(column.name, column.layout, column.kind))
-            .expect(rt, "memory");
-    }
+    let (headers, _) = file.into_headers_and_columns();
     assert!(rt; !headers.is_empty());
     Table::of_rows(headers, rows)
 }

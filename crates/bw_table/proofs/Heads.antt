@@ -5,6 +5,7 @@ use Rattle.std.proofs.lemmas.List.Elements.{All-nil}
 use Rattle.bw_mask.specs.Masks.{MaskRows}
 use Rattle.bw_code.specs.Encodings.{kind_of}
 use Rattle.bw_code.specs.declared.encoding.Encoding.{Encoding}
+use Rattle.bw_code.specs.declared.header.Header.{Header}
 use Rattle.bw_code.specs.declared.kind.Layout.{Layout}
 use Rattle.bw_column.specs.Columns.{ColumnView}
 use Rattle.bw_column.specs.Values.{IsNullOrInteger}
@@ -13,7 +14,6 @@ use Rattle.bw_table.specs.Sets.{AreEmpty}
 use Rattle.bw_table.specs.Slots.{AreColumns, SlotsView}
 use Rattle.bw_table.specs.Tables.{AreChosen, AreFirst, AreHeadersOf, slots_in}
 use Rattle.bw_table.specs.declared.choice.Choice.{Choice}
-use Rattle.bw_table.specs.declared.header.Header.{Header}
 use Rattle.bw_table.proofs.Across.{no_column, view_of}
 
 abbrev laid : SlotsView → List Layout → SlotsView

@@ -5,13 +5,13 @@ use Rattle.std.proofs.lemmas.Bool.{cases_lt}
 use Rattle.std.proofs.lemmas.List.{get_or_append_left, get_or_push, get_or-map, get_or-replicate, length-map, length-replicate, same_lists}
 use Rattle.bw_mask.specs.Masks.{MaskRows, len}
 use Rattle.bw_code.specs.Encodings.{kind_of}
+use Rattle.bw_code.specs.declared.header.Header.{Header}
 use Rattle.bw_code.proofs.Lists.{made_at, made_is, made_len}
 use Rattle.bw_column.specs.Columns.{ColumnView}
 use Rattle.bw_column.specs.Values.{IsNullOrInteger, value_at}
 use Rattle.bw_table.specs.Opening.{AreFitted, AreOpened, AreOpenedBelow, IsOpened, row_across, rows_across}
 use Rattle.bw_table.specs.Slots.{AreColumns, live_slot, row_of, slot_of, slots_of}
 use Rattle.bw_table.specs.Tables.{AreHeadersOf}
-use Rattle.bw_table.specs.declared.header.Header.{Header}
 use Rattle.bw_table.proofs.Across.{no_column, view_of}
 use Rattle.bw_table.proofs.Heads.{first_of, told}
 

@@ -3,9 +3,9 @@ use Rattle.std.specs.Prelude.{List, Option, [], length, map, slice_index_or, ℕ
 use Rattle.bw_code.specs.Encodings.{IsFit, kind_of}
 use Rattle.bw_code.specs.Lists.{made}
 use Rattle.bw_code.specs.declared.encoding.Encoding.{Encoding}
+use Rattle.bw_code.specs.declared.header.Header.{Header}
 use Rattle.bw_column.specs.Columns.{ColumnView}
 use Rattle.bw_column.specs.Values.{known, value_at}
-use Rattle.bw_table.specs.declared.header.Header.{Header}
 
 -- row i across columns: cell i of each
 abbrev pub row_across : List (List (Option ℤ)) → ℕ → List (Option ℤ)

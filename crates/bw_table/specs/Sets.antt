@@ -3,6 +3,7 @@ use Rattle.std.specs.Prelude.{List, None, Option, Some, [], count_by, false, len
 use Rattle.std.specs.List.{filter, range_with_len}
 use Rattle.bw_mask.specs.Masks.{MaskRows, bit_of, len}
 use Rattle.bw_code.specs.Encodings.{IsFit, kind_of}
+use Rattle.bw_code.specs.declared.header.Header.{Header}
 use Rattle.bw_column.specs.Columns.{ColumnView, Keeps}
 use Rattle.bw_column.specs.Copies.{CanCopy}
 use Rattle.bw_column.specs.Places.{chosen_values, overwritten}
@@ -11,7 +12,6 @@ use Rattle.bw_column.specs.Values.{known, value_at}
 use Rattle.bw_table.specs.Changes.{choice_of, chosen_kind, chosen_layout, places, set_of, value_for}
 use Rattle.bw_table.specs.Slots.{row_of}
 use Rattle.bw_table.specs.declared.choice.Choice.{Choice}
-use Rattle.bw_table.specs.declared.header.Header.{Header}
 use Rattle.bw_table.specs.declared.setting.SetTo.{SetTo}
 use Rattle.bw_table.specs.declared.setting.SetTo.TheVariants.{Column}
 use Rattle.bw_table.specs.declared.taking.Change.{Change}

@@ -2,12 +2,12 @@
 use Rattle.std.specs.Prelude.{List, Option, [], length, map, slice_index_or, ℕ, ◌<◌, ◌≡◌}
 use Rattle.bw_code.specs.Encodings.{kind_of}
 use Rattle.bw_code.specs.declared.encoding.Encoding.{Encoding}
+use Rattle.bw_code.specs.declared.header.Header.{Header}
 use Rattle.bw_code.specs.declared.kind.Layout.{Layout}
 use Rattle.bw_table.specs.Changes.{choice_of, chosen_kind, chosen_layout}
 use Rattle.bw_table.specs.Opening.{IsFitted}
 use Rattle.bw_table.specs.Slots.{Slot, SlotsView}
 use Rattle.bw_table.specs.declared.choice.Choice.{Choice}
-use Rattle.bw_table.specs.declared.header.Header.{Header}
 
 pub record TableView (N : Type 0) : Type 0 where
   pub headers : List (Header N)

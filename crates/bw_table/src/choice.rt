@@ -2,8 +2,9 @@
 
 ghost use Rattle.std.specs.Prelude.{◌≡◌};
 ghost use Rattle.bw_table.specs.Changes.{choice_of, chosen_kind, chosen_layout, kind_or};
+ghost use Rattle.bw_table.specs.Tables.{AreChosen, header_by};
 
-use bw_code::{Kind, Layout};
+use bw_code::{Header, Kind, Layout};
 
 /// The layout that a column is to have, and its kind where it is to have another.
 #[derive(Clone, Copy, Debug, PartialEq, Eq)]
@@ -51,5 +52,22 @@ fn kind_or(kind: Option<Kind>, own: Kind) -> Kind
     match kind {
         Some(kind) => kind,
         None => own,
+    }
+}
+
+/// Takes over what is chosen for a column.
+fn choose<N>(header: &mut Header<N>, choice: Option<Choice>)
+    ensures { header.new ≡ header_by choice header.old }
+{
+    header.layout = chosen_layout(choice, header.layout);
+    header.kind = chosen_kind(choice, header.kind);
+}
+
+/// Takes over what is chosen for columns.
+pub(crate) fn choose_all<N>(headers: &mut Vec<Header<N>>, choices: &[(usize, Choice)])
+    ensures { AreChosen choices.now headers.old.items headers.new.items }
+{
+    for k in 0..headers.len() {
+        choose(&mut headers[k], choice_of(choices, k));
     }
 }

@@ -5,7 +5,6 @@ mod appending;
 mod choice;
 mod fault;
 mod gathering;
-mod header;
 mod opening;
 mod rebuilding;
 mod row_column;
@@ -15,9 +14,9 @@ mod slots;
 mod table;
 mod taking;
 
+pub use bw_code::Header;
 pub use choice::Choice;
 pub use fault::TableFault;
-pub use header::Header;
 pub use rows::Rows;
 pub use setting::SetTo;
 pub use slots::Slots;

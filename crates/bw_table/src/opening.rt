@@ -4,8 +4,8 @@ ghost use Rattle.std.specs.Prelude.{All, IfOk, length, map, ◌^◌, ◌≡◌, 
 ghost use Rattle.bw_column.specs.Values.{IsNullOrInteger};
 ghost use Rattle.bw_table.specs.Opening.{AreOpened, IsOpened};
 
-use crate::header::Header;
 use bw_cells::Measured;
+use bw_code::Header;
 use bw_column::Column;
 use std::alloc::{AllocError, Global};
 

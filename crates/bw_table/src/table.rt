@@ -13,14 +13,14 @@ ghost use Rattle.bw_table.specs.Slots.{live_slot, live_slots, slot_at, slot_colu
 ghost use Rattle.bw_table.specs.Tables.{AreChosen, AreFirst, slots_in};
 ghost use Rattle.bw_table.specs.declared.fault.TableFault.TheVariants.{Full};
 
-use crate::choice::Choice;
+use crate::choice::{Choice, choose_all};
 use crate::fault::TableFault;
-use crate::header::{Header, choose_all};
 use crate::opening::columns_of;
 use crate::rows::Rows;
 use crate::setting::SetTo;
 use crate::slots::Slots;
 use bw_cells::Measured;
+use bw_code::Header;
 use bw_column::Column;
 use bw_mask::Mask;
 use std::alloc::{AllocError, Global};

@@ -5,9 +5,9 @@ ghost use Rattle.bw_column.specs.Values.{IsNullOrInteger};
 ghost use Rattle.bw_mask.specs.Masks.{len};
 ghost use Rattle.bw_table.specs.Changes.{IsSetTo};
 
-use bw_code::{Encoding, Kind, Layout};
+use bw_code::{Encoding, Header, Kind, Layout};
 use bw_mask::Mask;
-use bw_table::{Header, Rows, SetTo, Table};
+use bw_table::{Rows, SetTo, Table};
 use std::process::Abort;
 
 /// A value or null.

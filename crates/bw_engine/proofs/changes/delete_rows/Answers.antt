@@ -1,7 +1,6 @@
 use Rattle.std.proofs.Common.{◌∙◌, ap, option_map}
 use Rattle.bw_sql.specs.Tree.{condition_of}
 use Rattle.bw_model.specs.declared.reply.Reply.TheVariants.{Count}
-use Rattle.bw_plan.specs.Columns.{columns_of}
 use Rattle.bw_plan.specs.Plans.{plan_of}
 use Rattle.bw_engine.proofs.LiveLaws.{count_condition}
 use Rattle.bw_engine.proofs.Updated.{deleted_table}
@@ -17,7 +16,7 @@ returns-clause-reply c =
     let are = c.in_ok-found.ensures.found in (
       told.0,
       (
-        ap (λ n. Count n) (c.count.ensures.rows ∙ count_condition (columns_of table.headers) condition plan told.1 table.slots found are),
+        ap (λ n. Count n) (c.count.ensures.rows ∙ count_condition table.headers condition plan told.1 table.slots found are),
         deleted_table table c.delete.new.self condition plan found told.1 are c.delete.ensures.headers c.delete.ensures.slots,
       ),
     )

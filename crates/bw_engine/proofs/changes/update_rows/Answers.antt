@@ -3,7 +3,6 @@ use Rattle.bw_sql.specs.Tree.{condition_of}
 use Rattle.bw_model.specs.Changes.{with_updates}
 use Rattle.bw_model.specs.Refusals.{update_tests}
 use Rattle.bw_model.specs.declared.reply.Reply.TheVariants.{Count}
-use Rattle.bw_plan.specs.Columns.{columns_of}
 use Rattle.bw_plan.specs.Plans.{plan_of}
 use Rattle.bw_plan.proofs.Tests.{passed_on}
 use Rattle.bw_engine.specs.Stores.{table_in}
@@ -38,7 +37,7 @@ returns-clause-reply c =
     let are = c.in_ok-found.ensures.found in (
       told.0,
       (
-        ap (λ n. Count n) (c.count.ensures.rows ∙ count_condition (columns_of table.headers) condition plan told.1.1 table.slots found are),
+        ap (λ n. Count n) (c.count.ensures.rows ∙ count_condition table.headers condition plan told.1.1 table.slots found are),
         updated_table table c.update.new.self condition plan found told.1.1 are c.update.ensures.headers c.args.sets.now c.in_ok-plan.plan.sets.items c.headers.ensures.valid c.in_ok-found.ensures.wide told.1.0
             (rw c.as_slice.ensures.value at c.in_ok-update.ensures.slots),
       ),

@@ -1,4 +1,4 @@
-use Rattle.std.proofs.Common.{◌≡◌, ◌∙◌, ◌<◌, ◌++◌, None, ap, arith, length, map, subst, sym}
+use Rattle.std.proofs.Common.{◌≡◌, ◌∙◌, ◌<◌, ◌++◌, None, ap, arith, length, map, refl, subst}
 use Rattle.std.specs.List.{list_all}
 use Rattle.std.proofs.lemmas.Bool.{not-false}
 use Rattle.std.proofs.lemmas.List.{length-map}
@@ -7,7 +7,6 @@ use Rattle.bw_model.specs.Insert.{row_for, target_columns, with_rows}
 use Rattle.bw_model.specs.Refusals.{first_that_holds, insert_tests, is_in_range}
 use Rattle.bw_model.specs.declared.reply.Reply.TheVariants.{Count}
 use Rattle.bw_model.proofs.Passing.{none_holds}
-use Rattle.bw_plan.specs.Columns.{columns_of, words_of}
 use Rattle.bw_plan.proofs.Tests.{passed_on}
 use Rattle.bw_engine.specs.Stores.{rows_in, table_in}
 use Rattle.bw_engine.proofs.Added.{added_tests, may_same, room_left}
@@ -18,7 +17,7 @@ pub returns-in_err-cells-clause-reply : goal.returns-in_err-cells-clause-reply
 returns-in_err-cells-clause-reply c =
     let table = c.args.table.now in
     let listed = c.args.columns.now in
-    let targets = target_columns (columns_of table.headers) listed in
+    let targets = target_columns table.headers listed in
     let rows = c.args.rows in
     passed_on (insert_tests targets rows (table_in table)) c.from_residual.result (λ reply. (reply ≡ Count (length rows)) × (table_in table ≡ with_rows listed rows (table_in table))) _
     (may_same _ _ _ (added_tests targets rows (table_in table) c.room.result c.room.ensures) (rw c.headers.ensures.value at c.in_err-cells.ensures))
@@ -27,7 +26,7 @@ returns-in_err-cells-clause-reply c =
 pub new-requires : goal.new-requires
 new-requires c =
     let table = c.args.table.now in
-    let headers = columns_of table.headers in
+    let headers = table.headers in
     let targets = target_columns headers c.args.columns.now in
     let rows = c.args.rows in
     let fits = rw c.headers.ensures.value at c.in_ok-cells.ensures in
@@ -38,7 +37,7 @@ new-requires c =
 pub insert-requires-clause-widths : goal.insert-requires-clause-widths
 insert-requires-clause-widths c =
     let table = c.args.table.now in
-    let headers = columns_of table.headers in
+    let headers = table.headers in
     let targets = target_columns headers c.args.columns.now in
     let rows = c.args.rows in
     let fits = rw c.headers.ensures.value at c.in_ok-cells.ensures in
@@ -46,12 +45,12 @@ insert-requires-clause-widths c =
     let some : 0 < c.len-width.result = omega (arith, same, c.headers.ensures.valid.some) in
     let is : c.new.result ≡ map (row_for headers targets) rows =
     c.new.ensures ∙ ap (rows_from c.len-width.result) c.as_slice.ensures.value ∙ cells_rows headers targets c.len-width.result rows c.in_ok-cells.cells.items same some fits.1 in
-    rw is (rows_wide headers targets (length table.headers) rows (sym (length-map table.headers words_of)))
+    rw is (rows_wide headers targets (length table.headers) rows refl)
 
 pub insert-requires-clause-integers : goal.insert-requires-clause-integers
 insert-requires-clause-integers c =
     let table = c.args.table.now in
-    let headers = columns_of table.headers in
+    let headers = table.headers in
     let targets = target_columns headers c.args.columns.now in
     let rows = c.args.rows in
     let fits = rw c.headers.ensures.value at c.in_ok-cells.ensures in
@@ -65,7 +64,7 @@ insert-requires-clause-integers c =
 pub insert-requires-clause-room : goal.insert-requires-clause-room
 insert-requires-clause-room c =
     let table = c.args.table.now in
-    let headers = columns_of table.headers in
+    let headers = table.headers in
     let targets = target_columns headers c.args.columns.now in
     let rows = c.args.rows in
     let fits = rw c.headers.ensures.value at c.in_ok-cells.ensures in
@@ -79,7 +78,7 @@ insert-requires-clause-room c =
 pub returns-clause-reply : goal.returns-clause-reply
 returns-clause-reply c =
     let table = c.args.table.now in
-    let headers = columns_of table.headers in
+    let headers = table.headers in
     let targets = target_columns headers c.args.columns.now in
     let rows = c.args.rows in
     let fits = rw c.headers.ensures.value at c.in_ok-cells.ensures in
@@ -90,7 +89,7 @@ returns-clause-reply c =
     let none = subst (λ tests. first_that_holds tests ≡ None) (added_tests targets rows (table_in table) c.room.result c.room.ensures) fits.0 in
     let stored = c.in_ok-insert.ensures.rows ∙ ap (λ l. rows_in table.slots ++ l) is in (
       none,
-      (ap (λ n. Count n) c.len-count.ensures, λ j. record { headers = columns_of (c.insert.ensures.headers j); rows = stored j }),
+      (ap (λ n. Count n) c.len-count.ensures, λ j. record { headers = c.insert.ensures.headers j; rows = stored j }),
     )
 
 pub returns-clause-stored : goal.returns-clause-stored

@@ -3,7 +3,6 @@ use Rattle.std.proofs.lemmas.Bool.{le-ltb}
 use Rattle.bw_model.specs.Store.{row_limit}
 use Rattle.bw_model.specs.declared.refusal.Refusal.TheVariants.{TableFull}
 use Rattle.bw_model.specs.declared.reply.Reply.TheVariants.{Count}
-use Rattle.bw_plan.specs.Columns.{columns_of}
 use Rattle.bw_plan.proofs.Tests.{no_test}
 use Rattle.bw_engine.specs.Stores.{rows_in}
 use Rattle.bw_engine.proofs.Loaded.{lines_again, whole_lines}
@@ -47,7 +46,7 @@ returns-clause-reply c =
     c.cells.ensures in
     let stored = c.in_ok-insert.ensures.rows ∙ ap (λ l. rows_in table.slots ++ l) is in (
       no_test _ TableFull _ (le-ltb row_limit (length (rows_in table.slots) + length c.args.rows) (omega arith)),
-      (ap (λ n. Count n) c.len-count.ensures, λ j. record { headers = columns_of (c.insert.ensures.headers j); rows = stored j }),
+      (ap (λ n. Count n) c.len-count.ensures, λ j. record { headers = c.insert.ensures.headers j; rows = stored j }),
     )
 
 pub returns-clause-stored : goal.returns-clause-stored

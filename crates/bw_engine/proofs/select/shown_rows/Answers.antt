@@ -1,10 +1,9 @@
-use Rattle.std.proofs.Common.{◌∙◌, ap, arith, length, option_map, sym}
+use Rattle.std.proofs.Common.{◌∙◌, ap, arith, length, option_map, refl, sym}
 use Rattle.std.proofs.lemmas.List.{length-map}
 use Rattle.bw_sql.specs.Tree.{condition_of, items_of}
 use Rattle.bw_mask.specs.Masks.{row_at}
 use Rattle.bw_model.specs.Select.{heading_of, lines_for, shown_items}
 use Rattle.bw_model.specs.declared.reply.Reply.TheVariants.{Rows}
-use Rattle.bw_plan.specs.Columns.{columns_of, words_of}
 use Rattle.bw_plan.specs.Plans.{plan_of}
 use Rattle.bw_engine.specs.Found.{rows_where}
 use Rattle.bw_engine.specs.Stores.{rows_of_slots, table_in}
@@ -17,12 +16,12 @@ pub shown_answer-requires-clause-places : goal.shown_answer-requires-clause-plac
 shown_answer-requires-clause-places c =
     let table = c.args.table.now in
     let told = rw c.headers-headers.ensures.value at c.in_ok-plan.ensures.plan in
-    shown_within (columns_of table.headers) _ (length-map table.headers words_of) (shown_items (columns_of table.headers) (items_of c.args.items)) c.in_ok-plan.plan.shown told.1.0
+    shown_within table.headers (length table.headers) refl (shown_items table.headers (items_of c.args.items)) c.in_ok-plan.plan.shown told.1.0
 
 pub shown_answer-requires-clause-some : goal.shown_answer-requires-clause-some
 shown_answer-requires-clause-some c =
     let table = c.args.table.now in
-    let list = shown_items (columns_of table.headers) (items_of c.args.items) in
+    let list = shown_items table.headers (items_of c.args.items) in
     let headed = rw c.headers-headers.ensures.value at c.in_ok-headings.ensures in
     let some = rw c.headers-headers.ensures.value at c.resolve_select.ensures.some in
     omega (arith, some, ap length headed, length-map list heading_of)
@@ -30,15 +29,15 @@ shown_answer-requires-clause-some c =
 pub shown_answer-requires-clause-wide : goal.shown_answer-requires-clause-wide
 shown_answer-requires-clause-wide c =
     let table = c.args.table.now in
-    let list = shown_items (columns_of table.headers) (items_of c.args.items) in
+    let list = shown_items table.headers (items_of c.args.items) in
     let headed = rw c.headers-headers.ensures.value at c.in_ok-headings.ensures in
     let told = rw c.headers-headers.ensures.value at c.in_ok-plan.ensures.plan in
-    ap length headed ∙ length-map list heading_of ∙ sym (width_is (columns_of table.headers) list c.in_ok-plan.plan.shown told.1.0)
+    ap length headed ∙ length-map list heading_of ∙ sym (width_is table.headers list c.in_ok-plan.plan.shown told.1.0)
 
 pub returns : goal.returns
 returns c =
     let table = c.args.table.now in
-    let headers = columns_of table.headers in
+    let headers = table.headers in
     let condition = option_map condition_of c.args.condition.now in
     let plan = option_map plan_of c.in_ok-plan.plan.condition in
     let list = shown_items headers (items_of c.args.items) in

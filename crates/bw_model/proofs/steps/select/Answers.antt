@@ -1,4 +1,4 @@
-use Rattle.std.proofs.Common.{◌≡◌, None, Some, option_map, rules, sym}
+use Rattle.std.proofs.Common.{◌≡◌, None, Some, option_map, rules}
 use Rattle.bw_sql.specs.Tree.{condition_of, items_of}
 use Rattle.bw_model.specs.Refusals.{first_that_holds, select_tests}
 use Rattle.bw_model.specs.Select.{shown_items}

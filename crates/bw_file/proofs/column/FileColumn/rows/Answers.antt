@@ -1,5 +1,5 @@
 use Rattle.std.proofs.Common.{ap, length, subst, sym, ◌≡◌, ◌≤◌, ◌∙◌}
-use Rattle.bw_file.specs.Cells.{row_limit}
+use Rattle.bw_code.specs.Headers.{row_limit}
 use Rattle.bw_file.proofs.Lent.{length-cells_in}
 use Rattle.bw_file.proofs.column.FileColumn.rows.Goals as goal
 

@@ -1,7 +1,7 @@
 use Rattle.std.proofs.Common.{get_or, ℕ, ◌<◌, ◌≡◌, ◌≤◌, vec_len}
 use Rattle.bw_table.specs.Changes.{choice_of}
 use Rattle.bw_table.specs.Tables.{header_by}
-use Rattle.bw_table.proofs.header.choose_all.Given as goal
+use Rattle.bw_table.proofs.choice.choose_all.Given as goal
 
 -- the headers below k have what is chosen for them, and the others are as they were
 abbrev pub invariant-loop-k : goal.invariant-loop-k

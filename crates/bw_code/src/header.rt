@@ -1,0 +1,12 @@
+//! What a column of a table is called, and how it is kept.
+
+use crate::kind::{Kind, Layout};
+
+/// A column of a table: its name, how its codes lie in memory, and how its values become codes. A name is whatever the
+/// layer above takes for one.
+#[derive(Debug, Drop)]
+pub struct Header<N> {
+    pub name: N,
+    pub layout: Layout,
+    pub kind: Kind,
+}

@@ -1,0 +1,49 @@
+//! The layouts and kinds that the words of a statement spell.
+
+ghost use Rattle.std.specs.Prelude.{◌≡◌};
+ghost use Rattle.bw_model.specs.Words.{kind_of, kind_or, layout_of, layout_or};
+
+use bw_code::{Kind, Layout};
+use bw_sql::{KindWord, LayoutWord};
+
+/// The layout that a word spells.
+pub(crate) fn layout_of(word: LayoutWord) -> Layout
+    ensures { result ≡ layout_of word }
+{
+    match word {
+        LayoutWord::P => Layout::P,
+        LayoutWord::V => Layout::V,
+        LayoutWord::H => Layout::H,
+        LayoutWord::S => Layout::S,
+    }
+}
+
+/// The kind that a word spells.
+fn kind_of(word: KindWord) -> Kind
+    ensures { result ≡ kind_of word }
+{
+    match word {
+        KindWord::Offset => Kind::Offset,
+        KindWord::Dictionary => Kind::Dictionary,
+    }
+}
+
+/// The layout that a word spells, or another where there is no word.
+pub(crate) fn layout_or(word: Option<LayoutWord>, otherwise: Layout) -> Layout
+    ensures { result ≡ layout_or word otherwise }
+{
+    match word {
+        Some(word) => layout_of(word),
+        None => otherwise,
+    }
+}
+
+/// The kind that a word spells, or another where there is no word.
+pub(crate) fn kind_or(word: Option<KindWord>, otherwise: Kind) -> Kind
+    ensures { result ≡ kind_or word otherwise }
+{
+    match word {
+        Some(word) => kind_of(word),
+        None => otherwise,
+    }
+}
