@@ -1,16 +1,16 @@
-//! What a SELECT shows, out of terminals, read from the left.
+//! SELECT, out of terminals.
 
 ghost use Rattle.std.specs.Prelude.{◌≡◌, ◌<◌, ℕ, OnOk, length};
 ghost use Rattle.bw_sql.specs.Reading as reading;
 ghost use Rattle.bw_sql.specs.Reading.{Gives};
-ghost use Rattle.bw_sql.specs.Tree.{items_of};
+ghost use Rattle.bw_sql.specs.Tree.{items_of, statement_of};
 ghost use Rattle.bw_sql.specs.Words as words;
 
 use crate::item_list::ItemList;
 use crate::keyword::Keyword;
 use crate::parser::Parser;
 use crate::terminal::Terminal;
-use crate::tree::{SelectItem, SelectItems, SetFunction};
+use crate::tree::{Select, SelectItem, SelectItems, SetFunction, Statement};
 use bw_lex::{SqlFault, Symbol};
 
 /// The set function that a reserved word names.
@@ -108,7 +108,7 @@ impl<'a> Parser<'a> {
 
     // items = * | item {, item}
     #[tactic(auto, unfolding(crate::specs::Reading::items_at))]
-    pub(crate) fn items(&mut self) -> Result<SelectItems, SqlFault>
+    fn items(&mut self) -> Result<SelectItems, SqlFault>
         ensures shorter { OnOk result (length self.new.rest.now < length self.old.rest.now) }
         ensures read { (n : ℕ) → length self.old.rest.now < n
             → Gives items_of result self.new.rest.now (reading.items_at n self.old.rest.now) }
@@ -118,5 +118,23 @@ impl<'a> Parser<'a> {
         } else {
             Ok(SelectItems::List(self.item_list()?))
         }
+    }
+
+    // after SELECT: items FROM name [WHERE cond]
+    #[tactic(auto, unfolding(crate::specs::Reading::select_at))]
+    pub(crate) fn select(&mut self) -> Result<Statement, SqlFault>
+        ensures shorter { OnOk result (length self.new.rest.now < length self.old.rest.now) }
+        ensures read { (n : ℕ) → length self.old.rest.now < n
+            → Gives statement_of result self.new.rest.now (reading.select_at n self.old.rest.now) }
+    {
+        let items = self.items()?;
+        self.take_word(Keyword::From)?;
+        let table = self.name()?;
+        let condition = self.filter()?;
+        Ok(Statement::Select(Select {
+            items,
+            table,
+            condition,
+        }))
     }
 }
