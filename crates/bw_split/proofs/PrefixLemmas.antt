@@ -3,7 +3,7 @@ use Rattle.std.proofs.Common.{◌≡◌, ℕ, ◌+◌, ◌-◌, ◌≤◌, Bool,
 use Rattle.std.proofs.Math.Seq.{take-append-add}
 use Rattle.std.proofs.lemmas.Bool.{cases_lt, le-leb, le-ltb, lt-leb, lt-ltb}
 use Rattle.std.proofs.lemmas.List.{length-take, length-take-le, take-append-le, take-take, take_all}
-use Rattle.bw_split.specs.Kept.{Holds, longest_part}
+use Rattle.bw_split.specs.Prefixes.{Holds, longest_part}
 
 -- no more than there is
 take_min : (n : ℕ) (bytes : List ℕ) → take (min (length bytes) n) bytes ≡ take n bytes
@@ -14,14 +14,14 @@ take_min n bytes =
     ]
 
 -- bytes are added as far as there is room
-pub kept_is : (n m : ℕ) (kept bytes : List ℕ) → length kept ≤ n → m ≡ min (length bytes) (n - length kept) → kept ++ take m bytes ≡ take n (kept ++ bytes)
-kept_is n m kept bytes short size =
-    ap (λ k. kept ++ take k bytes) size ∙ ap (λ l. kept ++ l) (take_min (n - length kept) bytes) ∙ sym (take-append-add kept bytes (n - length kept))
-    ∙ ap (λ k. take k (kept ++ bytes)) (omega arith)
+pub prefix_kept : (n m : ℕ) (prefix bytes : List ℕ) → length prefix ≤ n → m ≡ min (length bytes) (n - length prefix) → prefix ++ take m bytes ≡ take n (prefix ++ bytes)
+prefix_kept n m prefix bytes short size =
+    ap (λ k. prefix ++ take k bytes) size ∙ ap (λ l. prefix ++ l) (take_min (n - length prefix) bytes) ∙ sym (take-append-add prefix bytes (n - length prefix))
+    ∙ ap (λ k. take k (prefix ++ bytes)) (omega arith)
 
--- the front of a part and more bytes have the same front as the part with them
-front_more : (n : ℕ) (part bytes : List ℕ) → take n (take n part ++ bytes) ≡ take n (part ++ bytes)
-front_more n part bytes =
+-- the prefix of a part and more bytes have the same prefix as the part with them
+prefix_more : (n : ℕ) (part bytes : List ℕ) → take n (take n part ++ bytes) ≡ take n (part ++ bytes)
+prefix_more n part bytes =
     elim (cases_lt n (length part)) [
       | inl less ↦ take-append-le n (take n part) bytes (omega (arith, length-take-le n part (omega arith))) ∙ take-take n n part (omega arith) ∙ sym (take-append-le n part bytes (omega arith))
       | inr all ↦ ap (λ l. take n (l ++ bytes)) (take_all n part all)
@@ -42,18 +42,18 @@ longer_more n part bytes =
     ]
 
 -- what is held of a part, and bytes added as far as there is room
-pub held_more : (part bytes kept after : List ℕ) (longer fits : Bool) → Holds (record { bytes = kept; is_longer = longer }) part → after ≡ take longest_part (kept ++ bytes) → fits ≡ nat_le (length kept + length bytes) longest_part → Holds (record { bytes = after; is_longer = longer || not fits }) (part ++ bytes)
-held_more part bytes kept after longer fits held is fit =
+pub held_more : (part bytes prefix after : List ℕ) (longer fits : Bool) → Holds (record { bytes = prefix; is_longer = longer }) part → after ≡ take longest_part (prefix ++ bytes) → fits ≡ nat_le (length prefix + length bytes) longest_part → Holds (record { bytes = after; is_longer = longer || not fits }) (part ++ bytes)
+held_more part bytes prefix after longer fits held is fit =
     record {
-      bytes = is ∙ ap (λ l. take longest_part (l ++ bytes)) held.bytes ∙ front_more longest_part part bytes;
+      bytes = is ∙ ap (λ l. take longest_part (l ++ bytes)) held.bytes ∙ prefix_more longest_part part bytes;
       is_longer = ap (λ t. t || not fits) held.is_longer ∙ ap (λ t. nat_lt longest_part (length part) || not t) (fit ∙ ap (λ l. nat_le (length l + length bytes) longest_part) held.bytes) ∙ longer_more longest_part part bytes;
     }
 
 -- the whole part, where it isn't longer
-pub held_whole : (part kept : List ℕ) (longer : Bool) → Holds (record { bytes = kept; is_longer = longer }) part → longer ≡ false → (length part ≤ longest_part) × (kept ≡ part)
-held_whole part kept longer held fits =
+pub held_whole : (part prefix : List ℕ) (longer : Bool) → Holds (record { bytes = prefix; is_longer = longer }) part → longer ≡ false → (length part ≤ longest_part) × (prefix ≡ part)
+held_whole part prefix longer held fits =
     let short = ltb-false longest_part (length part) (sym held.is_longer ∙ fits) in
     (short, held.bytes ∙ take_all longest_part part short)
 
-pub kept_short : (kept bytes after : List ℕ) → after ≡ take longest_part (kept ++ bytes) → length after ≤ longest_part
-kept_short kept bytes after is = omega (arith, ap length is, length-take longest_part (kept ++ bytes))
+pub prefix_short : (prefix bytes after : List ℕ) → after ≡ take longest_part (prefix ++ bytes) → length after ≤ longest_part
+prefix_short prefix bytes after is = omega (arith, ap length is, length-take longest_part (prefix ++ bytes))

@@ -6,11 +6,11 @@ abbrev pub longest_part : ℕ
 longest_part = 65536
 
 -- the bytes that are kept, and whether the part has more
-pub record Front : Type 0 where
+pub record Prefix : Type 0 where
   pub bytes : List ℕ
   pub is_longer : Bool
 
--- the front of this part
-pub record Holds (front : Front) (part : List ℕ) : Type 0 where
-  pub bytes : front.bytes ≡ take longest_part part
-  pub is_longer : front.is_longer ≡ nat_lt longest_part (length part)
+-- the prefix of this part
+pub record Holds (prefix : Prefix) (part : List ℕ) : Type 0 where
+  pub bytes : prefix.bytes ≡ take longest_part part
+  pub is_longer : prefix.is_longer ≡ nat_lt longest_part (length part)

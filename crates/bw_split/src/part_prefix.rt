@@ -1,9 +1,9 @@
-//! The front of a part that is kept.
+//! The first bytes of a part, as many as are kept.
 
 ghost use Rattle.std.specs.Prelude.{◌≡◌, ◌+◌, ◌++◌, ◌<◌, ◌≤◌, [], IfOk, List, MatchResult, length, nat_le, take, vec_capacity, ℕ};
 ghost use Rattle.bw_lex.specs.declared.fault.SqlFault.TheVariants.{TooLong};
-ghost use Rattle.bw_split.specs.Kept.{Holds, longest_part};
-ghost use Rattle.bw_split.specs.Walks.{carried};
+ghost use Rattle.bw_split.specs.Prefixes.{Holds, longest_part};
+ghost use Rattle.bw_split.specs.Stretches.{carried};
 
 use bw_lex::SqlFault;
 use std::alloc::{AllocError, Global};
@@ -12,18 +12,18 @@ use std::marker::Model;
 /// The most bytes of a part that are kept. A longer one is too long to be a statement.
 pub const LONGEST_PART: usize = 65_536;
 
-/// The front of a part, up to the longest, and whether the part goes on behind it.
+/// The first bytes of a part, up to the longest, and whether the part goes on after them.
 #[derive(Drop)]
-pub(crate) struct Kept {
+pub(crate) struct PartPrefix {
     bytes: Vec<u8>,
     is_longer: bool,
 }
 
-impl Model for Kept {
+impl Model for PartPrefix {
     ghost use Rattle.std.specs.Prelude.{◌≤◌, length, vec_capacity};
-    ghost use Rattle.bw_split.specs.Kept.{Front, longest_part};
+    ghost use Rattle.bw_split.specs.Prefixes.{Prefix, longest_part};
 
-    ghost Value = { Front };
+    ghost Value = { Prefix };
 
     ghost view = { λ k. record { bytes = k.bytes.items; is_longer = k.is_longer } };
 
@@ -31,26 +31,26 @@ impl Model for Kept {
 }
 
 // Adds the bytes as far as there is room. Whether they all fit.
-fn keep(kept: &mut Vec<u8>, bytes: &[u8]) -> bool
-    requires short { length kept.old.items ≤ longest_part }
-    requires room { longest_part ≤ vec_capacity kept.old }
-    ensures kept { kept.new.items ≡ take longest_part (kept.old.items ++ bytes.now) }
-    ensures room { longest_part ≤ vec_capacity kept.new }
-    ensures fits { result ≡ nat_le (length kept.old.items + length bytes.now) longest_part }
+fn keep(prefix: &mut Vec<u8>, bytes: &[u8]) -> bool
+    requires short { length prefix.old.items ≤ longest_part }
+    requires room { longest_part ≤ vec_capacity prefix.old }
+    ensures prefix { prefix.new.items ≡ take longest_part (prefix.old.items ++ bytes.now) }
+    ensures room { longest_part ≤ vec_capacity prefix.new }
+    ensures fits { result ≡ nat_le (length prefix.old.items + length bytes.now) longest_part }
 {
-    let room = LONGEST_PART - kept.len();
-    let Ok(()) = kept.extend_from_slice(&bytes[..bytes.len().min(room)]) else {
+    let room = LONGEST_PART - prefix.len();
+    let Ok(()) = prefix.extend_from_slice(&bytes[..bytes.len().min(room)]) else {
         unreachable!()
     };
     bytes.len() <= room
 }
 
-impl Kept {
+impl PartPrefix {
     /// Nothing, with room for the longest part.
-    pub(crate) fn new(alloc: Global) -> Result<Kept, AllocError>
-        ensures { IfOk result (λ kept. Holds kept []) }
+    pub(crate) fn new(alloc: Global) -> Result<PartPrefix, AllocError>
+        ensures { IfOk result (λ prefix. Holds prefix []) }
     {
-        Ok(Kept {
+        Ok(PartPrefix {
             bytes: Vec::with_capacity(alloc, LONGEST_PART)?,
             is_longer: false,
         })
@@ -64,7 +64,7 @@ impl Kept {
         self.is_longer = false;
     }
 
-    /// Drops the part if a new one starts behind some bytes of the piece.
+    /// Drops the part if a new one starts after some bytes of the piece.
     pub(crate) fn carry(&mut self, start: usize)
         ensures { (part : List ℕ) → Holds self.old part → Holds self.new (carried start part) }
     {

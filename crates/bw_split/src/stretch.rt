@@ -3,16 +3,16 @@
 ghost use Rattle.std.specs.Prelude.{◌==◌, ◌≡◌, drop, false, not};
 ghost use Rattle.std.specs.List.{prefix_len};
 ghost use Rattle.bw_lex.specs.Spellings.{is_blank};
-ghost use Rattle.bw_split.specs.declared.progress.Place.TheVariants as place;
-ghost use Rattle.bw_split.specs.Walks.{IsWalk, StopsBefore};
+ghost use Rattle.bw_split.specs.declared.progress.LexicalState.TheVariants as state;
+ghost use Rattle.bw_split.specs.Stretches.{IsStretch, StopsBefore};
 
-use crate::lanes::quiet_len;
-use crate::progress::{Place, Progress, is_blank, opened_by};
+use crate::lanes::ordinary_len;
+use crate::progress::{LexicalState, Progress, is_blank, opened_by};
 use memchr::memchr;
 
 /// Bytes without a cut: how many, and where they end.
 #[derive(Clone, Copy)]
-pub(crate) struct Walk {
+pub(crate) struct Stretch {
     pub(crate) len: usize,
     pub(crate) progress: Progress,
 }
@@ -31,72 +31,72 @@ fn blank_len(bytes: &[u8]) -> usize
     bytes.iter().take_while(|b| is_blank(**b)).count()
 }
 
-fn in_text(progress: Progress, bytes: &[u8]) -> Walk
-    requires { progress.place ≡ place.Text }
-    ensures { IsWalk progress bytes.now result }
+fn in_text(progress: Progress, bytes: &[u8]) -> Stretch
+    requires { progress.state ≡ state.Text }
+    ensures { IsStretch progress bytes.now result }
 {
     let len = len_before(b'\'', bytes);
     let is_blank = progress.is_blank && len == 0;
-    Walk {
+    Stretch {
         len,
         progress: Progress {
-            place: Place::Text,
+            state: LexicalState::Text,
             is_blank,
         },
     }
 }
 
 // Outside texts and comments, where the part isn't blank.
-fn outside(bytes: &[u8]) -> Walk
-    ensures { IsWalk (record { place = place.Outside; is_blank = false }) bytes.now result }
+fn outside(bytes: &[u8]) -> Stretch
+    ensures { IsStretch (record { state = state.Outside; is_blank = false }) bytes.now result }
 {
-    let len = quiet_len(bytes);
-    let place = if len == 0 {
-        Place::Outside
+    let len = ordinary_len(bytes);
+    let state = if len == 0 {
+        LexicalState::Outside
     } else {
         opened_by(bytes[len - 1])
     };
-    Walk {
+    Stretch {
         len,
         progress: Progress {
-            place,
+            state,
             is_blank: false,
         },
     }
 }
 
 // Many bytes at once, of which none is a cut. There may be none.
-fn stretch(progress: Progress, bytes: &[u8]) -> Walk
-    ensures { IsWalk progress bytes.now result }
+fn next_stretch(progress: Progress, bytes: &[u8]) -> Stretch
+    ensures { IsStretch progress bytes.now result }
 {
-    match progress.place {
-        Place::Text => in_text(progress, bytes),
-        Place::Comment => Walk {
+    match progress.state {
+        LexicalState::Text => in_text(progress, bytes),
+        LexicalState::Comment => Stretch {
             len: len_before(b'\n', bytes),
             progress,
         },
-        Place::Outside if !progress.is_blank => outside(bytes),
-        Place::Outside => Walk {
+        LexicalState::Outside if !progress.is_blank => outside(bytes),
+        LexicalState::Outside => Stretch {
             len: blank_len(bytes),
             progress,
         },
-        Place::Dash => Walk { len: 0, progress },
+        LexicalState::Dash => Stretch { len: 0, progress },
     }
 }
 
 /// The bytes before the first cut.
-pub(crate) fn up_to_cut(progress: Progress, bytes: &[u8]) -> Walk
-    ensures walk { IsWalk progress bytes.now result }
+pub(crate) fn up_to_cut(progress: Progress, bytes: &[u8]) -> Stretch
+    ensures stretch { IsStretch progress bytes.now result }
     ensures stops { StopsBefore result.progress (drop result.len bytes.now) }
 {
     let mut len = 0;
     let mut progress = progress;
     loop {
-        let more = stretch(progress, &bytes[len..]);
+        let more = next_stretch(progress, &bytes[len..]);
         len += more.len;
         progress = more.progress;
         if len == bytes.len() || progress.is_cut(bytes[len]) {
-            return Walk { len, progress };
+            return Stretch { len, progress };
         }
         progress = progress.step(bytes[len]);
         len += 1;

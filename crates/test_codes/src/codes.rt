@@ -145,7 +145,7 @@ const EMPTY_TESTS: [(CmpOp, CodeTest); 6] = [
 
 const MANY_VALUES: [i64; 4] = [40, -2, 7, 40];
 
-/// The encoding that fits the values, which are told one after the other.
+/// The encoding that fits the values, which are given one after the other.
 fn fitted_one_by_one<R: Abort + AllocGlobal>(rt: &R, values: &[i64], kind: Kind) -> Encoding {
     let mut fitting = Fitting::new(rt.alloc(), kind, 0).expect(rt, "memory");
     for x in values {
@@ -154,7 +154,7 @@ fn fitted_one_by_one<R: Abort + AllocGlobal>(rt: &R, values: &[i64], kind: Kind)
     fitting.encoding(rt.alloc()).expect(rt, "memory")
 }
 
-/// The encoding that fits the values, which is the same where they are told one after the other.
+/// The encoding that fits the values, which is the same where they are given one after the other.
 fn fitted<R: Abort + AllocGlobal>(rt: &R, values: &[i64], kind: Kind) -> Encoding {
     let encoding = fit(rt.alloc(), values, kind).expect(rt, "memory");
     assert!(rt; encoding == fitted_one_by_one(rt, values, kind));
@@ -350,7 +350,7 @@ fn the_ends_of_i64_there_and_back(rt: HostRuntime) {
     check_ends(&rt, &both, Some(i64::MIN));
 }
 
-/// Sees that the codes of these values by an encoding that fits them are these, of so many bits.
+/// Sees that the codes of these values by an encoding that fits them are these, of this many bits.
 fn check_codes<R: Abort + AllocGlobal>(rt: &R, kind: Kind, wants: [u64; 4], bits: u32) {
     let encoding = fitted(rt, &MANY_VALUES, kind);
     let mut codes = [0; 4];
@@ -366,7 +366,7 @@ fn codes_of_many_values(rt: HostRuntime) {
 }
 
 #[test]
-fn no_code_for_a_value_that_was_not_told(rt: HostRuntime) {
+fn no_code_for_a_value_that_was_not_given(rt: HostRuntime) {
     for kind in [Kind::Offset, Kind::Dictionary] {
         let encoding = fitted(&rt, &MANY_VALUES, kind);
         assert!(rt; !encoding.encode_all(&[7, 40, -3, 7], &mut [0; 4]));

@@ -1,5 +1,5 @@
 //! Worked examples as tests of masks and codes: truth tables, encodings, columns and the units of scans, and each call that
-//! may want memory, seen answering.
+//! may run out of memory, seen answering.
 #![tactic(auto)]
 
 #[cfg(test)]

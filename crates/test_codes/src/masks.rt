@@ -1,4 +1,4 @@
-//! Masks and truths: the truth tables of SQL-92, and each call that may want memory, seen answering.
+//! Masks and truths: the truth tables of SQL-92, and each call that may run out of memory, seen answering.
 
 ghost use Rattle.std.specs.Prelude.{◌≡◌};
 ghost use Rattle.bw_mask.specs.Masks.{len};

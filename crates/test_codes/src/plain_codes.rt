@@ -72,7 +72,7 @@ fn top_bit(width: u32) -> u64
     cut(1 << (width - 1), width)
 }
 
-/// The test, of codes of so many bits.
+/// The test, of codes of this many bits.
 fn fitted(test: CodeTest, width: u32) -> CodeTest
     requires { width ≤ 64 }
     ensures { TestFits width result }

@@ -9,7 +9,7 @@ use bw_code::{CodeTest, Layout};
 use bw_mask::Mask;
 use std::alloc::{AllocError, Global};
 
-/// In how many leading digits of so many two numbers are equal.
+/// In how many leading digits of this many two numbers are equal.
 fn agreement(base: u128, digits: u32, x: u128, y: u128) -> u64
     requires { 0 < base }
     ensures agreement { result ≡ agreement base digits x y }

@@ -45,7 +45,7 @@ pub(crate) fn files() -> [File<'static>; 1] {
     [("f", LOADED)]
 }
 
-/// The statements of a script, one behind the other.
+/// The statements of a script, one after the other.
 pub(crate) fn script_of<R: Abort + AllocGlobal>(rt: &R, script: &[Answered]) -> String {
     let mut text = String::new(rt.alloc());
     for (statement, _) in script {
@@ -54,7 +54,7 @@ pub(crate) fn script_of<R: Abort + AllocGlobal>(rt: &R, script: &[Answered]) -> 
     text
 }
 
-/// The replies to so many statements, one behind the other.
+/// The replies to this many statements, one after the other.
 pub(crate) fn replies_of<R: Abort + AllocGlobal>(
     rt: &R,
     script: &[Answered],
@@ -67,7 +67,7 @@ pub(crate) fn replies_of<R: Abort + AllocGlobal>(
     text
 }
 
-/// How many statements lie whole in so many bytes of the script.
+/// How many statements lie whole in this many bytes of the script.
 pub(crate) fn closed_in(script: &[Answered], bytes: usize) -> usize {
     let mut end: usize = 0;
     let mut count: usize = 0;
@@ -120,7 +120,7 @@ fn check_read<R: Abort + AllocGlobal>(rt: &R, mut reader: FailingReader<'_>, rep
     see_bytes(rt, &output, replies);
 }
 
-// After any number of bytes, taken any number at a time, the writer takes no more: what it took is a front of the replies,
+// After any number of bytes, taken any number at a time, the writer takes no more: what it took is a prefix of the replies,
 // and the table is saved if the reply to SAVE was begun.
 #[test]
 fn each_write_fails(rt: HostRuntime) {
@@ -142,7 +142,7 @@ fn check_writes<R: Abort + AllocGlobal>(rt: &R, script: &[Answered]) {
     }
 }
 
-/// Checks what was written, and whether the table is saved, where the writer takes so many bytes, so many at a time.
+/// Checks what was written, and whether the table is saved, where the writer takes this many bytes, this many at a time.
 fn check_write<R: Abort + AllocGlobal>(
     rt: &R,
     mut script: &[u8],
@@ -170,7 +170,7 @@ fn check_saved<R: Abort>(rt: &R, mut folder: MemoryFolder, is_saved: bool) {
     }
 }
 
-// The flush behind any reply fails: the replies up to it are written.
+// The flush after any reply fails: the replies up to it are written.
 #[test]
 fn each_flush_fails(rt: HostRuntime) {
     check_flushes(&rt, &LOADING);
@@ -193,7 +193,7 @@ fn check_flushes<R: Abort + AllocGlobal>(rt: &R, script: &[Answered]) {
     }
 }
 
-/// Checks what was written, and whether the table is saved, where a flush after so many fails.
+/// Checks what was written, and whether the table is saved, where a flush after this many fails.
 fn check_flush<R: Abort + AllocGlobal>(
     rt: &R,
     mut script: &[u8],
@@ -213,7 +213,7 @@ fn check_flush<R: Abort + AllocGlobal>(
     check_saved(rt, folder, is_saved);
 }
 
-// A folder in memory of which one call, counted from 1, answers a fault and does nothing. It tells nothing of its files.
+// A folder in memory of which one call, counted from 1, answers a fault and does nothing. It gives no files.
 #[derive(Drop)]
 struct FailingFolder {
     folder: MemoryFolder,

@@ -49,7 +49,7 @@ impl Calls {
     }
 }
 
-/// Gives at most so many bytes a call.
+/// Gives at most this many bytes a call.
 #[derive(Drop)]
 struct OnceReader<'a> {
     rest: &'a [u8],
@@ -73,7 +73,7 @@ impl Read for OnceReader<'_> {
     }
 }
 
-/// Takes at most so many bytes a call.
+/// Takes at most this many bytes a call.
 #[derive(Drop)]
 struct OnceWriter {
     taken: Vec<u8>,
@@ -111,7 +111,7 @@ fn end_of_read(failure: Failure, is_whole: bool) -> (RunEnd, &'static str) {
     }
 }
 
-/// How many bytes of a script the statements take that lie whole in so many of them.
+/// How many bytes of a script the statements take that lie whole in this many of them.
 fn closed_bytes(script: &[Answered], bytes: usize) -> usize {
     let mut end: usize = 0;
     for (statement, _) in script.iter().take(closed_in(script, bytes)) {
@@ -195,7 +195,7 @@ fn written<R: Abort + AllocGlobal>(
 }
 
 /// Sees that the bytes are the first ones of all replies to a script.
-fn see_front<R: Abort + AllocGlobal>(rt: &R, taken: &[u8], script: &[Answered]) {
+fn see_prefix<R: Abort + AllocGlobal>(rt: &R, taken: &[u8], script: &[Answered]) {
     let replies = replies_of(rt, script, script.len());
     assert!(rt; taken.len() < replies.len());
     see_bytes(rt, taken, &replies.as_bytes()[..taken.len()]);
@@ -219,7 +219,7 @@ fn check_writes<R: Abort + AllocGlobal>(
             (RunEnd::WriteFault, failing),
         );
         assert!(rt; writer.flushes.made < whole.flushes.made);
-        see_front(rt, &writer.taken, script);
+        see_prefix(rt, &writer.taken, script);
     }
 }
 

@@ -31,7 +31,7 @@ pub(crate) fn run_over<I: Read, O: Write>(
     run(alloc, reader, writer, &mut folder, on_error)
 }
 
-/// Pieces, each so many times, one behind the other.
+/// Pieces, each the given number of times, one after the other.
 pub(crate) fn joined<R: Abort + AllocGlobal>(rt: &R, pieces: &[(&str, usize)]) -> String {
     let mut text = String::new(rt.alloc());
     for (piece, times) in pieces {

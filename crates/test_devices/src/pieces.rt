@@ -92,7 +92,7 @@ fn however_a_script_is_cut(rt: HostRuntime) {
     }
 }
 
-// A part of 65,536 bytes and one of a byte more, each behind and before another statement.
+// A part of 65,536 bytes and one of a byte more, each after and before another statement.
 #[test]
 fn a_part_that_is_too_long_in_pieces(rt: HostRuntime) {
     let told = "TABLE,COLUMNS,ROWS\nrows 0\nTABLE,COLUMNS,ROWS\nrows 0\n";
@@ -129,7 +129,7 @@ impl Read for NotingReader<'_> {
     }
 }
 
-// Counts the bytes of replies, and tells how many were flushed.
+// Counts the bytes of replies, and gives how many were flushed.
 #[derive(Drop)]
 struct CountingWriter<'a> {
     taken: usize,
@@ -148,7 +148,7 @@ impl Write for CountingWriter<'_> {
     }
 }
 
-// Replies of 3, 5 and 11 bytes, each flushed before the read behind the piece that closes its statement, and one of 23 to the rest.
+// Replies of 3, 5 and 11 bytes, each flushed before the read after the piece that closes its statement, and one of 23 to the rest.
 #[test]
 fn each_reply_before_the_next_read(rt: HostRuntime) {
     let pieces: [&[u8]; 5] = [

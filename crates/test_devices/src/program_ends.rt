@@ -54,7 +54,7 @@ fn check_status<R: Abort + AllocGlobal>(rt: &R, code: ExitCode, status: u8) {
     see_bytes(rt, found.as_bytes(), wanted.as_bytes());
 }
 
-// Runs the program over words behind its name, and checks its status and what it says.
+// Runs the program over words after its name, and checks its status and what it says.
 fn check_end<R: Abort + AllocGlobal + Files, I: Read, O: Write + Drop>(
     rt: &R,
     words: &[&str],

@@ -10,7 +10,7 @@ use std::process::Abort;
 const SCRIPT: &[u8] =
     b"CREATE TABLE t (a INTEGER); INSERT INTO t VALUES (3), (NULL), (-1); SELECT a FROM t WHERE a < 3;";
 
-// Gives so many bytes a call, and then fails.
+// Gives this many bytes a call, and then fails.
 #[derive(Drop)]
 pub(crate) struct FailingReader<'a> {
     pub(crate) rest: &'a [u8],
@@ -32,7 +32,7 @@ impl Read for FailingReader<'_> {
     }
 }
 
-// Takes so many bytes in all, so many a call, and then fails.
+// Takes this many bytes in all, this many a call, and then fails.
 #[derive(Drop)]
 pub(crate) struct FullWriter {
     pub(crate) taken: Vec<u8>,
@@ -111,7 +111,7 @@ fn a_writer_that_takes_four_bytes(rt: HostRuntime) {
 }
 
 #[test]
-fn a_reader_that_fails_behind_a_cut(rt: HostRuntime) {
+fn a_reader_that_fails_after_a_cut(rt: HostRuntime) {
     for step in [1, 5, 27] {
         let mut reader = FailingReader {
             rest: b"CREATE TABLE t (a INTEGER);",
@@ -155,7 +155,7 @@ fn a_stop_at_the_first_error(rt: HostRuntime) {
 }
 
 #[test]
-fn a_flush_that_fails_behind_a_reply(rt: HostRuntime) {
+fn a_flush_that_fails_after_a_reply(rt: HostRuntime) {
     for (flushes_left, taken, end) in [
         (0, b"ok\n".as_slice(), RunEnd::WriteFault),
         (1, b"ok\nok 3\n".as_slice(), RunEnd::WriteFault),

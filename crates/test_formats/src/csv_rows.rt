@@ -6,10 +6,10 @@ use bw_csvload::{CsvFault, FirstRecord, rows};
 use std::process::Abort;
 
 /// A byte order mark, and three records of two fields: a number in quotes and nothing, NULL in small letters and a minus, a
-/// plus and a zero in front.
+/// plus and a leading zero.
 const THREE_RECORDS: &[u8] = b"\xEF\xBB\xBF\"7\",\r\nnull,-2\r\n+5,08\r\n";
 
-/// Sees that the file spells so many rows, with these cells, row after row.
+/// Sees that the file spells this many rows, with these cells, row after row.
 fn see_rows<R: Abort + AllocGlobal>(
     rt: &R,
     file: &[u8],
@@ -52,7 +52,7 @@ fn three_records(rt: HostRuntime) {
     );
 }
 
-/// Two records behind one of one field.
+/// Two records after one of one field.
 const TWO_RECORDS: &[u8] = b"name\nnull,-2\n+5,08";
 
 #[test]

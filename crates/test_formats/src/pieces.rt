@@ -9,7 +9,7 @@ use bw_split::{LONGEST_PART, Splitter};
 use std::fmt::Debug;
 use std::process::Abort;
 
-// Scripts, and their parts by the definition: each with a `;` behind it where a cut closes it, else with a `|`.
+// Scripts, and their parts by the definition: each with a `;` after it where a cut closes it, else with a `|`.
 const SCRIPTS: [(&[u8], &[u8]); 8] = [
     (b"", b""),
     (b" ;\t;; -- nothing; here", b""),
@@ -29,15 +29,15 @@ const SCRIPTS: [(&[u8], &[u8]); 8] = [
 
 fn add<R: Abort + AllocGlobal>(
     rt: &R,
-    told: &mut Vec<u8>,
+    given: &mut Vec<u8>,
     text: Result<&[u8], SqlFault>,
     mark: u8,
 ) {
     match text {
-        Ok(text) => told.extend_from_slice(text).expect(rt, "memory"),
-        Err(_) => told.extend_from_slice(b"too long").expect(rt, "memory"),
+        Ok(text) => given.extend_from_slice(text).expect(rt, "memory"),
+        Err(_) => given.extend_from_slice(b"too long").expect(rt, "memory"),
     }
-    told.push(mark).expect(rt, "memory");
+    given.push(mark).expect(rt, "memory");
 }
 
 // Feeds the bytes, and adds each part that stands.
@@ -45,7 +45,7 @@ fn feed_all<R: Abort + AllocGlobal>(
     rt: &R,
     splitter: &mut Splitter,
     bytes: &[u8],
-    told: &mut Vec<u8>,
+    given: &mut Vec<u8>,
 )
     requires { splitter.old.stage ≡ stage.Begun }
     ensures { splitter.new.stage ≡ stage.Begun }
@@ -55,7 +55,7 @@ fn feed_all<R: Abort + AllocGlobal>(
         let Some(taken) = splitter.feed(rest) else {
             return;
         };
-        add(rt, told, splitter.text(), b';');
+        add(rt, given, splitter.text(), b';');
         splitter.clear();
         rest = &rest[taken..];
     }
@@ -65,48 +65,48 @@ fn feed_singly<R: Abort + AllocGlobal>(
     rt: &R,
     splitter: &mut Splitter,
     bytes: &[u8],
-    told: &mut Vec<u8>,
+    given: &mut Vec<u8>,
 )
     requires { splitter.old.stage ≡ stage.Begun }
     ensures { splitter.new.stage ≡ stage.Begun }
 {
     let mut at = 0;
     while at < bytes.len() {
-        feed_all(rt, splitter, &bytes[at..at + 1], told);
+        feed_all(rt, splitter, &bytes[at..at + 1], given);
         at += 1;
     }
 }
 
-fn finish<R: Abort + AllocGlobal>(rt: &R, splitter: &mut Splitter, told: &mut Vec<u8>)
+fn finish<R: Abort + AllocGlobal>(rt: &R, splitter: &mut Splitter, given: &mut Vec<u8>)
     requires { splitter.old.stage ≡ stage.Begun }
 {
     if splitter.finish() {
-        add(rt, told, splitter.text(), b'|');
+        add(rt, given, splitter.text(), b'|');
     }
 }
 
-fn told_in_two<R: Abort + AllocGlobal>(rt: &R, script: &[u8], at: usize) -> Vec<u8>
+fn given_in_two<R: Abort + AllocGlobal>(rt: &R, script: &[u8], at: usize) -> Vec<u8>
     requires { at ≤ length script.now }
 {
     let mut splitter = Splitter::new(rt.alloc()).expect(rt, "memory");
-    let mut told = Vec::new(rt.alloc());
-    feed_all(rt, &mut splitter, &script[..at], &mut told);
-    feed_all(rt, &mut splitter, &script[at..], &mut told);
-    finish(rt, &mut splitter, &mut told);
-    told
+    let mut given = Vec::new(rt.alloc());
+    feed_all(rt, &mut splitter, &script[..at], &mut given);
+    feed_all(rt, &mut splitter, &script[at..], &mut given);
+    finish(rt, &mut splitter, &mut given);
+    given
 }
 
-fn told_singly<R: Abort + AllocGlobal>(rt: &R, script: &[u8]) -> Vec<u8> {
+fn given_singly<R: Abort + AllocGlobal>(rt: &R, script: &[u8]) -> Vec<u8> {
     let mut splitter = Splitter::new(rt.alloc()).expect(rt, "memory");
-    let mut told = Vec::new(rt.alloc());
-    feed_singly(rt, &mut splitter, script, &mut told);
-    finish(rt, &mut splitter, &mut told);
-    told
+    let mut given = Vec::new(rt.alloc());
+    feed_singly(rt, &mut splitter, script, &mut given);
+    finish(rt, &mut splitter, &mut given);
+    given
 }
 
-// What the whole script tells at once.
-fn told_of_parts<R: Abort + AllocGlobal>(rt: &R, script: &[u8]) -> Vec<u8> {
-    let mut told = Vec::new(rt.alloc());
+// What the whole script gives at once.
+fn given_by_parts<R: Abort + AllocGlobal>(rt: &R, script: &[u8]) -> Vec<u8> {
+    let mut given = Vec::new(rt.alloc());
     let parts = parts(rt.alloc(), script).expect(rt, "memory");
     for part in &parts {
         let text = script
@@ -114,24 +114,24 @@ fn told_of_parts<R: Abort + AllocGlobal>(rt: &R, script: &[u8]) -> Vec<u8> {
             .expect(rt, "a part of the script");
         add(
             rt,
-            &mut told,
+            &mut given,
             Ok(text),
             if part.is_closed { b';' } else { b'|' },
         );
     }
-    told
+    given
 }
 
-// Sees that this is what a script tells, cut in this way.
-fn see_told<C: Debug + Copy, R: Abort>(rt: &R, cut: C, told: Vec<u8>, want: &[u8]) {
-    see_at(rt, cut, told.as_slice() == want, true);
+// Sees that this is what a script gives, cut in this way.
+fn see_given<C: Debug + Copy, R: Abort>(rt: &R, cut: C, given: Vec<u8>, want: &[u8]) {
+    see_at(rt, cut, given.as_slice() == want, true);
 }
 
 fn check_script<R: Abort + AllocGlobal>(rt: &R, script: &[u8], want: &[u8]) {
-    see_told(rt, "nowhere", told_of_parts(rt, script), want);
-    see_told(rt, "everywhere", told_singly(rt, script), want);
+    see_given(rt, "nowhere", given_by_parts(rt, script), want);
+    see_given(rt, "everywhere", given_singly(rt, script), want);
     for at in 0..script.len() + 1 {
-        see_told(rt, at, told_in_two(rt, script, at), want);
+        see_given(rt, at, given_in_two(rt, script, at), want);
     }
 }
 
@@ -152,7 +152,7 @@ fn goes_on<R: Abort>(rt: &R, splitter: &mut Splitter, piece: &[u8])
     }
 }
 
-// Feeds a piece of which so many bytes are taken, and where this part stands then.
+// Feeds a piece of which this many bytes are taken, and where this part stands then.
 fn stands<R: Abort>(rt: &R, splitter: &mut Splitter, piece: &[u8], want: usize, text: &[u8])
     requires { splitter.old.stage ≡ stage.Begun }
 {
@@ -171,7 +171,7 @@ fn two_dashes_in_two_pieces(rt: HostRuntime) {
     stands(&rt, &mut splitter, b"-;\n;TABLES;", 11, b"TABLES");
 }
 
-// `TABLES` and blanks, so many bytes in all, and a cut.
+// `TABLES` and blanks, this many bytes in all, and a cut.
 fn long_part<R: Abort + AllocGlobal>(rt: &R, len: usize) -> Vec<u8> {
     let mut script = Vec::from_slice(rt.alloc(), b"TABLES").expect(rt, "memory");
     script.resize(len, b' ').expect(rt, "memory");
@@ -182,9 +182,9 @@ fn long_part<R: Abort + AllocGlobal>(rt: &R, len: usize) -> Vec<u8> {
 #[test]
 fn parts_as_long_as_may_be(rt: HostRuntime) {
     let longest = long_part(&rt, LONGEST_PART);
-    let told = told_singly(&rt, &longest);
-    see_told(&rt, LONGEST_PART, told, &longest);
+    let given = given_singly(&rt, &longest);
+    see_given(&rt, LONGEST_PART, given, &longest);
     let longer = LONGEST_PART + 1;
-    let told = told_singly(&rt, &long_part(&rt, longer));
-    see_told(&rt, longer, told, b"too long;");
+    let given = given_singly(&rt, &long_part(&rt, longer));
+    see_given(&rt, longer, given, b"too long;");
 }

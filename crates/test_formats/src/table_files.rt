@@ -44,7 +44,7 @@ fn check_spelled<R: Abort + AllocGlobal>(rt: &R, table: &TableFile<'_>, bytes: &
     see(rt, spelled.expect(rt, "bytes").as_slice(), bytes);
 }
 
-// The table of so many rows and columns that these bytes spell. It is spelled so.
+// The table of this many rows and columns that these bytes spell. It is spelled so.
 pub(crate) fn table_of<'a, R: Abort + AllocGlobal>(
     rt: &R,
     bytes: &'a [u8],

@@ -187,7 +187,7 @@ fn push_last<C: CodeColumn, R: Abort>(rt: &R, column: &mut C, code: u64)
     column.push(code);
 }
 
-/// A column of so many codes, of which the last was put by itself, and that in the middle in place of another.
+/// A column of this many codes, of which the last was put by itself, and that in the middle in place of another.
 fn changed_column<C: CodeColumn + Drop, R: Abort + AllocGlobal>(
     rt: &R,
     width: u32,

@@ -147,7 +147,7 @@ pub(crate) fn column_of<C: CodeColumn + Drop, R: Abort + AllocGlobal>(
     column
 }
 
-/// The test, of codes of so many bits.
+/// The test, of codes of this many bits.
 pub(crate) fn fitted(test: CodeTest, width: u32) -> CodeTest
     requires { width ≤ 64 }
     ensures { TestFits width result }
@@ -179,7 +179,7 @@ pub(crate) fn need_of<R: Abort + AllocGlobal>(rt: &R, rows: usize) -> Mask
     need
 }
 
-/// How many rows a segment of words has, of codes of so many bits.
+/// How many rows a segment of words has, of codes of this many bits.
 pub(crate) fn segment_rows(width: u32) -> usize
     requires some { 1 ≤ width }
     requires narrow { width ≤ 32 }

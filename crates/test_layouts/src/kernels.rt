@@ -31,7 +31,7 @@ fn a_word_of_sections(rt: HostRuntime) {
     see(&rt, compared(&rt), ([BELOW], [BELOW]));
 }
 
-// The bytes 0 to 31 beside 16.
+// The bytes 0 to 31 compared with 16.
 #[test]
 fn a_slice_of_bytes(rt: HostRuntime) {
     let mut slice = [0; 32];

@@ -87,7 +87,7 @@ fn moved(code: u64, moves: bool, from: i64, to: i64) -> i128
     }
 }
 
-/// Stops the test where a moved code would have more than so many bits.
+/// Stops the test where a moved code would have more than this many bits.
 fn check_fit<R: Abort>(rt: &R, width: u32, codes: &[u64], rows: &Mask, from: i64, to: i64)
     requires narrow { width ≤ 64 }
     requires rows { len rows.now ≡ length codes.now }

@@ -31,7 +31,7 @@ impl Source<[u64; 4]> for PlaneList {
     }
 }
 
-/// Scans the codes of so many rows of one segment. The rows that are found, of the first 64, and how often a plane was read.
+/// Scans the codes of this many rows of one segment. The rows that are found, of the first 64, and how often a plane was read.
 fn scanned<R: Abort + AllocGlobal>(
     rt: &R,
     planes: &[[u64; 4]],

@@ -7,7 +7,7 @@ const MOST_BYTES: usize = 268_435_456;
 
 const LOADED_ROWS: usize = 1_048_576;
 
-// A file of one byte more than a file may have, and one of so many.
+// A file of one byte more than a file may have, and one of this many.
 #[test]
 fn a_file_too_large(rt: HostRuntime) {
     let script = [(

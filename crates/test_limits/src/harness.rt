@@ -1,11 +1,11 @@
-//! Runs a script that is told by its pieces.
+//! Runs a script that is given by its pieces.
 
 use crate::pieces::{Piece, Pieces, Wanted};
 use bw_shell::{Folder, MemoryFolder, OnError, RunEnd, run};
 use std::ops::Range;
 use std::process::Abort;
 
-/// Checks that a script gets these replies, both told by their pieces.
+/// Checks that a script gets these replies, both given by their pieces.
 pub(crate) fn check_run<R: Abort + AllocGlobal>(
     rt: &R,
     script: &[Piece<'_>],
@@ -27,7 +27,7 @@ pub(crate) fn check_over_file<R: Abort + AllocGlobal>(
     check_end(rt, &mut folder, script, replies, RunEnd::Done);
 }
 
-/// Checks that a script gets these replies, both told by their pieces, and how the run ends.
+/// Checks that a script gets these replies, both given by their pieces, and how the run ends.
 pub(crate) fn check_end<R: Abort + AllocGlobal>(
     rt: &R,
     folder: &mut MemoryFolder,
@@ -48,7 +48,7 @@ pub(crate) fn check_end<R: Abort + AllocGlobal>(
     assert!(rt; writer.is_complete());
 }
 
-/// A text so many times between two others.
+/// A text the given number of times between two others.
 pub(crate) fn repeated<R: Abort + AllocGlobal>(
     rt: &R,
     before: &str,
@@ -65,7 +65,7 @@ pub(crate) fn repeated<R: Abort + AllocGlobal>(
     whole
 }
 
-/// Each number between two texts, one behind the other.
+/// Each number between two texts, one after the other.
 pub(crate) fn numbered<R: Abort + AllocGlobal>(
     rt: &R,
     before: &str,

@@ -1,4 +1,4 @@
-//! A reader and a writer of texts that are told by their pieces.
+//! A reader and a writer of texts that are given by their pieces.
 
 ghost use Rattle.std.specs.Prelude.{◌≤◌, length};
 
@@ -8,7 +8,7 @@ use std::io::{ErrorKind, Read, Write};
 /// A text that is one byte long at least, and how often it stands there, once at least.
 pub(crate) type Piece<'a> = (&'a str, usize);
 
-/// Gives the pieces of a text, one behind the other.
+/// Gives the pieces of a text, one after the other.
 #[derive(Drop)]
 pub(crate) struct Pieces<'a> {
     pieces: &'a [Piece<'a>],
@@ -28,7 +28,7 @@ impl<'a> Pieces<'a> {
         }
     }
 
-    /// The next bytes, at most so many. There are none only at the end.
+    /// The next bytes, at most this many. There are none only at the end.
     pub(crate) fn next_bytes(&mut self, most: usize) -> &'a [u8]
         ensures { length result.now ≤ most }
     {

@@ -6,7 +6,7 @@ use bw_shell::{MemoryFolder, OnError, RunEnd, run};
 use std::io::{self, Read};
 use std::process::Abort;
 
-// Of lines of so many bytes, each a comment and a cut, 16,384 are a script of the most bytes, 2^30.
+// Of lines of this many bytes, each a comment and a cut, 16,384 are a script of the most bytes, 2^30.
 const LINE_BYTES: usize = 65_536;
 
 #[test]
@@ -35,7 +35,7 @@ fn statements_of_one_digit_values(rt: HostRuntime) {
 
 #[test]
 fn a_statement_of_all_its_bytes(rt: HostRuntime) {
-    // 65,536 bytes: 21, and 16,379 rows of 4 bytes with no comma behind the last
+    // 65,536 bytes: 21, and 16,379 rows of 4 bytes with no comma after the last
     let insert = repeated(&rt, "INSERT INTO t VALUES ", "(1),", 16_378, "(1);");
     check_run(
         &rt,

@@ -1,4 +1,4 @@
-//! Each call that may want memory, seen answering.
+//! Each call that may run out of memory, seen answering.
 
 use crate::harness::statement_in;
 use crate::seen::{see, see_at, see_bytes};

@@ -45,7 +45,7 @@ fn ranges(rt: HostRuntime) {
     );
 }
 
-// A column beside a column, with NULL on a side.
+// A column compared with a column, with NULL on a side.
 #[test]
 fn two_columns(rt: HostRuntime) {
     check_examples(
@@ -100,7 +100,7 @@ fn what_is_no_condition(rt: HostRuntime) {
     );
 }
 
-// A list of 1,000 entries is taken; a longer one is refused, behind a column that isn't there.
+// A list of 1,000 entries is taken; a longer one is refused, after a column that isn't there.
 #[test]
 fn entries_of_a_list(rt: HostRuntime) {
     check_pieces(

@@ -40,7 +40,7 @@ fn bytes_of<R: Abort>(rt: &R, folder: &mut MemoryFolder, name: &str) -> Result<V
     }
 }
 
-/// What a CSV file says to a LOAD into a table of so many columns.
+/// What a CSV file says to a LOAD into a table of this many columns.
 fn lines_for<R: Abort + AllocGlobal>(
     rt: &R,
     folder: &mut MemoryFolder,

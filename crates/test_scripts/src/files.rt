@@ -5,7 +5,7 @@ use crate::seen::{see, see_bytes};
 use bw_shell::{Folder, OnError, RunEnd, run};
 use std::process::Abort;
 
-// Checks what a script behind a CREATE TABLE t (a, b) answers over one file f.
+// Checks what a script after a CREATE TABLE t (a, b) answers over one file f.
 fn check_load<R: Abort + AllocGlobal>(rt: &R, bytes: &[u8], script: &str, replies: &str) {
     let script = format!(in rt.alloc(); "CREATE TABLE t (a INT, b INT); {script}").expect(
         rt, "memory",

@@ -21,7 +21,7 @@ fn the_ends_of_the_type_added_up(rt: HostRuntime) {
     );
 }
 
-// The last rows of a segment of codes of two bits are found, and nothing behind them.
+// The last rows of a segment of codes of two bits are found, and nothing after them.
 #[test]
 fn codes_at_the_end_of_a_segment(rt: HostRuntime) {
     let script = joined(
@@ -68,7 +68,7 @@ fn functions_of_nulls_alone(rt: HostRuntime) {
     );
 }
 
-/// The numbers from 1 to 300, each beside its rest by 2.
+/// The numbers from 1 to 300, each next to its rest by 2.
 fn numbers_and_rests<R: Abort + AllocGlobal>(rt: &R) -> String {
     let mut pairs = String::from_str(rt.alloc(), "(1, 1)").expect(rt, "memory");
     for number in 2..301u32 {

@@ -1,4 +1,4 @@
-//! Runs a script over bytes in memory, and by the plain program. Where memory is wanting, a test fails.
+//! Runs a script over bytes in memory, and by the plain program. Where memory runs out, a test fails.
 
 use crate::contents::content_for;
 use crate::seen::{see_at, see_bytes};
@@ -165,7 +165,7 @@ pub(crate) fn check_examples<R: Abort + AllocGlobal>(rt: &R, examples: &[Example
     }
 }
 
-/// Checks that a script gets these replies, which is made of pieces, each so many times.
+/// Checks that a script gets these replies, which is made of pieces, each the given number of times.
 pub(crate) fn check_pieces<R: Abort + AllocGlobal>(
     rt: &R,
     pieces: &[(&str, usize)],
@@ -197,7 +197,7 @@ pub(crate) fn check_layings<R: Abort + AllocGlobal>(rt: &R, script: &str, replie
     }
 }
 
-/// Pieces, each so many times, one behind the other.
+/// Pieces, each the given number of times, one after the other.
 pub(crate) fn joined<R: Abort + AllocGlobal>(rt: &R, pieces: &[(&str, usize)]) -> String {
     let mut text = String::new(rt.alloc());
     for (piece, times) in pieces {
@@ -208,7 +208,7 @@ pub(crate) fn joined<R: Abort + AllocGlobal>(rt: &R, pieces: &[(&str, usize)]) -
     text
 }
 
-/// Each number between two texts, one behind the other.
+/// Each number between two texts, one after the other.
 pub(crate) fn numbered<R: Abort + AllocGlobal>(
     rt: &R,
     before: &str,

@@ -1,5 +1,5 @@
-//! Worked examples as tests: scripts with the replies that the language's rules give them, and each call that may want memory,
-//! seen answering.
+//! Worked examples as tests: scripts with the replies that the language's rules give them, and each call that may run out of
+//! memory, seen answering.
 #![tactic(auto)]
 
 #[cfg(test)]

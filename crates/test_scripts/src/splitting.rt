@@ -1,4 +1,4 @@
-//! Scripts and their parts: cuts, texts, comments, and the rest behind the last cut.
+//! Scripts and their parts: cuts, texts, comments, and the rest after the last cut.
 
 use crate::harness::check_examples;
 

@@ -1,4 +1,5 @@
-//! Set functions of columns of more rows than the 65,536 whose planes are taken at once, beside a plain fold over the values.
+//! Set functions of columns of more rows than the 65,536 whose planes are taken at once, compared with a plain fold over the
+//! values.
 
 use crate::columns::column_of;
 use crate::random::LAYOUTS;
@@ -72,7 +73,7 @@ fn check_column<R: Abort + AllocGlobal>(
     );
 }
 
-/// Checks a column of so many rows in each layout.
+/// Checks a column of this many rows in each layout.
 fn check_layouts<R: Abort + AllocGlobal>(rt: &R, length: usize, nulls: bool, kind: Kind) {
     let values = many_values(rt, length, nulls);
     let chosen = many_rows(rt, length);

@@ -1,4 +1,4 @@
-//! Columns of integers and nulls: worked examples, with each call that may want memory seen answering.
+//! Columns of integers and nulls: worked examples, with each call that may run out of memory seen answering.
 
 ghost use Rattle.std.specs.Prelude.{All, length, ◌^◌, ◌≡◌, ◌≤◌};
 ghost use Rattle.bw_mask.specs.Masks.{len};

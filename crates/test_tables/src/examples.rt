@@ -27,7 +27,7 @@ fn odd_rows<R: Abort + AllocGlobal>(rt: &R) -> Table<usize> {
     table
 }
 
-/// Checks the odd rows of a table of so many slots, and the layout and kind of its first column.
+/// Checks the odd rows of a table of this many slots, and the layout and kind of its first column.
 fn check_odd_rows<R: Abort + AllocGlobal>(
     rt: &R,
     table: Table<usize>,
@@ -75,7 +75,7 @@ fn a_compact_drops_dead_slots(rt: HostRuntime) {
     check_odd_rows(&rt, table, 150, DICTIONARY);
 }
 
-/// The least and the greatest INTEGER with a null between them, beside another column.
+/// The least and the greatest INTEGER with a null between them, next to another column.
 const OPENED: [Cell; 6] = [
     Some(i32::MIN),
     Some(7),

@@ -1,4 +1,4 @@
-//! Tables of columns called 0, 1, 2 and so on, changed and read. Where memory is wanting, a test fails.
+//! Tables of columns called 0, 1, 2 and so on, changed and read. Where memory runs out, a test fails.
 
 ghost use Rattle.std.specs.Prelude.{All, length, ◌<◌, ◌≡◌};
 ghost use Rattle.bw_column.specs.Values.{IsNullOrInteger};
@@ -75,7 +75,7 @@ fn wide_cells<R: Abort + AllocGlobal>(rt: &R, cells: &[Cell]) -> Vec<Option<i64>
     wide_cells
 }
 
-/// Inserts the rows that lie one behind the other in the cells.
+/// Inserts the rows that lie one after the other in the cells.
 #[tactic(auto, using(crate::proofs::Flat::are_whole, crate::proofs::Flat::are_wide, crate::proofs::Flat::are_integers))]
 pub(crate) fn insert<R: Abort + AllocGlobal>(rt: &R, table: &mut Table<usize>, cells: &[Cell]) {
     let width = table.headers().len();
@@ -104,7 +104,7 @@ fn see_integers(cells: &[Cell])
     }
 }
 
-/// Inserts the rows that lie one behind the other in the cells, in the form that the rows of a file have.
+/// Inserts the rows that lie one after the other in the cells, in the form that the rows of a file have.
 #[tactic(auto, using(crate::proofs::Flat::are_whole, crate::proofs::Flat::are_wide, crate::proofs::Flat::are_integers))]
 pub(crate) fn load<R: Abort + AllocGlobal>(rt: &R, table: &mut Table<usize>, cells: &[Cell]) {
     let width = table.headers().len();
@@ -131,7 +131,7 @@ pub(crate) fn picked<R: Abort + AllocGlobal>(rt: &R, table: &Table<usize>, word:
     found
 }
 
-/// What a column is set to, as a table of so many columns takes it.
+/// What a column is set to, as a table of this many columns takes it.
 fn set_to(columns: usize, to: To) -> SetTo
     requires { 0 < columns }
     ensures { IsSetTo columns result }
@@ -186,7 +186,7 @@ pub(crate) fn delete<R: Abort + AllocGlobal>(rt: &R, table: &mut Table<usize>, w
     table.delete(&found);
 }
 
-/// The rows of a table, one behind the other.
+/// The rows of a table, one after the other.
 pub(crate) fn rows_of<R: Abort + AllocGlobal>(rt: &R, table: &Table<usize>) -> Vec<Option<i64>> {
     let mut cells = Vec::new(rt.alloc());
     for slot in 0..table.slot_count() {

@@ -1,5 +1,5 @@
-//! Worked examples as tests of columns and tables, each call that may want memory seen answering, random changes beside a plain
-//! list of rows, and set functions of random columns beside a plain fold.
+//! Worked examples as tests of columns and tables, each call that may run out of memory seen answering, random changes compared
+//! with a plain list of rows, and set functions of random columns compared with a plain fold.
 #![tactic(auto)]
 
 #[cfg(test)]

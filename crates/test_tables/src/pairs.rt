@@ -1,5 +1,5 @@
 //! Two columns compared with each other: worked examples with the units that are read, and random pairs in all layouts and
-//! kinds beside a plain comparison of their values.
+//! kinds compared with a plain comparison of their values.
 
 use crate::columns::{ALL, Outcome, column_of, side_by_side};
 use crate::random::{LAYOUTS, Random};
@@ -65,7 +65,7 @@ fn no_row_no_unit(rt: HostRuntime) {
     }
 }
 
-/// 5, -3, null, 7 beside 5, 4, 1, null in these layouts and kinds.
+/// 5, -3, null, 7 compared with 5, 4, 1, null in these layouts and kinds.
 fn check_worked<R: Abort + AllocGlobal>(rt: &R, layouts: (Layout, Layout), kinds: (Kind, Kind)) {
     let left = [Some(5), Some(-3), None, Some(7)];
     let right = [Some(5), Some(4), Some(1), None];

@@ -1,4 +1,4 @@
-//! Random changes of a table, and the same changes of a plain list of rows beside it.
+//! Random changes of a table, compared with the same changes of a plain list of rows.
 
 use crate::harness::{Cell, To, check_rows, delete, insert, set_one, set_two, table_of};
 use crate::seen::see;

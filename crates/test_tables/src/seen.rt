@@ -1,4 +1,4 @@
-//! What the tests see: what was found, a value or a list, held against what is wanted. An assertion of its own in a test costs
+//! What the tests see: what was found, a value or a list, compared with what is wanted. An assertion of its own in a test costs
 //! the prover three to six times what such a call does.
 
 use std::fmt::Debug;

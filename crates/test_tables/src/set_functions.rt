@@ -1,4 +1,4 @@
-//! Set functions of random columns, and a plain fold over the values of the same rows beside them.
+//! Set functions of random columns, compared with a plain fold over the values of the same rows.
 
 ghost use Rattle.std.specs.Prelude.{length, ◌≡◌};
 ghost use Rattle.bw_mask.specs.Masks.{len};
@@ -26,7 +26,7 @@ const KNOWN_IN_64: [u64; 5] = [64, 56, 32, 4, 0];
 /// How many of 64 rows are chosen.
 const CHOSEN_IN_64: [u64; 8] = [0, 2, 8, 32, 32, 56, 64, 64];
 
-/// True so many times in 64.
+/// True this many times in 64.
 fn happens(random: &mut Random, times: u64) -> bool {
     (random.next() >> 8 & 63) < times
 }
@@ -41,7 +41,7 @@ fn drawn_length(random: &mut Random) -> usize {
     }
 }
 
-/// A code of so many bits whose highest bit is set.
+/// A code of this many bits whose highest bit is set.
 fn drawn_top(random: &mut Random, width: u32) -> u64 {
     let below = u64::MAX >> (64 - width.clamp(1, 64));
     (random.next() | !(below >> 1)) & below
@@ -117,7 +117,7 @@ struct Drawn {
 }
 
 /// Values whose distances from the least have some of the bits of a top code and no others. Where one is known, 0 and the
-/// top code are known too, half a column apart, so that an offset's codes have so many bits.
+/// top code are known too, half a column apart, so that an offset's codes have this many bits.
 fn drawn_values<R: Abort + AllocGlobal>(
     rt: &R,
     random: &mut Random,

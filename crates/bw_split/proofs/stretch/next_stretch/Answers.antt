@@ -1,6 +1,6 @@
 use Rattle.std.proofs.lemmas.Bool.{not-false}
-use Rattle.bw_split.proofs.Walking.{in_blanks, in_comment, not_blank, outside}
-use Rattle.bw_split.proofs.walk.stretch.Goals as goal
+use Rattle.bw_split.proofs.StretchLemmas.{in_blanks, in_comment, not_blank, outside}
+use Rattle.bw_split.proofs.stretch.next_stretch.Goals as goal
 
 pub returns-in-Comment : goal.returns-in-Comment
 returns-in-Comment c = in_comment _ _ c.args.bytes.now _ c.in-Comment.is c.len_before.ensures

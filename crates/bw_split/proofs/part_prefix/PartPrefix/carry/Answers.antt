@@ -1,7 +1,7 @@
 use Rattle.std.proofs.Common.{[], arith, false, refl, ◌==◌, ◌≡◌}
 use Rattle.std.proofs.lemmas.Bool.{ne_eqb}
-use Rattle.bw_split.specs.Walks.{carried}
-use Rattle.bw_split.proofs.kept.Kept.carry.Goals as goal
+use Rattle.bw_split.specs.Stretches.{carried}
+use Rattle.bw_split.proofs.part_prefix.PartPrefix.carry.Goals as goal
 
 pub returns-then-start-gt0 : goal.returns-then-start-gt0
 returns-then-start-gt0 c part held =

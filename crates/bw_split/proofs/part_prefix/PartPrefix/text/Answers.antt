@@ -1,7 +1,7 @@
 use Rattle.std.proofs.Common.{subst, sym, ◌∙◌}
-use Rattle.bw_split.specs.Kept.{Holds}
-use Rattle.bw_split.proofs.Keeping.{held_whole}
-use Rattle.bw_split.proofs.kept.Kept.text.Goals as goal
+use Rattle.bw_split.specs.Prefixes.{Holds}
+use Rattle.bw_split.proofs.PrefixLemmas.{held_whole}
+use Rattle.bw_split.proofs.part_prefix.PartPrefix.text.Goals as goal
 
 pub returns-else-self : goal.returns-else-self
 returns-else-self c =
