@@ -87,7 +87,7 @@ cut_by width (suc k) (suc n) cells some h e =
     ∙ sym (first_line_by width (take (width + k * width) cells) (suc k) some (omega arith) prefix))
     )
 
--- the lines of a front and of the rest, where the cut is after k of n lines
+-- the lines of a prefix and of the rest, where the cut is after k of n lines
 module _ (width k n : ℕ) (cells : List Cell) (some : 0 < width) (h : k ≤ n) (e : length cells ≡ n * width) where
   under : k * width ≤ n * width
   under = mul-le k width n width h (omega arith)

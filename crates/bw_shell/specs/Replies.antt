@@ -44,7 +44,7 @@ LeavesOff on_error read script state left replies begun ends.Stopped last = (las
 LeavesOff on_error read script state left replies begun ends.WriteFault last = BeginsNext script state left begun last × (list_any (stops on_error) replies ≡ false)
 LeavesOff on_error read script state left replies begun ends.Memory last = ⊥
 
--- The first parts were answered in order, and what was written is their replies and, where the writer failed, a front
+-- The first parts were answered in order, and what was written is their replies and, where the writer failed, a prefix
 -- of the next.
 pub record WroteReplies (on_error : OnError) (read : ScriptEnd) (script : List ℕ) (state : State) (parts : List Part) (end : RunEnd) (bytes : List ℕ) (last : State) : Type 0 where
   pub answered : List Part

@@ -61,7 +61,7 @@ Either true a b = a
 Either false a b = b
 
 -- From this state, a run over parts with these bytes may end so, write these bytes and leave that state. Each reply is written whole, or a
--- front of it where the writer fails (all of it, where only the flush after it fails), and nothing comes after that.
+-- prefix of it where the writer fails (all of it, where only the flush after it fails), and nothing comes after that.
 abbrev pub SessionOver : OnError → ScriptEnd → State → List PartText → RunEnd → List ℕ → State → Type 0
 SessionOver on_error read state [] end bytes last = IsOver (last_end read) end bytes state last
 SessionOver on_error read state (part ∷ parts) end bytes last =
