@@ -9,7 +9,7 @@ use std::fs::{self, Files, OpenFile};
 use std::io::{Error, ErrorKind, Read, Write};
 use std::marker::Model;
 
-/// The host's files: a name is a path from the working directory. No contract gives its files. One sees how often it failed.
+/// The host's files: a name is a path from the working directory. A contract sees how often it failed, and no file.
 #[derive(Drop)]
 pub struct HostFolder<'a, H: Files> {
     alloc: Global,
