@@ -11,6 +11,6 @@ pub loop-rest-preserved : goal.loop-rest-preserved
 loop-rest-preserved c =
     let h : 0 < length c.loop-rest.rest.now = grind (arith, c.is_empty.ensures, c.loop-rest-test.true) in
     record {
-      whole = but_last_whole _ _ _ _ c.loop-rest.invariant.whole h c.split_at.ensures.prefix c.split_at.ensures.back;
-      text = but_last_text _ _ _ _ c.loop-rest.invariant.whole h c.split_at.ensures.prefix c.split_at.ensures.back _ _ _ c.loop-rest.invariant.text c.if-not-line_before.ensures;
+      whole = but_last_whole _ _ _ _ c.loop-rest.invariant.whole h c.split_at.ensures.front c.split_at.ensures.back;
+      text = but_last_text _ _ _ _ c.loop-rest.invariant.whole h c.split_at.ensures.front c.split_at.ensures.back _ _ _ c.loop-rest.invariant.text c.if-not-line_before.ensures;
     }

@@ -11,7 +11,7 @@ split_at-requires g c =
 pub returns-in_err-put_line : goal.returns-in_err-put_line
 returns-in_err-put_line g c =
     let h : 0 < length c.loop-rest.rest.now = grind (arith, c.is_empty.ensures, c.loop-rest-test.true) in
-    wrote_prefix _ _ _ _ c.from_residual.ensures.0 (line_fails _ _ c.loop-rest.invariant.whole h _ _ _ _ c.split_at.ensures.prefix c.loop-rest.invariant.written _ c.in_err-put_line.ensures)
+    wrote_prefix _ _ _ _ c.from_residual.ensures.0 (line_fails _ _ c.loop-rest.invariant.whole h _ _ _ _ c.split_at.ensures.front c.loop-rest.invariant.written _ c.in_err-put_line.ensures)
 
 pub loop-rest-preserved : goal.loop-rest-preserved
 loop-rest-preserved g c =
@@ -19,5 +19,5 @@ loop-rest-preserved g c =
     rw c.split_at.ensures.back
     record {
       whole = rest_whole _ _ c.loop-rest.invariant.whole h;
-      written = line_more _ _ c.loop-rest.invariant.whole h _ _ _ _ c.split_at.ensures.prefix c.loop-rest.invariant.written _ c.in_ok-put_line.ensures;
+      written = line_more _ _ c.loop-rest.invariant.whole h _ _ _ _ c.split_at.ensures.front c.loop-rest.invariant.written _ c.in_ok-put_line.ensures;
     }
