@@ -115,7 +115,7 @@ SCRIPTS = {
     ],
 }
 
-# The worked examples that `bw_rows` has as tests.
+# The worked examples that `test_scripts` has as tests.
 ONE_COLUMN = ["CREATE TABLE t (a INTEGER);", "INSERT INTO t VALUES (3), (NULL), (-1);"]
 TWO_COLUMNS = "CREATE TABLE t (a INT, b INT);"
 HALVED = [TWO_COLUMNS, "INSERT INTO t VALUES " + ", ".join(f"({i}, {i % 2})" for i in range(1, 301)) + ";"]

@@ -55,7 +55,7 @@ refused_by None kinds rows k decides why = none_answered (fault_by k)
 refused_by (Some a) kinds rows k decides (inl memory) = subst (λ (x : ErrorKind). Answers (Some a) (Err (fault_by x))) (sym memory) tt
 refused_by (Some a) kinds rows k decides (inr among) = absurd (subst (λ (x : Kinds). IsAmong k x) decides.0 among)
 
--- the words are refused, or memory is wanting
+-- the words are refused, or memory runs out
 pub refused : (app : App) (words : List Text) (e : Error) → app ≡ command_app
     → (is_simple_and_free app ≡ true → (kind_of e ≡ OutOfMemory) ⊎ IsAmong (kind_of e) (fault_of app words)) → Answers (asked_by words) (Err (fault_by (kind_of e)))
 refused app words e is_command fails =

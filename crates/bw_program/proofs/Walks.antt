@@ -1,4 +1,4 @@
--- The command's walk over the words, beside what the words ask for.
+-- The command's walk over the words, compared with what the words ask for.
 use Rattle.std.proofs.Common.{◌≡◌, ◌∙◌, ℕ, Bool, true, false, List, [], ◌∷◌, refl, sym, ap, ap₂, subst}
 use Rattle.std.specs.Prelude.{Option, Some, None, codes, fold, option_and_then, drop, is_some}
 use Rattle.clap.specs.Walk.{Held, Row, Text, Walk, after_step, finished, settled, idle, value, walked}
@@ -56,7 +56,7 @@ position_at fresh = 1
 position_at flagged = 1
 position_at _ = 2
 
--- the walk at a state, before or behind `--`
+-- the walk at a state, before or after `--`
 abbrev pub at : Bool → State → Walk
 at trails s = record { held = held_at s; waiting = idle; position = position_at s; is_trailing = trails; stopped = None }
 
@@ -75,7 +75,7 @@ Ends (Some asked) kinds w = (kinds ≡ []) × Reaches asked w
 abbrev pub Fits : Option Asked → Bool → State → List Text → Type 0
 Fits asked trails s words = Ends asked (walk_fault shape [] (at trails s) words) (fold (walked shape.rules []) (at trails s) words)
 
--- behind `--`
+-- after `--`
 by_names : (s : State) (words : List Text) → Fits (asked_by_names (asked_at s) words) true s words
 unfolding walk_fault walked
 by_names s [] = (refl, record { state = s; trails = true; at_state = refl; asks = refl })

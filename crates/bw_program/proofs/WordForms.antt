@@ -41,7 +41,7 @@ pub data Form (word : Text) : Type 0 where
   is_refused : IsRefused word → Form word
   is_name : IsName word → Form word
 
--- the steps of a word that is not `--`, by what stands behind its hyphens
+-- the steps of a word that is not `--`, by what stands after its hyphens
 met_by : (word : Text) (position : ℕ) (h : Held) (l : Option (Text × Option Text)) → bytes_eq word (codes "--") ≡ false → long_of word ≡ l
     → word_met shape.rules [] false idle position word h ≡ long_or_other shape.rules idle word l h
 met_by word position h l dashes long =
@@ -89,7 +89,7 @@ rest_name y ys h none = let word = 45 ∷ y ∷ ys in
           ∙ rw none refl;
     }
 
--- a hyphen and a character behind it
+-- a hyphen and a character after it
 refused_short : (y : ℕ) (ys : Text) (c : ℕ) (cs : List ℕ) → (y == 45) ≡ false → chars (y ∷ ys) ≡ c ∷ cs → IsRefused (45 ∷ y ∷ ys)
 unfolding flags_fault
 refused_short y ys c cs h some = let word = 45 ∷ y ∷ ys in

@@ -2,14 +2,14 @@
 use Rattle.std.specs.Prelude.{◌≡◌, ℕ, List, Option, Some, None, ⊤}
 use Rattle.bw_shell.specs.Run.{RunsTo}
 use Rattle.bw_shell.specs.States.{seen}
-use Rattle.bw_shell.specs.declared.session.OnError.{OnError}
-use Rattle.bw_shell.specs.declared.session.RunEnd.{RunEnd}
+use Rattle.bw_shell.specs.declared.running.OnError.{OnError}
+use Rattle.bw_shell.specs.declared.running.RunEnd.{RunEnd}
 use Rattle.bw_program.specs.declared.ending.Ending.{Ending}
 use Rattle.bw_program.specs.declared.ending.Ending.TheVariants.{NotAsked, NotOpened, Ran}
 use Rattle.bw_program.specs.declared.request.WordsFault.TheVariants.{Memory, Usage}
 use Rattle.bw_program.specs.Words.{Asked, Text, on_error_of}
 
--- a run over what the reader gave ends so, whatever the writer held, with a folder that tells nothing of its files
+-- a run over what the reader gave ends so, whatever the writer held, with a folder that gives no files
 abbrev pub EndsOver : OnError → Option (List ℕ) → Option (List ℕ) → RunEnd → Type 0
 EndsOver on_error given left end = (old : Option (List ℕ)) × (new : Option (List ℕ)) × (failures : ℕ) × RunsTo on_error given left old new (seen None 0) (seen None failures) end
 
@@ -28,7 +28,7 @@ abbrev pub AnswersScript : Option Text → OnError → Option (List ℕ) → Opt
 AnswersScript None on_error given left ending = AnswersOver on_error given left ending
 AnswersScript (Some path) on_error given left ending = (left ≡ given) × IsOfFile on_error ending
 
--- the program did what its words ask for; where they are refused, or memory is wanting, standard input is left as it was
+-- the program did what its words ask for; where they are refused, or memory runs out, standard input is left as it was
 abbrev pub Follows : Option Asked → Option (List ℕ) → Option (List ℕ) → Ending → Type 0
 Follows asked given left (NotAsked Memory) = left ≡ given
 Follows asked given left (NotAsked Usage) = (asked ≡ None) × (left ≡ given)

@@ -1,4 +1,4 @@
--- The program's command, as `clap` is told it.
+-- The program's command, as `clap` is given it.
 use Rattle.std.specs.Prelude.{◌≡◌, ℕ, Bool, true, codes, if◌then◌else◌, List, Some}
 use Rattle.clap.specs.Words.{App, Row, Rule, first_of, new_app, new_rule, one_of, with_rule}
 use Rattle.clap.specs.declared.builder.action.ArgAction.TheVariants.{SetTrue}

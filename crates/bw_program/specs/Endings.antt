@@ -1,6 +1,6 @@
 -- How the program ends: the status of each end, and its line on standard error.
 use Rattle.std.specs.Prelude.{ℕ, List, [], ◌∷◌, ◌++◌, codes, Option, Some, None}
-use Rattle.bw_shell.specs.declared.session.RunEnd.TheVariants as ends
+use Rattle.bw_shell.specs.declared.running.RunEnd.TheVariants as ends
 use Rattle.bw_program.specs.declared.ending.Ending.{Ending}
 use Rattle.bw_program.specs.declared.ending.Ending.TheVariants.{Ran, NotOpened, NotAsked}
 use Rattle.bw_program.specs.declared.request.WordsFault.TheVariants.{Usage, Memory}

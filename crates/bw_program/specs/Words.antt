@@ -4,8 +4,8 @@ use Rattle.std.specs.Prelude.{option_and_then}
 use Rattle.bw_program.specs.declared.request.Request.{Request}
 use Rattle.bw_program.specs.declared.request.WordsFault.{WordsFault}
 use Rattle.bw_program.specs.declared.request.WordsFault.TheVariants.{Usage, Memory}
-use Rattle.bw_shell.specs.declared.session.OnError.{OnError}
-use Rattle.bw_shell.specs.declared.session.OnError.TheVariants.{Continue, Stop}
+use Rattle.bw_shell.specs.declared.running.OnError.{OnError}
+use Rattle.bw_shell.specs.declared.running.OnError.TheVariants.{Continue, Stop}
 
 abbrev pub Text : Type 0
 Text = List ℕ
@@ -26,17 +26,17 @@ with_stop asked = if asked.stop then None else Some (record asked { stop = true 
 abbrev pub with_script : Text → Asked → Option Asked
 with_script path asked = if is_some asked.script then None else Some (record asked { script = Some path })
 
--- the word is a hyphen with a character behind it
+-- the word is a hyphen with a character after it
 abbrev pub is_dashed : Text → Bool
 is_dashed [] = false
 is_dashed (first ∷ rest) = first == 45 && is_some (slice_get (chars rest) 0)
 
--- behind `--` each word names a script
+-- after `--` each word names a script
 abbrev pub asked_by_names : Asked → List Text → Option Asked
 asked_by_names asked [] = Some asked
 asked_by_names asked (word ∷ words) = option_and_then (λ next. asked_by_names next words) (with_script word asked)
 
--- what is asked so far, and what the words ask for beside it: a word with a hyphen is `--stop`, is `--`, or is refused, and
+-- what is asked so far, and what the words ask for besides: a word with a hyphen is `--stop`, is `--`, or is refused, and
 -- each other word names a script
 abbrev pub asked_from : Asked → List Text → Option Asked
 asked_from asked [] = Some asked

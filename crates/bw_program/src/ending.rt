@@ -3,7 +3,7 @@
 ghost use Rattle.std.specs.Prelude.{◌≡◌, ◌++◌, ◌∷◌, [], option_map};
 ghost use Rattle.std.specs.Process.{exit_status};
 ghost use Rattle.bw_program.specs.Endings.{line_of, said_by, status_of};
-ghost use Rattle.bw_shell.specs.Writing.{AppendsFront, Wrote};
+ghost use Rattle.bw_shell.specs.Writing.{AppendsPrefix, Wrote};
 
 use crate::request::WordsFault;
 use bw_shell::{RunEnd, WriteFault, put};
@@ -53,10 +53,10 @@ impl Ending {
     }
 }
 
-/// Says on standard error how the program ends, and gives its status. Where writing fails, a front of it is said.
+/// Says on standard error how the program ends, and gives its status. Where writing fails, a prefix of it is written.
 pub fn end_with<W: Write>(errors: &mut W, ending: Ending) -> ExitCode
     ensures status { exit_status result ≡ status_of ending }
-    ensures said { AppendsFront (W.contents errors.old) (W.contents errors.new) (said_by ending) }
+    ensures said { AppendsPrefix (W.contents errors.old) (W.contents errors.new) (said_by ending) }
 {
     if let Some(line) = ending.line() {
         let _ = say(errors, line);

@@ -74,7 +74,7 @@ fn on_error(stop: bool) -> OnError
     }
 }
 
-// Why `clap` refused the words: for want of memory, or for what they are.
+// Why `clap` refused the words: out of memory, or for what they are.
 fn fault_of(kind: ErrorKind) -> WordsFault
     ensures { result ≡ fault_by kind }
 {

@@ -5,7 +5,7 @@ ghost use Rattle.std.specs.Process.{exit_status};
 ghost use Rattle.bw_program.specs.Answers.{AnswersScript, EndsOver, Follows};
 ghost use Rattle.bw_program.specs.Endings.{said_by, status_of};
 ghost use Rattle.bw_program.specs.Words.{Text, asked_by};
-ghost use Rattle.bw_shell.specs.Writing.{AppendsFront};
+ghost use Rattle.bw_shell.specs.Writing.{AppendsPrefix};
 
 use crate::ending::{Ending, end_with};
 use crate::request::{Request, WordsFault, request_of};
@@ -30,7 +30,7 @@ pub fn program<E: Env, F: Files, I: Read, O: Write + Drop, W: Write>(
     output: O,
     errors: &mut W,
 ) -> ExitCode
-    ensures { (words : List Text) × (ending : Ending) × Follows (asked_by words) (I.remaining input.old) (I.remaining input.new) ending × (exit_status result ≡ status_of ending) × AppendsFront (W.contents errors.old) (W.contents errors.new) (said_by ending) }
+    ensures { (words : List Text) × (ending : Ending) × Follows (asked_by words) (I.remaining input.old) (I.remaining input.new) ending × (exit_status result ≡ status_of ending) × AppendsPrefix (W.contents errors.old) (W.contents errors.new) (said_by ending) }
 {
     let ending = answer_asked(alloc, env, files, input, output);
     end_with(errors, ending)

@@ -21,9 +21,9 @@ use Rattle.bw_model.specs.declared.reply.Reply.{Reply}
 use Rattle.bw_model.specs.declared.reply.Reply.TheVariants.{Refused}
 use Rattle.bw_engine.specs.Files.{IsNoSave, Replies, RepliesBy}
 use Rattle.bw_engine.specs.declared.file_answer.FileAnswer.TheVariants as file
-use Rattle.bw_shell.specs.Answers.{Answers, AnswersBy, Wants}
+use Rattle.bw_shell.specs.Answers.{Answers, AnswersBy, RunsOutOfMemory}
 use Rattle.bw_shell.specs.Folders.{Files, Reads, failures_after, file_of}
-use Rattle.bw_shell.specs.Reading.{AnswersFault, IsRead, IsReadFor}
+use Rattle.bw_shell.specs.FileReading.{AnswersFault, IsRead, IsReadFor}
 use Rattle.bw_shell.specs.States.{FolderState, HasFile, KeepsFiles, State, seen, with_store}
 use Rattle.bw_shell.specs.declared.folders.FolderFault.{FolderFault}
 use Rattle.bw_shell.specs.declared.folders.FolderFault.TheVariants as fault
@@ -65,7 +65,7 @@ module _ (before : Store) (tree : StatementTree) (files : Option Files) (failure
 
   -- no file was read
   by_use : (named : FileUse) (reply : Reply) (after : Store) → file_use before tree ≡ named → None ≡ file_read named → RepliesBy (file_read named) before tree file.NotAsked reply after → IsNoSave named reply
-      → Wants now tree reply (with_store after (seen files failures)) ⊎ AnswersBy named now tree reply (with_store after (seen files failures))
+      → RunsOutOfMemory now tree reply (with_store after (seen files failures)) ⊎ AnswersBy named now tree reply (with_store after (seen files failures))
   by_use no_file reply after is none replies saves =
       elim replies [
         | inl w ↦ inl (record { accepted = w.accepted; says = w.says; stays = record { store_is = w.stays; files_stay = kept files; failures_stay = refl } })
@@ -86,7 +86,7 @@ module _ (before : Store) (tree : StatementTree) (files : Option Files) (failure
   module _ (name : List ℕ) (new : Option Files) (count : ℕ) where
     -- what a step with what was said comes to
     stepped : (found : Option (List ℕ)) (said : Content) (reply : Reply) (after : Store) → HasFile files name found → IsSaid before tree found said → KeepsFiles files new → count ≡ failures → Step before said tree reply after
-        → Wants now tree reply (with_store after (seen new count)) ⊎ AnswersBy (reads name) now tree reply (with_store after (seen new count))
+        → RunsOutOfMemory now tree reply (with_store after (seen new count)) ⊎ AnswersBy (reads name) now tree reply (with_store after (seen new count))
     stepped found said reply after there says keeps counts step =
         elim step [
           | inl w ↦ inl (record { accepted = w.accepted; says = w.says; stays = record { store_is = w.stays; files_stay = keeps; failures_stay = counts } })
@@ -102,18 +102,18 @@ module _ (before : Store) (tree : StatementTree) (files : Option Files) (failure
     pub with_bytes : (bytes handed : List ℕ) (reply : Reply) (after : Store) → Some name ≡ file_read (file_use before tree) → handed ≡ bytes → HasFile files name (Some bytes) → KeepsFiles files new → count ≡ failures
         → ((said : Content) × SaysTo before tree handed said × Step before said tree reply after) → Answers now tree reply (with_store after (seen new count))
     with_bytes bytes handed reply after is same there keeps counts so =
-        reading (λ named. Wants now tree reply (with_store after (seen new count)) ⊎ AnswersBy named now tree reply (with_store after (seen new count))) (file_use before tree) is
+        reading (λ named. RunsOutOfMemory now tree reply (with_store after (seen new count)) ⊎ AnswersBy named now tree reply (with_store after (seen new count))) (file_use before tree) is
         (stepped (Some bytes) so.0 reply after there (subst (λ b. SaysTo before tree b so.0) same so.1) keeps counts so.2)
 
     pub without_bytes : (found : Option (List ℕ)) (said : Content) (reply : Reply) (after : Store) → Some name ≡ file_read (file_use before tree) → HasFile files name found → IsSaid before tree found said → KeepsFiles files new → count ≡ failures
         → Step before said tree reply after → Answers now tree reply (with_store after (seen new count))
     without_bytes found said reply after is there says keeps counts step =
-        reading (λ named. Wants now tree reply (with_store after (seen new count)) ⊎ AnswersBy named now tree reply (with_store after (seen new count))) (file_use before tree) is
+        reading (λ named. RunsOutOfMemory now tree reply (with_store after (seen new count)) ⊎ AnswersBy named now tree reply (with_store after (seen new count))) (file_use before tree) is
         (stepped found said reply after there says keeps counts step)
 
     pub failing : Some name ≡ file_read (file_use before tree) → KeepsFiles files new → count ≡ failures + 1 → Answers now tree (Refused UnreadableFile) (with_store before (seen new count))
     failing is keeps counts =
-        reading (λ named. Wants now tree (Refused UnreadableFile) (with_store before (seen new count)) ⊎ AnswersBy named now tree (Refused UnreadableFile) (with_store before (seen new count))) (file_use before tree) is
+        reading (λ named. RunsOutOfMemory now tree (Refused UnreadableFile) (with_store before (seen new count)) ⊎ AnswersBy named now tree (Refused UnreadableFile) (with_store before (seen new count))) (file_use before tree) is
         (inr (inr (record { says = refl; failed = record { store_stays = refl; one_more = counts }; files_stay = keeps })))
 
     pub wanting : Some name ≡ file_read (file_use before tree) → KeepsFiles files new → count ≡ failures → Answers now tree (Refused OutOfMemory) (with_store before (seen new count))

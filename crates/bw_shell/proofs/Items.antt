@@ -3,8 +3,8 @@ use Rattle.std.proofs.Common.{◌≡◌, ℕ, ◌+◌, ◌-◌, ◌<◌, List, [
 use Rattle.std.proofs.lemmas.List.{take_all}
 use Rattle.std.specs.Io.KnownBytes.{Appends}
 use Rattle.bw_model.specs.ReplyText.{with_commas}
-use Rattle.bw_shell.specs.Writing.{AppendsFront}
-use Rattle.bw_shell.proofs.Texts.{Progress, appends_twice, fails, front_before, more, others_text}
+use Rattle.bw_shell.specs.Writing.{AppendsPrefix}
+use Rattle.bw_shell.proofs.Texts.{Progress, appends_twice, fails, prefix_before, more, others_text}
 
 module _ {A : Type 0} (text : A → List ℕ) where
   -- the first item, and then the others, as a slice pattern takes them apart
@@ -20,10 +20,10 @@ module _ {A : Type 0} (text : A → List ℕ) (old now : Option (List ℕ)) (who
   in_item : Progress old now whole ((codes "," ++ text x) ++ others_text text (drop (i + 1) xs))
   in_item = subst (Progress old now whole) (next_item text xs i x h is) p
 
-  pub comma_fails : (new : Option (List ℕ)) → AppendsFront now new (codes ",") → AppendsFront old new whole
-  comma_fails new f = fails old now new whole (codes "," ++ text x) (others_text text (drop (i + 1) xs)) in_item (front_before now new (codes ",") (text x) f)
+  pub comma_fails : (new : Option (List ℕ)) → AppendsPrefix now new (codes ",") → AppendsPrefix old new whole
+  comma_fails new f = fails old now new whole (codes "," ++ text x) (others_text text (drop (i + 1) xs)) in_item (prefix_before now new (codes ",") (text x) f)
 
-  pub item_fails : (mid new : Option (List ℕ)) → Appends now mid (codes ",") → AppendsFront mid new (text x) → AppendsFront old new whole
+  pub item_fails : (mid new : Option (List ℕ)) → Appends now mid (codes ",") → AppendsPrefix mid new (text x) → AppendsPrefix old new whole
   item_fails mid new comma f =
       let after : Progress old now whole (codes "," ++ (text x ++ others_text text (drop (i + 1) xs))) = rw (← append_assoc (codes ",") (text x) (others_text text (drop (i + 1) xs))) in_item in
       fails old mid new whole (text x) (others_text text (drop (i + 1) xs)) (more old now mid whole (codes ",") (text x ++ others_text text (drop (i + 1) xs)) after comma) f
@@ -32,8 +32,8 @@ module _ {A : Type 0} (text : A → List ℕ) (old now : Option (List ℕ)) (who
   item_more mid new comma item = more old now new whole (codes "," ++ text x) (others_text text (drop (i + 1) xs)) in_item (appends_twice now mid new (codes ",") (text x) comma item)
 
 module _ {A : Type 0} (text : A → List ℕ) (old now : Option (List ℕ)) (xs : List A) (x : A) (h : 0 < length xs) (is : x ≡ get_or xs 0 x) where
-  pub first_fails : AppendsFront old now (text x) → AppendsFront old now (with_commas text xs)
-  first_fails f = rw (first_and_others text xs x h is) (front_before old now (text x) (others_text text (take (length xs - 1) (drop 1 xs))) f)
+  pub first_fails : AppendsPrefix old now (text x) → AppendsPrefix old now (with_commas text xs)
+  first_fails f = rw (first_and_others text xs x h is) (prefix_before old now (text x) (others_text text (take (length xs - 1) (drop 1 xs))) f)
 
   pub first_written : Appends old now (text x) → Progress old now (with_commas text xs) (others_text text (take (length xs - 1) (drop 1 xs)))
-  first_written grown = record { front = text x; split = first_and_others text xs x h is; grown = grown }
+  first_written grown = record { prefix = text x; split = first_and_others text xs x h is; grown = grown }

@@ -18,7 +18,7 @@ use Rattle.bw_shell.specs.Run.{MayAnswer, no_statement, statement, text_of, too_
 use Rattle.bw_shell.specs.States.{KeepsFiles, KeepsOthers, SetsFile, State, file_in}
 use Rattle.bw_shell.proofs.ByFolder.{used}
 
--- the folder still tells its files, and this one is as it was
+-- the folder still gives its files, and this one is as it was
 pub record Stays (files new : Option Files) (file : List ℕ) : Type 0 where
   pub known : IsSome new
   pub same : file_in new file ≡ file_in files file
@@ -84,7 +84,7 @@ module _ (before : State) (tree : StatementTree) (reply : Reply) (after : State)
         | inr by ↦ by_use (file_use before.store tree) refl by
       ]
 
--- a folder that has a file tells its files
+-- a folder that has a file gives its files
 pub known_by : (files : Option Files) (file bytes : List ℕ) → file_in files file ≡ Some bytes → IsSome files
 known_by None file bytes is = cc
 known_by (Some list) file bytes is = refl

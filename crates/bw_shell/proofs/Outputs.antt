@@ -6,14 +6,14 @@ use Rattle.bw_model.specs.ReplyText.{reply_text}
 use Rattle.bw_model.specs.declared.refusal.Refusal.TheVariants.{OutOfMemory}
 use Rattle.bw_model.specs.declared.reply.Reply.{Reply}
 use Rattle.bw_model.specs.declared.reply.Reply.TheVariants.{Refused}
-use Rattle.bw_shell.specs.Output.{IsOutput, SaysNoWant}
+use Rattle.bw_shell.specs.Output.{IsOutput, NeverOutOfMemory}
 use Rattle.bw_shell.specs.Run.{Either, IsOver, MayAnswer, Session, is_dropped, last_end, stops, text_of}
-use Rattle.bw_shell.specs.Script.{IsFrontOf}
+use Rattle.bw_shell.specs.Script.{IsPrefixOf}
 use Rattle.bw_shell.specs.States.{State}
 use Rattle.bw_shell.specs.declared.reading.ScriptEnd.{ScriptEnd}
-use Rattle.bw_shell.specs.declared.session.OnError.{OnError}
-use Rattle.bw_shell.specs.declared.session.RunEnd.{RunEnd}
-use Rattle.bw_shell.specs.declared.session.RunEnd.TheVariants as ends
+use Rattle.bw_shell.specs.declared.running.OnError.{OnError}
+use Rattle.bw_shell.specs.declared.running.RunEnd.{RunEnd}
+use Rattle.bw_shell.specs.declared.running.RunEnd.TheVariants as ends
 use Rattle.bw_shell.proofs.OneAnswer.{SameState, answer_grows, itself, same_answer}
 
 module _ (on_error : OnError) (read : ScriptEnd) (script : List ℕ) where
@@ -36,7 +36,7 @@ module _ (on_error : OnError) (read : ScriptEnd) (script : List ℕ) where
 
   drop_grows : (dropped : Bool) (state : State) (part : Part) (parts : List Part) (end : RunEnd) (bytes : List ℕ) (final : State) → ((after : State) (rest : List ℕ) → Session on_error read script after parts end rest final → after.failures ≤ final.failures)
       → Either dropped (IsOver (last_end read) end bytes state final)
-      ((reply : Reply) × (after : State) × MayAnswer state part.is_closed (text_of script part) reply after × (((end ≡ ends.WriteFault) × IsFrontOf bytes (reply_text reply) × (final ≡ after)) ⊎ ((rest : List ℕ) × (bytes ≡ reply_text reply ++ rest) × Next (stops on_error reply) after parts end rest final)))
+      ((reply : Reply) × (after : State) × MayAnswer state part.is_closed (text_of script part) reply after × (((end ≡ ends.WriteFault) × IsPrefixOf bytes (reply_text reply) × (final ≡ after)) ⊎ ((rest : List ℕ) × (bytes ≡ reply_text reply ++ rest) × Next (stops on_error reply) after parts end rest final)))
       → state.failures ≤ final.failures
   drop_grows true state part parts end bytes final deeper is = let same = ap (λ s. s.failures) is.2 in omega arith
   drop_grows false state part parts end bytes final deeper session =
@@ -64,7 +64,7 @@ module _ (on_error : OnError) (read : ScriptEnd) (script : List ℕ) where
 
   goes : (dropped : Bool) (state : State) (part : Part) (parts : List Part) (end : RunEnd) (bytes : List ℕ) (final : State) → end ≢ ends.WriteFault → final.failures ≡ state.failures → dropped ≡ false
       → Either dropped (IsOver (last_end read) end bytes state final)
-      ((reply : Reply) × (after : State) × MayAnswer state part.is_closed (text_of script part) reply after × (((end ≡ ends.WriteFault) × IsFrontOf bytes (reply_text reply) × (final ≡ after)) ⊎ ((rest : List ℕ) × (bytes ≡ reply_text reply ++ rest) × Next (stops on_error reply) after parts end rest final)))
+      ((reply : Reply) × (after : State) × MayAnswer state part.is_closed (text_of script part) reply after × (((end ≡ ends.WriteFault) × IsPrefixOf bytes (reply_text reply) × (final ≡ after)) ⊎ ((rest : List ℕ) × (bytes ≡ reply_text reply ++ rest) × Next (stops on_error reply) after parts end rest final)))
       → Goes state part parts end bytes final
   goes true state part parts end bytes final written unfailing kept session = cc
   goes false state part parts end bytes final written unfailing kept session =
@@ -76,28 +76,28 @@ module _ (on_error : OnError) (read : ScriptEnd) (script : List ℕ) where
             record { reply = session.0; after = session.1; answers = session.2; rest = on.0; split = on.1; next = on.2; here = omega arith; later = omega arith }
       ]
 
-  had_memory : (state : State) (part : Part) (parts : List Part) (end : RunEnd) (bytes : List ℕ) (final : State) → SaysNoWant bytes → (g : Goes state part parts end bytes final) → g.reply ≢ Refused OutOfMemory
+  had_memory : (state : State) (part : Part) (parts : List Part) (end : RunEnd) (bytes : List ℕ) (final : State) → NeverOutOfMemory bytes → (g : Goes state part parts end bytes final) → g.reply ≢ Refused OutOfMemory
   had_memory state part parts end bytes final memory g is = memory [] g.rest (g.split ∙ ap (λ r. reply_text r ++ g.rest) is)
 
-  had_memory_later : (state : State) (part : Part) (parts : List Part) (end : RunEnd) (bytes : List ℕ) (final : State) → SaysNoWant bytes → (g : Goes state part parts end bytes final) → SaysNoWant g.rest
-  had_memory_later state part parts end bytes final memory g front rest is =
-      memory (reply_text g.reply ++ front) rest
-      (g.split ∙ ap (λ l. reply_text g.reply ++ l) (is ∙ append_assoc front (reply_text (Refused OutOfMemory)) rest)
-      ∙ sym (append_assoc (reply_text g.reply) front (reply_text (Refused OutOfMemory) ++ rest)) ∙ sym (append_assoc (reply_text g.reply ++ front) (reply_text (Refused OutOfMemory)) rest))
+  had_memory_later : (state : State) (part : Part) (parts : List Part) (end : RunEnd) (bytes : List ℕ) (final : State) → NeverOutOfMemory bytes → (g : Goes state part parts end bytes final) → NeverOutOfMemory g.rest
+  had_memory_later state part parts end bytes final memory g prefix rest is =
+      memory (reply_text g.reply ++ prefix) rest
+      (g.split ∙ ap (λ l. reply_text g.reply ++ l) (is ∙ append_assoc prefix (reply_text (Refused OutOfMemory)) rest)
+      ∙ sym (append_assoc (reply_text g.reply) prefix (reply_text (Refused OutOfMemory) ++ rest)) ∙ sym (append_assoc (reply_text g.reply ++ prefix) (reply_text (Refused OutOfMemory)) rest))
 
   module _ (end other : RunEnd) (final left : State) where
     -- what is known of the rest
     abbrev Deeper : List Part → Type 0
     Deeper parts =
-        (state begun : State) (rest others : List ℕ) → SameState state begun → final.failures ≡ state.failures → left.failures ≡ begun.failures → SaysNoWant rest → SaysNoWant others
+        (state begun : State) (rest others : List ℕ) → SameState state begun → final.failures ≡ state.failures → left.failures ≡ begun.failures → NeverOutOfMemory rest → NeverOutOfMemory others
         → Session on_error read script state parts end rest final → Session on_error read script begun parts other others left → SameEnd end other rest others
 
-    by_stop : (stop : Bool) (after now : State) (parts : List Part) (rest others : List ℕ) → Deeper parts → SameState after now → final.failures ≡ after.failures → left.failures ≡ now.failures → SaysNoWant rest → SaysNoWant others
+    by_stop : (stop : Bool) (after now : State) (parts : List Part) (rest others : List ℕ) → Deeper parts → SameState after now → final.failures ≡ after.failures → left.failures ≡ now.failures → NeverOutOfMemory rest → NeverOutOfMemory others
         → Next stop after parts end rest final → Next stop now parts other others left → SameEnd end other rest others
     by_stop true after now parts rest others deeper same x y m n s t = over ends.Stopped end other rest others after now final left s t
     by_stop false after now parts rest others deeper same x y m n s t = deeper after now rest others same x y m n s t
 
-    by_goes : (state begun : State) (part : Part) (parts : List Part) (bytes also : List ℕ) → Deeper parts → SameState state begun → SaysNoWant bytes → SaysNoWant also → Goes state part parts end bytes final → Goes begun part parts other also left → SameEnd end other bytes also
+    by_goes : (state begun : State) (part : Part) (parts : List Part) (bytes also : List ℕ) → Deeper parts → SameState state begun → NeverOutOfMemory bytes → NeverOutOfMemory also → Goes state part parts end bytes final → Goes begun part parts other also left → SameEnd end other bytes also
     by_goes state begun part parts bytes also deeper alike m n g h =
         let same = same_answer state begun g.after h.after part.is_closed (text_of script part) g.reply h.reply alike (had_memory state part parts end bytes final m g) (had_memory begun part parts other also left n h) g.here h.here g.answers h.answers in
         let moved : Next (stops on_error g.reply) h.after parts other h.rest left = subst (λ r. Next (stops on_error r) h.after parts other h.rest left) (sym same.replies) h.next in
@@ -107,7 +107,7 @@ module _ (on_error : OnError) (read : ScriptEnd) (script : List ℕ) where
         record { ends_so = rest.ends_so; writes = g.split ∙ (λ j. reply_text (same.replies j) ++ rest.writes j) ∙ sym h.split }
 
     module _ (p : end ≢ ends.WriteFault) (q : other ≢ ends.WriteFault) where
-      by_drop : (b : Bool) (state begun : State) (part : Part) (parts : List Part) (bytes also : List ℕ) → is_dropped read part ≡ b → SameState state begun → final.failures ≡ state.failures → left.failures ≡ begun.failures → SaysNoWant bytes → SaysNoWant also → Deeper parts
+      by_drop : (b : Bool) (state begun : State) (part : Part) (parts : List Part) (bytes also : List ℕ) → is_dropped read part ≡ b → SameState state begun → final.failures ≡ state.failures → left.failures ≡ begun.failures → NeverOutOfMemory bytes → NeverOutOfMemory also → Deeper parts
           → Session on_error read script state (part ∷ parts) end bytes final → Session on_error read script begun (part ∷ parts) other also left → SameEnd end other bytes also
       by_drop true state begun part parts bytes also dropped alike x y m n deeper s t = over (last_end read) end other bytes also state begun final left (rw dropped at s) (rw dropped at t)
       by_drop false state begun part parts bytes also kept alike x y m n deeper s t =

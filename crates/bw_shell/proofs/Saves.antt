@@ -20,7 +20,7 @@ use Rattle.bw_model.specs.declared.reply.Reply.TheVariants.{Count, Refused}
 use Rattle.bw_model.proofs.OneTable.{one_held}
 use Rattle.bw_model.proofs.Passing.{if_none}
 use Rattle.bw_model.proofs.Unchanged.{early_first}
-use Rattle.bw_shell.specs.Answers.{Answers, AnswersBy, ByFile, CannotRead, IsSaved, Outcome, Wants}
+use Rattle.bw_shell.specs.Answers.{Answers, AnswersBy, ByFile, CannotRead, IsSaved, Outcome, RunsOutOfMemory}
 use Rattle.bw_shell.specs.Folders.{Files}
 use Rattle.bw_shell.specs.Opening.{Opens}
 use Rattle.bw_shell.specs.States.{HasFile, Leaves, SetsFile, State, file_in}
@@ -130,7 +130,7 @@ module _ (bytes : List ℕ) (table : Table) (holds : Holds bytes table) (fits : 
     open_by : AnswersBy (reads file) later (open_table other file) reply final → Opens later other table reply final ⊎ CannotRead later reply final
     open_by answers = elim answers [ inl by ↦ inl (by_file by) | inr cannot ↦ inr cannot ]
 
-    pub opened : Answers later (open_table other file) reply final → Opens later other table reply final ⊎ Wants later (open_table other file) reply final ⊎ CannotRead later reply final
+    pub opened : Answers later (open_table other file) reply final → Opens later other table reply final ⊎ RunsOutOfMemory later (open_table other file) reply final ⊎ CannotRead later reply final
     opened answers =
         elim answers [
           | inl wants ↦ inr (inl wants)

@@ -9,14 +9,14 @@ use Rattle.bw_model.specs.declared.reply.Reply.{Reply}
 use Rattle.bw_model.specs.declared.reply.Reply.TheVariants.{Done, Count, Rows, Refused}
 use Rattle.bw_shell.specs.Replies.{LeavesOff, WroteReplies, and_then, none_left}
 use Rattle.bw_shell.specs.Run.{Either, IsOver, MayAnswer, Session, is_dropped, last_end, stops, text_of}
-use Rattle.bw_shell.specs.Script.{IsFrontOf}
+use Rattle.bw_shell.specs.Script.{IsPrefixOf}
 use Rattle.bw_shell.specs.States.{State}
 use Rattle.bw_shell.specs.declared.reading.ScriptEnd.{ScriptEnd}
 use Rattle.bw_shell.specs.declared.reading.ScriptEnd.TheVariants.{Reached, Fault}
-use Rattle.bw_shell.specs.declared.session.OnError.{OnError}
-use Rattle.bw_shell.specs.declared.session.OnError.TheVariants.{Continue, Stop}
-use Rattle.bw_shell.specs.declared.session.RunEnd.{RunEnd}
-use Rattle.bw_shell.specs.declared.session.RunEnd.TheVariants as ends
+use Rattle.bw_shell.specs.declared.running.OnError.{OnError}
+use Rattle.bw_shell.specs.declared.running.OnError.TheVariants.{Continue, Stop}
+use Rattle.bw_shell.specs.declared.running.RunEnd.{RunEnd}
+use Rattle.bw_shell.specs.declared.running.RunEnd.TheVariants as ends
 
 either : (b : Bool) (A B C : Type 0) → (b ≡ true → A → C) → (b ≡ false → B → C) → Either b A B → C
 either true A B C f g e = f refl e
@@ -26,9 +26,9 @@ isnt : (b : Bool) → not b ≡ true → b ≡ false
 isnt true e = sym e
 isnt false e = refl
 
-no_front : (b c : Bool) → b ≡ false → c ≡ false → (b || c) ≡ false
-no_front true c e f = e
-no_front false c e f = f
+neither : (b c : Bool) → b ≡ false → c ≡ false → (b || c) ≡ false
+neither true c e f = e
+neither false c e f = f
 
 -- a part that no `;` closes is the last
 abbrev OpenIsLast : List Part → Type 0
@@ -60,23 +60,23 @@ module _ (on_error : OnError) (script : List ℕ) where
   at_dropped Fault state part parts alone dropped = record { answered = []; left = part ∷ parts; split = refl; kept = refl; replies = []; after = state; are_answered = none_left; begun = []; written = refl; leaves_off = (refl, refl, (dropped, alone (isnt part.is_closed dropped)), refl, refl) }
 
 -- a run that is over ended so
-module _ (on_error : OnError) (read : ScriptEnd) (script : List ℕ) (state at : State) (parts : List Part) (wanted end : RunEnd) (front bytes : List ℕ) (final : State) where
-  over : WroteReplies on_error read script state parts wanted (front ++ []) at → IsOver wanted end bytes at final → WroteReplies on_error read script state parts end (front ++ bytes) final
+module _ (on_error : OnError) (read : ScriptEnd) (script : List ℕ) (state at : State) (parts : List Part) (wanted end : RunEnd) (prefix bytes : List ℕ) (final : State) where
+  over : WroteReplies on_error read script state parts wanted (prefix ++ []) at → IsOver wanted end bytes at final → WroteReplies on_error read script state parts end (prefix ++ bytes) final
   over wrote is =
-      subst (λ e. WroteReplies on_error read script state parts e (front ++ bytes) final) (sym is.0)
-      (subst (λ b. WroteReplies on_error read script state parts wanted (front ++ b) final) (sym is.1)
-      (subst (WroteReplies on_error read script state parts wanted (front ++ [])) (sym is.2) wrote))
+      subst (λ e. WroteReplies on_error read script state parts e (prefix ++ bytes) final) (sym is.0)
+      (subst (λ b. WroteReplies on_error read script state parts wanted (prefix ++ b) final) (sym is.1)
+      (subst (WroteReplies on_error read script state parts wanted (prefix ++ [])) (sym is.2) wrote))
 
 module _ (read : ScriptEnd) (script : List ℕ) (state : State) (part : Part) (parts : List Part) (reply : Reply) (after : State) (kept : is_dropped read part ≡ false) (answers : MayAnswer state part.is_closed (text_of script part) reply after) where
   -- the writer failed in the reply
-  at_failure : (on_error : OnError) (end : RunEnd) (bytes : List ℕ) (final : State) → end ≡ ends.WriteFault → IsFrontOf bytes (reply_text reply) → final ≡ after → WroteReplies on_error read script state (part ∷ parts) end bytes final
-  at_failure on_error end bytes final is front same =
+  at_failure : (on_error : OnError) (end : RunEnd) (bytes : List ℕ) (final : State) → end ≡ ends.WriteFault → IsPrefixOf bytes (reply_text reply) → final ≡ after → WroteReplies on_error read script state (part ∷ parts) end bytes final
+  at_failure on_error end bytes final is prefix same =
       subst (λ e. WroteReplies on_error read script state (part ∷ parts) e bytes final) (sym is)
       (subst (WroteReplies on_error read script state (part ∷ parts) ends.WriteFault bytes) (sym same)
-      (record { answered = []; left = part ∷ parts; split = refl; kept = refl; replies = []; after = state; are_answered = none_left; begun = bytes; written = refl; leaves_off = ((reply, answers, front), refl) }))
+      (record { answered = []; left = part ∷ parts; split = refl; kept = refl; replies = []; after = state; are_answered = none_left; begun = bytes; written = refl; leaves_off = ((reply, answers, prefix), refl) }))
 
 one_kept : (read : ScriptEnd) (part : Part) → is_dropped read part ≡ false → list_any (is_dropped read) (part ∷ []) ≡ false
-one_kept read part kept = no_front (is_dropped read part) false kept refl
+one_kept read part kept = neither (is_dropped read part) false kept refl
 
 -- the reply is an error, and the run stops there
 at_stop : (on_error : OnError) (read : ScriptEnd) (script : List ℕ) (state : State) (part : Part) (parts : List Part) (reply : Reply) (after : State) → is_dropped read part ≡ false → MayAnswer state part.is_closed (text_of script part) reply after → stops on_error reply ≡ true
@@ -98,15 +98,15 @@ at_stop Stop read script state part parts (Refused refusal) after kept answers s
   leaves_off = (refl, refl, refl, ([], refusal, refl, refl));
 }
 
--- one reply more in front, behind which the run goes on
+-- one reply more before, after which the run goes on
 leaves_off_more : (on_error : OnError) (read : ScriptEnd) (script : List ℕ) (state : State) (left : List Part) (reply : Reply) (replies : List Reply) (begun : List ℕ) (end : RunEnd) (final : State) → stops on_error reply ≡ false
     → LeavesOff on_error read script state left replies begun end final → LeavesOff on_error read script state left (reply ∷ replies) begun end final
-leaves_off_more on_error read script state left reply replies begun ends.Done final going so = (so.0, so.1, so.2, so.3, no_front (stops on_error reply) _ going so.4)
-leaves_off_more on_error read script state left reply replies begun ends.ReadFault final going so = (so.0, so.1, so.2, so.3, no_front (stops on_error reply) _ going so.4)
+leaves_off_more on_error read script state left reply replies begun ends.Done final going so = (so.0, so.1, so.2, so.3, neither (stops on_error reply) _ going so.4)
+leaves_off_more on_error read script state left reply replies begun ends.ReadFault final going so = (so.0, so.1, so.2, so.3, neither (stops on_error reply) _ going so.4)
 leaves_off_more on_error read script state left reply replies begun ends.Stopped final going so =
     let ended = so.3 in
-    (so.0, so.1, so.2, (reply ∷ ended.0, ended.1, ap (λ l. reply ∷ l) ended.2, no_front (stops Stop reply) _ (subst (λ o. stops o reply ≡ false) so.1 going) ended.3))
-leaves_off_more on_error read script state left reply replies begun ends.WriteFault final going so = (so.0, no_front (stops on_error reply) _ going so.1)
+    (so.0, so.1, so.2, (reply ∷ ended.0, ended.1, ap (λ l. reply ∷ l) ended.2, neither (stops Stop reply) _ (subst (λ o. stops o reply ≡ false) so.1 going) ended.3))
+leaves_off_more on_error read script state left reply replies begun ends.WriteFault final going so = (so.0, neither (stops on_error reply) _ going so.1)
 leaves_off_more on_error read script state left reply replies begun ends.Memory final going so = so
 
 more : (on_error : OnError) (read : ScriptEnd) (script : List ℕ) (state : State) (part : Part) (parts : List Part) (reply : Reply) (after : State) (end : RunEnd) (rest : List ℕ) (final : State) → is_dropped read part ≡ false → MayAnswer state part.is_closed (text_of script part) reply after → stops on_error reply ≡ false
@@ -115,7 +115,7 @@ more on_error read script state part parts reply after end rest final kept answe
   answered = part ∷ wrote.answered;
   left = wrote.left;
   split = ap (λ l. part ∷ l) wrote.split;
-  kept = no_front (is_dropped read part) _ kept wrote.kept;
+  kept = neither (is_dropped read part) _ kept wrote.kept;
   replies = reply ∷ wrote.replies;
   after = wrote.after;
   are_answered = and_then answers wrote.are_answered;
@@ -133,7 +133,7 @@ by_parts on_error read script state (part ∷ parts) end bytes final alone sessi
     session
   where
     by_reply : is_dropped read part ≡ false → (reply : Reply) (after : State) → MayAnswer state part.is_closed (text_of script part) reply after → ((rest : List ℕ) → Session on_error read script after parts end rest final → WroteReplies on_error read script after parts end rest final)
-        → ((end ≡ ends.WriteFault) × IsFrontOf bytes (reply_text reply) × (final ≡ after)) ⊎ ((rest : List ℕ) × (bytes ≡ reply_text reply ++ rest) × Either (stops on_error reply) (IsOver ends.Stopped end rest after final) (Session on_error read script after parts end rest final))
+        → ((end ≡ ends.WriteFault) × IsPrefixOf bytes (reply_text reply) × (final ≡ after)) ⊎ ((rest : List ℕ) × (bytes ≡ reply_text reply ++ rest) × Either (stops on_error reply) (IsOver ends.Stopped end rest after final) (Session on_error read script after parts end rest final))
         → WroteReplies on_error read script state (part ∷ parts) end bytes final
     by_reply kept reply after answers deeper so =
         elim so [

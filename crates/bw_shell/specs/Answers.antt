@@ -14,8 +14,8 @@ use Rattle.bw_model.specs.declared.reply.Reply.{Reply}
 use Rattle.bw_model.specs.declared.reply.Reply.TheVariants.{Count, Refused}
 use Rattle.bw_shell.specs.States.{Failed, HasFile, KeepsFiles, KeepsOthers, Leaves, SetsFile, State}
 
--- memory is wanting: nothing changes
-pub record Wants (before : State) (statement : StatementTree) (reply : Reply) (after : State) : Type 0 where
+-- memory runs out: nothing changes
+pub record RunsOutOfMemory (before : State) (statement : StatementTree) (reply : Reply) (after : State) : Type 0 where
   pub accepted : refused_early before.store statement ≡ None
   pub says : reply ≡ Refused OutOfMemory
   pub stays : Leaves before before.store after
@@ -63,6 +63,6 @@ AnswersBy no_file before statement reply after = Outcome before Nothing statemen
 AnswersBy (reads file) before statement reply after = ByFile before statement file reply after ⊎ CannotRead before reply after
 AnswersBy (writes file) before statement reply after = IsSaved before statement file reply after ⊎ CannotWrite before file reply after
 
--- a statement's answer: its outcome, or what it comes to where memory is wanting or the folder fails
+-- a statement's answer: its outcome, or what it comes to where memory runs out or the folder fails
 abbrev pub Answers : State → StatementTree → Reply → State → Type 0
-Answers before statement reply after = Wants before statement reply after ⊎ AnswersBy (file_use before.store statement) before statement reply after
+Answers before statement reply after = RunsOutOfMemory before statement reply after ⊎ AnswersBy (file_use before.store statement) before statement reply after

@@ -1,14 +1,14 @@
-pub mod Answering
 pub mod Answers
 pub mod Elsewhere
+pub mod FileReading
+pub mod FileWriting
 pub mod Folders
-pub mod Handing
 pub mod Opening
 pub mod Output
-pub mod Reading
 pub mod Replies
 pub mod Run
 pub mod Script
+pub mod Sessions
 pub mod States
 pub mod ValueTexts
 pub mod Writing

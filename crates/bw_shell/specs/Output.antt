@@ -8,21 +8,21 @@ use Rattle.bw_model.specs.declared.reply.Reply.TheVariants.{Refused}
 use Rattle.bw_shell.specs.Run.{Session}
 use Rattle.bw_shell.specs.States.{State}
 use Rattle.bw_shell.specs.declared.reading.ScriptEnd.{ScriptEnd}
-use Rattle.bw_shell.specs.declared.session.OnError.{OnError}
-use Rattle.bw_shell.specs.declared.session.RunEnd.{RunEnd}
-use Rattle.bw_shell.specs.declared.session.RunEnd.TheVariants as ends
+use Rattle.bw_shell.specs.declared.running.OnError.{OnError}
+use Rattle.bw_shell.specs.declared.running.RunEnd.{RunEnd}
+use Rattle.bw_shell.specs.declared.running.RunEnd.TheVariants as ends
 
 -- nowhere in the bytes a line says that memory ran out
-abbrev pub SaysNoWant : List ℕ → Type 0
-SaysNoWant bytes = (front rest : List ℕ) → bytes ≢ front ++ reply_text (Refused OutOfMemory) ++ rest
+abbrev pub NeverOutOfMemory : List ℕ → Type 0
+NeverOutOfMemory bytes = (prefix rest : List ℕ) → bytes ≢ prefix ++ reply_text (Refused OutOfMemory) ++ rest
 
--- A session over the script's parts that ends so, wrote these bytes and left that state, where the folder tells its files, neither it
+-- A session over the script's parts that ends so, wrote these bytes and left that state, where the folder gives its files, neither it
 -- nor the writer failed and memory didn't run out.
 pub record IsOutput (on_error : OnError) (read : ScriptEnd) (script : List ℕ) (state : State) (end : RunEnd) (bytes : List ℕ) (last : State) : Type 0 where
   pub parts : List Part
   pub are_parts : AreParts script parts
   pub session : Session on_error read script state parts end bytes last
   pub written : end ≢ ends.WriteFault
-  pub memory : SaysNoWant bytes
+  pub memory : NeverOutOfMemory bytes
   pub known : IsSome state.files
   pub unfailing : last.failures ≡ state.failures

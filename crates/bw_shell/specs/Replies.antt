@@ -7,14 +7,14 @@ use Rattle.bw_model.specs.declared.refusal.Refusal.{Refusal}
 use Rattle.bw_model.specs.declared.reply.Reply.{Reply}
 use Rattle.bw_model.specs.declared.reply.Reply.TheVariants.{Refused}
 use Rattle.bw_shell.specs.Run.{MayAnswer, is_dropped, stops, text_of}
-use Rattle.bw_shell.specs.Script.{IsFrontOf}
+use Rattle.bw_shell.specs.Script.{IsPrefixOf}
 use Rattle.bw_shell.specs.States.{State}
 use Rattle.bw_shell.specs.declared.reading.ScriptEnd.{ScriptEnd}
 use Rattle.bw_shell.specs.declared.reading.ScriptEnd.TheVariants.{Reached, Fault}
-use Rattle.bw_shell.specs.declared.session.OnError.{OnError}
-use Rattle.bw_shell.specs.declared.session.OnError.TheVariants.{Stop}
-use Rattle.bw_shell.specs.declared.session.RunEnd.{RunEnd}
-use Rattle.bw_shell.specs.declared.session.RunEnd.TheVariants as ends
+use Rattle.bw_shell.specs.declared.running.OnError.{OnError}
+use Rattle.bw_shell.specs.declared.running.OnError.TheVariants.{Stop}
+use Rattle.bw_shell.specs.declared.running.RunEnd.{RunEnd}
+use Rattle.bw_shell.specs.declared.running.RunEnd.TheVariants as ends
 
 -- From this state, these parts may be answered so, in order, and leave that state.
 pub data Answered : List ℕ → State → List Part → List Reply → State → Type 0 where
@@ -31,12 +31,12 @@ IsDroppedRest read (part ∷ parts) = (is_dropped read part ≡ true) × (parts 
 abbrev pub IsLastAnError : List Reply → Type 0
 IsLastAnError replies = (earlier : List Reply) × (refusal : Refusal) × (replies ≡ earlier ++ Refused refusal ∷ []) × (list_any (stops Stop) earlier ≡ false)
 
--- these bytes are a front of the text of a reply to the next part, which leaves that state
+-- these bytes are a prefix of the text of a reply to the next part, which leaves that state
 abbrev pub BeginsNext : List ℕ → State → List Part → List ℕ → State → Type 0
 BeginsNext script state [] begun last = ⊥
-BeginsNext script state (part ∷ parts) begun last = (reply : Reply) × MayAnswer state part.is_closed (text_of script part) reply last × IsFrontOf begun (reply_text reply)
+BeginsNext script state (part ∷ parts) begun last = (reply : Reply) × MayAnswer state part.is_closed (text_of script part) reply last × IsPrefixOf begun (reply_text reply)
 
--- where a run ends so: which parts it left, what it wrote behind the replies, and the state it left
+-- where a run ends so: which parts it left, what it wrote after the replies, and the state it left
 abbrev pub LeavesOff : OnError → ScriptEnd → List ℕ → State → List Part → List Reply → List ℕ → RunEnd → State → Type 0
 LeavesOff on_error read script state left replies begun ends.Done last = (last ≡ state) × (read ≡ Reached) × (left ≡ []) × (begun ≡ []) × (list_any (stops on_error) replies ≡ false)
 LeavesOff on_error read script state left replies begun ends.ReadFault last = (last ≡ state) × (read ≡ Fault) × IsDroppedRest read left × (begun ≡ []) × (list_any (stops on_error) replies ≡ false)
@@ -44,7 +44,7 @@ LeavesOff on_error read script state left replies begun ends.Stopped last = (las
 LeavesOff on_error read script state left replies begun ends.WriteFault last = BeginsNext script state left begun last × (list_any (stops on_error) replies ≡ false)
 LeavesOff on_error read script state left replies begun ends.Memory last = ⊥
 
--- The parts in front were answered in order, and what was written is their replies and, where the writer failed, a front
+-- The first parts were answered in order, and what was written is their replies and, where the writer failed, a prefix
 -- of the next.
 pub record WroteReplies (on_error : OnError) (read : ScriptEnd) (script : List ℕ) (state : State) (parts : List Part) (end : RunEnd) (bytes : List ℕ) (last : State) : Type 0 where
   pub answered : List Part

@@ -4,7 +4,7 @@ use Rattle.std.specs.Io.KnownBytes.{Appends, Keeps}
 use Rattle.bw_lex.specs.Parts.{AreParts}
 use Rattle.bw_lex.specs.declared.fault.SqlFault.{SqlFault}
 use Rattle.bw_lex.specs.declared.script.Part.{Part}
-use Rattle.bw_split.specs.Splitting.{Told, told_of}
+use Rattle.bw_split.specs.Splitting.{PartText, text_of_part}
 use Rattle.bw_sql.specs.Statements.{IsStatementFault, Says, longest_statement}
 use Rattle.bw_sql.specs.Tree.{StatementTree}
 use Rattle.bw_model.specs.Refusals.{refusal_of_fault}
@@ -15,13 +15,13 @@ use Rattle.bw_model.specs.declared.reply.Reply.{Reply}
 use Rattle.bw_model.specs.declared.reply.Reply.TheVariants.{Refused}
 use Rattle.bw_shell.specs.Answers.{Answers}
 use Rattle.bw_shell.specs.States.{FolderState, State, with_store}
-use Rattle.bw_shell.specs.Script.{IsFrontOf, IsRead, longest_script}
+use Rattle.bw_shell.specs.Script.{IsPrefixOf, IsRead, longest_script}
 use Rattle.bw_shell.specs.declared.reading.ScriptEnd.{ScriptEnd}
 use Rattle.bw_shell.specs.declared.reading.ScriptEnd.TheVariants.{Reached, Fault}
-use Rattle.bw_shell.specs.declared.session.OnError.{OnError}
-use Rattle.bw_shell.specs.declared.session.OnError.TheVariants.{Stop}
-use Rattle.bw_shell.specs.declared.session.RunEnd.{RunEnd}
-use Rattle.bw_shell.specs.declared.session.RunEnd.TheVariants as ends
+use Rattle.bw_shell.specs.declared.running.OnError.{OnError}
+use Rattle.bw_shell.specs.declared.running.OnError.TheVariants.{Stop}
+use Rattle.bw_shell.specs.declared.running.RunEnd.{RunEnd}
+use Rattle.bw_shell.specs.declared.running.RunEnd.TheVariants as ends
 
 -- From this state, a part may be answered so, and leaves that state.
 pub data MayAnswer : State → Bool → List ℕ → Reply → State → Type 0 where
@@ -61,19 +61,19 @@ Either true a b = a
 Either false a b = b
 
 -- From this state, a run over parts with these bytes may end so, write these bytes and leave that state. Each reply is written whole, or a
--- front of it where the writer fails (all of it, where only the flush behind it fails), and nothing comes after that.
-abbrev pub SessionOver : OnError → ScriptEnd → State → List Told → RunEnd → List ℕ → State → Type 0
+-- prefix of it where the writer fails (all of it, where only the flush after it fails), and nothing comes after that.
+abbrev pub SessionOver : OnError → ScriptEnd → State → List PartText → RunEnd → List ℕ → State → Type 0
 SessionOver on_error read state [] end bytes last = IsOver (last_end read) end bytes state last
 SessionOver on_error read state (part ∷ parts) end bytes last =
     Either (drops read part.is_closed) (IsOver (last_end read) end bytes state last)
     ((reply : Reply) × (after : State) × MayAnswer state part.is_closed part.text reply after
-    × (((end ≡ ends.WriteFault) × IsFrontOf bytes (reply_text reply) × (last ≡ after))
+    × (((end ≡ ends.WriteFault) × IsPrefixOf bytes (reply_text reply) × (last ≡ after))
     ⊎ ((rest : List ℕ) × (bytes ≡ reply_text reply ++ rest)
     × Either (stops on_error reply) (IsOver ends.Stopped end rest after last) (SessionOver on_error read after parts end rest last))))
 
 -- the same over the parts of a script
 abbrev pub Session : OnError → ScriptEnd → List ℕ → State → List Part → RunEnd → List ℕ → State → Type 0
-Session on_error read script state parts end bytes last = SessionOver on_error read state (map (told_of script) parts) end bytes last
+Session on_error read script state parts end bytes last = SessionOver on_error read state (map (text_of_part script) parts) end bytes last
 
 -- from this state, the parts give a session that ends so in that state, and its bytes were written
 abbrev pub HasRun : OnError → ScriptEnd → List ℕ → List Part → State → Option (List ℕ) → Option (List ℕ) → RunEnd → State → Type 0

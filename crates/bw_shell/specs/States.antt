@@ -19,7 +19,7 @@ seen files failures = record { files = files; failures = failures }
 abbrev pub with_store : Store → FolderState → State
 with_store store folder = record { store = store; files = folder.files; failures = folder.failures }
 
--- a folder that tells its files keeps them
+-- a folder that gives its files keeps them
 abbrev pub KeepsFiles : Option Files → Option Files → Type 0
 KeepsFiles None new = Unit {0}
 KeepsFiles (Some old) new = new ≡ Some old
@@ -34,7 +34,7 @@ abbrev pub KeepsOthers : List ℕ → Option Files → Option Files → Type 0
 KeepsOthers name None new = Unit {0}
 KeepsOthers name (Some old) new = IsSomeAnd new (IsSameBut name old)
 
--- the file of this name, where the folder tells its files
+-- the file of this name, where the folder gives its files
 abbrev pub HasFile : Option Files → List ℕ → Option (List ℕ) → Type 0
 HasFile None name file = Unit {0}
 HasFile (Some files) name file = file ≡ file_of files name

@@ -2,13 +2,13 @@
 use Rattle.std.specs.Prelude.{◌≡◌, ℕ, List, ◌++◌, Option, Result, MatchResult}
 use Rattle.std.specs.Io.KnownBytes.{Appends}
 
--- the known bytes grew by a front of the text
-pub record AppendsFront (old new : Option (List ℕ)) (text : List ℕ) : Type 0 where
-  pub front : List ℕ
+-- the known bytes grew by a prefix of the text
+pub record AppendsPrefix (old new : Option (List ℕ)) (text : List ℕ) : Type 0 where
+  pub prefix : List ℕ
   pub rest : List ℕ
-  pub split : text ≡ front ++ rest
-  pub grown : Appends old new front
+  pub split : text ≡ prefix ++ rest
+  pub grown : Appends old new prefix
 
--- the text was written, or a front of it where writing failed
+-- the text was written, or a prefix of it where writing failed
 abbrev pub Wrote : {U E : Type 0} → Option (List ℕ) → Option (List ℕ) → List ℕ → Result U E → Type 0
-Wrote old new text result = MatchResult result (λ _. Appends old new text) (λ _. AppendsFront old new text)
+Wrote old new text result = MatchResult result (λ _. Appends old new text) (λ _. AppendsPrefix old new text)

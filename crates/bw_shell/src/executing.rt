@@ -6,8 +6,8 @@ ghost use Rattle.bw_engine.specs.Stores.{store_of};
 ghost use Rattle.bw_model.specs.FileUse.{file_read, file_use};
 ghost use Rattle.bw_sql.specs.Tree.{statement_of};
 ghost use Rattle.bw_shell.specs.Answers.{Answers};
-ghost use Rattle.bw_shell.specs.Handing.{WritesOut};
-ghost use Rattle.bw_shell.specs.Reading.{AnswersFault, IsReadFor};
+ghost use Rattle.bw_shell.specs.FileWriting.{WritesOut};
+ghost use Rattle.bw_shell.specs.FileReading.{AnswersFault, IsReadFor};
 ghost use Rattle.bw_shell.specs.States.{seen, with_store};
 
 use crate::folders::{Folder, FolderFault};

@@ -37,7 +37,7 @@ impl<T: Drop> From<AllocFailed<T>> for FolderFault {
     }
 }
 
-/// Where a statement's files lie. It counts how often it failed, and may tell its files.
+/// Where a statement's files lie. It counts how often it failed, and may give its files.
 pub trait Folder {
     /// How often it failed so far.
     ghost failure_count: { Self → ℕ };

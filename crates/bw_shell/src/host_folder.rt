@@ -9,8 +9,7 @@ use std::fs::{self, Files, OpenFile};
 use std::io::{Error, ErrorKind, Read, Write};
 use std::marker::Model;
 
-/// The host's files: a name is a path from the working directory. It tells nothing of them. A contract sees how often it
-/// failed.
+/// The host's files: a name is a path from the working directory. A contract sees how often it failed, and no file.
 #[derive(Drop)]
 pub struct HostFolder<'a, H: Files> {
     alloc: Global,
@@ -91,7 +90,7 @@ fn read_file<H: Files>(
     }
     // Room for one byte more, so that the read that finds the end does not make the vector grow.
     let mut bytes = Vec::with_capacity(alloc, (length as usize).saturating_add(1))?;
-    // The file may have grown meanwhile, which a byte behind the limit tells.
+    // The file may have grown meanwhile, which a byte after the limit shows.
     let mut rest = file.take((limit as u64).saturating_add(1));
     match rest.read_to_end(&mut bytes) {
         Ok(_) if bytes.len() <= limit => Ok(bytes),

@@ -14,7 +14,7 @@ ghost use Rattle.bw_model.specs.declared.content.Content.{Content as AnyContent}
 ghost use Rattle.bw_model.specs.declared.refusal.Refusal.TheVariants.{UnreadableFile, UnwritableFile};
 ghost use Rattle.bw_model.specs.declared.reply.Reply.{Reply as AnyReply};
 ghost use Rattle.bw_model.specs.declared.reply.Reply.TheVariants.{Count, Refused};
-ghost use Rattle.bw_shell.specs.Answers.{Answers, CannotRead, Wants};
+ghost use Rattle.bw_shell.specs.Answers.{Answers, CannotRead, RunsOutOfMemory};
 ghost use Rattle.bw_shell.specs.Elsewhere.{IsNoSaveTo};
 ghost use Rattle.bw_shell.specs.Opening.{Opens};
 ghost use Rattle.bw_shell.specs.Output.{IsOutput};
@@ -23,22 +23,22 @@ ghost use Rattle.bw_shell.specs.Run.{Session};
 ghost use Rattle.bw_shell.specs.States.{State, file_in};
 ghost use Rattle.bw_shell.specs.declared.reading.ScriptEnd.{ScriptEnd as HowRead};
 ghost use Rattle.bw_shell.specs.declared.reading.ScriptEnd.TheVariants.{Fault};
-ghost use Rattle.bw_shell.specs.declared.session.OnError.{OnError as WhatThen};
-ghost use Rattle.bw_shell.specs.declared.session.RunEnd.{RunEnd as HowEnded};
-ghost use Rattle.bw_shell.specs.declared.session.RunEnd.TheVariants.{ReadFault};
+ghost use Rattle.bw_shell.specs.declared.running.OnError.{OnError as WhatThen};
+ghost use Rattle.bw_shell.specs.declared.running.RunEnd.{RunEnd as HowEnded};
+ghost use Rattle.bw_shell.specs.declared.running.RunEnd.TheVariants.{ReadFault};
 
 /// What a session over a script's parts wrote is the texts of replies, one to each part in order: of all
 /// parts where it is done, of all but a rest that no `;` closes where reading failed, up to the first
-/// error where it is stopped there, and else a front of the next behind them. It leaves the state that the last of
+/// error where it is stopped there, and else a prefix of the next after them. It leaves the state that the last of
 /// these parts left, the one whose reply was begun among them.
 pub fn replies_are_written()
     ensures { (on_error : WhatThen) (read : HowRead) (script : List ℕ) (state : State) (parts : List AnyPart) (end : HowEnded) (bytes : List ℕ) (last : State) → AreParts script parts → Session on_error read script state parts end bytes last → WroteReplies on_error read script state parts end bytes last }
 {}
 
-/// The bytes that runs wrote tell their replies: where the replies to two scripts have the same text, they are
+/// The bytes that runs wrote determine their replies: where the replies to two scripts have the same text, they are
 /// the same replies, but that the headings `COLUMNS` and `ROWS` of a list of tables read like columns of
 /// these names.
-pub fn output_tells_replies()
+pub fn output_determines_replies()
     ensures { (script other : List ℕ) (parts others : List AnyPart) (a b : List AnyReply) (first second after last : State) → first.store ≡ [] → second.store ≡ [] → Answered script first parts a after → Answered other second others b last → flat_map reply_text a ≡ flat_map reply_text b → map as_read a ≡ map as_read b }
 {}
 
@@ -50,15 +50,15 @@ pub fn one_output()
 
 /// A table that is saved opens again with the same columns and rows. Let a SAVE be answered `ok n` and leave its file so, and let
 /// that file still be so when an OPEN reads it, under a name that is free and with fewer tables there than the limit. Then n is
-/// the number of the saved table's rows, and the OPEN adds just this table as the last one and answers `ok n`; or memory was
-/// wanting, and nothing changes; or the folder failed at reading.
+/// the number of the saved table's rows, and the OPEN adds just this table as the last one and answers `ok n`; or memory ran
+/// out, and nothing changes; or the folder failed at reading.
 pub fn saved_tables_open()
     ensures { (before after later last : State) (name file other : List ℕ) (n : ℕ) (reply : AnyReply) → IsSome before.files → Answers before (save name file) (Count n) after
         → file_in later.files file ≡ file_in after.files file → table_of later.store other ≡ None → length later.store < table_limit → Answers later (open_table other file) reply last
-        → (table : Table) × (table_of before.store name ≡ Some table) × (n ≡ length table.rows) × (Opens later other table reply last ⊎ Wants later (open_table other file) reply last ⊎ CannotRead later reply last) }
+        → (table : Table) × (table_of before.store name ≡ Some table) × (n ≡ length table.rows) × (Opens later other table reply last ⊎ RunsOutOfMemory later (open_table other file) reply last ⊎ CannotRead later reply last) }
 {}
 
-/// A statement leaves every file but the one that it saves a table to, where the folder tells its files.
+/// A statement leaves every file but the one that it saves a table to, where the folder gives its files.
 pub fn other_files_stay()
     ensures { (before after : State) (statement : StatementTree) (reply : AnyReply) (file : List ℕ) → IsSome before.files → Answers before statement reply after → ((name : List ℕ) → statement ≡ save name file → ⊥)
         → file_in after.files file ≡ file_in before.files file }
@@ -73,7 +73,7 @@ pub fn saved_tables_open_later()
     ensures { (script : List ℕ) (before after later last : State) (parts : List AnyPart) (replies : List AnyReply) (name file other : List ℕ) (n : ℕ) (reply : AnyReply)
         → IsSome before.files → Answers before (save name file) (Count n) after → Answered script after parts replies later → All (IsNoSaveTo file script) parts
         → table_of later.store other ≡ None → length later.store < table_limit → Answers later (open_table other file) reply last
-        → (table : Table) × (table_of before.store name ≡ Some table) × (n ≡ length table.rows) × (Opens later other table reply last ⊎ Wants later (open_table other file) reply last ⊎ CannotRead later reply last) }
+        → (table : Table) × (table_of before.store name ≡ Some table) × (n ≡ length table.rows) × (Opens later other table reply last ⊎ RunsOutOfMemory later (open_table other file) reply last ⊎ CannotRead later reply last) }
 {}
 
 /// A statement is answered with error 41, and a statement that reads a file which is there with error 40, only where the

@@ -1,25 +1,25 @@
 //! A script of statements run over a reader, a writer and a folder, and the text of the replies.
 #![tactic(auto)]
 
-mod answering;
-mod backward;
-mod cells;
+mod backward_text;
 mod executing;
 mod folders;
 mod host_folder;
 mod laws;
+mod lines;
 mod reading;
+mod reply_text;
+mod running;
 mod session;
-mod text;
 mod writing;
 
 pub use folders::{Folder, FolderFault, MemoryFolder};
 pub use host_folder::HostFolder;
 pub use laws::{
     early_ends_stay, file_errors_are_failures, layouts_never_show, one_output, other_files_stay,
-    output_tells_replies, replies_are_written, saved_tables_open, saved_tables_open_later,
+    output_determines_replies, replies_are_written, saved_tables_open, saved_tables_open_later,
 };
 pub use reading::ScriptEnd;
-pub use session::{OnError, RunEnd, run};
-pub use text::write_reply;
+pub use reply_text::write_reply;
+pub use running::{OnError, RunEnd, run};
 pub use writing::{WriteFault, put};

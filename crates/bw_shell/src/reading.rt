@@ -20,12 +20,12 @@ pub enum ScriptEnd {
 /// What comes next of a script.
 #[derive(Clone, Copy, Debug, PartialEq, Eq)]
 pub(crate) enum Next {
-    /// So many bytes, at the front of the buffer.
+    /// This many bytes, at the start of the buffer.
     Piece(usize),
     End(ScriptEnd),
 }
 
-/// One read into a buffer, of no more than `left` bytes. Where no byte may follow, one is asked for all the same, since it tells
+/// One read into a buffer, of no more than `left` bytes. Where no byte may follow, one is asked for all the same, since it shows
 /// whether the script ends there.
 pub(crate) fn read_piece<R: Read>(reader: &mut R, buffer: &mut [u8], left: usize) -> Next
     requires room { 0 < length buffer.old }

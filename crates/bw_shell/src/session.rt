@@ -1,97 +1,169 @@
-//! A script run from its bytes to the bytes of its replies.
+//! The parts of a script answered one after the other, while it is read.
 
-ghost use Rattle.std.specs.Prelude.{◌≡◌, ◌≤◌, ◌<◌, ◌^◌, [], IfOk, length};
+ghost use Rattle.std.specs.Prelude.{◌≡◌, ◌≤◌, ◌<◌, ◌+◌, ◌^◌, IfOk, List, MatchResult, [], length, ℕ};
+ghost use Rattle.bw_lex.specs.declared.fault.SqlFault.TheVariants.{TooLong};
 ghost use Rattle.bw_engine.specs.Stores.{store_of};
-ghost use Rattle.bw_shell.specs.Run.{IsRun, RunsTo};
-ghost use Rattle.bw_shell.specs.States.{seen};
-ghost use Rattle.bw_split.specs.Splitters.{Begun};
+ghost use Rattle.bw_model.specs.ReplyText.{reply_text};
+ghost use Rattle.bw_shell.specs.Sessions.{AnswersPart, AnswersPiece, AnswersRest};
+ghost use Rattle.bw_shell.specs.Run.{MayAnswer, stops};
+ghost use Rattle.bw_shell.specs.States.{seen, with_store};
+ghost use Rattle.bw_shell.specs.Writing.{Wrote};
+ghost use Rattle.bw_split.specs.Prefixes.{longest_part};
+ghost use Rattle.bw_split.specs.Splitters.{Begun, Stands};
+ghost use Rattle.bw_split.specs.declared.progress.Stage.TheVariants as stage;
 
-use crate::answering::Answering;
+use crate::executing::execute;
 use crate::folders::Folder;
-use crate::reading::{LONGEST_SCRIPT, Next, ScriptEnd, read_piece};
+use crate::reply_text::write_reply;
+use crate::running::{OnError, RunEnd};
+use crate::writing::WriteFault;
+use bw_engine::{Engine, Refusal, Reply};
+use bw_split::Splitter;
+use bw_sql::{SqlFault, statement};
 use std::alloc::{AllocError, Global};
-use std::io::{Read, Write};
+use std::io::Write;
 
-// How many bytes are asked for at a time.
-const PIECE: usize = 65_536;
-
-/// What comes after a reply that is an error.
-#[derive(Clone, Copy, Debug, PartialEq, Eq)]
-pub enum OnError {
-    Continue,
-    Stop,
-}
-
-/// How a run ends.
-#[derive(Clone, Copy, Debug, PartialEq, Eq)]
-pub enum RunEnd {
-    /// Each part of the script was answered.
-    Done,
-    /// A reply was an error, and the run was to stop there.
-    Stopped,
-    /// The reader failed, or the script is longer than 2^30 bytes. The parts before that which a `;`
-    /// closes were answered.
-    ReadFault,
-    /// A write failed or took no byte, or a flush failed. What was written is whole replies and a front of
-    /// the next.
-    WriteFault,
-    /// There is no memory for the buffers or the engine. Nothing was read, executed or written.
-    Memory,
-}
-
-/// Answers each part of a script in order over a store without tables, and writes the replies. Files are read from
-/// the folder and written to it. Each reply is written before more of the script is asked for than the piece in hand, and
-/// the memory for the script's text doesn't grow with it.
-pub fn run<R: Read, W: Write, F: Folder>(
+/// A store and the part of a script that is begun.
+#[derive(Drop)]
+pub(crate) struct Session {
     alloc: Global,
-    reader: &mut R,
-    writer: &mut W,
-    folder: &mut F,
     on_error: OnError,
-) -> RunEnd
-    requires { F.failure_count folder.old ≤ 2 ^ 62 }
-    ensures { RunsTo on_error (R.remaining reader.old) (R.remaining reader.new) (W.contents writer.old) (W.contents writer.new) (seen (F.files folder.old) (F.failure_count folder.old)) (seen (F.files folder.new) (F.failure_count folder.new)) result }
-{
-    let Ok(mut buffer) = new_buffer(alloc) else {
-        return RunEnd::Memory;
-    };
-    let Ok(mut answering) = Answering::new(alloc, on_error) else {
-        return RunEnd::Memory;
-    };
-    answer_script(&mut answering, reader, &mut buffer, writer, folder)
+    splitter: Splitter,
+    engine: Engine,
 }
 
-fn new_buffer(alloc: Global) -> Result<Vec<u8>, AllocError>
-    ensures { IfOk result (λ buffer. 0 < length buffer.items) }
-{
-    vec![in alloc; 0u8; PIECE]
-}
+impl Session {
+    /// A store without tables, before the first byte of a script.
+    pub(crate) fn new(alloc: Global, on_error: OnError) -> Result<Session, AllocError>
+        ensures begun { IfOk result (λ a. Begun a.splitter []) }
+        ensures store { IfOk result (λ a. store_of a.engine ≡ []) }
+        ensures on_error { IfOk result (λ a. a.on_error ≡ on_error) }
+    {
+        let splitter = Splitter::new(alloc)?;
+        let engine = Engine::new(alloc)?;
+        Ok(Session {
+            alloc,
+            on_error,
+            splitter,
+            engine,
+        })
+    }
 
-// Reads a script into the buffer, piece by piece, and answers each.
-fn answer_script<R: Read, W: Write, F: Folder>(
-    answering: &mut Answering,
-    reader: &mut R,
-    buffer: &mut [u8],
-    writer: &mut W,
-    folder: &mut F,
-) -> RunEnd
-    requires begun { Begun answering.old.splitter [] }
-    requires fresh { store_of answering.old.engine ≡ [] }
-    requires room { 0 < length buffer.old }
-    requires failures { F.failure_count folder.old ≤ 2 ^ 62 }
-    ensures { IsRun answering.old.on_error (R.remaining reader.old) (R.remaining reader.new) (W.contents writer.old) (W.contents writer.new) (seen (F.files folder.old) (F.failure_count folder.old)) (seen (F.files folder.new) (F.failure_count folder.new)) result }
-{
-    let mut left = LONGEST_SCRIPT;
-    loop {
-        match read_piece(reader, buffer, left) {
-            Next::Piece(n) => {
-                if let Some(end) = answering.answer_piece(writer, folder, &buffer[..n]) {
-                    return end;
-                }
-                left -= n;
+    /// Answers the parts that this piece of the script closes. `None` where the run goes on.
+    pub(crate) fn answer_piece<W: Write, F: Folder>(
+        &mut self,
+        writer: &mut W,
+        folder: &mut F,
+        piece: &[u8],
+    ) -> Option<RunEnd>
+        requires begun { self.old.splitter.stage ≡ stage.Begun }
+        requires failures { F.failure_count folder.old + length piece.now < 2 ^ 63 }
+        ensures answers { (part : List ℕ) → Begun self.old.splitter part
+            → AnswersPiece self.old.on_error part piece.now (with_store (store_of self.old.engine) (seen (F.files folder.old) (F.failure_count folder.old))) (W.contents writer.old) (W.contents writer.new) result self.new.splitter
+            (with_store (store_of self.new.engine) (seen (F.files folder.new) (F.failure_count folder.new))) }
+        ensures failures { F.failure_count folder.new ≤ F.failure_count folder.old + length piece.now }
+        ensures on_error { self.new.on_error ≡ self.old.on_error }
+    {
+        let mut rest = piece;
+        while let Some(taken) = self.splitter.feed(rest) {
+            if let Some(end) = self.answer_part(writer, folder, true) {
+                return Some(end);
             }
-            Next::End(ScriptEnd::Reached) => return answering.answer_rest(writer, folder),
-            Next::End(ScriptEnd::Fault) => return RunEnd::ReadFault,
+            rest = &rest[taken..];
+        }
+        None
+    }
+
+    /// Answers the rest after the last cut of a script that ends here.
+    pub(crate) fn answer_rest<W: Write, F: Folder>(
+        &mut self,
+        writer: &mut W,
+        folder: &mut F,
+    ) -> RunEnd
+        requires begun { self.old.splitter.stage ≡ stage.Begun }
+        requires failures { F.failure_count folder.old < 2 ^ 63 }
+        ensures { (part : List ℕ) → Begun self.old.splitter part
+            → AnswersRest self.old.on_error part (with_store (store_of self.old.engine) (seen (F.files folder.old) (F.failure_count folder.old))) (W.contents writer.old) (W.contents writer.new) result
+            (with_store (store_of self.new.engine) (seen (F.files folder.new) (F.failure_count folder.new))) }
+    {
+        if !self.splitter.finish() {
+            return RunEnd::Done;
+        }
+        match self.answer_part(writer, folder, false) {
+            Some(end) => end,
+            None => RunEnd::Done,
         }
     }
+
+    /// Answers the part that stands, and begins the next. `None` where the run goes on.
+    fn answer_part<W: Write, F: Folder>(
+        &mut self,
+        writer: &mut W,
+        folder: &mut F,
+        is_closed: bool,
+    ) -> Option<RunEnd>
+        requires stands { self.old.splitter.stage ≡ stage.Standing }
+        requires failures { F.failure_count folder.old < 2 ^ 63 }
+        ensures answers { (part : List ℕ) → Stands self.old.splitter part
+            → AnswersPart self.old.on_error is_closed part (with_store (store_of self.old.engine) (seen (F.files folder.old) (F.failure_count folder.old))) (W.contents writer.old) (W.contents writer.new) result
+            (with_store (store_of self.new.engine) (seen (F.files folder.new) (F.failure_count folder.new))) }
+        ensures begun { Begun self.new.splitter [] }
+        ensures failures { F.failure_count folder.new ≤ F.failure_count folder.old + 1 }
+        ensures on_error { self.new.on_error ≡ self.old.on_error }
+    {
+        let text = self.splitter.text();
+        let reply = reply_to(self.alloc, &mut self.engine, folder, text, is_closed);
+        self.splitter.clear();
+        if let Err(WriteFault) = hand_over(writer, &reply) {
+            return Some(RunEnd::WriteFault);
+        }
+        if stops(self.on_error, &reply) {
+            return Some(RunEnd::Stopped);
+        }
+        None
+    }
+}
+
+// Whether the run is to stop after this reply.
+fn stops(on_error: OnError, reply: &Reply) -> bool
+    ensures { result ≡ stops on_error reply.now }
+{
+    match on_error {
+        OnError::Stop => matches!(reply, Reply::Refused(_)),
+        OnError::Continue => false,
+    }
+}
+
+// The reply to a part of a script.
+fn reply_to<F: Folder>(
+    alloc: Global,
+    engine: &mut Engine,
+    folder: &mut F,
+    text: Result<&[u8], SqlFault>,
+    is_closed: bool,
+) -> Reply
+    requires { F.failure_count folder.old < 2 ^ 63 }
+    ensures answers { (part : List ℕ) → MatchResult text.entry (λ text. (length part ≤ longest_part) × (text.now ≡ part)) (λ fault. (longest_part < length part) × (fault ≡ TooLong))
+        → MayAnswer (with_store (store_of engine.old) (seen (F.files folder.old) (F.failure_count folder.old))) is_closed part result (with_store (store_of engine.new) (seen (F.files folder.new) (F.failure_count folder.new))) }
+    ensures failures { F.failure_count folder.new ≤ F.failure_count folder.old + 1 }
+{
+    let Ok(text) = text else {
+        return Reply::Refused(Refusal::StatementTooLong);
+    };
+    if !is_closed {
+        return Reply::Refused(Refusal::Syntax);
+    }
+    match statement(alloc, text) {
+        Ok(statement) => execute(engine, folder, statement),
+        Err(fault) => Reply::Refused(Refusal::from(fault)),
+    }
+}
+
+// Writes a reply and flushes the writer. No clause can name a flush, since the trait says of one only
+// that the bytes stay.
+fn hand_over<W: Write>(writer: &mut W, reply: &Reply) -> Result<(), WriteFault>
+    ensures { Wrote (W.contents writer.old) (W.contents writer.new) (reply_text reply.now) result }
+{
+    write_reply(writer, reply)?;
+    writer.flush().map_err(|_| WriteFault)
 }

@@ -9,7 +9,7 @@ is_value : {A : Type 0} (o : Option A) → (o ≡ None) ⊎ ((x : A) × (o ≡ S
 is_value None = inl refl
 is_value (Some x) = inr (x, refl)
 
--- the front of a script up to a cut or the end
+-- the script up to a cut or the end
 record FirstRun (script : List ℕ) : Type 0 where
   len : ℕ
   blank : Bool

@@ -1,9 +1,9 @@
 pub mod Feeding
 pub mod HaveParts
-pub mod Keeping
-pub mod Louds
-pub mod PartsTold
+pub mod OrdinaryStretches
+pub mod PartTexts
+pub mod PieceTexts
+pub mod PrefixLemmas
 pub mod Progresses
-pub mod QuietWalks
-pub mod Telling
-pub mod Walking
+pub mod SpecialBytes
+pub mod StretchLemmas

@@ -1,5 +1,5 @@
-pub mod Kept
-pub mod Quiet
+pub mod Ordinary
+pub mod Prefixes
 pub mod Splitters
 pub mod Splitting
-pub mod Walks
+pub mod Stretches

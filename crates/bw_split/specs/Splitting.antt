@@ -1,31 +1,31 @@
--- A script that comes byte by byte: where a part begun ends, what a piece makes of it, and which parts are told (SQL-92, <direct SQL statement>).
+-- A script that comes byte by byte: where a part begun ends, what a piece makes of it, and which parts it gives (SQL-92, <direct SQL statement>).
 use Rattle.std.specs.Prelude.{◌≡◌, ℕ, Bool, true, false, ◌&&◌, ◌||◌, ◌==◌, if◌then◌else◌, List, [], ◌∷◌, ◌++◌, slice_range}
 use Rattle.bw_lex.specs.Spellings.{is_blank}
 use Rattle.bw_lex.specs.declared.script.Part.{Part}
-use Rattle.bw_split.specs.declared.progress.Place.{Place}
-use Rattle.bw_split.specs.declared.progress.Place.TheVariants.{Outside, Dash, Comment, Text}
+use Rattle.bw_split.specs.declared.progress.LexicalState.{LexicalState}
+use Rattle.bw_split.specs.declared.progress.LexicalState.TheVariants.{Outside, Dash, Comment, Text}
 use Rattle.bw_split.specs.declared.progress.Progress.{Progress}
 
--- the place behind a byte outside texts and comments
-abbrev pub opened_by : ℕ → Place
+-- the state after a byte outside texts and comments
+abbrev pub opened_by : ℕ → LexicalState
 opened_by b = if b == 39 then Text else (if b == 45 then Dash else Outside)
 
--- the place behind a byte. A text here ends at the next quote, so that a doubled quote ends one text and begins another.
-abbrev pub next_place : Place → ℕ → Place
-next_place Outside b = opened_by b
-next_place Dash b = if b == 45 then Comment else opened_by b
-next_place Comment b = if b == 10 then Outside else Comment
-next_place Text b = if b == 39 then Outside else Text
+-- the state after a byte. A text here ends at the next quote, so that a doubled quote ends one text and begins another.
+abbrev pub next_state : LexicalState → ℕ → LexicalState
+next_state Outside b = opened_by b
+next_state Dash b = if b == 45 then Comment else opened_by b
+next_state Comment b = if b == 10 then Outside else Comment
+next_state Text b = if b == 39 then Outside else Text
 
--- Whether a part that is blank so far stays so with this byte. A `-` is told at the byte behind it: there it begins a comment or not.
-abbrev pub keeps_blank : Place → ℕ → Bool
+-- Whether a part that is blank so far stays so with this byte. What a `-` is shows at the byte after it: there it begins a comment or not.
+abbrev pub keeps_blank : LexicalState → ℕ → Bool
 keeps_blank Outside b = b == 45 || is_blank b
 keeps_blank Dash b = b == 45
 keeps_blank Comment b = true
 keeps_blank Text b = false
 
 -- a `;` outside texts and comments
-abbrev pub is_cut : Place → ℕ → Bool
+abbrev pub is_cut : LexicalState → ℕ → Bool
 is_cut Outside b = b == 59
 is_cut Dash b = b == 59
 is_cut Comment b = false
@@ -33,11 +33,11 @@ is_cut Text b = false
 
 -- where a part of no bytes ends
 abbrev pub at_first : Progress
-at_first = record { place = Outside; is_blank = true }
+at_first = record { state = Outside; is_blank = true }
 
 -- one byte on
 abbrev pub step : Progress → ℕ → Progress
-step progress b = record { place = next_place progress.place b; is_blank = progress.is_blank && keeps_blank progress.place b }
+step progress b = record { state = next_state progress.state b; is_blank = progress.is_blank && keeps_blank progress.state b }
 
 -- these bytes on
 abbrev pub progress_from : Progress → List ℕ → Progress
@@ -48,21 +48,21 @@ progress_from progress (b ∷ bytes) = progress_from (step progress b) bytes
 abbrev pub progress_of : List ℕ → Progress
 progress_of part = progress_from at_first part
 
-abbrev pub is_dash : Place → Bool
+abbrev pub is_dash : LexicalState → Bool
 is_dash Dash = true
 is_dash _ = false
 
 -- blank up to here, and no `-` stands at the end
 abbrev pub is_all_blank : Progress → Bool
-is_all_blank progress = if is_dash progress.place then false else progress.is_blank
+is_all_blank progress = if is_dash progress.state then false else progress.is_blank
 
 -- nothing but blanks and comments
 abbrev pub is_blank_part : List ℕ → Bool
 is_blank_part part = is_all_blank (progress_of part)
 
--- whether this byte behind the part cuts it off
+-- whether this byte after the part cuts it off
 abbrev pub cuts : List ℕ → ℕ → Bool
-cuts part b = is_cut (progress_of part).place b
+cuts part b = is_cut (progress_of part).state b
 
 -- What a piece makes of a part begun: the part with the whole piece, or a part that a cut in the piece closes, and the bytes of the piece that are left.
 pub data Fed : Type 0 where
@@ -77,26 +77,26 @@ fed part (b ∷ piece) =
     else fed (part ++ b ∷ []) piece
 
 -- a part: all of its bytes, and whether a `;` closes it
-pub record Told : Type 0 where
+pub record PartText : Type 0 where
   pub text : List ℕ
   pub is_closed : Bool
 
-abbrev pub as_told : List ℕ → Bool → Told
-as_told text is_closed = record { text = text; is_closed = is_closed }
+abbrev pub part_text : List ℕ → Bool → PartText
+part_text text is_closed = record { text = text; is_closed = is_closed }
 
 -- the parts of a script whose part begun is the first list, and whose rest is the second
-unfoldable pub told : List ℕ → List ℕ → List Told
-told part [] = if is_blank_part part then [] else as_told part false ∷ []
-told part (b ∷ bytes) =
-    if cuts part b then (if is_blank_part part then told [] bytes else as_told part true ∷ told [] bytes)
-    else told (part ++ b ∷ []) bytes
+unfoldable pub texts_from : List ℕ → List ℕ → List PartText
+texts_from part [] = if is_blank_part part then [] else part_text part false ∷ []
+texts_from part (b ∷ bytes) =
+    if cuts part b then (if is_blank_part part then texts_from [] bytes else part_text part true ∷ texts_from [] bytes)
+    else texts_from (part ++ b ∷ []) bytes
 
--- a part begun, fed with these pieces one after the other and finished, tells these parts
-pub data Tells : List ℕ → List (List ℕ) → List Told → Type 0 where
-  at_end : {part : List ℕ} → Tells part [] (told part [])
-  going_on : {part : List ℕ} {pieces : List (List ℕ)} {all : List Told} (piece next : List ℕ) → fed part piece ≡ goes_on next → Tells next pieces all → Tells part (piece ∷ pieces) all
-  closing : {part : List ℕ} {pieces : List (List ℕ)} {all : List Told} (piece next left : List ℕ) → fed part piece ≡ closes next left → Tells [] (left ∷ pieces) all → Tells part (piece ∷ pieces) (as_told next true ∷ all)
+-- a part begun, fed with these pieces one after the other and finished, gives these parts
+pub data PiecesGive : List ℕ → List (List ℕ) → List PartText → Type 0 where
+  at_end : {part : List ℕ} → PiecesGive part [] (texts_from part [])
+  going_on : {part : List ℕ} {pieces : List (List ℕ)} {all : List PartText} (piece next : List ℕ) → fed part piece ≡ goes_on next → PiecesGive next pieces all → PiecesGive part (piece ∷ pieces) all
+  closing : {part : List ℕ} {pieces : List (List ℕ)} {all : List PartText} (piece next left : List ℕ) → fed part piece ≡ closes next left → PiecesGive [] (left ∷ pieces) all → PiecesGive part (piece ∷ pieces) (part_text next true ∷ all)
 
--- the part of a script that lies there
-abbrev pub told_of : List ℕ → Part → Told
-told_of script part = as_told (slice_range script part.span.start part.span.end) part.is_closed
+-- the text of this part of a script
+abbrev pub text_of_part : List ℕ → Part → PartText
+text_of_part script part = part_text (slice_range script part.span.start part.span.end) part.is_closed

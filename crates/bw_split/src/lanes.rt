@@ -3,14 +3,14 @@
 ghost use Rattle.std.specs.Prelude.{◌≡◌, ◌≤◌};
 ghost use Rattle.std.specs.Simd.Lanes.{mask_l, zip2};
 ghost use Rattle.bw_lex.specs.Fronts.{is_plain, plain_len};
-ghost use Rattle.bw_split.specs.Quiet.{begins_before, quiet_len};
+ghost use Rattle.bw_split.specs.Ordinary.{begins_before, ordinary_len};
 
 use std::simd::prelude::*;
 
 const LANES: usize = 16;
 
 // Bit i is 1 where byte i, before the byte `next[i]`, begins a text, a cut or a comment.
-fn loud(bytes: u8x16, next: u8x16) -> u64
+fn special(bytes: u8x16, next: u8x16) -> u64
     ensures { result ≡ mask_l (zip2 (λ b n. begins_before n b) bytes next) }
 {
     let dash = u8x16::splat(b'-');
@@ -33,12 +33,12 @@ fn plain_one_by_one(bytes: &[u8]) -> usize
 
 /// A number of bytes that begin no text, cut or comment: all before the first that does, but for a few
 /// at the end.
-pub(crate) fn quiet_len(bytes: &[u8]) -> usize
-    ensures { result ≤ quiet_len bytes.now }
+pub(crate) fn ordinary_len(bytes: &[u8]) -> usize
+    ensures { result ≤ ordinary_len bytes.now }
 {
     let mut at = 0;
     while bytes.len() - at > LANES {
-        let found = loud(
+        let found = special(
             u8x16::from_slice(&bytes[at..]),
             u8x16::from_slice(&bytes[at + 1..]),
         );

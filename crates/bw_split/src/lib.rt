@@ -1,14 +1,14 @@
 //! A script in pieces, however it is cut: its parts, one after the other.
 #![tactic(auto)]
 
-mod find;
-mod kept;
 mod lanes;
 mod laws;
+mod part_prefix;
+mod part_range;
 mod progress;
 mod splitter;
-mod walk;
+mod stretch;
 
-pub use kept::LONGEST_PART;
-pub use laws::{parts_are_told, piece_by_piece, pieces_tell};
+pub use laws::{parts_are_given, piece_by_piece, pieces_give_parts};
+pub use part_prefix::LONGEST_PART;
 pub use splitter::Splitter;

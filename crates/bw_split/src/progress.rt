@@ -2,14 +2,14 @@
 
 ghost use Rattle.std.specs.Prelude.{◌≡◌};
 ghost use Rattle.bw_lex.specs.Spellings.{is_blank};
-ghost use Rattle.bw_split.specs.Splitting.{at_first, is_all_blank, is_cut, keeps_blank, next_place, opened_by, step};
+ghost use Rattle.bw_split.specs.Splitting.{at_first, is_all_blank, is_cut, keeps_blank, next_state, opened_by, step};
 
 /// Where the bytes of a part end.
 #[derive(Clone, Copy, Debug, PartialEq, Eq)]
-pub(crate) enum Place {
+pub(crate) enum LexicalState {
     /// Outside texts and comments.
     Outside,
-    /// The same, just behind a `-`.
+    /// The same, just after a `-`.
     Dash,
     /// In a comment, which goes on to the end of its line.
     Comment,
@@ -21,7 +21,7 @@ pub(crate) enum Place {
 /// `-` at the end.
 #[derive(Clone, Copy, Debug, PartialEq, Eq)]
 pub(crate) struct Progress {
-    pub(crate) place: Place,
+    pub(crate) state: LexicalState,
     pub(crate) is_blank: bool,
 }
 
@@ -43,40 +43,40 @@ pub(crate) fn is_blank(b: u8) -> bool
     b == b'\t' || b == b'\n' || b == b'\r' || b == b' '
 }
 
-/// The place behind a byte outside texts and comments.
-pub(crate) fn opened_by(b: u8) -> Place
+/// The state after a byte outside texts and comments.
+pub(crate) fn opened_by(b: u8) -> LexicalState
     ensures { result ≡ opened_by b }
 {
     match b {
-        b'\'' => Place::Text,
-        b'-' => Place::Dash,
-        _ => Place::Outside,
+        b'\'' => LexicalState::Text,
+        b'-' => LexicalState::Dash,
+        _ => LexicalState::Outside,
     }
 }
 
-fn next_place(place: Place, b: u8) -> Place
-    ensures { result ≡ next_place place b }
+fn next_state(state: LexicalState, b: u8) -> LexicalState
+    ensures { result ≡ next_state state b }
 {
-    match (place, b) {
-        (Place::Outside, _) => opened_by(b),
-        (Place::Dash, b'-') => Place::Comment,
-        (Place::Dash, _) => opened_by(b),
-        (Place::Comment, b'\n') => Place::Outside,
-        (Place::Comment, _) => Place::Comment,
-        (Place::Text, b'\'') => Place::Outside,
-        (Place::Text, _) => Place::Text,
+    match (state, b) {
+        (LexicalState::Outside, _) => opened_by(b),
+        (LexicalState::Dash, b'-') => LexicalState::Comment,
+        (LexicalState::Dash, _) => opened_by(b),
+        (LexicalState::Comment, b'\n') => LexicalState::Outside,
+        (LexicalState::Comment, _) => LexicalState::Comment,
+        (LexicalState::Text, b'\'') => LexicalState::Outside,
+        (LexicalState::Text, _) => LexicalState::Text,
     }
 }
 
-// A `-` is told at the byte behind it: there it begins a comment or not.
-fn keeps_blank(place: Place, b: u8) -> bool
-    ensures { result ≡ keeps_blank place b }
+// What a `-` is shows at the byte after it: there it begins a comment or not.
+fn keeps_blank(state: LexicalState, b: u8) -> bool
+    ensures { result ≡ keeps_blank state b }
 {
-    match place {
-        Place::Outside => b == b'-' || is_blank(b),
-        Place::Dash => b == b'-',
-        Place::Comment => true,
-        Place::Text => false,
+    match state {
+        LexicalState::Outside => b == b'-' || is_blank(b),
+        LexicalState::Dash => b == b'-',
+        LexicalState::Comment => true,
+        LexicalState::Text => false,
     }
 }
 
@@ -86,7 +86,7 @@ impl Progress {
         ensures { result ≡ at_first }
     {
         Progress {
-            place: Place::Outside,
+            state: LexicalState::Outside,
             is_blank: true,
         }
     }
@@ -96,18 +96,18 @@ impl Progress {
         ensures { result ≡ step self b }
     {
         Progress {
-            place: next_place(self.place, b),
-            is_blank: self.is_blank && keeps_blank(self.place, b),
+            state: next_state(self.state, b),
+            is_blank: self.is_blank && keeps_blank(self.state, b),
         }
     }
 
     /// Whether this byte is a cut.
     pub(crate) fn is_cut(self, b: u8) -> bool
-        ensures { result ≡ is_cut self.place b }
+        ensures { result ≡ is_cut self.state b }
     {
-        match self.place {
-            Place::Outside | Place::Dash => b == b';',
-            Place::Comment | Place::Text => false,
+        match self.state {
+            LexicalState::Outside | LexicalState::Dash => b == b';',
+            LexicalState::Comment | LexicalState::Text => false,
         }
     }
 
@@ -115,8 +115,8 @@ impl Progress {
     pub(crate) fn is_all_blank(self) -> bool
         ensures { result ≡ is_all_blank self }
     {
-        match self.place {
-            Place::Dash => false,
+        match self.state {
+            LexicalState::Dash => false,
             _ => self.is_blank,
         }
     }

@@ -2,24 +2,24 @@
 
 ghost use Rattle.std.specs.Prelude.{◌≡◌, ◌⊎◌, ◌<◌, ◌≤◌, [], IfOk, IfSome, List, MatchBool, MatchOption, MatchResult, length, not, ℕ};
 ghost use Rattle.bw_lex.specs.declared.fault.SqlFault.TheVariants.{TooLong};
-ghost use Rattle.bw_split.specs.Kept.{longest_part};
+ghost use Rattle.bw_split.specs.Prefixes.{longest_part};
 ghost use Rattle.bw_split.specs.Splitters.{Begun, Feeds, Stands, StandsIf};
 ghost use Rattle.bw_split.specs.Splitting.{is_blank_part};
 ghost use Rattle.bw_split.specs.declared.progress.Stage.TheVariants as stage;
 
-use crate::find::find;
-use crate::kept::Kept;
+use crate::part_prefix::PartPrefix;
+use crate::part_range::find_part;
 use crate::progress::{Progress, Stage};
 use bw_lex::SqlFault;
 use std::alloc::{AllocError, Global};
 use std::marker::Model;
 
 /// Splits a script that comes in pieces into its parts: what stands between its cuts and isn't
-/// blank, and the rest behind the last cut where that isn't blank. A cut is a `;` outside texts and
+/// blank, and the rest after the last cut where that isn't blank. A cut is a `;` outside texts and
 /// comments. It takes memory once, when it is made.
 #[derive(Drop)]
 pub struct Splitter {
-    kept: Kept,
+    prefix: PartPrefix,
     progress: Progress,
     stage: Stage,
 }
@@ -29,7 +29,7 @@ impl Model for Splitter {
 
     ghost Value = { Splitting };
 
-    ghost view = { λ s. record { kept = s.kept; progress = s.progress; stage = s.stage } };
+    ghost view = { λ s. record { prefix = s.prefix; progress = s.progress; stage = s.stage } };
 }
 
 impl Splitter {
@@ -38,7 +38,7 @@ impl Splitter {
         ensures { IfOk result (λ s. Begun s []) }
     {
         Ok(Splitter {
-            kept: Kept::new(alloc)?,
+            prefix: PartPrefix::new(alloc)?,
             progress: Progress::at_first(),
             stage: Stage::Begun,
         })
@@ -53,9 +53,9 @@ impl Splitter {
         ensures stage { MatchOption result (self.new.stage ≡ stage.Begun) (λ _. self.new.stage ≡ stage.Standing) }
         ensures fed { (part : List ℕ) → Begun self.old part → Feeds part piece.now result self.new }
     {
-        let found = find(self.progress, piece);
-        self.kept.carry(found.start);
-        self.kept.add(&piece[found.start..found.end]);
+        let found = find_part(self.progress, piece);
+        self.prefix.carry(found.start);
+        self.prefix.add(&piece[found.start..found.end]);
         self.progress = found.progress;
         if found.end == piece.len() {
             return None;
@@ -86,7 +86,7 @@ impl Splitter {
         requires { self.now.stage ≡ stage.Standing }
         ensures { (part : List ℕ) → Stands self.now part → MatchResult result (λ text. (length part ≤ longest_part) × (text.now ≡ part)) (λ fault. (longest_part < length part) × (fault ≡ TooLong)) }
     {
-        self.kept.text()
+        self.prefix.text()
     }
 
     /// Begins the next part, once a part stands or the script is at its end.
@@ -94,7 +94,7 @@ impl Splitter {
         requires { (self.old.stage ≡ stage.Standing) ⊎ (self.old.stage ≡ stage.Finished) }
         ensures { Begun self.new [] }
     {
-        self.kept.clear();
+        self.prefix.clear();
         self.progress = Progress::at_first();
         self.stage = Stage::Begun;
     }

@@ -4,7 +4,7 @@ use Rattle.bw_sql.specs.declared.terminal.Terminal.{Terminal}
 use Rattle.bw_sql.specs.Grammar.{Spells}
 use Rattle.bw_sql.specs.Tree.{StatementTree}
 
--- a statement so far, and what is left behind it
+-- a statement so far, and what is left after it
 abbrev pub IsStatement : List Terminal → StatementTree → List Terminal → Type 0
 IsStatement ts tree rest = rest ≡ [] → Spells ts tree
 

@@ -14,7 +14,7 @@ use Rattle.bw_sql.specs.declared.tree.Operand.{Operand}
 use Rattle.bw_sql.specs.declared.tree.SetClause.{SetClause}
 use Rattle.bw_sql.specs.Tree.{ConditionTree, StatementTree, delete, drop_table, list_tables, rebuild, update}
 use Rattle.bw_sql.specs.Grammar.{ChoicePart, ConditionPart, KindPart, ListOf, OperandPart, SetPart, Spells, choice, deletes, deletes_where, drops, lists_tables, rebuilds, rebuilds_columns, set, updates, updates_where}
-use Rattle.bw_sql.specs.Reading.{after_close, after_equals, after_from, after_set, after_table, after_using, behind_word, choice_at, choice_list_at, choices_at, condition_at, delete_at, drop_at, filter_at, kind_at, layout_at, name_at, operand_at, rebuild_at, set_at, set_to, sets_at, statement_word_at, update_at, worded_at}
+use Rattle.bw_sql.specs.Reading.{after_close, after_equals, after_from, after_set, after_table, after_using, after_word, choice_at, choice_list_at, choices_at, condition_at, delete_at, drop_at, filter_at, kind_at, layout_at, name_at, operand_at, rebuild_at, set_at, set_to, sets_at, statement_word_at, update_at, worded_at}
 use Rattle.bw_sql.specs.Words.{layout_of, layout_spelling, statement_spelling}
 use Rattle.bw_sql.proofs.Begun.{IsStatement, spelled}
 use Rattle.bw_sql.proofs.ConditionsSound.{condition_sound, operand_sound}
@@ -146,17 +146,17 @@ rebuild_sound n ts tree rest h nothing =
     let e = answers_once (rebuild a.0.0 b.0.0) tree b.0.1 rest b.2 in
     spelled (t.Name (codes "REBUILD")) ts _ (rebuild a.0.0 b.0.0) tree (name_is ts a.0.0 a.0.1 (name_sound ts a.0.0 a.0.1 a.1)) e.0 (choice_list_sound n a.0.1 b.0.1 a.0.0 b.0.0 b.1 (e.1 ∙ nothing))
 
--- a statement behind the name that begins it
-behind_sound : (n : ℕ) (word : StatementWord) (ts : List Terminal) (tree : StatementTree) (rest : List Terminal) → behind_word n word ts ≡ Some (tree, rest) → IsStatement (t.Name (statement_spelling word) ∷ ts) tree rest
-behind_sound n Tables ts tree rest h nothing =
+-- a statement after the name that begins it
+after_word_sound : (n : ℕ) (word : StatementWord) (ts : List Terminal) (tree : StatementTree) (rest : List Terminal) → after_word n word ts ≡ Some (tree, rest) → IsStatement (t.Name (statement_spelling word) ∷ ts) tree rest
+after_word_sound n Tables ts tree rest h nothing =
     let e = answers_once list_tables tree ts rest h in
     spelled (t.Name (statement_spelling Tables)) ts [] list_tables tree (e.1 ∙ nothing) e.0 lists_tables
-behind_sound n Rebuild ts tree rest h nothing = rebuild_sound n ts tree rest h nothing
-behind_sound n Load ts tree rest h nothing = load_sound ts tree rest h nothing
-behind_sound n Save ts tree rest h nothing = save_sound ts tree rest h nothing
+after_word_sound n Rebuild ts tree rest h nothing = rebuild_sound n ts tree rest h nothing
+after_word_sound n Load ts tree rest h nothing = load_sound ts tree rest h nothing
+after_word_sound n Save ts tree rest h nothing = save_sound ts tree rest h nothing
 
 pub worded_sound : (n : ℕ) (ts : List Terminal) (tree : StatementTree) (rest : List Terminal) → worded_at n ts ≡ Some (tree, rest) → IsStatement ts tree rest
 unfolding worded_at
 worded_sound n ts tree rest h =
     let a = bound (statement_word_at ts) _ (tree, rest) h in
-    subst (λ l. IsStatement l tree rest) (sym (statement_word_is ts a.0.0 a.0.1 a.1)) (behind_sound n a.0.0 a.0.1 tree rest a.2)
+    subst (λ l. IsStatement l tree rest) (sym (statement_word_is ts a.0.0 a.0.1 a.1)) (after_word_sound n a.0.0 a.0.1 tree rest a.2)

@@ -36,7 +36,7 @@ function_sound (t.Keyword word ∷ ts) f rest h =
     ap (λ w. t.Keyword w ∷ ts) (function_word_is word f r.0) ∙ ap (λ l. t.Keyword (function_word f) ∷ l) r.1
 function_sound _ f rest h = cc
 
--- what the function is of, closed behind it, makes an item
+-- what the function is of, closed after it, makes an item
 abbrev IsArgument : SetFunction → List Terminal → SelectItem → List Terminal → Type 0
 IsArgument f ts x mid = (rest : List Terminal) → mid ≡ t.Symbol s.Close ∷ rest → ItemPart (t.Keyword (function_word f) ∷ t.Symbol s.Open ∷ ts) x rest
 

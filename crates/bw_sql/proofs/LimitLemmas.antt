@@ -26,7 +26,7 @@ pub value_after-ge : (n : ℕ) (digits : List ℕ) → n ≤ value_after n digit
 value_after-ge n [] = omega arith
 value_after-ge n (d ∷ digits) = let h = value_after-ge (10 * n + (d - 48)) digits in omega (arith, h)
 
--- a number with so many digits behind it is below the power of ten
+-- a number with this many digits after it is below the power of ten
 value_after-lt : (n : ℕ) (digits : List ℕ) → IsTrue (list_all is_ascii_digit digits) → value_after n digits < (n + 1) * 10 ^ length digits
 value_after-lt n [] h = rw pow-zero (omega arith)
 value_after-lt n (d ∷ digits) h =

@@ -46,7 +46,7 @@ module _ {A : Type 0} (after : List Terminal → Option (List Terminal)) (read :
   abbrev pub AllFound : List Terminal → Read (List A) → Type 0
   AllFound old found = (n : ℕ) → length old < n → parts_at after (read n) n old ≡ found
 
-  -- what is read from rest on, with xs in front, is what is read from old on
+  -- what is read from rest on, with xs before it, is what is read from old on
   abbrev pub GoesOn : List Terminal → List A → List Terminal → ℕ → Type 0
   GoesOn old xs rest n = (m : ℕ) × (length rest < suc m) × (with_front xs (more_at after (read n) (suc m) rest) ≡ parts_at after (read n) n old)
 

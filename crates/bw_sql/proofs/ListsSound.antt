@@ -86,7 +86,7 @@ mapped f R ts (Some (x, left)) y rest h make =
     subst (λ z. R ts z rest) e.0 (make x (rw e.1 refl))
 
 module _ {A : Type 0} (after : List Terminal → Option (List Terminal)) (read : List Terminal → Read A) (One : List Terminal → A → List Terminal → Type 0) (Many : List Terminal → List A → List Terminal → Type 0) (sound : IsSound One read) (last_one : (ts : List Terminal) (x : A) (rest : List Terminal) → One ts x rest → Many ts (x ∷ []) rest) (more : (ts rest mid left : List Terminal) (x : A) (xs : List A) → One ts x rest → after rest ≡ Some mid → Many mid xs left → Many ts (x ∷ xs) left) where
-  -- x was read, and rest is left, of which some more is read behind a separator
+  -- x was read, and rest is left, of which some more is read after a separator
   ends : (m : ℕ) → IsSound Many (parts_at after read m) → (ts : List Terminal) (x : A) (rest : List Terminal) → One ts x rest → (goes_on : Option (List Terminal)) → after rest ≡ goes_on → (xs : List A) (left : List Terminal) → with_first x (go_on read (more_at after read m) rest goes_on) ≡ Some (xs, left) → Many ts xs left
   unfolding parts_at
   ends m deeper ts x rest one None stops xs left h =
@@ -140,7 +140,7 @@ pub rested : {A : Type 0} (o : Option A) (ts : List Terminal) (y : A) (rest : Li
 rested None ts y rest h = cc
 rested (Some x) ts y rest h = let e = answers_once x y ts rest h in (ap (λ z. Some z) e.0, e.1)
 
--- a number behind a sign, or behind none
+-- a number after a sign, or after none
 pub minus_is : (n : ℕ) (ts mid rest : List Terminal) (z : ℤ) → ts ≡ t.Number n ∷ mid → mid ≡ rest → n ≤ 2 ^ 63 → neg_ℤ (pos n) ≡ z → LiteralPart (t.Symbol s.Minus ∷ ts) z rest
 minus_is n ts mid rest z is same fits value = rw (is, same, ← value) (minus fits)
 

@@ -50,9 +50,9 @@ token_seen k.Text bytes left is = is_good bytes (text_says bytes) is.1 refl
 token_seen (k.Symbol symbol) bytes left is = tt
 
 module _ (text : List ℕ) where
-  -- what is left behind bytes at a place, and the bytes themselves
-  behind : (at : ℕ) (part bytes left : List ℕ) → part ≡ drop at text → part ≡ bytes ++ left → left ≡ drop (at + length bytes) text
-  behind at part bytes left here is =
+  -- what is left after bytes at a place, and the bytes themselves
+  after : (at : ℕ) (part bytes left : List ℕ) → part ≡ drop at text → part ≡ bytes ++ left → left ≡ drop (at + length bytes) text
+  after at part bytes left here is =
       sym (drop-append_seam bytes left) ∙ ap (drop (length bytes)) (sym is ∙ here) ∙ drop-drop (length bytes) at text
 
   bytes_there : (at : ℕ) (part bytes left : List ℕ) → part ≡ drop at text → part ≡ bytes ++ left → slice_range text at (at + length bytes) ≡ bytes
@@ -61,9 +61,9 @@ module _ (text : List ℕ) where
 
   all_seen : {at : ℕ} {part rest : List ℕ} {tokens : List Token} → AreTokensFrom at part rest tokens → part ≡ drop at text → Each IsSeen (terminals_of text tokens)
   all_seen (done e) here = tt
-  all_seen {at} {part} (past_separator bytes left is fits more) here = all_seen more (behind at part bytes left here is)
+  all_seen {at} {part} (past_separator bytes left is fits more) here = all_seen more (after at part bytes left here is)
   all_seen {at} {part} (past_token shape bytes left is fits more) here =
-      (subst (λ b. IsSeen (terminal_of shape b)) (sym (bytes_there at part bytes left here is)) (token_seen shape bytes left fits), all_seen more (behind at part bytes left here is))
+      (subst (λ b. IsSeen (terminal_of shape b)) (sym (bytes_there at part bytes left here is)) (token_seen shape bytes left fits), all_seen more (after at part bytes left here is))
 
 -- the columns of a CREATE TABLE
 

@@ -56,9 +56,9 @@ pub says_once : (text : List ℕ) (a b : StatementTree) → Says text a → Says
 says_once text a b x y =
     spells_once x.terminals a b x.spelled (subst (λ ts. Spells ts b) (same_terminals text y.terminals x.terminals y.are_terminals x.are_terminals) y.spelled)
 
--- A text has one fault other than want of memory, and none where it says a statement.
+-- A text has one fault at most besides out of memory, and none where it says a statement.
 
--- the first fault of tokens is that of more tokens behind them
+-- the first fault of tokens is that of more tokens after them
 more_tokens : (text : List ℕ) (a b c : List Token) (fault : SqlFault) → b ≡ a ++ c → first_limit_fault [] (terminals_of text a) ≡ Some fault → first_limit_fault [] (terminals_of text b) ≡ Some fault
 more_tokens text a b c fault is e =
     ap (λ l. first_limit_fault [] (terminals_of text l)) is

@@ -49,7 +49,7 @@ abbrev pub Gives : {X A : Type 0} → (X → A) → Result X SqlFault → List T
 Gives view (Ok x) rest read = read ≡ Some (view x, rest)
 Gives view (Err e) rest read = Fails e read
 
--- the same of a whole statement, behind which nothing is left
+-- the same of a whole statement, after which nothing is left
 abbrev pub GivesAll : {X A : Type 0} → (X → A) → Result X SqlFault → Option A → Type 0
 GivesAll view (Ok x) read = read ≡ Some (view x)
 GivesAll view (Err e) read = Fails e read
@@ -126,15 +126,15 @@ after_type (t.Keyword k.Integer ∷ ts) = Some ts
 after_type (t.Keyword k.Int ∷ ts) = Some ts
 after_type _ = None
 
--- with one more value in front
+-- with one more value first
 abbrev pub with_first : {A : Type 0} → A → Read (List A) → Read (List A)
 with_first x read = read >>= λ y. Some (x ∷ y.0, y.1)
 
--- with more values in front
+-- with more values first
 abbrev pub with_front : {A : Type 0} → List A → Read (List A) → Read (List A)
 with_front xs read = read >>= λ y. Some (xs ++ y.0, y.1)
 
--- one more value and what follows it, behind a separator; else nothing
+-- one more value and what follows it, after a separator; else nothing
 abbrev pub go_on : {A : Type 0} → (List Terminal → Read A) → (List Terminal → Read (List A)) → List Terminal → Option (List Terminal) → Read (List A)
 go_on read more rest None = Some ([], rest)
 go_on read more rest (Some ts) = read ts >>= λ x. with_first x.0 (more x.1)
@@ -283,7 +283,7 @@ range_at n x (t.Keyword k.Between ∷ ts) = bounds_at x ts
 range_at n x (t.Keyword k.In ∷ ts) = among_at n x ts
 range_at n x _ = None
 
--- what follows IS behind an operand
+-- what follows IS after an operand
 unfoldable pub null_at : Operand → List Terminal → Read ConditionTree
 null_at x (t.Keyword k.Null ∷ ts) = Some (null x, ts)
 null_at x (t.Keyword k.Not ∷ ts) = after_null ts >>= λ us. Some (negated (null x), us)
@@ -304,12 +304,12 @@ truth_at (t.Keyword k.False ∷ ts) = Some (False, ts)
 truth_at (t.Keyword k.Unknown ∷ ts) = Some (Unknown, ts)
 truth_at _ = None
 
--- what follows IS behind a condition
+-- what follows IS after a condition
 unfoldable pub is_at : ConditionTree → List Terminal → Read ConditionTree
 is_at c (t.Keyword k.Not ∷ ts) = map_first (λ word. negated (tested c word)) (truth_at ts)
 is_at c ts = map_first (tested c) (truth_at ts)
 
--- the IS test behind a condition, where there is one
+-- the IS test after a condition, where there is one
 unfoldable pub tested_at : ConditionTree → List Terminal → Read ConditionTree
 tested_at c (t.Keyword k.Is ∷ ts) = is_at c ts
 tested_at c ts = Some (c, ts)
@@ -417,14 +417,14 @@ statement_word_at (t.Name word ∷ ts) = with_rest (statement_word_of word) ts
 statement_word_at _ = None
 
 -- what follows a name that begins a statement
-abbrev pub behind_word : ℕ → StatementWord → List Terminal → Read StatementTree
-behind_word n Tables ts = Some (list_tables, ts)
-behind_word n Rebuild ts = rebuild_at n ts
-behind_word n Load ts = load_at ts
-behind_word n Save ts = save_at ts
+abbrev pub after_word : ℕ → StatementWord → List Terminal → Read StatementTree
+after_word n Tables ts = Some (list_tables, ts)
+after_word n Rebuild ts = rebuild_at n ts
+after_word n Load ts = load_at ts
+after_word n Save ts = save_at ts
 
 unfoldable pub worded_at : ℕ → List Terminal → Read StatementTree
-worded_at n ts = statement_word_at ts >>= λ word. behind_word n word.0 word.1
+worded_at n ts = statement_word_at ts >>= λ word. after_word n word.0 word.1
 
 unfoldable pub statement_at : ℕ → List Terminal → Read StatementTree
 statement_at n (t.Keyword k.Create ∷ ts) = create_at n ts

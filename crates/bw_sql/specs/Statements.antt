@@ -31,11 +31,11 @@ pub record Says (text : List ℕ) (statement : StatementTree) : Type 0 where
 abbrev pub HasBadFirst : List ℕ → Type 0
 HasBadFirst text = (tokens : List Token) × AreTokensToBad text tokens × (first_limit_fault [] (terminals_of text tokens) ≡ None)
 
--- the first token that is bad or over a limit is over this one: it is the first fault of tokens at the front of the text
+-- the first token that is bad or over a limit is over this one: it is the first fault of tokens at the start of the text
 abbrev pub IsOverLimit : SqlFault → List ℕ → Type 0
 IsOverLimit fault text = (tokens : List Token) × (rest : List ℕ) × AreTokensFrom 0 text rest tokens × (first_limit_fault [] (terminals_of text tokens) ≡ Some fault)
 
--- why the grammar can't look at a text; want of memory may stand in place of any
+-- why the grammar can't look at a text; out of memory may stand in place of any
 abbrev pub IsTerminalsFault : SqlFault → List ℕ → Type 0
 IsTerminalsFault faults.Syntax text = HasBadFirst text
 IsTerminalsFault faults.TooDeep text = IsOverLimit faults.TooDeep text
@@ -51,7 +51,7 @@ SpellsNothing terminals = (statement : StatementTree) → Spells terminals state
 abbrev pub SaysNothing : List ℕ → Type 0
 SaysNothing text = (terminals : List Terminal) × AreTerminals text terminals × SpellsNothing terminals
 
--- why a text has no statement; want of memory may stand in place of any but its length
+-- why a text has no statement; out of memory may stand in place of any but its length
 abbrev pub IsStatementFault : SqlFault → List ℕ → Type 0
 IsStatementFault faults.TooLong text = longest_statement < length text
 IsStatementFault faults.Syntax text = (length text ≤ longest_statement) × (HasBadFirst text ⊎ SaysNothing text)

@@ -60,9 +60,9 @@ ends_in_minus [] = false
 ends_in_minus (x ∷ []) = is_minus x
 ends_in_minus (x ∷ y ∷ before) = ends_in_minus (y ∷ before)
 
--- the largest number that may stand behind these
-abbrev pub largest_behind : List Terminal → ℕ
-largest_behind before = if ends_in_minus before then 2 ^ 63 else 2 ^ 63 - 1
+-- the largest number that may stand after these
+abbrev pub largest_after : List Terminal → ℕ
+largest_after before = if ends_in_minus before then 2 ^ 63 else 2 ^ 63 - 1
 
 -- a number above the largest
 abbrev pub number_fault : ℕ → Terminal → Option SqlFault
@@ -80,7 +80,7 @@ or_else (Some fault) later = Some fault
 
 -- the fault of a terminal that is over a limit, where these stand before it
 abbrev pub limit_fault : List Terminal → Terminal → Option SqlFault
-limit_fault before x = or_else (number_fault (largest_behind before) x) (depth_fault (count_by is_open before) (count_by is_close before) x)
+limit_fault before x = or_else (number_fault (largest_after before) x) (depth_fault (count_by is_open before) (count_by is_close before) x)
 
 -- the fault of the first terminal that is over a limit, where some stand before them
 abbrev pub first_limit_fault : List Terminal → List Terminal → Option SqlFault

@@ -50,7 +50,7 @@ statement_word_of word =
     else (if bytes_eq word (codes "LOAD") then Some Load
     else (if bytes_eq word (codes "SAVE") then Some Save else None)))
 
--- what the word behind WITH says of a file's first record
+-- what the word after WITH says of a file's first record
 unfoldable pub first_record_of : List ℕ → Option FirstRecord
 first_record_of word = if bytes_eq word (codes "HEADER") then Some Header else None
 

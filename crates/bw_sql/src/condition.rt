@@ -116,7 +116,7 @@ impl<'a> Parser<'a> {
         }
     }
 
-    // behind a condition: [IS [NOT] truth]
+    // after a condition: [IS [NOT] truth]
     #[tactic(auto, unfolding(crate::specs::Reading::tested_at))]
     fn tested(&mut self, condition: Condition) -> Result<Condition, SqlFault>
         ensures no_longer { OnOk result (length self.new.rest.now ≤ length self.old.rest.now) }
@@ -129,7 +129,7 @@ impl<'a> Parser<'a> {
         }
     }
 
-    // behind a condition and IS: [NOT] truth
+    // after a condition and IS: [NOT] truth
     #[tactic(auto, unfolding(crate::specs::Reading::is_at))]
     fn truth_test(&mut self, condition: Condition) -> Result<Condition, SqlFault>
         ensures no_longer { OnOk result (length self.new.rest.now ≤ length self.old.rest.now) }
@@ -191,7 +191,7 @@ impl<'a> Parser<'a> {
         }
     }
 
-    // behind an operand: compare operand | [NOT] BETWEEN .. | [NOT] IN .. | IS [NOT] NULL
+    // after an operand: compare operand | [NOT] BETWEEN .. | [NOT] IN .. | IS [NOT] NULL
     #[tactic(auto, unfolding(crate::specs::Reading::tail_at, crate::specs::Reading::range_at))]
     fn tail(&mut self, operand: Operand) -> Result<Condition, SqlFault>
         ensures shorter { OnOk result (length self.new.rest.now < length self.old.rest.now) }
@@ -229,7 +229,7 @@ impl<'a> Parser<'a> {
         }
     }
 
-    // behind an operand and a comparison: operand
+    // after an operand and a comparison: operand
     fn comparison(&mut self, operand: Operand, op: CompareOp) -> Result<Condition, SqlFault>
         ensures shorter { OnOk result (length self.new.rest.now < length self.old.rest.now) }
         ensures read { Gives condition_of result self.new.rest.now (reading.map_first (comparison operand op) (reading.operand_at self.old.rest.now)) }
@@ -238,7 +238,7 @@ impl<'a> Parser<'a> {
         Ok(Condition::Compare(operand, op, other))
     }
 
-    // behind an operand and IS: [NOT] NULL
+    // after an operand and IS: [NOT] NULL
     #[tactic(auto, unfolding(crate::specs::Reading::null_at))]
     fn null_test(&mut self, operand: Operand) -> Result<Condition, SqlFault>
         ensures shorter { OnOk result (length self.new.rest.now < length self.old.rest.now) }
@@ -253,7 +253,7 @@ impl<'a> Parser<'a> {
         }
     }
 
-    // behind an operand: BETWEEN operand AND operand | IN ( value {, value} )
+    // after an operand: BETWEEN operand AND operand | IN ( value {, value} )
     #[tactic(auto, unfolding(crate::specs::Reading::range_at))]
     fn range(&mut self, operand: Operand) -> Result<Condition, SqlFault>
         ensures shorter { OnOk result (length self.new.rest.now < length self.old.rest.now) }
@@ -268,7 +268,7 @@ impl<'a> Parser<'a> {
         }
     }
 
-    // behind an operand and BETWEEN: operand AND operand
+    // after an operand and BETWEEN: operand AND operand
     #[tactic(auto, unfolding(crate::specs::Reading::bounds_at))]
     fn between(&mut self, operand: Operand) -> Result<Condition, SqlFault>
         ensures shorter { OnOk result (length self.new.rest.now < length self.old.rest.now) }
@@ -279,7 +279,7 @@ impl<'a> Parser<'a> {
         Ok(Condition::Between(operand, low, self.operand()?))
     }
 
-    // behind an operand and IN: ( value {, value} )
+    // after an operand and IN: ( value {, value} )
     #[tactic(auto, unfolding(crate::specs::Reading::among_at))]
     fn among(&mut self, operand: Operand) -> Result<Condition, SqlFault>
         ensures shorter { OnOk result (length self.new.rest.now < length self.old.rest.now) }

@@ -2,21 +2,28 @@
 //! from the lexical layer and are passed on.
 #![tactic(auto)]
 
-mod changes;
 mod condition;
+mod create;
+mod delete;
+mod drop;
 mod file_name;
-mod files;
+mod insert;
 mod item_list;
 mod keyword;
 mod limits;
+mod load;
 mod name;
 mod name_list;
+mod open;
 mod parser;
+mod rebuild;
 mod rows;
-mod select_list;
+mod save;
+mod select;
 mod statement_text;
 mod terminal;
 mod tree;
+mod update;
 
 pub use bw_lex::{
     CompareOp, Part, Span, SqlFault, Symbol, Token, TokenKind, one_reading, one_splitting, parts,

@@ -75,7 +75,7 @@ fn short_number(digits: &[u8]) -> u64
     n
 }
 
-// The number with one more digit behind it, where 64 bits hold it.
+// The number with one more digit after it, where 64 bits hold it.
 fn with_digit(n: u64, digit: u8) -> Option<u64>
     requires { IsTrue (is_ascii_digit digit) }
     ensures { SomeIff result (10 * n + (digit - 48) < 2 ^ 64) (10 * n + (digit - 48)) }

@@ -1,4 +1,5 @@
-//! Statements out of terminals, read from the left.
+//! Statements out of terminals, read from the left: the steps that several statements share, and which statement it is. Each
+//! statement has a file of its own.
 
 ghost use Rattle.std.specs.Prelude.{◌≡◌, ◌<◌, ◌≤◌, ◌∷◌, ℕ, IfErr, IfOk, List, MatchBool, MatchResult, OnOk, length, option_map};
 ghost use Rattle.bw_sql.specs.declared.terminal.Terminal.{Terminal};
@@ -8,15 +9,12 @@ ghost use Rattle.bw_sql.specs.Reading.{Gives, GivesAll, GivesRow};
 ghost use Rattle.bw_sql.specs.Statements.{IsParseFault};
 ghost use Rattle.bw_sql.specs.Tree.{condition_of, statement_of};
 
+use crate::file_name::FileName;
 use crate::keyword::Keyword;
 use crate::name::Name;
 use crate::name_list::NameList;
-use crate::rows::ValueRows;
-use crate::terminal::Terminal;
-use crate::tree::{
-    ColumnDefinition, Condition, CreateTable, Insert, KindWord, LayoutWord, Select, Statement,
-    Value,
-};
+use crate::terminal::{StatementWord, Terminal};
+use crate::tree::{Condition, KindWord, LayoutWord, Statement, Value};
 use bw_lex::{SqlFault, Symbol};
 use std::alloc::Global;
 
@@ -110,7 +108,7 @@ impl<'a> Parser<'a> {
 
     // name {, name}
     #[tactic(auto, unfolding(crate::specs::Reading::names_at))]
-    fn names(&mut self) -> Result<NameList, SqlFault>
+    pub(crate) fn names(&mut self) -> Result<NameList, SqlFault>
         ensures shorter { OnOk result (length self.new.rest.now < length self.old.rest.now) }
         ensures read { (n : ℕ) → length self.old.rest.now < n
             → Gives (λ names. names) result self.new.rest.now (reading.names_at n self.old.rest.now) }
@@ -181,18 +179,6 @@ impl<'a> Parser<'a> {
         }
     }
 
-    // ( value {, value} ): the values go behind those that are there; says how many
-    #[tactic(auto, unfolding(crate::specs::Reading::row_at))]
-    fn row(&mut self, values: &mut Vec<Value>) -> Result<usize, SqlFault>
-        ensures shorter { OnOk result (length self.new.rest.now < length self.old.rest.now) }
-        ensures read { GivesRow values.old.items values.new.items result reading.row_at self.old.rest.now self.new.rest.now }
-    {
-        self.take(Symbol::Open)?;
-        let width = self.values(values)?;
-        self.take(Symbol::Close)?;
-        Ok(width)
-    }
-
     // value {, value}, likewise
     pub(crate) fn values(&mut self, values: &mut Vec<Value>) -> Result<usize, SqlFault>
         ensures shorter { OnOk result (length self.new.rest.now < length self.old.rest.now) }
@@ -205,34 +191,6 @@ impl<'a> Parser<'a> {
             width += 1;
         }
         Ok(width)
-    }
-
-    // tuple {, tuple}
-    #[tactic(auto, unfolding(crate::specs::Reading::rows_at))]
-    fn rows(&mut self) -> Result<ValueRows, SqlFault>
-        ensures shorter { OnOk result (length self.new.rest.now < length self.old.rest.now) }
-        ensures read { (n : ℕ) → length self.old.rest.now < n
-            → Gives (λ rows. rows) result self.new.rest.now (reading.rows_at n self.old.rest.now) }
-    {
-        let mut values = Vec::new(self.alloc);
-        let mut widths = Vec::new(self.alloc);
-        widths.push(self.row(&mut values)?)?;
-        while self.eat(Symbol::Comma) {
-            widths.push(self.row(&mut values)?)?;
-        }
-        Ok(ValueRows::new(values, widths))
-    }
-
-    // INTEGER | INT
-    fn column_type(&mut self) -> Result<(), SqlFault>
-        ensures shorter { OnOk result (length self.new.rest.now < length self.old.rest.now) }
-        ensures read { MatchResult result (λ _. reading.after_type self.old.rest.now ≡ Some self.new.rest.now) (λ fault. (fault ≡ SqlFault.Syntax) × (reading.after_type self.old.rest.now ≡ None)) }
-    {
-        if self.eat_word(Keyword::Integer) {
-            Ok(())
-        } else {
-            self.take_word(Keyword::Int)
-        }
     }
 
     // layout = P | V | H | S
@@ -250,19 +208,6 @@ impl<'a> Parser<'a> {
                 _ => Err(SqlFault::Syntax),
             },
             [] => Err(SqlFault::Syntax),
-        }
-    }
-
-    // [USING layout]
-    #[tactic(auto, unfolding(crate::specs::Reading::using_at))]
-    fn using(&mut self) -> Result<Option<LayoutWord>, SqlFault>
-        ensures no_longer { OnOk result (length self.new.rest.now ≤ length self.old.rest.now) }
-        ensures read { Gives (λ layout. layout) result self.new.rest.now (reading.using_at self.old.rest.now) }
-    {
-        if self.eat_word(Keyword::Using) {
-            Ok(Some(self.layout()?))
-        } else {
-            Ok(None)
         }
     }
 
@@ -287,82 +232,32 @@ impl<'a> Parser<'a> {
         }
     }
 
-    // coldef = name (INTEGER | INT) [USING layout] [kind]
-    #[tactic(auto, unfolding(crate::specs::Reading::column_at))]
-    fn column(&mut self) -> Result<ColumnDefinition, SqlFault>
+    // text
+    #[tactic(auto, unfolding(crate::specs::Reading::text_at))]
+    pub(crate) fn file_name(&mut self) -> Result<FileName, SqlFault>
         ensures shorter { OnOk result (length self.new.rest.now < length self.old.rest.now) }
-        ensures read { Gives (λ column. column) result self.new.rest.now (reading.column_at self.old.rest.now) }
+        ensures read { Gives (λ file. file) result self.new.rest.now (reading.text_at self.old.rest.now) }
     {
-        let name = self.name()?;
-        self.column_type()?;
-        let layout = self.using()?;
-        let kind = self.kind();
-        Ok(ColumnDefinition { name, layout, kind })
-    }
-
-    // coldef {, coldef}
-    #[tactic(auto, unfolding(crate::specs::Reading::columns_at))]
-    fn columns(&mut self) -> Result<Vec<ColumnDefinition>, SqlFault>
-        ensures shorter { OnOk result (length self.new.rest.now < length self.old.rest.now) }
-        ensures read { (n : ℕ) → length self.old.rest.now < n
-            → Gives (λ columns. columns.items) result self.new.rest.now (reading.columns_at n self.old.rest.now) }
-    {
-        let mut columns = Vec::new(self.alloc);
-        columns.push(self.column()?)?;
-        while self.eat(Symbol::Comma) {
-            columns.push(self.column()?)?;
-        }
-        Ok(columns)
-    }
-
-    // behind CREATE: TABLE name ( coldef {, coldef} )
-    #[tactic(auto, unfolding(crate::specs::Reading::create_at))]
-    fn create_table(&mut self) -> Result<Statement, SqlFault>
-        ensures shorter { OnOk result (length self.new.rest.now < length self.old.rest.now) }
-        ensures read { (n : ℕ) → length self.old.rest.now < n
-            → Gives statement_of result self.new.rest.now (reading.create_at n self.old.rest.now) }
-    {
-        self.take_word(Keyword::Table)?;
-        let table = self.name()?;
-        self.take(Symbol::Open)?;
-        let columns = self.columns()?;
-        self.take(Symbol::Close)?;
-        Ok(Statement::CreateTable(CreateTable { table, columns }))
-    }
-
-    // [( name {, name} )]
-    #[tactic(auto, unfolding(crate::specs::Reading::column_list_at))]
-    fn column_list(&mut self) -> Result<Option<NameList>, SqlFault>
-        ensures no_longer { OnOk result (length self.new.rest.now ≤ length self.old.rest.now) }
-        ensures read { (n : ℕ) → length self.old.rest.now < n
-            → Gives (λ columns. columns) result self.new.rest.now (reading.column_list_at n self.old.rest.now) }
-    {
-        if self.eat(Symbol::Open) {
-            let names = self.names()?;
-            self.take(Symbol::Close)?;
-            Ok(Some(names))
-        } else {
-            Ok(None)
+        match self.rest {
+            [first, rest @ ..] => match first {
+                Terminal::Text(text) => {
+                    self.rest = rest;
+                    Ok(text.to_file_name(self.alloc)?)
+                }
+                _ => Err(SqlFault::Syntax),
+            },
+            [] => Err(SqlFault::Syntax),
         }
     }
 
-    // behind INSERT: INTO name [( name {, name} )] VALUES tuple {, tuple}
-    #[tactic(auto, unfolding(crate::specs::Reading::insert_at))]
-    fn insert(&mut self) -> Result<Statement, SqlFault>
+    // FROM text
+    #[tactic(auto, unfolding(crate::specs::Reading::source_at))]
+    pub(crate) fn source(&mut self) -> Result<FileName, SqlFault>
         ensures shorter { OnOk result (length self.new.rest.now < length self.old.rest.now) }
-        ensures read { (n : ℕ) → length self.old.rest.now < n
-            → Gives statement_of result self.new.rest.now (reading.insert_at n self.old.rest.now) }
+        ensures read { Gives (λ file. file) result self.new.rest.now (reading.source_at self.old.rest.now) }
     {
-        self.take_word(Keyword::Into)?;
-        let table = self.name()?;
-        let columns = self.column_list()?;
-        self.take_word(Keyword::Values)?;
-        let rows = self.rows()?;
-        Ok(Statement::Insert(Insert {
-            table,
-            columns,
-            rows,
-        }))
+        self.take_word(Keyword::From)?;
+        self.file_name()
     }
 
     // [WHERE cond]
@@ -379,22 +274,37 @@ impl<'a> Parser<'a> {
         }
     }
 
-    // behind SELECT: items FROM name [WHERE cond]
-    #[tactic(auto, unfolding(crate::specs::Reading::select_at))]
-    fn select(&mut self) -> Result<Statement, SqlFault>
+    // a name that begins a statement
+    #[tactic(auto, unfolding(crate::specs::Reading::statement_word_at))]
+    fn statement_word(&mut self) -> Result<StatementWord, SqlFault>
+        ensures shorter { OnOk result (length self.new.rest.now < length self.old.rest.now) }
+        ensures read { Gives (λ word. word) result self.new.rest.now (reading.statement_word_at self.old.rest.now) }
+    {
+        match self.rest {
+            [first, rest @ ..] => match first {
+                Terminal::Name(word) => {
+                    self.rest = rest;
+                    word.statement().ok_or(SqlFault::Syntax)
+                }
+                _ => Err(SqlFault::Syntax),
+            },
+            [] => Err(SqlFault::Syntax),
+        }
+    }
+
+    // a statement that begins with a name
+    #[tactic(auto, unfolding(crate::specs::Reading::worded_at))]
+    fn worded_statement(&mut self) -> Result<Statement, SqlFault>
         ensures shorter { OnOk result (length self.new.rest.now < length self.old.rest.now) }
         ensures read { (n : ℕ) → length self.old.rest.now < n
-            → Gives statement_of result self.new.rest.now (reading.select_at n self.old.rest.now) }
+            → Gives statement_of result self.new.rest.now (reading.worded_at n self.old.rest.now) }
     {
-        let items = self.items()?;
-        self.take_word(Keyword::From)?;
-        let table = self.name()?;
-        let condition = self.filter()?;
-        Ok(Statement::Select(Select {
-            items,
-            table,
-            condition,
-        }))
+        match self.statement_word()? {
+            StatementWord::Tables => Ok(Statement::ListTables),
+            StatementWord::Rebuild => self.rebuild(),
+            StatementWord::Load => self.load(),
+            StatementWord::Save => self.save(),
+        }
     }
 
     // statement
@@ -439,7 +349,7 @@ fn negative(n: u64) -> Option<i64>
     i64::try_from(-i128::from(n)).ok()
 }
 
-// The statement that the terminals spell, with nothing left behind it.
+// The statement that the terminals spell, with nothing left after it.
 #[tactic(auto, unfolding(crate::specs::Reading::whole_at))]
 fn read_whole(alloc: Global, terminals: &[Terminal]) -> Result<Statement, SqlFault>
     ensures { (n : ℕ) → length terminals.now < n → GivesAll statement_of result (reading.whole_at n terminals.now) }

@@ -42,8 +42,7 @@ fn short_statement(alloc: Global, text: &[u8]) -> Result<Statement, SqlFault>
     parse(alloc, &terminals)
 }
 
-/// A text says one statement at most, and none where it has a fault other than want of memory. It
-/// has one such fault at most.
+/// A text says one statement at most, and none where it has a fault other than `Memory`. It has one such fault at most.
 pub fn one_statement()
     ensures same { (text : List ℕ) (a b : StatementTree) → Says text a → Says text b → a ≡ b }
     ensures no_fault { (text : List ℕ) (a : StatementTree) (fault : AnyFault) → Says text a → IsStatementFault fault text → fault ≡ SqlFault.Memory }

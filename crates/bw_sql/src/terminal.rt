@@ -80,7 +80,7 @@ impl<'a> NameWord<'a> {
         kind_word(self.bytes)
     }
 
-    /// What it says of a file's first record behind WITH.
+    /// What it says of a file's first record after WITH.
     pub(crate) fn first_record(&self) -> Option<FirstRecord>
         ensures { result ≡ first_record_of self.now }
     {

@@ -1,6 +1,0 @@
-use Rattle.std.proofs.Common.{vec_len, ◌≡◌}
-use Rattle.bw_code.specs.Columns.{Fit}
-use Rattle.bw_layout_rows.proofs.codes.other_codes.Given as goal
-
-abbrev pub invariant-loop-row : goal.invariant-loop-row
-invariant-loop-row g l = record { count : vec_len l.codes ≡ l.row; fit : Fit l.width l.codes.items }

@@ -1,8 +1,0 @@
-use Rattle.std.proofs.Common.{◌≡◌}
-use Rattle.bw_layout_rows.proofs.slice_planes.check_planes.Given as goal
-
-abbrev pub invariant-loop-unit : goal.invariant-loop-unit
-invariant-loop-unit g l = record {
-  units : l.planes.units ≡ l.initial.planes.units;
-  reads : l.planes.reads ≡ l.unit;
-}

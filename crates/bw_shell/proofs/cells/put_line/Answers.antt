@@ -1,9 +1,0 @@
-use Rattle.std.proofs.Common.{codes}
-use Rattle.bw_shell.proofs.Texts.{front_before, wrote_front, wrote_whole}
-use Rattle.bw_shell.proofs.cells.put_line.Goals as goal
-
-pub returns-in_err-put_cells : goal.returns-in_err-put_cells
-returns-in_err-put_cells g c = wrote_front _ _ _ _ c.from_residual.ensures.0 (front_before _ _ _ (codes "\n") c.in_err-put_cells.ensures)
-
-pub returns : goal.returns
-returns g c = wrote_whole _ _ _ _ _ _ c.in_ok-put_cells.ensures c.put.ensures

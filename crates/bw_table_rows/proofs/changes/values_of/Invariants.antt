@@ -1,5 +1,0 @@
-use Rattle.std.proofs.Common.{vec_len, ◌≡◌}
-use Rattle.bw_table_rows.proofs.changes.values_of.Given as goal
-
-abbrev pub invariant-loop-row : goal.invariant-loop-row
-invariant-loop-row g l = vec_len l.values ≡ l.row

@@ -1,0 +1,78 @@
+//! Files as large as they may be, and files that fill a table.
+
+use crate::harness::{check_over_file, repeated};
+
+// The most bytes of a file.
+const MOST_BYTES: usize = 268_435_456;
+
+const LOADED_ROWS: usize = 1_048_576;
+
+// A file of one byte more than a file may have, and one of this many.
+#[test]
+fn a_file_too_large(rt: HostRuntime) {
+    let script = [(
+        "CREATE TABLE t (a INT); LOAD t FROM 'f'; OPEN u FROM 'f';",
+        1,
+    )];
+    let mut bytes = Vec::new(rt.alloc());
+    bytes.resize(MOST_BYTES + 1, b'x').expect(&rt, "memory");
+    let too_large = [(
+        "ok\nerror 46: file too large\nerror 46: file too large\n",
+        1,
+    )];
+    check_over_file(&rt, &bytes, &script, &too_large);
+    bytes.truncate(MOST_BYTES);
+    let read = [(
+        "ok\nerror 43: record 1 field 1 is not an integer\nerror 44: not a table file\n",
+        1,
+    )];
+    check_over_file(&rt, &bytes, &script, &read);
+}
+
+// Sixteen files fill a table, and one row more is one too many; where they are deleted there is room again.
+#[test]
+fn a_table_filled_from_a_file(rt: HostRuntime) {
+    let lines = repeated(&rt, "", "1\n", LOADED_ROWS, "");
+    check_over_file(
+        &rt,
+        lines.as_bytes(),
+        &[
+            ("CREATE TABLE t (a INT);", 1),
+            ("LOAD t FROM 'f';", 16),
+            ("LOAD t FROM 'f';INSERT INTO t VALUES (2);", 1),
+            ("DELETE FROM t; INSERT INTO t VALUES (2);", 1),
+            ("SELECT COUNT(*) FROM t;", 1),
+        ],
+        &[
+            ("ok\n", 1),
+            ("ok 1048576\n", 16),
+            ("error 28: table full\nerror 28: table full\n", 1),
+            ("ok 16777216\nok 1\nCOUNT(*)\n1\nrows 1\n", 1),
+        ],
+    );
+}
+
+// Four columns of 32 bits: 4 * 4 * 16,777,216 bytes of cells alone are as many as a file may have.
+#[test]
+fn a_table_too_large_for_a_file(rt: HostRuntime) {
+    let first = "-2147483648,-2147483648,-2147483648,-2147483648\n";
+    let other = "2147483647,2147483647,2147483647,2147483647\n";
+    let lines = repeated(&rt, first, other, LOADED_ROWS - 1, "");
+    check_over_file(
+        &rt,
+        lines.as_bytes(),
+        &[
+            ("CREATE TABLE t (a INT, b INT, c INT, d INT);", 1),
+            ("LOAD t FROM 'f';", 16),
+            ("SAVE t TO 'g';OPEN u FROM 'g';", 1),
+        ],
+        &[
+            ("ok\n", 1),
+            ("ok 1048576\n", 16),
+            (
+                "error 46: file too large\nerror 40: file cannot be read\n",
+                1,
+            ),
+        ],
+    );
+}

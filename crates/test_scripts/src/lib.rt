@@ -1,0 +1,32 @@
+//! Worked examples as tests: scripts with the replies that the language's rules give them, and each call that may run out of
+//! memory, seen answering.
+#![tactic(auto)]
+
+#[cfg(test)]
+mod calls;
+#[cfg(test)]
+mod changes;
+#[cfg(test)]
+mod conditions;
+#[cfg(test)]
+mod contents;
+#[cfg(test)]
+mod files;
+#[cfg(test)]
+mod functions;
+#[cfg(test)]
+mod harness;
+#[cfg(test)]
+mod large;
+#[cfg(test)]
+mod limits;
+#[cfg(test)]
+mod refusals;
+#[cfg(test)]
+mod seen;
+#[cfg(test)]
+mod selects;
+#[cfg(test)]
+mod splitting;
+#[cfg(test)]
+mod tables;

@@ -1,0 +1,236 @@
+//! Tables of columns called 0, 1, 2 and so on, changed and read. Where memory runs out, a test fails.
+
+ghost use Rattle.std.specs.Prelude.{All, length, ◌<◌, ◌≡◌};
+ghost use Rattle.bw_column.specs.Values.{IsNullOrInteger};
+ghost use Rattle.bw_mask.specs.Masks.{len};
+ghost use Rattle.bw_table.specs.Changes.{IsSetTo};
+
+use bw_code::{Encoding, Header, Kind, Layout};
+use bw_mask::Mask;
+use bw_table::{Rows, SetTo, Table};
+use std::process::Abort;
+
+/// A value or null.
+pub(crate) type Cell = Option<i32>;
+
+/// What a column is set to.
+#[derive(Clone, Copy)]
+pub(crate) enum To {
+    Value(Cell),
+    Column(usize),
+}
+
+/// Headers of columns in these layouts and of these kinds.
+fn headers_of<R: Abort + AllocGlobal>(rt: &R, columns: &[(Layout, Kind)]) -> Vec<Header<usize>> {
+    let mut headers = Vec::new(rt.alloc());
+    for (layout, kind) in columns {
+        let header = Header {
+            name: headers.len(),
+            layout: *layout,
+            kind: *kind,
+        };
+        headers.push(header).expect(rt, "memory");
+    }
+    headers
+}
+
+/// A table without slots, of columns in these layouts and of these kinds.
+pub(crate) fn table_of<R: Abort + AllocGlobal>(rt: &R, columns: &[(Layout, Kind)]) -> Table<usize> {
+    Table::create(rt.alloc(), headers_of(rt, columns)).expect(rt, "memory")
+}
+
+/// A table made of two columns of three cells.
+pub(crate) fn opened<R: Abort + AllocGlobal>(
+    rt: &R,
+    columns: &[(Layout, Kind)],
+    first: [Cell; 3],
+    second: [Cell; 3],
+) -> Table<usize> {
+    let headers = headers_of(rt, columns);
+    assert!(rt; headers.len() == 2);
+    let (first, second) = (wide_cells(rt, &first), wide_cells(rt, &second));
+    assert!(rt; first.len() == 3 && second.len() == 3);
+    let cells = [first.as_slice(), second.as_slice()];
+    Table::of_columns(rt.alloc(), headers, 3, &cells).expect(rt, "memory")
+}
+
+/// The value, as a column takes it.
+pub(crate) fn wide(cell: Cell) -> Option<i64>
+    ensures { IsNullOrInteger result }
+{
+    match cell {
+        Some(x) => Some(x as i64),
+        None => None,
+    }
+}
+
+#[tactic(auto, using(crate::proofs::Flat::one_more))]
+fn wide_cells<R: Abort + AllocGlobal>(rt: &R, cells: &[Cell]) -> Vec<Option<i64>>
+    ensures { All IsNullOrInteger result.items }
+{
+    let mut wide_cells = Vec::new(rt.alloc());
+    for i in 0..cells.len() {
+        wide_cells.push(wide(cells[i])).expect(rt, "memory");
+    }
+    wide_cells
+}
+
+/// Inserts the rows that lie one after the other in the cells.
+#[tactic(auto, using(crate::proofs::Flat::are_whole, crate::proofs::Flat::are_wide, crate::proofs::Flat::are_integers))]
+pub(crate) fn insert<R: Abort + AllocGlobal>(rt: &R, table: &mut Table<usize>, cells: &[Cell]) {
+    let width = table.headers().len();
+    let cells = wide_cells(rt, cells);
+    assert!(rt; width > 0);
+    assert!(rt; cells.len() / width * width == cells.len());
+    let rows = Rows::new(width, &cells);
+    assert!(rt; rows.len() == cells.len() / width);
+    table.insert(rt.alloc(), &rows).expect(rt, "inserted");
+}
+
+fn see_integer(cell: Cell)
+    ensures { IsNullOrInteger cell }
+{
+    match cell {
+        Some(_) | None => (),
+    }
+}
+
+/// Says that each cell is null or an INTEGER: 32 bits hold no other.
+fn see_integers(cells: &[Cell])
+    ensures { All IsNullOrInteger cells.now }
+{
+    for cell in cells {
+        see_integer(*cell);
+    }
+}
+
+/// Inserts the rows that lie one after the other in the cells, in the form that the rows of a file have.
+#[tactic(auto, using(crate::proofs::Flat::are_whole, crate::proofs::Flat::are_wide, crate::proofs::Flat::are_integers))]
+pub(crate) fn load<R: Abort + AllocGlobal>(rt: &R, table: &mut Table<usize>, cells: &[Cell]) {
+    let width = table.headers().len();
+    see_integers(cells);
+    assert!(rt; width > 0);
+    assert!(rt; cells.len() / width * width == cells.len());
+    let rows = Rows::of_integers(width, cells);
+    assert!(rt; rows.len() == cells.len() / width);
+    table.insert(rt.alloc(), &rows).expect(rt, "inserted");
+}
+
+/// The slots of a table that are the live ones picked by the bits of a word, counted round.
+pub(crate) fn picked<R: Abort + AllocGlobal>(rt: &R, table: &Table<usize>, word: u64) -> Mask
+    ensures { len result ≡ length table.now.slots }
+{
+    let mut found = Mask::filled(rt.alloc(), table.slot_count(), false).expect(rt, "memory");
+    let mut row: usize = 0;
+    for i in 0..table.slot_count() {
+        if table.live().get(i) {
+            found.set(i, word >> (row % 64) & 1 == 1);
+            row += 1;
+        }
+    }
+    found
+}
+
+/// What a column is set to, as a table of this many columns takes it.
+fn set_to(columns: usize, to: To) -> SetTo
+    requires { 0 < columns }
+    ensures { IsSetTo columns result }
+{
+    match to {
+        To::Value(cell) => SetTo::Value(wide(cell)),
+        To::Column(k) => SetTo::Column(k % columns),
+    }
+}
+
+/// Sets a column in the picked rows.
+pub(crate) fn set_one<R: Abort + AllocGlobal>(
+    rt: &R,
+    table: &mut Table<usize>,
+    word: u64,
+    set: (usize, To),
+) {
+    let columns = table.headers().len();
+    assert!(rt; set.0 < columns);
+    let found = picked(rt, table, word);
+    let sets = [(set.0, set_to(columns, set.1))];
+    table
+        .update(rt.alloc(), &found, &sets)
+        .expect(rt, "updated");
+}
+
+/// Sets two columns in the picked rows.
+pub(crate) fn set_two<R: Abort + AllocGlobal>(
+    rt: &R,
+    table: &mut Table<usize>,
+    word: u64,
+    set: (usize, To),
+    other: (usize, To),
+) {
+    let columns = table.headers().len();
+    assert!(rt; set.0 < columns);
+    assert!(rt; other.0 < columns);
+    assert!(rt; set.0 != other.0);
+    let found = picked(rt, table, word);
+    let sets = [
+        (set.0, set_to(columns, set.1)),
+        (other.0, set_to(columns, other.1)),
+    ];
+    table
+        .update(rt.alloc(), &found, &sets)
+        .expect(rt, "updated");
+}
+
+/// Deletes the picked rows.
+pub(crate) fn delete<R: Abort + AllocGlobal>(rt: &R, table: &mut Table<usize>, word: u64) {
+    let found = picked(rt, table, word);
+    table.delete(&found);
+}
+
+/// The rows of a table, one after the other.
+pub(crate) fn rows_of<R: Abort + AllocGlobal>(rt: &R, table: &Table<usize>) -> Vec<Option<i64>> {
+    let mut cells = Vec::new(rt.alloc());
+    for slot in 0..table.slot_count() {
+        if table.live().get(slot) {
+            for column in 0..table.headers().len() {
+                cells.push(table.fetch(slot, column)).expect(rt, "memory");
+            }
+        }
+    }
+    cells
+}
+
+/// Checks that a table has these rows, one after the other.
+pub(crate) fn check_rows<R: Abort + AllocGlobal>(rt: &R, table: &Table<usize>, cells: &[Cell]) {
+    let wanted = wide_cells(rt, cells);
+    assert!(rt; rows_of(rt, table).as_slice() == wanted.as_slice());
+}
+
+/// Checks that a table has these rows at its end, one after the other, and this many slots.
+pub(crate) fn check_last<R: Abort + AllocGlobal>(
+    rt: &R,
+    table: Table<usize>,
+    cells: &[Cell],
+    slots: usize,
+) {
+    check_rows(rt, &table, cells);
+    assert!(rt; table.slot_count() == slots);
+}
+
+/// An offset's base and width, where there is such a column and it has one.
+pub(crate) fn span_of(table: &Table<usize>, column: usize) -> Option<(i64, u32)> {
+    if column >= table.headers().len() {
+        return None;
+    }
+    match table.column(column).encoding() {
+        Encoding::Offset(offset) => Some((offset.base, offset.width)),
+        Encoding::Dictionary(_) => None,
+    }
+}
+
+/// A column's name, layout and kind by its header.
+pub(crate) fn header_of(table: &Table<usize>, column: usize) -> Option<(usize, Layout, Kind)> {
+    match table.headers().get(column) {
+        Some(header) => Some((header.name, header.layout, header.kind)),
+        None => None,
+    }
+}
