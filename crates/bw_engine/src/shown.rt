@@ -158,4 +158,3 @@ fn show_row(values: &mut Vec<Value>, runs: &[Run], i: usize) -> Result<(), Alloc
     }
     Ok(())
 }
-
