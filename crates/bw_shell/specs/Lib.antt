@@ -1,5 +1,6 @@
 pub mod Answering
 pub mod Answers
+pub mod Conversations
 pub mod Elsewhere
 pub mod Folders
 pub mod Handing
