@@ -3,12 +3,14 @@
 
 It tells small statements one by one, rows of two columns of random 32-bit values in and out, of which one in ten of the second is
 NULL, and a COUNT. Times are wall times, since two processes take part: the least of some rounds, in which all take turns. The program is
-what the environment variable BITCOL names, or the one that `rt run` builds in crates/bitcol.
+what the environment variable BITCOL names, or the one that `rt run` builds in crates/bitcol. Small statements are told of the library
+too, where BITCOL_LIBRARY names it.
 
     python3 bench/from_python.py [ROWS [COUNTED]]      how many rows go in and out, and are counted; 1000000 and 4194304 if not given
 """
 
 import array
+import contextlib
 import gc
 import os
 import random
@@ -82,24 +84,38 @@ def own_seconds(statement):
 def time_statements():
     rows = [(row, -row) for row in range(SMALL_ROWS)]
     other = sqlite(rows)
-    with bitcol.Session(program()) as session:
-        session.write_table("t", dict(zip(["a", "b"], zip(*rows))))
-        require(session.execute("SELECT b FROM t WHERE a = ?", (50,)).rows() == [(-50,)], "a row")
+    with contextlib.ExitStack() as open_sessions:
+        stores = {name: open_sessions.enter_context(session) for name, session in sessions().items()}
+        for session in stores.values():
+            session.write_table("t", dict(zip(["a", "b"], zip(*rows))))
+            require(session.execute("SELECT b FROM t WHERE a = ?", (50,)).rows() == [(-50,)], "a row")
         for what, statement, values in (
             ("SELECT of one row of 100", "SELECT b FROM t WHERE a = ?", (50,)),
             ("SUM of 100 rows", "SELECT SUM(b) FROM t", ()),
             ("UPDATE of one row of 100", "UPDATE t SET b = ? WHERE a = ?", (-7, 7)),
         ):
-            calls = {
-                "bitcol": lambda: [ask(session, statement, values) for _ in range(STATEMENTS)],
-                "sqlite3": lambda: [other.execute(statement, values).fetchall() for _ in range(STATEMENTS)],
-            }
+            calls = {name: repeated(ask, session, statement, values) for name, session in stores.items()}
+            calls["sqlite3"] = repeated(lambda: other.execute(statement, values).fetchall())
             took = {name: seconds / STATEMENTS for name, seconds in quickest(calls, STATEMENT_ROUNDS).items()}
             own = own_seconds(bitcol.script.bound(statement, values))
-            print(
-                f"{what}: {1 / took['bitcol']:,.0f} a second, sqlite3 {took['bitcol'] / took['sqlite3']:.1f} times as many;"
-                f" {(took['bitcol'] - own) * 1e6:.1f} microseconds more than the program's own {own * 1e6:.1f}"
-            )
+            for name in stores:
+                print(
+                    f"{what}, {name}: {1 / took[name]:,.0f} a second, sqlite3 {took[name] / took['sqlite3']:.1f} times as many;"
+                    f" {(took[name] - own) * 1e6:.1f} microseconds more than the program's own {own * 1e6:.1f}"
+                )
+
+
+def repeated(call, *arguments):
+    """A call that makes this one as often as a round has statements."""
+    return lambda: [call(*arguments) for _ in range(STATEMENTS)]
+
+
+def sessions():
+    """Sessions over the program, and over the library where there is one, by their names in what is printed."""
+    made = {"bitcol": bitcol.Session(program())}
+    if "BITCOL_LIBRARY" in os.environ:
+        made["library"] = bitcol.Session(door=bitcol.Library())
+    return made
 
 
 def ask(session, statement, values):

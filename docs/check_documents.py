@@ -26,13 +26,14 @@ ROOT = Path(__file__).resolve().parent.parent
 LONGEST_LINE = 120
 PRUNED = {".git", "out", "__pycache__", "must-fail"}
 SOURCES = ("crates/*/src", "crates/*/specs", "crates/*/proofs", "bench", "clients", "examples", "docs")
-SOURCE_KINDS = {".rt", ".antt", ".py", ".sql"}
-FILE_KINDS = {"rt", "antt", "py", "md", "sql", "out", "csv", "svg", "txt", "toml", "json"}
+SOURCE_KINDS = {".rt", ".antt", ".py", ".sql", ".c", ".h", ".rs"}
+FILE_KINDS = {"rt", "antt", "py", "md", "sql", "out", "csv", "svg", "txt", "toml", "json", "c", "h", "rs"}
 
 # What documents may name that the sources don't: the kit's command and crates, and tools of the host.
 FOREIGN = {
     "rt", "csv", "byteorder", "indexmap", "itoa", "clap", "memchr", "std",
-    "sqlite3", "git", "python3", "clang", "glibc", "madvise", "perf", "g++",
+    "sqlite3", "git", "python3", "clang", "glibc", "madvise", "perf", "g++", "cargo", "nm",
+    "malloc", "memcpy", "memmove", "memset",
 }
 FOREIGN_PATTERNS = [re.compile(p) for p in (r"rattle-kit-\w+", r"GLIBC_TUNABLES", r"glibc\..*", r"TIME_RT_\w+")]
 
@@ -54,7 +55,7 @@ def walk(top):
 
 
 def without_comments(path, text):
-    if path.suffix == ".rt":
+    if path.suffix in (".rt", ".rs", ".c", ".h"):
         text = re.sub(r"/\*.*?\*/", " ", text, flags=re.S)
         return re.sub(r"//.*", " ", text)
     if path.suffix == ".antt":
@@ -90,7 +91,7 @@ def members():
     """Of each type and trait of the crates, the names of its functions, variants and fields."""
     found = {}
     item = re.compile(r"^(?:pub(?:\([^)]*\))? )?(?:unsafe )?(impl|trait|enum|struct)\b([^{;]*)[{;(]?", re.M)
-    for top in ROOT.glob("crates/*/src"):
+    for top in [*ROOT.glob("crates/*/src"), ROOT / "clients/rust/src"]:
         for path in walk(top):
             text = without_comments(path, path.read_text(encoding="utf-8", errors="replace"))
             for match in item.finditer(text):

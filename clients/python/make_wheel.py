@@ -3,7 +3,8 @@
 
     make_wheel.py [FOLDER]      into this folder, which is made if it isn't there; by default the working directory
 
-The program is what the environment variable BITCOL names, or crates/bitcol/out/bitcol. pip calls build_wheel where it
+The program is what the environment variable BITCOL names, or crates/bitcol/out/bitcol. The shared library that
+BITCOL_LIBRARY names goes in too; without that variable there is none in the wheel. pip calls build_wheel where it
 is asked for this folder. The same files make the same bytes.
 """
 
@@ -50,12 +51,21 @@ def program() -> Path:
     return path
 
 
+def library() -> Path | None:
+    """The shared library that goes into the wheel, if one is to."""
+    named = os.environ.get("BITCOL_LIBRARY")
+    return Path(named) if named else None
+
+
 def members(version: str, tag: str) -> Iterator[Member]:
     """All files of the wheel but RECORD."""
     for path in sorted((HERE / "bitcol").rglob("*")):
         if path.suffix in SUFFIXES:
             yield Member(path.relative_to(HERE).as_posix(), path.read_bytes())
     yield Member("bitcol/bin/bitcol", program().read_bytes(), PROGRAM)
+    shared = library()
+    if shared is not None:
+        yield Member("bitcol/lib/libbitcol.so", shared.read_bytes(), PROGRAM)
     about = f"bitcol-{version}.dist-info"
     metadata = (
         f"Metadata-Version: 2.1\nName: bitcol\nVersion: {version}\n"

@@ -49,6 +49,7 @@ from .errors import (
     StoreRefused,
     Warning,
 )
+from .library import Library, find_library
 from .program import find_program
 from .reply import Reply
 from .script import quoted
@@ -79,6 +80,7 @@ __all__ = [
     "InternalError",
     "Kind",
     "Layout",
+    "Library",
     "NotSupportedError",
     "OperationalError",
     "ProgramEnded",
@@ -97,6 +99,7 @@ __all__ = [
     "Warning",
     "apilevel",
     "connect",
+    "find_library",
     "find_program",
     "paramstyle",
     "quoted",

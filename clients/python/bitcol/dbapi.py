@@ -13,6 +13,7 @@ from types import TracebackType
 from typing import Any
 
 from . import errors
+from .door import Door
 from .errors import InterfaceError, NotSupportedError
 from .reply import Reply, Row
 from .script import PathLike
@@ -53,9 +54,11 @@ def TimeFromTicks(ticks: float) -> datetime.time:  # noqa: N802 - PEP 249 gives 
     return datetime.datetime.fromtimestamp(ticks).time()
 
 
-def connect(program: PathLike | None = None, folder: PathLike | None = None) -> Connection:
+def connect(
+    program: PathLike | None = None, folder: PathLike | None = None, *, door: Door | None = None
+) -> Connection:
     """A connection to a store of its own, which is empty and ends with it. See Session for the arguments."""
-    return Connection(Session(program, folder))
+    return Connection(Session(program, folder, door=door))
 
 
 class Connection:

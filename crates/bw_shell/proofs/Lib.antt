@@ -1,8 +1,10 @@
 pub mod ByFolder
+pub mod Conversed
 pub mod EarlyEnds
 pub mod FileFailures
 pub mod FileMaps
 pub mod Items
+pub mod Joined
 pub mod Layouts
 pub mod LineLemmas
 pub mod OneAnswer

@@ -1,4 +1,5 @@
 pub mod Answers
+pub mod Conversations
 pub mod Elsewhere
 pub mod FileReading
 pub mod FileWriting

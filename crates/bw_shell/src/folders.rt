@@ -1,7 +1,7 @@
 //! Folders, where a statement's files lie.
 
-ghost use Rattle.std.specs.Prelude.{◌≡◌, ℕ, ◌<◌, ◌≤◌, ◌^◌, [], None, Option, Some, IfErr, IfOk, length};
-ghost use Rattle.bw_shell.specs.Folders.{Files, IsWriteFault, Reads, Writes, failures_after};
+ghost use Rattle.std.specs.Prelude.{◌≡◌, ℕ, ◌<◌, ◌≤◌, ◌^◌, [], None, Option, Some, IfErr, IfOk, MatchOption, length};
+ghost use Rattle.bw_shell.specs.Folders.{Files, IsWriteFault, Reads, Writes, failures_after, file_of};
 ghost use Rattle.bw_shell.specs.declared.folders.FolderFault.TheVariants.{Memory};
 
 use std::alloc::{AllocError, AllocFailed, Global};
@@ -90,6 +90,14 @@ impl MemoryFolder {
             alloc,
             files: BTreeMap::new(alloc),
         }
+    }
+
+    /// The bytes of a file, where it is there.
+    pub fn file(&self, name: &str) -> Option<&[u8]>
+        ensures { MatchOption result (file_of self.now name.now ≡ None) (λ bytes. file_of self.now name.now ≡ Some bytes.now) }
+    {
+        let bytes = self.files.get(name)?;
+        Some(bytes.as_slice())
     }
 }
 

@@ -15,6 +15,7 @@ ghost use Rattle.bw_model.specs.declared.refusal.Refusal.TheVariants.{Unreadable
 ghost use Rattle.bw_model.specs.declared.reply.Reply.{Reply as AnyReply};
 ghost use Rattle.bw_model.specs.declared.reply.Reply.TheVariants.{Count, Refused};
 ghost use Rattle.bw_shell.specs.Answers.{Answers, CannotRead, RunsOutOfMemory};
+ghost use Rattle.bw_shell.specs.Conversations.{EndsAtCut, Responds, RespondsInTurn};
 ghost use Rattle.bw_shell.specs.Elsewhere.{IsNoSaveTo};
 ghost use Rattle.bw_shell.specs.Opening.{Opens};
 ghost use Rattle.bw_shell.specs.Output.{IsOutput};
@@ -98,4 +99,12 @@ pub fn layouts_never_show()
 pub fn early_ends_stay()
     ensures { (on_error : WhatThen) (read : HowRead) (end : HowEnded) (script more : List ℕ) (state last : State) (parts all : List AnyPart) (bytes : List ℕ) → AreParts script parts → AreParts (script ++ more) all → end ≢ ReadFault
         → Session on_error Fault script state parts end bytes last → Session on_error read (script ++ more) state all end bytes last }
+{}
+
+/// Two scripts that are answered one after the other are answered as the script of both, where the first ends after a `;` (or has
+/// no byte): each way to answer the two in turn answers the one, and each way to answer the one answers the two in turn. Where the run of
+/// the first ends at one of its parts, the second isn't answered.
+pub fn scripts_join()
+    ensures joined { (on_error : WhatThen) (script other : List ℕ) (state : State) (old new : List ℕ) (end : HowEnded) (last : State) → EndsAtCut script → RespondsInTurn on_error script other state old new end last → Responds on_error (script ++ other) state old new end last }
+    ensures split { (on_error : WhatThen) (script other : List ℕ) (state : State) (old new : List ℕ) (end : HowEnded) (last : State) → EndsAtCut script → Responds on_error (script ++ other) state old new end last → RespondsInTurn on_error script other state old new end last }
 {}

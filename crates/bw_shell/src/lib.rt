@@ -2,6 +2,7 @@
 #![tactic(auto)]
 
 mod backward_text;
+mod conversation;
 mod executing;
 mod folders;
 mod host_folder;
@@ -13,11 +14,13 @@ mod running;
 mod session;
 mod writing;
 
+pub use conversation::Conversation;
 pub use folders::{Folder, FolderFault, MemoryFolder};
 pub use host_folder::HostFolder;
 pub use laws::{
     early_ends_stay, file_errors_are_failures, layouts_never_show, one_output, other_files_stay,
     output_determines_replies, replies_are_written, saved_tables_open, saved_tables_open_later,
+    scripts_join,
 };
 pub use reading::ScriptEnd;
 pub use reply_text::write_reply;

@@ -1,6 +1,6 @@
 //! The parts of a script answered one after the other, while it is read.
 
-ghost use Rattle.std.specs.Prelude.{◌≡◌, ◌≤◌, ◌<◌, ◌+◌, ◌^◌, IfOk, List, MatchResult, [], length, ℕ};
+ghost use Rattle.std.specs.Prelude.{◌≡◌, ◌≤◌, ◌<◌, ◌+◌, ◌^◌, IfOk, IfSome, List, MatchResult, [], length, ℕ};
 ghost use Rattle.bw_lex.specs.declared.fault.SqlFault.TheVariants.{TooLong};
 ghost use Rattle.bw_engine.specs.Stores.{store_of};
 ghost use Rattle.bw_model.specs.ReplyText.{reply_text};
@@ -63,6 +63,7 @@ impl Session {
             (with_store (store_of self.new.engine) (seen (F.files folder.new) (F.failure_count folder.new))) }
         ensures failures { F.failure_count folder.new ≤ F.failure_count folder.old + length piece.now }
         ensures on_error { self.new.on_error ≡ self.old.on_error }
+        ensures begun { IfSome result (λ _. Begun self.new.splitter []) }
     {
         let mut rest = piece;
         while let Some(taken) = self.splitter.feed(rest) {
@@ -82,11 +83,14 @@ impl Session {
     ) -> RunEnd
         requires begun { self.old.splitter.stage ≡ stage.Begun }
         requires failures { F.failure_count folder.old < 2 ^ 63 }
-        ensures { (part : List ℕ) → Begun self.old.splitter part
+        ensures answers { (part : List ℕ) → Begun self.old.splitter part
             → AnswersRest self.old.on_error part (with_store (store_of self.old.engine) (seen (F.files folder.old) (F.failure_count folder.old))) (W.contents writer.old) (W.contents writer.new) result
             (with_store (store_of self.new.engine) (seen (F.files folder.new) (F.failure_count folder.new))) }
+        ensures begun { Begun self.new.splitter [] }
+        ensures on_error { self.new.on_error ≡ self.old.on_error }
     {
         if !self.splitter.finish() {
+            self.splitter.clear();
             return RunEnd::Done;
         }
         match self.answer_part(writer, folder, false) {

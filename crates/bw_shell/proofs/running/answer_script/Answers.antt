@@ -53,7 +53,7 @@ pub returns-in-End-Reached : goal.returns-in-End-Reached
 returns-in-End-Reached g c =
     let so = c.loop-n.invariant.part in
     let gives = rw c.in-End-Reached.field-0-is at c.in-End-Reached.ensures in
-    let answers = rw c.loop-n.invariant.on_error at (c.answer_rest.ensures so.0 so.1.0) in
+    let answers = rw c.loop-n.invariant.on_error at (c.answer_rest.ensures.answers so.0 so.1.0) in
     ends_reached _ _ _ _ _ _ _ so.0 _ so.1.1 _ _ c.read_piece.new.buffer c.answer_rest.result (store_of c.answer_rest.new.self.engine) _ gives answers
 
 pub returns-in-End-Fault : goal.returns-in-End-Fault

@@ -1,0 +1,4 @@
+pub mod Files
+pub mod Following
+pub mod Handles
+pub mod Statuses

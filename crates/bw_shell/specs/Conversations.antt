@@ -1,0 +1,57 @@
+-- Scripts that are answered one after the other over one store (SQL-92: direct invocation of SQL).
+use Rattle.std.specs.Prelude.{◌≡◌, ◌≢◌, ◌⊎◌, ℕ, if◌then◌else◌, List, [], ◌∷◌, ◌++◌, Some}
+use Rattle.bw_lex.specs.Parts.{AreParts}
+use Rattle.bw_lex.specs.declared.script.Part.{Part}
+use Rattle.bw_split.specs.Splitting.{cuts}
+use Rattle.bw_model.specs.Store.{Store}
+use Rattle.bw_shell.specs.Folders.{Files}
+use Rattle.bw_shell.specs.Run.{HasRun}
+use Rattle.bw_shell.specs.States.{State}
+use Rattle.bw_shell.specs.declared.reading.ScriptEnd.TheVariants.{Reached}
+use Rattle.bw_shell.specs.declared.running.OnError.{OnError}
+use Rattle.bw_shell.specs.declared.running.RunEnd.{RunEnd}
+use Rattle.bw_shell.specs.declared.running.RunEnd.TheVariants as ends
+
+-- how a conversation is seen
+pub record Held : Type 0 where
+  pub on_error : OnError
+  pub store : Store
+  pub files : Files
+  pub replies : List ℕ
+
+abbrev pub held : OnError → Store → Files → List ℕ → Held
+held on_error store files replies = record { on_error = on_error; store = store; files = files; replies = replies }
+
+abbrev pub without_replies : Held → Held
+without_replies h = held h.on_error h.store h.files []
+
+-- its state: its files are known, and its folder never fails
+abbrev pub state_of : Held → State
+state_of h = record { store = h.store; files = Some h.files; failures = 0 }
+
+-- From this state a whole script was answered: its parts are a session that ends so in that state, and its bytes were put after the others.
+abbrev pub Responds : OnError → List ℕ → State → List ℕ → List ℕ → RunEnd → State → Type 0
+Responds on_error script before old new end after =
+    (parts : List Part) × AreParts script parts × HasRun on_error Reached script parts before (Some old) (Some new) end after
+
+-- all but the files
+pub record KeepsRest (old new : Held) : Type 0 where
+  pub on_error : new.on_error ≡ old.on_error
+  pub store : new.store ≡ old.store
+  pub replies : new.replies ≡ old.replies
+
+-- One script and then another were answered: the first, whose run ended at one of its parts; or each of its parts, and then the other from the state
+-- and with the replies that it left.
+abbrev pub RespondsInTurn : OnError → (first second : List ℕ) → State → (old new : List ℕ) → RunEnd → State → Type 0
+RespondsInTurn on_error first second before old new end after =
+    ((end ≢ ends.Done) × Responds on_error first before old new end after)
+    ⊎ ((mid : State) × (between : List ℕ) × Responds on_error first before old between ends.Done mid × Responds on_error second mid between new end after)
+
+-- the bytes after the last cut of a script whose part begun is the first list, and whose rest is the second
+unfoldable pub behind_cuts : List ℕ → List ℕ → List ℕ
+behind_cuts part [] = part
+behind_cuts part (b ∷ bytes) = if cuts part b then behind_cuts [] bytes else behind_cuts (part ++ b ∷ []) bytes
+
+-- a script that ends after a cut, or has no byte
+abbrev pub EndsAtCut : List ℕ → Type 0
+EndsAtCut script = behind_cuts [] script ≡ []
