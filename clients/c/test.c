@@ -73,6 +73,11 @@ static void budget(void) {
     size_t before = bitcol_used();
     check(bitcol_open(0, &store) == BITCOL_DONE, "open");
     check(answer(&store, "CREATE TABLE t (a INT); INSERT INTO t VALUES (1), (NULL);") == BITCOL_DONE, "a table");
+    bitcol_set_budget(1);
+    check(answer(&store, "SELECT a FROM t;") == BITCOL_CUT_OFF, "no memory for a reply");
+    bitcol_set_budget(0);
+    /* Room for the replies stays from script to script. */
+    check(answer(&store, "TABLES; TABLES;") == BITCOL_DONE, "longer replies");
     bitcol_set_budget(bitcol_used() + sizeof rows);
     check(bitcol_put_file(&store, bytes_of("a"), 1, rows, sizeof rows / 2) == BITCOL_DONE, "a file that fits");
     check(bitcol_put_file(&store, bytes_of("b"), 1, rows, sizeof rows) == BITCOL_NO_MEMORY, "a file that doesn't");
