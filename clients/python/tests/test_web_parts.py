@@ -8,6 +8,7 @@ import sys
 import unittest
 from email.message import Message
 from pathlib import Path
+from unittest import mock
 
 import bitcol
 from bitcol.reply import Reply, reply_of
@@ -15,9 +16,7 @@ from bitcol.shell.fault import Fault
 from bitcol.shell.store import Store
 from bitcol.web.answers import Answers
 from bitcol.web.guard import Guard
-from bitcol.web.lengths import check_length, selection_of
 from bitcol.web.workspace import Workspace, statements_in
-from tests.support import SessionTestCase
 from tests.test_door import ScriptedDoor
 
 PAGE = Path(bitcol.__file__).resolve().parent / "web/page"
@@ -138,44 +137,13 @@ class Keeping(unittest.TestCase):
         self.assertEqual([len(answers.get(number)) for number in (2, 3)], [0, 0])
 
 
-class Lengths(SessionTestCase):
-    def test_the_parts_of_a_select(self) -> None:
-        parts = selection_of("select a -- FROM\n, b FROM t -- WHERE\nwhere a = 1")
-        assert parts is not None
-        found = (parts.items, parts.source, parts.condition)
-        self.assertEqual(found, ("select a -- FROM\n, b ", "FROM t -- WHERE\n", "where a = 1"))
-        self.assertEqual(parts.counting, "SELECT COUNT(*) FROM t -- WHERE\nwhere a = 1")
-        self.assertEqual(parts.without_rows, "select a -- FROM\n, b FROM t -- WHERE\n\nWHERE 1 = 0")
-        parts = selection_of("SELECT * FROM t")
-        assert parts is not None
-        self.assertEqual((parts.source, parts.condition), ("FROM t", ""))
-        for statement in ("TABLES", "DELETE FROM t", "SELECT a", "SELECT a WHERE b FROM t", "", "'SELECT a FROM t'"):
-            self.assertIsNone(selection_of(statement), statement)
-
-    def test_answers_at_the_limit_and_past_it(self) -> None:
-        self.session.write_table("t", {"a": range(10), "b": range(10)})
-        self.session.write_table("u", {"a": range(99)})
-        for statement in (
-            "SELECT a, b FROM t -- all",
-            "SELECT a FROM t WHERE b < 9",
-            "SELECT a, a, a, a FROM t WHERE b < 5",
-            "SELECT COUNT(*), SUM(a), SUM(a), SUM(a), SUM(a), SUM(a) FROM u",
-            "SELECT nothing FROM u",
-            "SELECT a, b FROM u WHERE nothing = 1",
-            "INSERT INTO t VALUES (1, 2)",
-        ):
-            check_length(self.session, statement, 20)
-        self.session.execute("INSERT INTO t VALUES (1, 2)")
-        message = "the answer has 11 rows of 2 columns, which is 22 cells, and the page takes 20"
-        with self.assertRaisesRegex(Fault, message):
-            check_length(self.session, "SELECT * FROM t", 20)
-        with self.assertRaisesRegex(Fault, "21 rows of 1 columns"):
-            check_length(self.session, "SELECT a FROM u WHERE a > 77", 20)
-
-
 class LongAnswers(unittest.TestCase):
     def workspace(self, *replies: bytes) -> Workspace:
-        """A workspace whose store answers this."""
+        """A workspace whose store answers this, on a machine with room for a full table's four columns as CSV."""
+        for module, cells in (("web.workspace", 2**40), ("shell.exporting", 2**26)):
+            patch = mock.patch(f"bitcol.{module}.cells_that_fit", return_value=cells)
+            patch.start()
+            self.addCleanup(patch.stop)
         self.door = ScriptedDoor(*replies)
         self.store = Store(lambda: bitcol.Session(door=self.door))
         self.addCleanup(self.store.close)
@@ -196,13 +164,12 @@ class LongAnswers(unittest.TestCase):
         first, second = workspace.run("SELECT * FROM t; DROP TABLE u")
         self.assertEqual(
             first.error,
-            "the answer has 16777216 rows of 5 columns, which is 83886080 cells, and the page takes 67108864: "
+            "the answer has 16777216 rows of 5 columns, which is 83886080 cells, and there is room for 67108864: "
             "choose fewer columns or rows, or SAVE the table",
         )
         self.assertIsNone(second.error)
         sent = [b"SELECT * FROM t\nWHERE 1 = 0;", b"TABLES;", b"SELECT COUNT(*) FROM t;", b"DROP TABLE u\n;"]
         self.assertEqual(self.door.scripts, sent)
-
 
     def test_a_table_of_five_is_no_csv(self) -> None:
         tables = b"TABLE,COLUMNS,ROWS\nT,5,%d\nrows 1\n" % FULL

@@ -7,6 +7,7 @@
     store         a session that an interrupt leaves usable
     console       where answers, remarks and errors go
     render, plot  answers as tables, CSV, JSON, Markdown and lines, and as charts
+    lengths       how long an answer will be, before it is asked for
     importing     tables of files: csv_import, sqlite_import, names, types
     exporting     files of tables
     terminal      lines that are typed, their history and completion

@@ -11,15 +11,19 @@ import shutil
 from collections.abc import Callable
 from pathlib import Path
 
+from ..reply import Reply
 from ..script import checked_name
+from ..session import Session
 from .fault import Fault, reason_of
+from .lengths import cells_that_fit, check_length
 from .render import Mode, rendered
 from .store import Store
 
 
 def export_table(store: Store, table: str, path: str) -> int:
     """Writes a table to a file, over one that is there, and gives the number of rows. A Fault where the suffix is none
-    of these or the file can't be written, and what the session raises."""
+    of these, the file can't be written, or CSV is wanted and there is no memory for the rows; and what the session
+    raises."""
     name = checked_name(table)
     write = _WRITERS.get(Path(path).suffix.lower())
     if write is None:
@@ -43,7 +47,12 @@ def export_table(store: Store, table: str, path: str) -> int:
 
 
 def _write_csv(store: Store, table: str, path: Path) -> int:
-    reply = store.call(lambda session: session.execute(f"SELECT * FROM {table}"))
+    def rows_of(session: Session) -> Reply:
+        statement = f"SELECT * FROM {table}"
+        check_length(session, statement, cells_that_fit())
+        return session.execute(statement)
+
+    reply = store.call(rows_of)
     with path.open("w", encoding="ascii", newline="") as file:
         file.writelines(rendered(reply, Mode.CSV))
     return len(reply)

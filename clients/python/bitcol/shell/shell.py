@@ -17,6 +17,7 @@ from .completion import Catalog
 from .console import Console, Progress
 from .fault import Fault, reason_of
 from .importing import Import, imports_of
+from .lengths import cells_that_fit, check_length
 from .plot import Canvas, Chart, drawn
 from .render import Mode, counted, rendered
 from .statements import Pending, StatementBuffer
@@ -101,13 +102,11 @@ class Shell:
                 self._depth -= 1
 
     def run(self, statement: str) -> None:
-        """Carries out a statement, and shows its answer."""
+        """Carries out a statement, and shows its answer. A Fault where there is no memory for the answer."""
         # Also one that is left may be carried out.
         self._catalog = None
-        start = time.perf_counter()
         with self._waiting("waiting"):
-            reply = self.store.call(lambda session: session.execute(statement))
-        seconds = time.perf_counter() - start
+            reply, seconds = self.store.call(partial(_timed, statement))
         self._show(reply)
         if self.settings.timer:
             self.console.note(f"{seconds:.3f} s")
@@ -217,6 +216,14 @@ class Shell:
                 yield progress
             finally:
                 self.store.on_wait = lambda: None
+
+
+def _timed(statement: str, session: Session) -> tuple[Reply, float]:
+    """The reply to a statement, and the seconds that it took."""
+    check_length(session, statement, cells_that_fit())
+    start = time.perf_counter()
+    reply = session.execute(statement)
+    return reply, time.perf_counter() - start
 
 
 def columns_by_table(session: Session, table: str | None = None) -> dict[str, tuple[str, ...]]:

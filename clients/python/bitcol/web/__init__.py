@@ -7,6 +7,5 @@
     requests      the parts of a request that routes look at, and their limits
     workspace     the store that all windows share, and what was done to it
     answers       the answers that are kept for the windows
-    lengths       how long an answer will be, before it is asked for
     page/         the parts of the page: HTML, CSS and JavaScript
 """

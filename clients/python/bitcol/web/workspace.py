@@ -24,12 +24,12 @@ from ..shell.csv_import import Tell
 from ..shell.exporting import export_table
 from ..shell.fault import Fault
 from ..shell.importing import Imported, imports_of
+from ..shell.lengths import cells_that_fit, check_length
 from ..shell.shell import columns_by_table
 from ..shell.statements import Statement, StatementBuffer
 from ..shell.store import Store
 from ..table_file import HEADERS_BYTES, ColumnHeader, headers_of
-from .answers import Answers
-from .lengths import check_length
+from .answers import ANSWER_CELLS, Answers
 
 TOO_LONG = "the answer is too long for the memory of this process"
 # What begins a statement that changes no table.
@@ -152,12 +152,9 @@ class Workspace:
             return self._headers[name]
 
     def export(self, table: str, path: Path) -> int:
-        """Writes a table to a file, by the suffix of its name, and gives the number of rows. See export_table; and a
-        Fault where CSV is wanted and the rows are too many for an answer."""
+        """Writes a table to a file, by the suffix of its name, and gives the number of rows. See export_table."""
         name = checked_name(table)
         with self._taking_turns() as store:
-            if path.suffix == ".csv":
-                store.call(lambda session: check_length(session, f"SELECT * FROM {name}"))
             return export_table(store, name, os.fspath(path))
 
     def completions(self, before: str) -> tuple[str, list[str]]:
@@ -193,7 +190,7 @@ class Workspace:
         """What becomes of a statement that isn't refused."""
 
         def carry_out(session: Session) -> tuple[Reply, float]:
-            check_length(session, statement.text)
+            check_length(session, statement.text, min(ANSWER_CELLS, cells_that_fit()))
             start = time.perf_counter()
             reply = session.execute(statement.text)
             return reply, time.perf_counter() - start

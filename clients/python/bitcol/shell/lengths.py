@@ -6,14 +6,19 @@ and its tables with it. So the rows of a long one are counted first.
 
 from __future__ import annotations
 
+import os
 import re
+import resource
 from dataclasses import dataclass
+from pathlib import Path
 
 from ..errors import Refused
 from ..session import Session
-from ..shell.fault import Fault
-from .answers import ANSWER_CELLS
+from .fault import Fault
 
+# What a cell takes at most while its answer is made: 8 bytes in the program, 12 as text here, and 12 as it is shown.
+CELL_BYTES = 32
+_AVAILABLE = re.compile(r"^MemAvailable:\s*(\d+) kB$", re.MULTILINE)
 _PIECE = re.compile(r"'[^']*'|--[^\n]*|[A-Za-z]\w*")
 
 
@@ -48,8 +53,13 @@ def selection_of(statement: str) -> Selection | None:
     return Selection(statement[:source], statement[source:condition], statement[condition:])
 
 
-def check_length(session: Session, statement: str, most: int = ANSWER_CELLS) -> None:
-    """A Fault where the answer would have more than so many cells. A statement that is to be refused has none here."""
+def cells_that_fit() -> int:
+    """How many cells an answer may have now: those for which there is memory."""
+    return _available_bytes() // CELL_BYTES
+
+
+def check_length(session: Session, statement: str, most: int) -> None:
+    """A Fault where the answer would have more cells than this. A statement that is to be refused has none here."""
     selection = selection_of(statement)
     if selection is None:
         return
@@ -62,7 +72,7 @@ def check_length(session: Session, statement: str, most: int = ANSWER_CELLS) -> 
         return
     if rows * width > most and not _is_one_row(selection):
         raise Fault(
-            f"the answer has {rows} rows of {width} columns, which is {rows * width} cells, and the page takes {most}: "
+            f"the answer has {rows} rows of {width} columns, which is {rows * width} cells, and there is room for {most}: "
             "choose fewer columns or rows, or SAVE the table"
         )
 
@@ -70,3 +80,18 @@ def check_length(session: Session, statement: str, most: int = ANSWER_CELLS) -> 
 def _is_one_row(selection: Selection) -> bool:
     """Whether it is one of set functions."""
     return "(" in _PIECE.sub("", selection.items)
+
+
+def _available_bytes() -> int:
+    """The memory that a process can have now: what the system says, and no more than a limit on processes."""
+    try:
+        found = _AVAILABLE.search(Path("/proc/meminfo").read_text(encoding="ascii"))
+    except OSError:
+        found = None
+    if found:
+        available = int(found[1]) * 1024
+    else:
+        # Half of all of it, where the system doesn't say how much of it is taken.
+        available = os.sysconf("SC_PHYS_PAGES") * os.sysconf("SC_PAGE_SIZE") // 2
+    limit = resource.getrlimit(resource.RLIMIT_AS)[0]
+    return available if limit == resource.RLIM_INFINITY else min(available, limit)
