@@ -96,10 +96,8 @@ def _parser() -> argparse.ArgumentParser:
 
 
 def _run(options: argparse.Namespace, console: Console) -> Status:
-    try:
-        store = Store()
-    except OperationalError as fault:
-        console.fault(f"error: {fault}")
+    store = open_store(console)
+    if store is None:
         return Status.FAILED
     is_typed = options.command is None and sys.stdin is not None and sys.stdin.isatty() and console.is_terminal
     shell = Shell(store, console, Settings(_mode(options, console)), is_typed)
@@ -120,6 +118,15 @@ def _run(options: argparse.Namespace, console: Console) -> Status:
     if not shell.has_store:
         return Status.FAILED
     return Status.REFUSED if shell.failures and not is_typed else Status.DONE
+
+
+def open_store(console: Console) -> Store | None:
+    """A store, or None where it can't be started, and then the console says why."""
+    try:
+        return Store()
+    except OperationalError as fault:
+        console.fault(f"error: {fault}")
+        return None
 
 
 def leave(store: Store) -> None:

@@ -9,13 +9,12 @@ import signal
 from collections.abc import Sequence
 from functools import partial
 
-from ..errors import OperationalError, ProgramEnded
+from ..errors import ProgramEnded
 from ..shell.console import Console
 from ..shell.fault import Fault, reason_of
 from ..shell.importing import split_word
-from ..shell.main import Status, leave, run_on_console
+from ..shell.main import Status, leave, open_store, run_on_console
 from ..shell.render import counted
-from ..shell.store import Store
 from .server import PageServer
 from .workspace import Workspace
 
@@ -51,10 +50,8 @@ def _port(word: str) -> int:
 
 
 def _run(options: argparse.Namespace, console: Console) -> Status:
-    try:
-        store = Store()
-    except OperationalError as fault:
-        console.fault(f"error: {fault}")
+    store = open_store(console)
+    if store is None:
         return Status.FAILED
     try:
         _serve(Workspace(store), options, console)
