@@ -29,6 +29,9 @@ class Lengths(SessionTestCase):
         parts = selection_of("SELECT * FROM t")
         assert parts is not None
         self.assertEqual((parts.source, parts.condition), ("FROM t", ""))
+        parts = selection_of("SELECT a -- ;\nFROM t WHERE a = 1; -- FROM u")
+        assert parts is not None
+        self.assertEqual(parts.counting, "SELECT COUNT(*) FROM t WHERE a = 1")
         for statement in ("TABLES", "DELETE FROM t", "SELECT a", "SELECT a WHERE b FROM t", "", "'SELECT a FROM t'"):
             self.assertIsNone(selection_of(statement), statement)
 

@@ -19,7 +19,7 @@ from .fault import Fault
 # What a cell takes at most while its answer is made: 8 bytes in the program, 12 as text here, and 12 as it is shown.
 CELL_BYTES = 32
 _AVAILABLE = re.compile(r"^MemAvailable:\s*(\d+) kB$", re.MULTILINE)
-_PIECE = re.compile(r"'[^']*'|--[^\n]*|[A-Za-z]\w*")
+_PIECE = re.compile(r"'[^']*'|--[^\n]*|;|[A-Za-z]\w*")
 
 
 @dataclass(frozen=True)
@@ -42,7 +42,9 @@ class Selection:
 
 
 def selection_of(statement: str) -> Selection | None:
-    """The parts of a SELECT, or None where the statement is none."""
+    """The parts of a SELECT, without its `;`, or None where the statement is none."""
+    cut = next((found.start() for found in _PIECE.finditer(statement) if found[0] == ";"), len(statement))
+    statement = statement[:cut]
     words = [(found[0].upper(), found.start()) for found in _PIECE.finditer(statement) if found[0][0].isalpha()]
     starts = dict(reversed(words))
     if not words or words[0][0] != "SELECT" or "FROM" not in starts:
