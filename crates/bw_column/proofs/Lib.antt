@@ -9,6 +9,7 @@ pub mod Flat
 pub mod Held
 pub mod Known
 pub mod Listed
+pub mod Masked
 pub mod Narrow
 pub mod Ordered
 pub mod Overwriting

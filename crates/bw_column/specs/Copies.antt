@@ -1,14 +1,14 @@
--- Values that a column takes over from a copy of another.
-use Rattle.std.specs.Prelude.{◌≡◌}
-use Rattle.std.specs.List.{All}
-use Rattle.bw_code.specs.Encodings.{kind_of}
-use Rattle.bw_code.specs.declared.kind.Kind.TheVariants as kind
-use Rattle.bw_column.specs.Codes.{IsCoded}
-use Rattle.bw_column.specs.Columns.{ColumnView}
-use Rattle.bw_column.specs.Values.{IsNullOrHeld}
+-- Values that a column takes over from a copy of those that another has in the rows of a mask.
+use Rattle.std.specs.Prelude.{List, None, Option, false, if◌then◌else◌, length, ℕ, ℤ, ◌≡◌}
+use Rattle.bw_mask.specs.Masks.{MaskRows, len, row_at}
+use Rattle.bw_code.specs.Lists.{made}
+use Rattle.bw_column.specs.Values.{value_at}
 
--- each value of the copy has a code in the column, which is the distance from its base, and is one that its layout holds
-pub record CanCopy (column copy : ColumnView) : Type 0 where
-  pub kind : kind_of column.encoding ≡ kind.Offset
-  pub coded : All (IsCoded column.encoding) copy.values
-  pub held : All (IsNullOrHeld column.layout) copy.values
+-- the values in the rows of a mask, and null in every other row
+abbrev pub masked : MaskRows → List (Option ℤ) → List (Option ℤ)
+masked places values = made (length values) (λ i. if row_at places i then value_at values i else None)
+
+-- values for the rows of a mask, that are null in every row that is not in it
+pub record IsMasked (places : MaskRows) (values : List (Option ℤ)) : Type 0 where
+  pub long : length values ≡ len places
+  pub null : (i : ℕ) → row_at places i ≡ false → value_at values i ≡ None

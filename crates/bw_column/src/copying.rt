@@ -1,18 +1,20 @@
 //! Values taken over from another column, word by word and by their codes.
 
-ghost use Rattle.std.specs.Prelude.{All, IfOk, IfSome, IsTrue, List, Option, drop, false, length, take, ℕ, ℤ, ◌%◌, ◌+◌, ◌^◌, ◌≡◌, ◌≤◌};
+ghost use Rattle.std.specs.Prelude.{All, IfOk, IfSome, IsTrue, List, Option, [], drop, false, if◌then◌else◌, length, slice_index, take, ℕ, ℤ, ◌%◌, ◌&&◌, ◌+◌, ◌<◌, ◌^◌, ◌↔◌, ◌≡◌, ◌≤◌};
 ghost use Rattle.bw_mask.specs.Masks.{bit_of, len};
 ghost use Rattle.bw_code.specs.Encodings.{IsWithin, kind_of};
 ghost use Rattle.bw_code.specs.Fittings.{AreEnds};
 ghost use Rattle.bw_code.specs.declared.encoding.Encoding.TheVariants as by;
 ghost use Rattle.bw_code.specs.declared.kind.Kind.TheVariants as kind;
+ghost use Rattle.bw_code.specs.declared.kind.Layout.TheVariants as layouts;
 ghost use Rattle.bw_column.specs.Codes.{IsCoded};
 ghost use Rattle.bw_column.specs.Columns.{Keeps};
-ghost use Rattle.bw_column.specs.Copies.{CanCopy};
+ghost use Rattle.bw_column.specs.Copies.{IsMasked, masked};
 ghost use Rattle.bw_column.specs.Places.{chosen_values, overwritten, put_values};
 ghost use Rattle.bw_column.specs.Preparing.{IsEncodingFor, IsPreparedFor};
 ghost use Rattle.bw_column.specs.Values.{IsNullOrHeld, known};
 
+use crate::bits::has_bit;
 use crate::change::Prepared;
 use crate::codes::greatest_code;
 use crate::column::Column;
@@ -37,7 +39,7 @@ fn covers(offset: Offset, other: Offset) -> bool
 
 /// Whether values with these ends have codes by an offset.
 fn spans(offset: Offset, ends: Option<Ends>) -> bool
-    ensures { (values : List (Option ℤ)) → IsTrue result → AreEnds (known values) ends → All (IsCoded (by.Offset offset)) values }
+    ensures { (values : List (Option ℤ)) → AreEnds (known values) ends → (IsTrue result ↔ All (IsCoded (by.Offset offset)) values) }
 {
     let Some(Ends { least, greatest }) = ends else {
         return true;
@@ -48,59 +50,115 @@ fn spans(offset: Offset, ends: Option<Ends>) -> bool
     greatest.abs_diff(offset.base) <= greatest_code(offset)
 }
 
-/// Whether each value of a column has a code by an offset. Bases and widths tell it without a look at the values; else their
-/// ends do.
-fn has_codes_of(own: Offset, offset: Offset, column: &Column) -> bool
-    requires { column.now.encoding ≡ by.Offset offset }
-    ensures { IsTrue result → All (IsCoded (by.Offset own)) column.now.values }
+/// Codes that are distances from a base, of those rows alone whose bit is set both times: 0 for each other row. Answers which rows
+/// are left.
+#[tactic(auto, using(bw_mask::proofs::Bits::bit_of_and))]
+fn keep_rows(codes: &mut [u64], present: u64, rows: u64) -> u64
+    requires { length codes.old ≤ 64 }
+    ensures count { length codes.new ≡ length codes.old }
+    ensures each { (k : ℕ) → k < length codes.old → slice_index codes.new k ≡ (if bit_of result k then slice_index codes.old k else 0) }
+    ensures kept { (k : ℕ) → bit_of result k ≡ (bit_of present k && bit_of rows k) }
 {
-    let _sound = column.encoding();
-    if covers(own, offset) {
-        return true;
+    let kept = present & rows;
+    for i in 0..codes.len() {
+        codes[i] = if has_bit(kept, i) { codes[i] } else { 0 };
     }
-    spans(own, column.ends())
+    kept
 }
 
 impl Column {
-    /// A copy of another column in plain codes, if each of its values has a code here: it keeps the other's values while
-    /// the columns change. Both are of kind OFFSET; of a DICTIONARY there is no copy.
-    pub fn copy_of(&self, alloc: Global, other: &Column) -> Result<Option<Column>, AllocError>
-        ensures values { IfOk result (λ copy. IfSome copy (λ c. c.values ≡ other.now.values)) }
-        ensures coded { IfOk result (λ copy. IfSome copy (λ c. All (IsCoded self.now.encoding) c.values)) }
-        ensures kind { IfOk result (λ copy. IfSome copy (λ c. kind_of self.now.encoding ≡ kind.Offset)) }
+    /// A copy of the values in the rows of a mask in plain codes, and NULL in the other rows. It keeps the values while the
+    /// columns change. The column is of kind OFFSET; of a DICTIONARY there is no copy.
+    pub fn copy_at(&self, alloc: Global, places: &Mask) -> Result<Option<Column>, AllocError>
+        requires { len places.now ≡ length self.now.values }
+        ensures values { IfOk result (λ copy. IfSome copy (λ c. c.values ≡ masked places.now self.now.values)) }
+        ensures masked { IfOk result (λ copy. IfSome copy (λ c. IsMasked places.now c.values)) }
+        ensures held { IfOk result (λ copy. IfSome copy (λ c. All (IsNullOrHeld self.now.layout) c.values)) }
+        ensures kind { IfOk result (λ copy. IfSome copy (λ c. kind_of c.encoding ≡ kind.Offset)) }
     {
-        let _sound = other.encoding();
-        let Encoding::Offset(own) = self.encoding else {
+        let _few = self.len();
+        let _sound = self.encoding();
+        let Encoding::Offset(offset) = self.encoding else {
             return Ok(None);
         };
-        let Encoding::Offset(offset) = other.encoding else {
-            return Ok(None);
-        };
-        if offset.base < own.base {
-            return Ok(None);
-        }
         let encoding = Encoding::Offset(offset);
-        let mut copy = Column::with_room(alloc, Layout::P, encoding, other.len())?;
-        copy.extend_from(other);
-        if has_codes_of(own, offset, &copy) {
-            Ok(Some(copy))
-        } else {
-            Ok(None)
+        let mut copy = Column::with_room(alloc, Layout::P, encoding, self.len())?;
+        copy.extend_masked(offset, self, places);
+        Ok(Some(copy))
+    }
+
+    /// Adds the values that another column has in the rows of a mask, and NULL for each other row, within the room.
+    fn extend_masked(&mut self, offset: Offset, other: &Column, places: &Mask)
+        requires places { len places.now ≡ length other.now.values }
+        requires none { self.old.values ≡ [] }
+        requires layout { self.old.layout ≡ layouts.P }
+        requires encoding { self.old.encoding ≡ by.Offset offset }
+        requires coded { All (IsCoded (by.Offset offset)) other.now.values }
+        requires held { All (IsNullOrHeld other.now.layout) other.now.values }
+        requires room { length other.now.values ≤ self.old.room }
+        requires few { length other.now.values ≤ 2 ^ 24 }
+        ensures values { self.new.values ≡ masked places.now other.now.values }
+        ensures encoding { self.new.encoding ≡ self.old.encoding }
+    {
+        let mut list = [0; 64];
+        let mut at = 0;
+        while at < other.len() {
+            let n = (other.len() - at).min(64);
+            let codes = &mut list[..n];
+            let present = other.distances(at, offset.base, codes);
+            let kept = keep_rows(codes, present, places.bits(at, n));
+            self.extend_rows(codes, kept);
+            at += n;
         }
     }
 
-    /// Makes ready to take a copy's values in place of others. Each of them has a code, so that no memory is asked for but what
-    /// every change asks for.
-    pub fn room_to_copy(&mut self, places: &Mask, copy: &Column) -> Result<Prepared, AllocError>
-        requires { CanCopy self.old copy.now }
+    /// Makes ready to take a copy's values. Where one of them has no code, what is prepared has the step to an encoding that
+    /// fits all values, as that of `room_for`. The column keeps its values, layout and encoding, also where memory is wanting;
+    /// at most its room grows.
+    pub fn room_to_copy(
+        &mut self,
+        alloc: Global,
+        places: &Mask,
+        copy: &Column,
+    ) -> Result<Prepared, AllocError>
+        requires own { kind_of self.old.encoding ≡ kind.Offset }
+        requires kind { kind_of copy.now.encoding ≡ kind.Offset }
+        requires masked { IsMasked places.now copy.now.values }
+        requires held { All (IsNullOrHeld self.old.layout) copy.now.values }
         ensures prepared { IfOk result (IsPreparedFor self.new (chosen_values places.now copy.now.values) false) }
         ensures keeps { Keeps self.new self.old }
     {
         let _few = self.len();
-        self.reserve(0)?;
-        let step = Step::Stay;
+        let _many = copy.len();
         let codes = KeptCodes::Distances;
+        if self.has_codes_of(copy) {
+            self.reserve(0)?;
+            let step = Step::Stay;
+            return Ok(Prepared { step, codes });
+        }
+        let encoding = self.encoding_with(alloc, copy)?;
+        let step = self.step_to(alloc, encoding, 0)?;
         Ok(Prepared { step, codes })
+    }
+
+    /// Whether each value of another column has a code here. Both are of kind OFFSET. Bases and widths may tell it without a
+    /// look at the values; else their ends do.
+    fn has_codes_of(&self, other: &Column) -> bool
+        requires own { kind_of self.now.encoding ≡ kind.Offset }
+        requires kind { kind_of other.now.encoding ≡ kind.Offset }
+        ensures { IsTrue result ↔ All (IsCoded self.now.encoding) other.now.values }
+    {
+        let Encoding::Offset(own) = self.encoding else {
+            unreachable!()
+        };
+        let Encoding::Offset(offset) = other.encoding else {
+            unreachable!()
+        };
+        let _sound = other.encoding();
+        if covers(own, offset) {
+            return true;
+        }
+        spans(own, other.ends())
     }
 
     /// Puts a copy's values at some of at most 64 rows from row `at` on, which is the first of a word's: at row at + i where bit
@@ -145,15 +203,18 @@ impl Column {
         }
     }
 
-    /// Puts a copy's values in the set places. Takes no memory.
-    pub fn copy_from(&mut self, places: &Mask, copy: &Column)
-        requires can { CanCopy self.old copy.now }
-        requires copied { length copy.now.values ≡ length self.old.values }
+    /// Puts a copy's values in the set places, of which it is a copy. Takes no memory.
+    pub fn copy_from(&mut self, prepared: Prepared, places: &Mask, copy: &Column)
+        requires prepared { IsPreparedFor self.old (chosen_values places.now copy.now.values) false prepared }
+        requires own { kind_of self.old.encoding ≡ kind.Offset }
+        requires masked { IsMasked places.now copy.now.values }
         requires places { len places.now ≡ length self.old.values }
         ensures values { self.new.values ≡ overwritten places.now (chosen_values places.now copy.now.values) self.old.values }
         ensures layout { self.new.layout ≡ self.old.layout }
         ensures encoding { IsEncodingFor self.old.values self.old.encoding (chosen_values places.now copy.now.values) self.new.encoding }
     {
+        let Prepared { step, codes: _ } = prepared;
+        self.take(step);
         let Encoding::Offset(offset) = self.encoding else {
             unreachable!()
         };

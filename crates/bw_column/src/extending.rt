@@ -15,7 +15,7 @@ use bw_code::{Encoding, Offset};
 impl Column {
     /// Adds at most 64 rows at the end, within the room, by their codes: those whose bit is set are not null.
     #[tactic(auto, using(bw_code::proofs::Lists::made_len))]
-    fn extend_rows(&mut self, codes: &[u64], present: u64)
+    pub(crate) fn extend_rows(&mut self, codes: &[u64], present: u64)
         requires block { length codes.now ≤ 64 }
         requires rows { (k : ℕ) → k < length codes.now → IsRowCode self.old.encoding (slice_index codes.now k) (bit_of present k) }
         requires held { All (IsNullOrHeld self.old.layout) (made (length codes.now) (λ k. value_from self.old.encoding (slice_index codes.now k) (bit_of present k))) }

@@ -8,8 +8,9 @@ use Rattle.std.proofs.lemmas.List.Elements.{All-filter, All-head, All-tail, filt
 use Rattle.std.proofs.lemmas.List.FromFn.{get_or-range_with_len, length-range_with_len}
 use Rattle.bw_mask.specs.Masks.{IsNext, MaskRows, len, row_at}
 use Rattle.bw_code.specs.Lists.{made}
-use Rattle.bw_code.proofs.Lists.{made_is}
+use Rattle.bw_code.proofs.Lists.{made_at, made_is}
 use Rattle.bw_column.specs.Columns.{ColumnView}
+use Rattle.bw_column.specs.Copies.{masked}
 use Rattle.bw_column.specs.Places.{chosen_values, put_at, rank}
 use Rattle.bw_column.proofs.Ordered.{count_below, place_at, place_in, place_out}
 use Rattle.bw_column.specs.Values.{value_at}
@@ -109,3 +110,11 @@ all_chosen_values mask values long all =
 pub gathered_column : (columns : List ColumnView) (mask : MaskRows) (k : ℕ) (d : ColumnView) → k < length columns → gathered columns mask (Column k) ≡ chosen_values mask (get_or columns k d).values
 gathered_column columns mask k d inside =
     map_alike (λ i. value_at (row_of columns i) k) (value_at (get_or columns k d).values) (places mask) (λ j e l. get_or-map (λ (column : ColumnView). value_at column.values (get_or (places mask) j e)) columns k d None inside)
+
+-- a copy that is null outside of a mask has the same values in its rows
+pub masked_chosen : (mask : MaskRows) (values : List (Option ℤ)) → length values ≡ len mask → chosen_values mask (masked mask values) ≡ chosen_values mask values
+masked_chosen mask values long =
+    map_alike (value_at (masked mask values)) (value_at values) (places mask) (λ j d l.
+    let i = get_or (places mask) j d in
+    let set : row_at mask i ≡ true = places_in mask j d l in
+    made_at (length values) (λ n. if row_at mask n then value_at values n else None) i None (omega (arith, places_inside mask j d l, long)) ∙ rw set refl)

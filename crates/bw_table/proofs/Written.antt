@@ -19,7 +19,6 @@ use Rattle.bw_table.specs.Halves.{AllKept}
 use Rattle.bw_table.specs.Sets.{gathered, taken, AllSet, AreReadyFor, FitsCopy, IsReadyFor, IsSet}
 use Rattle.bw_table.specs.declared.taking.Change.{Change}
 use Rattle.bw_table.specs.declared.taking.Taken.{Taken}
-use Rattle.bw_table.specs.declared.taking.Taken.TheVariants.{Copied, Each, Same}
 use Rattle.bw_table.specs.declared.setting.SetTo.{SetTo}
 use Rattle.bw_table.proofs.Places.{count_places, map_alike}
 use Rattle.bw_table.proofs.Readied.{one_less, popped}
@@ -65,14 +64,9 @@ module _ (new old : ColumnView) (values : List (Option ℤ)) (keeps : Keeps new 
 pub still_ready : (new old : ColumnView) (values : List (Option ℤ)) (prepared : Preparation) → Keeps new old → IsPreparedFor old values false prepared → IsPreparedFor new values false prepared
 still_ready new old values prepared keeps is = still_ready_by new old values keeps prepared.step prepared.codes is
 
--- a copy fits a column as long as that keeps its encoding and layout
-pub fits_kept : (new old : ColumnView) (n : ℕ) (values : Taken) → Keeps new old → FitsCopy old n values → FitsCopy new n values
-fits_kept new old n (Each values) keeps is = tt
-fits_kept new old n (Same value) keeps is = tt
-fits_kept new old n (Copied copy) keeps is = (
-  record { kind = ap kind_of keeps.encoding ∙ is.0.kind; coded = rw keeps.encoding is.0.coded; held = rw keeps.layout is.0.held },
-  is.1,
-)
+-- a copy fits a column as long as that keeps its encoding
+pub fits_kept : (new old : ColumnView) (found : MaskRows) (values : Taken) → Keeps new old → FitsCopy (kind_of old.encoding) found values → FitsCopy (kind_of new.encoding) found values
+fits_kept new old found values keeps is = rw keeps.encoding is
 
 module _ (new old : List ColumnView) (kept : AllKept new old) (found : MaskRows) where
   pub gathered_kept : (to : SetTo) → gathered new found to ≡ gathered old found to
@@ -82,7 +76,7 @@ module _ (new old : List ColumnView) (kept : AllKept new old) (found : MaskRows)
   ready_kept set change is = record {
     values = is.values ∙ sym (gathered_kept set.1);
     ready = λ c. still_ready (get_or new set.0 c) (get_or old set.0 c) (taken found change.values) change.prepared (kept.each set.0 c) (is.ready c);
-    fits = λ c. fits_kept (get_or new set.0 c) (get_or old set.0 c) (len found) change.values (kept.each set.0 c) (is.fits c);
+    fits = λ c. fits_kept (get_or new set.0 c) (get_or old set.0 c) found change.values (kept.each set.0 c) (is.fits c);
   }
 
   -- one set more is ready
@@ -153,8 +147,8 @@ module _ {found : MaskRows} {sets : List (ℕ × SetTo)} {cur old : List ColumnV
     pub prepared_here : IsPreparedFor column (taken found change.values) false change.prepared
     prepared_here = still_ready column (get_or old here.0 column) (taken found change.values) change.prepared (keeps_here column) (t.ready.ready column)
 
-    pub fits_here : FitsCopy column (len found) change.values
-    fits_here = fits_kept column (get_or old here.0 column) (len found) change.values (keeps_here column) (t.ready.fits column)
+    pub fits_here : FitsCopy (kind_of column.encoding) found change.values
+    fits_here = fits_kept column (get_or old here.0 column) found change.values (keeps_here column) (t.ready.fits column)
 
     -- and an overwrite does what the set says
     pub more_set : (x : ColumnView) (values : List (Option ℤ)) → values ≡ (taken found change.values) → x.values ≡ overwritten found values column.values → x.layout ≡ column.layout → IsEncodingFor column.values column.encoding values x.encoding → AllSet found (drop n sets) (set cur here.0 x) old

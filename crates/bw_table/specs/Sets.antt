@@ -1,14 +1,16 @@
 -- Columns that are set in the rows of a mask, in two halves, and columns built anew from such rows.
 use Rattle.std.specs.Prelude.{List, None, Option, Some, [], count_by, false, length, map, replicate, slice_index_or, ⊤, ℕ, ℤ, ◌<◌, ◌≡◌}
-use Rattle.std.specs.List.{filter, range_with_len}
-use Rattle.bw_mask.specs.Masks.{MaskRows, bit_of, len}
+use Rattle.std.specs.List.{All, filter, range_with_len}
+use Rattle.bw_mask.specs.Masks.{MaskRows, bit_of}
 use Rattle.bw_code.specs.Encodings.{IsFit, kind_of}
 use Rattle.bw_code.specs.declared.header.Header.{Header}
 use Rattle.bw_column.specs.Columns.{ColumnView, Keeps}
-use Rattle.bw_column.specs.Copies.{CanCopy}
+use Rattle.bw_code.specs.declared.kind.Kind.{Kind}
+use Rattle.bw_code.specs.declared.kind.Kind.TheVariants as kinds
+use Rattle.bw_column.specs.Copies.{IsMasked}
 use Rattle.bw_column.specs.Places.{chosen_values, overwritten}
 use Rattle.bw_column.specs.Preparing.{IsEncodingFor, IsPreparedFor}
-use Rattle.bw_column.specs.Values.{known, value_at}
+use Rattle.bw_column.specs.Values.{IsNullOrInteger, known, value_at}
 use Rattle.bw_table.specs.Changes.{choice_of, chosen_kind, chosen_layout, places, set_of, value_for}
 use Rattle.bw_table.specs.Slots.{row_of}
 use Rattle.bw_table.specs.declared.choice.Choice.{Choice}
@@ -32,17 +34,17 @@ taken mask (Each values) = values.items
 taken mask (Same value) = replicate (count_by (λ row. row) mask.rows) value
 taken mask (Copied column) = chosen_values mask column.values
 
--- a copy has a value for each of n rows, and the column takes them by its codes
-abbrev pub FitsCopy : ColumnView → ℕ → Taken → Type 0
-FitsCopy column n (Each values) = ⊤
-FitsCopy column n (Same value) = ⊤
-FitsCopy column n (Copied copy) = CanCopy column copy × (length copy.values ≡ n)
+-- a copy is of the mask's rows, and both it and the column that takes it are of kind OFFSET
+abbrev pub FitsCopy : Kind → MaskRows → Taken → Type 0
+FitsCopy kind mask (Each values) = ⊤
+FitsCopy kind mask (Same value) = ⊤
+FitsCopy kind mask (Copied copy) = (kind ≡ kinds.Offset) × (kind_of copy.encoding ≡ kinds.Offset) × IsMasked mask copy.values × All IsNullOrInteger copy.values
 
 -- the change has the values of the set, and is prepared for its column as it stands
 pub record IsReadyFor (columns : List ColumnView) (found : MaskRows) (set : ℕ × SetTo) (change : Change) : Type 0 where
   pub values : taken found change.values ≡ gathered columns found set.1
   pub ready : (c : ColumnView) → IsPreparedFor (slice_index_or columns set.0 c) (taken found change.values) false change.prepared
-  pub fits : (c : ColumnView) → FitsCopy (slice_index_or columns set.0 c) (len found) change.values
+  pub fits : (c : ColumnView) → FitsCopy (kind_of (slice_index_or columns set.0 c).encoding) found change.values
 
 abbrev pub AreReadyFor : List ColumnView → MaskRows → List (ℕ × SetTo) → List Change → Type 0
 AreReadyFor columns found sets changes = (j : ℕ) (s : ℕ × SetTo) (d : Change) → j < length changes → IsReadyFor columns found (slice_index_or sets j s) (slice_index_or changes j d)

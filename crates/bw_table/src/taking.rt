@@ -2,15 +2,17 @@
 
 ghost use Rattle.std.specs.Prelude.{All, IfOk, count_by, false, length, slice_index_or, vec_len, ◌<◌, ◌^◌, ◌≡◌, ◌≤◌};
 ghost use Rattle.bw_mask.specs.Masks.{len};
+ghost use Rattle.bw_code.specs.Encodings.{kind_of};
 ghost use Rattle.bw_column.specs.Columns.{ColumnView, Keeps};
 ghost use Rattle.bw_column.specs.Places.{chosen_values, overwritten};
 ghost use Rattle.bw_column.specs.Preparing.{IsEncodingFor, IsPreparedFor};
-ghost use Rattle.bw_column.specs.Values.{IsNullOrHeld, IsNullOrInteger};
+ghost use Rattle.bw_column.specs.Values.{IsNullOrInteger};
 ghost use Rattle.bw_table.specs.Changes.{IsSetTo};
 ghost use Rattle.bw_table.specs.Sets.{FitsCopy, gathered, taken};
 
 use crate::gathering::gather;
 use crate::setting::SetTo;
+use bw_code::Kind;
 use bw_column::{Column, Prepared};
 use bw_mask::Mask;
 use std::alloc::{AllocError, Global};
@@ -22,7 +24,7 @@ pub(crate) enum Taken {
     Each(Vec<Option<i64>>),
     /// The same for all rows, and no list of it.
     Same(Option<i64>),
-    /// Those of a copy of a column, which is read again when they are taken.
+    /// Those of a copy of a column, which is null in every other row, and is read again when they are taken.
     Copied(Column),
 }
 
@@ -33,26 +35,20 @@ pub(crate) struct Change {
     pub(crate) values: Taken,
 }
 
-/// Whether so many of a column's rows are meant that a copy of all of it costs less than a list of their values.
+/// Whether so many of a column's rows are meant that a copy of all of them costs less than a list of their values.
 fn are_many(mask: &Mask) -> bool {
     mask.len() / 8 < mask.count()
 }
 
-/// The values of a column in the rows of a mask, for another column to take.
-fn values_from(
-    target: &Column,
-    column: &Column,
-    alloc: Global,
-    mask: &Mask,
-) -> Result<Taken, AllocError>
+/// The values of a column in the rows of a mask, for a column of this kind to take.
+fn values_from(kind: Kind, column: &Column, alloc: Global, mask: &Mask) -> Result<Taken, AllocError>
     requires long { length column.now.values ≡ len mask.now }
-    requires held { All (IsNullOrHeld target.now.layout) column.now.values }
     requires integers { All IsNullOrInteger column.now.values }
     ensures values { IfOk result (λ values. taken mask.now values ≡ chosen_values mask.now column.now.values) }
-    ensures fits { IfOk result (FitsCopy target.now (len mask.now)) }
+    ensures fits { IfOk result (FitsCopy kind mask.now) }
 {
-    if are_many(mask) {
-        if let Some(copy) = target.copy_of(alloc, column)? {
+    if kind == Kind::Offset && are_many(mask) {
+        if let Some(copy) = column.copy_at(alloc, mask)? {
             return Ok(Taken::Copied(copy));
         }
     }
@@ -60,7 +56,6 @@ fn values_from(
 }
 
 /// The values that column k is set to in the rows of a mask.
-#[tactic(auto, using(bw_column::proofs::Held::all_held))]
 pub(crate) fn values_for(
     columns: &Vec<Column>,
     alloc: Global,
@@ -73,11 +68,11 @@ pub(crate) fn values_for(
     requires long { All (λ column. length column.values ≡ len mask.now) columns.now.items }
     requires integers { All (λ column. All IsNullOrInteger column.values) columns.now.items }
     ensures values { IfOk result (λ values. taken mask.now values ≡ gathered columns.now.items mask.now to) }
-    ensures fits { (d : ColumnView) → IfOk result (FitsCopy (slice_index_or columns.now.items k d) (len mask.now)) }
+    ensures fits { (d : ColumnView) → IfOk result (FitsCopy (kind_of (slice_index_or columns.now.items k d).encoding) mask.now) }
 {
     match to {
         SetTo::Value(x) => Ok(Taken::Same(x)),
-        SetTo::Column(from) => values_from(&columns[k], &columns[from], alloc, mask),
+        SetTo::Column(from) => values_from(columns[k].kind(), &columns[from], alloc, mask),
     }
 }
 
@@ -92,14 +87,14 @@ pub(crate) fn make_ready(
     requires integers { All IsNullOrInteger (taken mask.now values.now) }
     requires count { length (taken mask.now values.now) ≤ 2 ^ 24 }
     requires few { length column.old.values ≤ 2 ^ 24 }
-    requires fits { FitsCopy column.old (len mask.now) values.now }
+    requires fits { FitsCopy (kind_of column.old.encoding) mask.now values.now }
     ensures prepared { IfOk result (IsPreparedFor column.new (taken mask.now values.now) false) }
     ensures keeps { Keeps column.new column.old }
 {
     match values {
         Taken::Each(list) => column.room_for(alloc, &list.as_slice(), false),
         Taken::Same(value) => column.room_to_fill(alloc, *value, mask.count()),
-        Taken::Copied(copy) => column.room_to_copy(mask, copy),
+        Taken::Copied(copy) => column.room_to_copy(alloc, mask, copy),
     }
 }
 
@@ -108,7 +103,7 @@ pub(crate) fn take(column: &mut Column, mask: &Mask, change: Change)
     requires prepared { IsPreparedFor column.old (taken mask.now change.values) false change.prepared }
     requires mask { len mask.now ≡ length column.old.values }
     requires count { count_by (λ row. row) mask.now.rows ≡ length (taken mask.now change.values) }
-    requires fits { FitsCopy column.old (len mask.now) change.values }
+    requires fits { FitsCopy (kind_of column.old.encoding) mask.now change.values }
     ensures values { column.new.values ≡ overwritten mask.now (taken mask.now change.values) column.old.values }
     ensures layout { column.new.layout ≡ column.old.layout }
     ensures encoding { IsEncodingFor column.old.values column.old.encoding (taken mask.now change.values) column.new.encoding }
@@ -117,6 +112,6 @@ pub(crate) fn take(column: &mut Column, mask: &Mask, change: Change)
     match values {
         Taken::Each(list) => column.overwrite(prepared, mask, &list),
         Taken::Same(value) => column.fill(prepared, mask, value),
-        Taken::Copied(copy) => column.copy_from(mask, &copy),
+        Taken::Copied(copy) => column.copy_from(prepared, mask, &copy),
     }
 }

@@ -4,6 +4,7 @@ ghost use Rattle.std.specs.Prelude.{length, vec_len, ◌≡◌};
 ghost use Rattle.bw_mask.specs.Masks.{len};
 
 use crate::columns::{check_value, check_values, column_of, see_values};
+use crate::set_functions::mask_of;
 use bw_code::{Kind, Layout};
 use bw_column::Column;
 use bw_mask::Mask;
@@ -107,22 +108,24 @@ fn filled<R: Abort + AllocGlobal>(
     column
 }
 
-/// The column with another's values in the chosen rows. Both have one layout, and codes for the same values.
+/// The column with another's values in the chosen rows. Both are of kind OFFSET and have one layout.
 fn copied<R: Abort + AllocGlobal>(
     rt: &R,
     mut column: Column,
     other: &Column,
     places: &Mask,
 ) -> Column {
-    let count = other.len();
     assert!(rt; column.layout() == other.layout());
-    assert!(rt; places.len() == column.len() && count == column.len());
-    let copy = column
-        .copy_of(rt.alloc(), other)
+    assert!(rt; column.kind() == Kind::Offset);
+    assert!(rt; places.len() == column.len() && places.len() == other.len());
+    let copy = other
+        .copy_at(rt.alloc(), places)
         .expect(rt, "memory")
-        .expect(rt, "a code for each value");
-    let _prepared = column.room_to_copy(places, &copy).expect(rt, "memory");
-    column.copy_from(places, &copy);
+        .expect(rt, "a column of kind OFFSET");
+    let prepared = column
+        .room_to_copy(rt.alloc(), places, &copy)
+        .expect(rt, "memory");
+    column.copy_from(prepared, places, &copy);
     column
 }
 
@@ -196,21 +199,6 @@ fn check_copied<R: Abort + AllocGlobal>(rt: &R, layout: Layout, round: usize) {
     see_values(rt, &column, &wanted_of_copy(rt, round));
 }
 
-/// Whether a column of one list has a copy of a column of another.
-fn has_copy<R: Abort + AllocGlobal>(
-    rt: &R,
-    values: &[Option<i64>],
-    others: &[Option<i64>],
-    kind: Kind,
-) -> bool {
-    let column = column_of(rt, values, Layout::V, kind);
-    let other = column_of(rt, others, Layout::V, Kind::Offset);
-    column
-        .copy_of(rt.alloc(), &other)
-        .expect(rt, "memory")
-        .is_some()
-}
-
 #[test]
 fn copies_of_runs(rt: HostRuntime) {
     for layout in LAYOUTS {
@@ -220,15 +208,58 @@ fn copies_of_runs(rt: HostRuntime) {
     }
 }
 
+/// A column with another's values in these rows.
+fn check_taken<R: Abort + AllocGlobal>(
+    rt: &R,
+    values: &[Option<i64>],
+    others: &[Option<i64>],
+    rows: &[bool],
+    wanted: &[Option<i64>],
+) {
+    for layout in LAYOUTS {
+        let column = column_of(rt, values, layout, Kind::Offset);
+        let other = column_of(rt, others, layout, Kind::Offset);
+        let column = copied(rt, column, &other, &mask_of(rt, rows));
+        see_values(rt, &column, wanted);
+    }
+}
+
 #[test]
-fn copies_where_each_value_has_a_code(rt: HostRuntime) {
+fn copies_that_need_another_encoding(rt: HostRuntime) {
     let values = [Some(10), None, Some(13)];
-    assert!(rt; has_copy(&rt, &values, &[Some(12), None, Some(13)], Kind::Offset));
-    assert!(rt; has_copy(&rt, &values, &[Some(10), Some(11), Some(13)], Kind::Offset));
-    assert!(rt; !has_copy(&rt, &values, &[Some(9), Some(12), None], Kind::Offset));
-    assert!(rt; !has_copy(&rt, &values, &[Some(12), Some(14), None], Kind::Offset));
-    assert!(rt; !has_copy(&rt, &values, &[Some(14), None, None], Kind::Offset));
-    assert!(rt; !has_copy(&rt, &values, &[Some(12), None, Some(13)], Kind::Dictionary));
+    let all = [true, true, true];
+    // Within the codes of the column, below its base, above its top, and far from both.
+    for others in [
+        [Some(12), None, Some(13)],
+        [Some(9), Some(12), None],
+        [Some(12), Some(14), None],
+        [Some(-2_000_000_000), None, Some(2_000_000_000)],
+    ] {
+        check_taken(&rt, &values, &others, &all, &others);
+    }
+    // What isn't taken asks for no code.
+    let far = [Some(-2_000_000_000), Some(11), Some(2_000_000_000)];
+    check_taken(
+        &rt,
+        &values,
+        &far,
+        &[false, true, false],
+        &[Some(10), Some(11), Some(13)],
+    );
+    check_taken(&rt, &values, &far, &[false, false, false], &values);
+}
+
+#[test]
+fn no_copy_of_a_dictionary(rt: HostRuntime) {
+    let column = column_of(&rt, &[Some(1), None], Layout::V, Kind::Dictionary);
+    let places = mask_of(&rt, &[true, true]);
+    assert!(&rt; places.len() == column.len());
+    assert!(&rt;
+        column
+            .copy_at(rt.alloc(), &places)
+            .expect(&rt, "memory")
+            .is_none()
+    );
 }
 
 #[test]

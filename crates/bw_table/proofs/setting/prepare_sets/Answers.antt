@@ -1,7 +1,6 @@
 use Rattle.std.proofs.Common.{◌≡◌, ◌<◌, arith, length, get_or, set, sym, ◌∙◌, None}
 use Rattle.std.proofs.lemmas.List.{get_or_default, get_or-set_same}
 use Rattle.std.proofs.lemmas.List.Sums.{count_by-le-length}
-use Rattle.bw_mask.specs.Masks.{len}
 use Rattle.bw_column.specs.Columns.{ColumnView, Keeps}
 use Rattle.bw_table.specs.Changes.{IsSetTo}
 use Rattle.bw_table.specs.Sets.{taken}
@@ -30,7 +29,7 @@ loop-set-preserved c =
           rw (get_or_default sets n s (0, Value None) inside) record {
             values = c.in_ok-values.ensures.values ∙ sym (gathered_kept (set columns here.0 x) columns kept c.args.found.now here.1);
             ready = λ d. rw (get_or-set_same columns here.0 x d named) c.in_ok-prepared.ensures.prepared;
-            fits = λ d. rw (get_or-set_same columns here.0 x d named) (fits_kept x (get_or columns here.0 d) (len c.args.found.now) c.in_ok-values.values (keeps d) (c.in_ok-values.ensures.fits d));
+            fits = λ d. rw (get_or-set_same columns here.0 x d named) (fits_kept x (get_or columns here.0 d) c.args.found.now c.in_ok-values.values (keeps d) (c.in_ok-values.ensures.fits d));
           }));
     }
 

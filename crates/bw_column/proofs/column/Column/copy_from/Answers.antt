@@ -1,9 +1,14 @@
 use Rattle.bw_column.specs.Codes.{IsCoded}
-use Rattle.bw_column.proofs.Ordered.{all_chosen}
+use Rattle.bw_column.specs.Values.{IsNullOrHeld}
+use Rattle.bw_column.proofs.Masked.{all_of_chosen}
 use Rattle.bw_column.proofs.column.Column.copy_from.Goals as goal
 
-pub returns-clause-encoding : goal.returns-clause-encoding
-returns-clause-encoding c = record {
-  stays = λ _. c.copy_runs.ensures.encoding;
-  anew = λ none. absurd (none (all_chosen (IsCoded c.args.self.now.encoding) c.args.places.now c.args.copy.now.values tt c.requires.can.coded));
-}
+pub copy_runs-requires-clause-coded : goal.copy_runs-requires-clause-coded
+copy_runs-requires-clause-coded c =
+    let is = rw (← c.prepared.view_is) at c.requires.prepared in
+    rw c.take.ensures.encoding (all_of_chosen c.args.places.now c.args.copy.now.values c.requires.masked (IsCoded _) tt is.coded)
+
+pub copy_runs-requires-clause-held : goal.copy_runs-requires-clause-held
+copy_runs-requires-clause-held c =
+    let is = rw (← c.prepared.view_is) at c.requires.prepared in
+    rw (c.take.ensures.layout, is.layout) (all_of_chosen c.args.places.now c.args.copy.now.values c.requires.masked (IsNullOrHeld _) tt is.held)
