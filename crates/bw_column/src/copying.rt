@@ -14,7 +14,6 @@ ghost use Rattle.bw_column.specs.Places.{chosen_values, overwritten, put_values}
 ghost use Rattle.bw_column.specs.Preparing.{IsEncodingFor, IsPreparedFor};
 ghost use Rattle.bw_column.specs.Values.{IsNullOrHeld, known};
 
-use crate::bits::has_bit;
 use crate::change::Prepared;
 use crate::codes::greatest_code;
 use crate::column::Column;
@@ -22,7 +21,7 @@ use crate::kept::KeptCodes;
 use crate::step::Step;
 use bw_cells::Measured;
 use bw_code::{Encoding, Ends, Layout, Offset};
-use bw_mask::Mask;
+use bw_mask::{Mask, has_bit};
 use std::alloc::{AllocError, Global};
 
 /// Whether each value that has a code by one offset has one by another, by bases and widths alone.
