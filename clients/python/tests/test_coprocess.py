@@ -166,6 +166,9 @@ class Interrupts(SessionTestCase):
 
 
 class Sharing(SessionTestCase):
+    # How a session of this kind is opened, for a script.
+    OPENED = "bitcol.Session()"
+
     def test_threads_take_turns(self) -> None:
         self.session.write_table("t", {"a": range(1000)})
         wrong: list[object] = []
@@ -186,7 +189,7 @@ class Sharing(SessionTestCase):
     def test_a_forked_process_is_refused(self) -> None:
         script = (
             "import bitcol, os, sys\n"
-            "session = bitcol.Session()\n"
+            f"session = {self.OPENED}\n"
             "if os.fork() == 0:\n"
             "    try:\n"
             "        session.tables()\n"

@@ -2,15 +2,12 @@
 
 import ctypes
 import os
-import subprocess
-import sys
-import threading
 import unittest
 from typing import Any
 
 import bitcol
 from bitcol.library import ROOM_BYTES
-from tests import test_session, test_tables
+from tests import test_coprocess, test_session, test_tables
 from tests.support import SessionTestCase
 
 
@@ -37,6 +34,13 @@ class Refusals(LibraryTestCase, test_session.Refusals):
 
 class ManyRows(LibraryTestCase, test_session.ManyRows):
     pass
+
+
+class Sharing(LibraryTestCase):
+    OPENED = "bitcol.Session(door=bitcol.Library())"
+
+    test_threads_take_turns = test_coprocess.Sharing.test_threads_take_turns
+    test_a_forked_process_is_refused = test_coprocess.Sharing.test_a_forked_process_is_refused
 
 
 class Statements(LibraryTestCase):
@@ -145,47 +149,10 @@ class BadUse(LibraryTestCase):
             with self.assertRaisesRegex(bitcol.OperationalError, "can't be loaded"):
                 bitcol.Library(path)
 
-    def test_a_forked_process_is_refused(self) -> None:
-        script = (
-            "import bitcol, os, sys\n"
-            "session = bitcol.Session(door=bitcol.Library())\n"
-            "if os.fork() == 0:\n"
-            "    try:\n"
-            "        session.tables()\n"
-            "    except bitcol.InterfaceError as fault:\n"
-            "        print(fault)\n"
-            "    session.close()\n"
-            "    sys.exit(0)\n"
-            "os.wait()\n"
-            "print(session.tables())\n"
-        )
-        environment = {**os.environ, "PYTHONPATH": os.pathsep.join(sys.path)}
-        ended = subprocess.run([sys.executable, "-c", script], capture_output=True, text=True, env=environment)
-        self.assertEqual(
-            (ended.stdout, ended.stderr), ("the session belongs to the process that opened it\n[]\n", "")
-        )
-
     def test_stores_are_their_own(self) -> None:
         other = self.new_session()
         self.session.execute("CREATE TABLE t (a INT)")
         self.assertEqual(other.tables(), [])
-
-    def test_threads_take_turns(self) -> None:
-        self.session.write_table("t", {"a": range(1000)})
-        wrong: list[object] = []
-
-        def ask(first: int) -> None:
-            for value in range(first, first + 200):
-                found = self.session.execute("SELECT a FROM t WHERE a = ?", [value]).rows()
-                if found != [(value,)]:
-                    wrong.append((value, found))
-
-        threads = [threading.Thread(target=ask, args=(first,)) for first in (0, 200, 400, 600)]
-        for thread in threads:
-            thread.start()
-        for thread in threads:
-            thread.join()
-        self.assertEqual(wrong, [])
 
 
 class Connections(LibraryTestCase):
