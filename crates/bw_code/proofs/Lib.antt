@@ -17,5 +17,6 @@ pub mod Parts
 pub mod Reach
 pub mod Runs
 pub mod Segments
+pub mod Types
 pub mod UnitLemmas
 pub mod Widths

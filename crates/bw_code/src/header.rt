@@ -1,12 +1,13 @@
 //! What a column of a table is called, and how it is kept.
 
-use crate::kind::{Kind, Layout};
+use crate::kind::{ColumnType, Kind, Layout};
 
-/// A column of a table: its name, how its codes lie in memory, and how its values become codes. A name is whatever the
-/// layer above takes for one.
+/// A column of a table: its name, which integers it holds, how its codes lie in memory, and how its values become codes. A
+/// name is whatever the layer above takes for one.
 #[derive(Debug, Drop)]
 pub struct Header<N> {
     pub name: N,
+    pub column_type: ColumnType,
     pub layout: Layout,
     pub kind: Kind,
 }

@@ -1,4 +1,7 @@
-//! How a column is encoded, and how its codes lie in memory.
+//! Which integers a column holds, how it is encoded, and how its codes lie in memory.
+
+ghost use Rattle.std.specs.Prelude.{◌≡◌};
+ghost use Rattle.bw_code.specs.Types.{holds, is_of_type};
 
 /// How the values of a column become codes.
 #[derive(Clone, Copy, Debug, PartialEq, Eq)]
@@ -18,6 +21,18 @@ pub enum ColumnType {
     BigInt,
 }
 
+impl ColumnType {
+    /// Whether the integer is one of the type.
+    pub fn contains(self, value: i64) -> bool
+        ensures { result ≡ is_of_type self value }
+    {
+        match self {
+            ColumnType::Integer => i32::try_from(value).is_ok(),
+            ColumnType::BigInt => true,
+        }
+    }
+}
+
 /// How the codes of a column lie in memory.
 #[derive(Clone, Copy, Debug, PartialEq, Eq)]
 pub enum Layout {
@@ -29,4 +44,16 @@ pub enum Layout {
     H,
     /// Slices of bytes: ByteSlice (Feng and others, SIGMOD 2015).
     S,
+}
+
+impl Layout {
+    /// Whether a column of the type may lie in this layout: H has codes of at most 32 bits, and so holds no BIGINT.
+    pub fn holds(self, column_type: ColumnType) -> bool
+        ensures { result ≡ holds self column_type }
+    {
+        match (self, column_type) {
+            (Layout::H, ColumnType::BigInt) => false,
+            (_, _) => true,
+        }
+    }
 }

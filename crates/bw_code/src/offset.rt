@@ -45,7 +45,7 @@ impl Offset {
     }
 
     /// The offset that spans the values which have these ends.
-    pub(crate) fn spanning(ends: Option<Ends>) -> Offset
+    pub fn spanning(ends: Option<Ends>) -> Offset
         ensures fits { (values : List ℤ) → AreEnds values ends → IsOffsetFit values result }
         ensures coded { (values : List ℤ) → AreEnds values ends → All (IsWithin result) values }
     {
