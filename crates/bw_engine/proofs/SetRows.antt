@@ -21,7 +21,7 @@ use Rattle.bw_plan.specs.Plans.{source_at, source_of, value_by}
 use Rattle.bw_plan.specs.Sets.{source_to}
 use Rattle.bw_plan.specs.declared.plan.Source.{Source}
 use Rattle.bw_plan.specs.declared.plan.Source.TheVariants.{Place}
-use Rattle.bw_plan.proofs.Places.{place_at, place_of-names}
+use Rattle.bw_model.proofs.OwnPlaces.{place_at, place_of-names}
 use Rattle.bw_plan.proofs.PlanLaws.{source_keeps}
 
 -- a value of a row, in the words of a column and in those of the store

@@ -1,6 +1,6 @@
 -- What UPDATE, DELETE and REBUILD make of a table is a table.
-use Rattle.std.proofs.Common.{◌≡◌, ◌∙◌, ℕ, ◌≤◌, Bool, true, false, not, IsTrue, List, [], ◌∷◌, length, map, Option, None, Some, if◌then◌else◌, zero, suc, refl, sym, subst, arith}
-use Rattle.std.specs.List.{All, list_all}
+use Rattle.std.proofs.Common.{◌≡◌, ◌∙◌, ℕ, ◌≤◌, Bool, true, false, ◌||◌, not, IsTrue, List, [], ◌∷◌, ap, get_or, length, map, Option, None, Some, if◌then◌else◌, zero, suc, refl, sym, subst, arith}
+use Rattle.std.specs.List.{All, filter, list_all, list_any}
 use Rattle.std.specs.Str.{bytes_eq}
 use Rattle.std.proofs.lemmas.Bool.{not-false}
 use Rattle.std.proofs.lemmas.List.{length-map}
@@ -8,75 +8,71 @@ use Rattle.std.proofs.lemmas.List.Elements.{All-cons, All-filter, All-head, All-
 use Rattle.std.proofs.lemmas.List.Filters.{length-filter_both}
 use Rattle.bw_sql.specs.Tree.{ConditionTree}
 use Rattle.bw_sql.specs.declared.tree.LayoutChoice.{LayoutChoice}
-use Rattle.bw_sql.specs.declared.tree.Operand.{Operand}
-use Rattle.bw_sql.specs.declared.tree.Operand.TheVariants.{Column, Constant}
 use Rattle.bw_sql.specs.declared.tree.SetClause.{SetClause}
 use Rattle.bw_model.specs.Changes.{chosen_header, source_for, updated_if_found, updated_row, with_choices, with_updates, without_found}
 use Rattle.bw_model.specs.Condition.{found_rows, is_found, value_of}
-use Rattle.bw_model.specs.Refusals.{first_that_holds, is_in_range, may_be_set, update_tests}
-use Rattle.bw_model.specs.Store.{AreHeaders, Header, Row, Table, are_distinct, place_of, value_at, value_from}
+use Rattle.bw_model.specs.Refusals.{first_that_holds, fits_in, is_too_narrow, rebuild_tests, update_tests}
+use Rattle.bw_model.specs.Store.{AreHeaders, Header, Row, Table, are_distinct, names, place_of, type_named}
 use Rattle.bw_model.specs.WellFormed.{IsRow, IsTable}
 use Rattle.bw_model.proofs.Naming.{chosen_names}
+use Rattle.bw_code.specs.Types.{IsNullOrOfType, IsRowOf, is_null_or_of_type, types_of}
+use Rattle.bw_code.proofs.Types.{null_or_of_type}
+use Rattle.bw_model.specs.Words.{kind_or, layout_of}
+use Rattle.bw_model.proofs.Names.{headers_from}
 use Rattle.bw_model.proofs.Passing.{none_holds, two}
+use Rattle.bw_model.proofs.Typed.{own_type, row_made, typed_from}
+use Rattle.std.proofs.lemmas.Slice.Eq.{bytes_eq-Decides}
 
 pub everywhere : {A : Type 0} (P : A → Type 0) (xs : List A) → ((x : A) → P x) → All P xs
 everywhere P [] each = All-nil P
 everywhere P (x ∷ xs) each = All-cons P x xs (each x) (everywhere P xs each)
 
--- the values of a row are in range
-
-abbrev pub AreIntegers : Row → Type 0
-AreIntegers row = All (λ value. IsTrue (is_in_range value)) row
-
-value_fits : (row : Row) (place : ℕ) → AreIntegers row → is_in_range (value_at row place) ≡ true
-value_fits [] place all = refl
-value_fits (value ∷ row) zero all = All-head (λ v. IsTrue (is_in_range v)) value row all
-value_fits (value ∷ row) (suc place) all = value_fits row place (All-tail (λ v. IsTrue (is_in_range v)) value row all)
-
-pub place_fits : (row : Row) (place : Option ℕ) → AreIntegers row → is_in_range (value_from row place) ≡ true
-place_fits row None all = refl
-place_fits row (Some place) all = value_fits row place all
-
 -- an updated row
 
-source_fits : (headers : List Header) (row : Row) (source : Operand) → AreIntegers row → may_be_set source ≡ true → is_in_range (value_of headers row source) ≡ true
-source_fits headers row (Column name) all may = place_fits row (place_of headers name) all
-source_fits headers row (Constant value) all may = may
+module _ (headers : List Header) (row : Row) (is : IsRow headers row) where
+  source_typed : (sets : List SetClause) (name : List ℕ) → fits_in headers sets row ≡ true → IsNullOrOfType (type_named headers name) (value_of headers row (source_for sets name))
+  source_typed [] name fits = typed_from headers row (place_of headers name) is
+  source_typed (set ∷ sets) name fits = by (bytes_eq name set.column) refl
+    where
+      p : (is_null_or_of_type (type_named headers set.column) (value_of headers row set.source) ≡ true) × (fits_in headers sets row ≡ true)
+      p = two (is_null_or_of_type (type_named headers set.column) (value_of headers row set.source)) (fits_in headers sets row) fits
 
-source_may : (sets : List SetClause) (name : List ℕ) → list_all (λ set. may_be_set set.source) sets ≡ true → may_be_set (source_for sets name) ≡ true
-source_may [] name all = refl
-source_may (set ∷ sets) name all =
-    let p = two (may_be_set set.source) (list_all (λ s. may_be_set s.source) sets) all in by (bytes_eq name set.column) p.0 (source_may sets name p.1)
-  where
-    by : (b : Bool) → may_be_set set.source ≡ true → may_be_set (source_for sets name) ≡ true → may_be_set (if b then set.source else source_for sets name) ≡ true
-    by true here deeper = here
-    by false here deeper = deeper
+      by : (b : Bool) → bytes_eq name set.column ≡ b → IsNullOrOfType (type_named headers name) (value_of headers row (if b then set.source else source_for sets name))
+      by true same =
+          subst (λ n. IsNullOrOfType (type_named headers n) (value_of headers row set.source)) (sym ((bytes_eq-Decides name set.column).0 same))
+          (null_or_of_type (type_named headers set.column) (value_of headers row set.source) p.0)
+      by false other = source_typed sets name p.1
 
-module _ (headers : List Header) (sets : List SetClause) (may : list_all (λ set. may_be_set set.source) sets ≡ true) where
-  row_updated : (row : Row) → IsRow headers row → IsRow headers (updated_row headers sets row)
-  row_updated row is = record {
-    full = length-map headers (λ header. value_of headers row (source_for sets header.name));
-    integers =
-        All-map (λ value. IsTrue (is_in_range value)) (λ header. value_of headers row (source_for sets header.name)) headers
-        (everywhere (λ header. IsTrue (is_in_range (value_of headers row (source_for sets header.name)))) headers (λ header. source_fits headers row (source_for sets header.name) is.integers (source_may sets header.name may)));
-  }
+  row_updated : (sets : List SetClause) → IsTrue (are_distinct (names headers)) → fits_in headers sets row ≡ true → IsRow headers (updated_row headers sets row)
+  row_updated sets distinct fits =
+      row_made headers (λ header. value_of headers row (source_for sets header.name))
+      (λ k d low. subst (λ t. IsNullOrOfType t (value_of headers row (source_for sets (get_or headers k d).name))) (own_type headers k d distinct low)
+      (source_typed sets (get_or headers k d).name fits))
 
-  row_if : (b : Bool) (row : Row) → IsRow headers row → IsRow headers (if b then updated_row headers sets row else row)
-  row_if true row is = row_updated row is
-  row_if false row is = is
+module _ (headers : List Header) (distinct : IsTrue (are_distinct (names headers))) (sets : List SetClause) (condition : Option ConditionTree) where
+  rows_updated : (rows : List Row) → list_all (fits_in headers sets) (filter (is_found headers condition) rows) ≡ true → All (IsRow headers) rows
+      → All (IsRow headers) (map (updated_if_found headers sets condition) rows)
+  rows_updated [] fits all = All-nil (IsRow headers)
+  rows_updated (row ∷ rows) fits all = by (is_found headers condition row) fits
+    where
+      this : IsRow headers row
+      this = All-head (IsRow headers) row rows all
 
-  rows_updated : (condition : Option ConditionTree) (rows : List Row) → All (IsRow headers) rows → All (IsRow headers) (map (updated_if_found headers sets condition) rows)
-  rows_updated condition [] all = All-nil (IsRow headers)
-  rows_updated condition (row ∷ rows) all =
-      All-cons (IsRow headers) (updated_if_found headers sets condition row) (map (updated_if_found headers sets condition) rows)
-      (row_if (is_found headers condition row) row (All-head (IsRow headers) row rows all)) (rows_updated condition rows (All-tail (IsRow headers) row rows all))
+      by : (b : Bool) → list_all (fits_in headers sets) (if b then row ∷ filter (is_found headers condition) rows else filter (is_found headers condition) rows) ≡ true
+          → All (IsRow headers) ((if b then updated_row headers sets row else row) ∷ map (updated_if_found headers sets condition) rows)
+      by true found =
+          let p = two (fits_in headers sets row) (list_all (fits_in headers sets) (filter (is_found headers condition) rows)) found in
+          All-cons (IsRow headers) (updated_row headers sets row) (map (updated_if_found headers sets condition) rows) (row_updated headers row this sets distinct p.0)
+          (rows_updated rows p.1 (All-tail (IsRow headers) row rows all))
+      by false found =
+          All-cons (IsRow headers) row (map (updated_if_found headers sets condition) rows) this (rows_updated rows found (All-tail (IsRow headers) row rows all))
 
 pub updated_table : (table : Table) (sets : List SetClause) (condition : Option ConditionTree) → IsTable table → first_that_holds (update_tests sets condition table) ≡ None → IsTable (with_updates sets condition table)
 updated_table table sets condition is none =
     let p = none_holds (update_tests sets condition table) none in
     record {
       headers = is.headers;
-      rows = rows_updated table.headers sets (not-false (list_all (λ set. may_be_set set.source) sets) p.1.1.1.1.1.0) condition table.rows is.rows;
+      rows = rows_updated table.headers is.headers.distinct sets condition table.rows (not-false (list_all (fits_in table.headers sets) (found_rows table condition)) p.1.1.1.1.1.1.0) is.rows;
       few = omega (arith, is.few, length-map table.rows (updated_if_found table.headers sets condition));
     }
 
@@ -95,21 +91,34 @@ table_left table condition is = record {
 
 -- columns that are laid anew
 
-module _ (choices : List LayoutChoice) (headers : List Header) where
-  row_fits : (row : Row) → IsRow headers row → IsRow (map (chosen_header choices) headers) row
-  row_fits row is = record { full = is.full ∙ sym (length-map headers (chosen_header choices)); integers = is.integers }
+module _ (choices : List LayoutChoice) where
+  chosen_type : (header : Header) (list : List LayoutChoice) → (chosen_header list header).column_type ≡ header.column_type
+  chosen_type header [] = refl
+  chosen_type header (choice ∷ list) = by (bytes_eq header.name choice.column) (chosen_type header list)
+    where
+      by : (b : Bool) → (chosen_header list header).column_type ≡ header.column_type
+          → (if b then record { name = header.name; column_type = header.column_type; layout = layout_of choice.layout; kind = kind_or choice.kind header.kind } else chosen_header list header).column_type ≡ header.column_type
+      by true later = refl
+      by false later = later
 
-  rows_fit : (rows : List Row) → All (IsRow headers) rows → All (IsRow (map (chosen_header choices) headers)) rows
-  rows_fit [] all = All-nil (IsRow (map (chosen_header choices) headers))
-  rows_fit (row ∷ rows) all =
-      All-cons (IsRow (map (chosen_header choices) headers)) row rows (row_fits row (All-head (IsRow headers) row rows all)) (rows_fit rows (All-tail (IsRow headers) row rows all))
+  chosen_types : (headers : List Header) → types_of (map (chosen_header choices) headers) ≡ types_of headers
+  chosen_types [] = refl
+  chosen_types (header ∷ headers) = λ j. chosen_type header choices j ∷ chosen_types headers j
 
-  pub chosen_headers : AreHeaders headers → AreHeaders (map (chosen_header choices) headers)
-  chosen_headers are = record {
-    some = omega (arith, are.some, length-map headers (chosen_header choices));
-    few = omega (arith, are.few, length-map headers (chosen_header choices));
-    distinct = subst (λ l. are_distinct l ≡ true) (sym (chosen_names choices headers)) are.distinct;
-  }
+  any_chosen : (headers : List Header) → list_any (λ header. is_too_narrow (chosen_header choices header)) headers ≡ list_any is_too_narrow (map (chosen_header choices) headers)
+  any_chosen [] = refl
+  any_chosen (header ∷ headers) = ap (λ b. is_too_narrow (chosen_header choices header) || b) (any_chosen headers)
 
-pub chosen_table : (table : Table) (choices : List LayoutChoice) → IsTable table → IsTable (with_choices choices table)
-chosen_table table choices is = record { headers = chosen_headers choices table.headers is.headers; rows = rows_fit choices table.headers table.rows is.rows; few = is.few }
+  chosen_headers : (headers : List Header) → AreHeaders headers → list_any (λ header. is_too_narrow (chosen_header choices header)) headers ≡ false → AreHeaders (map (chosen_header choices) headers)
+  chosen_headers headers are wide =
+      headers_from (map (chosen_header choices) headers) (omega (arith, are.some, length-map headers (chosen_header choices))) (omega (arith, are.few, length-map headers (chosen_header choices)))
+      (subst (λ l. are_distinct l ≡ true) (sym (chosen_names choices headers)) are.distinct) (sym (any_chosen headers) ∙ wide)
+
+pub chosen_table : (table : Table) (choices : List LayoutChoice) → IsTable table → first_that_holds (rebuild_tests choices table) ≡ None → IsTable (with_choices choices table)
+chosen_table table choices is none =
+    let p = none_holds (rebuild_tests choices table) none in
+    record {
+      headers = chosen_headers choices table.headers is.headers p.1.1.0;
+      rows = subst (λ types. All (IsRowOf types) table.rows) (sym (chosen_types choices table.headers)) is.rows;
+      few = is.few;
+    }

@@ -1,49 +1,44 @@
 -- What set functions of integers say fits a cell.
 use Rattle.std.proofs.Common.{◌≡◌, ℕ, ℤ, pos, negsuc, ◌+◌, ◌*◌, ◌≤◌, ◌^◌, ◌+ℤ◌, ◌≤ℤ◌, Bool, true, false, FitsSigned, List, [], ◌∷◌, int_le, length, slice_get, None, Some, cond, nat_lt, not, if◌then◌else◌, zero, suc, refl, sym, ap, arith, ◌∙◌, inl, inr}
-use Rattle.std.specs.Int.{w128}
+use Rattle.std.specs.Int.{w128, w64}
 use Rattle.std.specs.List.{All, insert, position, position_or_len}
 use Rattle.std.specs.Option.{unwrap_or}
 use Rattle.std.proofs.lemmas.Bool.{cases_lt}
 use Rattle.std.proofs.lemmas.List.Sums.{prefix_len-le-length}
 use Rattle.std.proofs.lemmas.Bool.Decides.{nat_tests}
 use Rattle.std.proofs.lemmas.Int.{ints}
-use Rattle.std.proofs.lemmas.Bool.{leb-true}
 use Rattle.std.proofs.lemmas.List.Elements.{All-cons, All-head, All-nil, All-tail}
-use Rattle.bw_model.specs.Refusals.{is_in_range}
 use Rattle.bw_model.specs.Select.{folded, shown}
 use Rattle.bw_cells.specs.SetFunctions.{known, put_in, sorted, sum, total}
 use Rattle.bw_model.specs.Store.{Value, row_limit}
 use Rattle.bw_model.specs.Told.{IsCell}
 use Rattle.bw_sql.specs.declared.tree.SetFunction.{SetFunction}
 use Rattle.bw_sql.specs.declared.tree.SetFunction.TheVariants.{Count, Sum, Min, Max, Median}
-use Rattle.bw_model.proofs.Passing.{two}
 
--- a value of an INTEGER column
-abbrev pub IsInteger : ℤ → Type 0
-IsInteger n = is_in_range (Some n) ≡ true
+-- a value of a column: an integer of 64 bits
+abbrev pub IsStored : ℤ → Type 0
+IsStored n = FitsSigned w64 n
 
-integer_low : (n : ℤ) → IsInteger n → pos 0 ≤ℤ (n +ℤ pos (2 ^ 31))
-integer_low (pos n) e = omega (arith, ints)
-integer_low (negsuc n) e = let few = leb-true n 2147483647 (two _ _ e).0 in omega (arith, ints, few)
+integer_low : (n : ℤ) → IsStored n → pos 0 ≤ℤ (n +ℤ pos (2 ^ 63))
+integer_low n e = omega (arith, ints, e)
 
-integer_high : (n : ℤ) → IsInteger n → n ≤ℤ pos (2 ^ 31)
-integer_high (pos n) e = let few = leb-true n 2147483647 e in omega (arith, ints, few)
-integer_high (negsuc n) e = omega (arith, ints)
+integer_high : (n : ℤ) → IsStored n → n ≤ℤ pos (2 ^ 63)
+integer_high n e = omega (arith, ints, e)
 
 -- a sum is no further from 0 than so many integers
-total_high : (xs : List ℤ) → All IsInteger xs → total xs ≤ℤ pos (length xs * 2 ^ 31)
+total_high : (xs : List ℤ) → All IsStored xs → total xs ≤ℤ pos (length xs * 2 ^ 63)
 total_high [] all = omega (arith, ints)
-total_high (x ∷ xs) all = let one = integer_high x (All-head IsInteger x xs all) in let rest = total_high xs (All-tail IsInteger x xs all) in omega (arith, ints, one, rest)
+total_high (x ∷ xs) all = let one = integer_high x (All-head IsStored x xs all) in let rest = total_high xs (All-tail IsStored x xs all) in omega (arith, ints, one, rest)
 
-total_low : (xs : List ℤ) → All IsInteger xs → pos 0 ≤ℤ (total xs +ℤ pos (length xs * 2 ^ 31))
+total_low : (xs : List ℤ) → All IsStored xs → pos 0 ≤ℤ (total xs +ℤ pos (length xs * 2 ^ 63))
 total_low [] all = omega (arith, ints)
-total_low (x ∷ xs) all = let one = integer_low x (All-head IsInteger x xs all) in let rest = total_low xs (All-tail IsInteger x xs all) in omega (arith, ints, one, rest)
+total_low (x ∷ xs) all = let one = integer_low x (All-head IsStored x xs all) in let rest = total_low xs (All-tail IsStored x xs all) in omega (arith, ints, one, rest)
 
-fits_by : (t : ℤ) (n : ℕ) → n ≤ row_limit → t ≤ℤ pos (n * 2 ^ 31) → pos 0 ≤ℤ (t +ℤ pos (n * 2 ^ 31)) → FitsSigned w128 t
+fits_by : (t : ℤ) (n : ℕ) → n ≤ row_limit → t ≤ℤ pos (n * 2 ^ 63) → pos 0 ≤ℤ (t +ℤ pos (n * 2 ^ 63)) → FitsSigned w128 t
 fits_by (pos t) n few high low = omega (arith, ints, few, high)
 fits_by (negsuc t) n few high low = omega (arith, ints, few, low)
 
-sum_fits : (xs : List ℤ) → length xs ≤ row_limit → All IsInteger xs → IsCell (shown (sum xs))
+sum_fits : (xs : List ℤ) → length xs ≤ row_limit → All IsStored xs → IsCell (shown (sum xs))
 sum_fits [] few all = tt
 sum_fits (x ∷ xs) few all = fits_by (total (x ∷ xs)) (length (x ∷ xs)) few (total_high (x ∷ xs) all) (total_low (x ∷ xs) all)
 
@@ -61,17 +56,16 @@ module _ (P : ℤ → Type 0) where
   all_sorted [] all = All-nil P
   all_sorted (x ∷ xs) all = all_put x (sorted xs) (All-head P x xs all) (all_sorted xs (All-tail P x xs all))
 
-integer_fits : (n : ℤ) → IsInteger n → FitsSigned w128 n
-integer_fits (pos n) e = let few = leb-true n 2147483647 e in omega (arith, few)
-integer_fits (negsuc n) e = let few = leb-true n 2147483647 (two _ _ e).0 in omega (arith, few)
+integer_fits : (n : ℤ) → IsStored n → FitsSigned w128 n
+integer_fits n e = omega (arith, ints, e)
 
-entry_fits : (xs : List ℤ) (n : ℕ) → All IsInteger xs → IsCell (shown (slice_get xs n))
+entry_fits : (xs : List ℤ) (n : ℕ) → All IsStored xs → IsCell (shown (slice_get xs n))
 entry_fits [] n all = tt
-entry_fits (x ∷ xs) zero all = integer_fits x (All-head IsInteger x xs all)
-entry_fits (x ∷ xs) (suc n) all = entry_fits xs n (All-tail IsInteger x xs all)
+entry_fits (x ∷ xs) zero all = integer_fits x (All-head IsStored x xs all)
+entry_fits (x ∷ xs) (suc n) all = entry_fits xs n (All-tail IsStored x xs all)
 
-sorted_fits : (xs : List ℤ) (n : ℕ) → All IsInteger xs → IsCell (shown (slice_get (sorted xs) n))
-sorted_fits xs n all = entry_fits (sorted xs) n (all_sorted IsInteger xs all)
+sorted_fits : (xs : List ℤ) (n : ℕ) → All IsStored xs → IsCell (shown (slice_get (sorted xs) n))
+sorted_fits xs n all = entry_fits (sorted xs) n (all_sorted IsStored xs all)
 
 -- the values that are not null are no more, and integers, too
 few_known : (values : List Value) → length (known values) ≤ length values
@@ -79,13 +73,17 @@ few_known [] = omega arith
 few_known (None ∷ values) = let rest = few_known values in omega (arith, rest)
 few_known (Some n ∷ values) = let rest = few_known values in omega (arith, rest)
 
-all_known : (values : List Value) → All (λ value. is_in_range value ≡ true) values → All IsInteger (known values)
-all_known [] all = All-nil IsInteger
-all_known (None ∷ values) all = all_known values (All-tail (λ value. is_in_range value ≡ true) None values all)
-all_known (Some n ∷ values) all =
-    All-cons IsInteger n (known values) (All-head (λ value. is_in_range value ≡ true) (Some n) values all) (all_known values (All-tail (λ value. is_in_range value ≡ true) (Some n) values all))
+-- NULL, or an integer of 64 bits
+abbrev pub IsNullOrStored : Value → Type 0
+IsNullOrStored None = Unit {0}
+IsNullOrStored (Some n) = IsStored n
 
-folded_by : (f : SetFunction) (xs : List ℤ) → length xs ≤ row_limit → All IsInteger xs → IsCell (folded f xs)
+all_known : (values : List Value) → All IsNullOrStored values → All IsStored (known values)
+all_known [] all = All-nil IsStored
+all_known (None ∷ values) all = all_known values (All-tail IsNullOrStored None values all)
+all_known (Some n ∷ values) all = All-cons IsStored n (known values) (All-head IsNullOrStored (Some n) values all) (all_known values (All-tail IsNullOrStored (Some n) values all))
+
+folded_by : (f : SetFunction) (xs : List ℤ) → length xs ≤ row_limit → All IsStored xs → IsCell (folded f xs)
 folded_by Count xs few all = omega (arith, few)
 folded_by Sum xs few all = sum_fits xs few all
 folded_by Min xs few all = sorted_fits xs _ all
@@ -93,7 +91,7 @@ folded_by Max xs few all = sorted_fits xs _ all
 folded_by Median xs few all = sorted_fits xs _ all
 
 -- a set function of integers
-pub folded_fits : (f : SetFunction) (values : List Value) → length values ≤ row_limit → All (λ value. is_in_range value ≡ true) values → IsCell (folded f (known values))
+pub folded_fits : (f : SetFunction) (values : List Value) → length values ≤ row_limit → All IsNullOrStored values → IsCell (folded f (known values))
 folded_fits f values few all = let fewer = few_known values in folded_by f (known values) (omega (arith, few, fewer)) (all_known values all)
 
 -- a value is put in front of the first that it is not above

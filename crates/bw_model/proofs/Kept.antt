@@ -1,5 +1,5 @@
 -- A step keeps a store well formed.
-use Rattle.std.proofs.Common.{◌≡◌, inl, inr, ℕ, ◌+◌, ◌<◌, ◌^◌, Bool, true, false, ◌&&◌, ◌||◌, not, is_some, IsTrue, List, [], ◌∷◌, ◌++◌, length, map, position, Option, None, Some, if◌then◌else◌, zero, suc, refl, sym, ap, subst, ◌∙◌, arith, length-append}
+use Rattle.std.proofs.Common.{◌≡◌, inl, inr, ℕ, ◌+◌, ◌<◌, ◌^◌, Bool, true, false, ◌&&◌, ◌||◌, not, is_some, IsTrue, List, [], ◌∷◌, ◌++◌, get_or, length, map, position, Option, None, Some, if◌then◌else◌, zero, suc, refl, sym, ap, subst, ◌∙◌, arith, length-append}
 use Rattle.std.specs.List.{All, list_all, list_any}
 use Rattle.std.specs.Str.{bytes_eq}
 use Rattle.std.proofs.lemmas.Bool.{leb-false, ltb-false, not-false, true≢false}
@@ -11,47 +11,37 @@ use Rattle.bw_sql.specs.declared.tree.FirstRecord.{FirstRecord}
 use Rattle.bw_sql.specs.declared.tree.SetClause.{SetClause}
 use Rattle.bw_sql.specs.declared.tree.ColumnDefinition.{ColumnDefinition}
 use Rattle.bw_model.specs.Changes.{with_choices, with_updates, without_found}
-use Rattle.bw_model.specs.Contents.{MayBeSaid, lines_in, table_held, width_of}
+use Rattle.bw_model.specs.Contents.{MayBeSaid, lines_in, table_held, types_in}
 use Rattle.bw_model.specs.Insert.{row_for, target_columns, with_rows}
-use Rattle.bw_model.specs.Refusals.{chosen_columns, delete_tests, first_that_holds, insert_tests, is_in_range, load_tests, open_tests, over, rebuild_tests, tests_of, update_tests}
+use Rattle.bw_model.specs.Refusals.{delete_tests, first_that_holds, insert_tests, load_tests, open_tests, over, rebuild_tests, tests_of, types_named, update_tests}
 use Rattle.bw_model.specs.Step.{Step, carried_out, refused_or, with_lines, with_table, without_table}
-use Rattle.bw_model.specs.Store.{Header, Row, Store, Table, are_distinct, header_of, row_limit, table_limit, table_of, value_at, value_from}
+use Rattle.bw_model.specs.Store.{Header, Row, Store, Table, are_distinct, header_of, names, row_limit, table_limit, table_of, value_from}
 use Rattle.bw_model.specs.WellFormed.{IsRow, IsStore, IsTable}
 use Rattle.bw_model.specs.declared.content.Content.{Content}
 use Rattle.bw_model.specs.declared.refusal.Refusal.{Refusal}
 use Rattle.bw_model.specs.declared.reply.Reply.{Reply}
-use Rattle.bw_model.proofs.Changed.{chosen_table, everywhere, table_left, updated_table}
+use Rattle.bw_code.specs.Types.{IsNullOrOfType, are_of_types, types_of}
+use Rattle.bw_model.proofs.Changed.{chosen_table, table_left, updated_table}
+use Rattle.bw_model.proofs.Typed.{listed_typed, own_type, row_made}
 use Rattle.bw_model.proofs.Dropped.{All-without, distinct_without, few_without}
 use Rattle.bw_model.proofs.Names.{are_distinct-push, bytes_eq-comm, headers_from, map-push}
 use Rattle.bw_model.proofs.Passing.{Passes, none_holds, passes, two}
 use Rattle.bw_model.proofs.Said.{FitsTable, lines_are, said_to_load, said_to_open}
 
--- the values of a row that is in range
-
-at_place : (values : Row) (place : ℕ) → list_all is_in_range values ≡ true → is_in_range (value_at values place) ≡ true
-at_place [] place all = refl
-at_place (v ∷ values) zero all = (two (is_in_range v) (list_all is_in_range values) all).0
-at_place (v ∷ values) (suc place) all = at_place values place (two (is_in_range v) (list_all is_in_range values) all).1
-
-from_place : (values : Row) (place : Option ℕ) → list_all is_in_range values ≡ true → is_in_range (value_from values place) ≡ true
-from_place values None all = refl
-from_place values (Some place) all = at_place values place all
-
 -- rows that are put into a table
 
-new_row : (headers : List Header) (list : List (List ℕ)) (values : Row) → list_all is_in_range values ≡ true → IsRow headers (row_for headers list values)
-new_row headers list values all = record {
-  full = length-map headers (λ header. value_from values (position (bytes_eq header.name) list));
-  integers =
-      All-map (λ value. IsTrue (is_in_range value)) (λ header. value_from values (position (bytes_eq header.name) list)) headers
-      (everywhere (λ header. IsTrue (is_in_range (value_from values (position (bytes_eq header.name) list)))) headers (λ header. from_place values (position (bytes_eq header.name) list) all));
-}
+module _ (headers : List Header) (distinct : IsTrue (are_distinct (names headers))) (list : List (List ℕ)) where
+  new_row : (values : Row) → are_of_types (types_named headers list) values ≡ true → IsRow headers (row_for headers list values)
+  new_row values fit =
+      row_made headers (λ header. value_from values (position (bytes_eq header.name) list))
+      (λ k d low. subst (λ t. IsNullOrOfType t (value_from values (position (bytes_eq (get_or headers k d).name) list))) (own_type headers k d distinct low)
+      (listed_typed headers list values (get_or headers k d).name (position (bytes_eq (get_or headers k d).name) list) fit refl))
 
-new_rows : (headers : List Header) (list : List (List ℕ)) (rows : List Row) → list_all (list_all is_in_range) rows ≡ true → All (IsRow headers) (map (row_for headers list) rows)
-new_rows headers list [] all = All-nil (IsRow headers)
-new_rows headers list (row ∷ rows) all =
-    let p = two (list_all is_in_range row) (list_all (list_all is_in_range) rows) all in
-    All-cons (IsRow headers) (row_for headers list row) (map (row_for headers list) rows) (new_row headers list row p.0) (new_rows headers list rows p.1)
+  new_rows : (rows : List Row) → list_all (are_of_types (types_named headers list)) rows ≡ true → All (IsRow headers) (map (row_for headers list) rows)
+  new_rows [] all = All-nil (IsRow headers)
+  new_rows (row ∷ rows) all =
+      let p = two (are_of_types (types_named headers list) row) (list_all (are_of_types (types_named headers list)) rows) all in
+      All-cons (IsRow headers) (row_for headers list row) (map (row_for headers list) rows) (new_row row p.0) (new_rows rows p.1)
 
 grown : (table : Table) (listed : Option (List (List ℕ))) (rows : List Row) → IsTable table → first_that_holds (insert_tests (target_columns table.headers listed) rows table) ≡ None → IsTable (with_rows listed rows table)
 grown table listed rows is none =
@@ -59,7 +49,7 @@ grown table listed rows is none =
     let p = (none_holds (insert_tests list rows table) none).1.1.1 in
     record {
       headers = is.headers;
-      rows = All-append (IsRow table.headers) table.rows (map (row_for table.headers list) rows) is.rows (new_rows table.headers list rows (not-false (list_all (list_all is_in_range) rows) p.0));
+      rows = All-append (IsRow table.headers) table.rows (map (row_for table.headers list) rows) is.rows (new_rows table.headers is.headers.distinct list rows (not-false (list_all (are_of_types (types_named table.headers list)) rows) p.0));
       few = omega (arith, length-append table.rows (map (row_for table.headers list) rows), length-map rows (row_for table.headers list), ltb-false row_limit (length table.rows + length rows) p.1.0);
     }
 
@@ -140,11 +130,11 @@ pushed store name table are absent room is = record {
   tables = All-push (λ entry. IsTable entry.1) store (name, table) are.tables is;
 }
 
-made : (columns : List ColumnDefinition) (name : List ℕ) (store : Store) → IsStore store → Passes (map (λ c. c.name) columns) name store → IsStore (store ++ (name, record { headers = map header_of columns; rows = [] }) ∷ [])
+made : (columns : List Header) (name : List ℕ) (store : Store) → IsStore store → Passes columns name store → IsStore (store ++ (name, record { headers = columns; rows = [] }) ∷ [])
 made columns name store are pass =
-    pushed store name (record { headers = map header_of columns; rows = [] }) are pass.absent pass.room (record {
-      headers = headers_from columns (omega (arith, pass.some, length-map columns (λ c. c.name))) (omega (arith, pass.few, length-map columns (λ c. c.name))) pass.distinct;
-      rows = All-nil (IsRow (map header_of columns));
+    pushed store name (record { headers = columns; rows = [] }) are pass.absent pass.room (record {
+      headers = headers_from columns pass.some pass.few pass.distinct pass.wide;
+      rows = All-nil (IsRow columns);
       few = omega arith;
     })
 
@@ -164,7 +154,7 @@ inserts None store name listed rows are there none = cc
 inserts (Some table) store name listed rows are there none =
     changed store name (with_rows listed rows) table there (grown table listed rows (table_in store name table there are.tables) none) are
 
-updates : (o : Option Table) (store : Store) (name : List ℕ) (sets : List SetClause) (condition : Option ConditionTree) → IsStore store → table_of store name ≡ o → first_that_holds (over o (λ table. update_tests sets condition table)) ≡ None → IsStore (with_table store name (with_updates sets condition))
+updates : (o : Option Table) (store : Store) (name : List ℕ) (sets : List SetClause) (condition : Option ConditionTree) → IsStore store → table_of store name ≡ o → first_that_holds (over o (update_tests sets condition)) ≡ None → IsStore (with_table store name (with_updates sets condition))
 updates None store name sets condition are there none = cc
 updates (Some table) store name sets condition are there none =
     changed store name (with_updates sets condition) table there (updated_table table sets condition (table_in store name table there are.tables) none) are
@@ -174,21 +164,21 @@ deletes None store name condition are there none = cc
 deletes (Some table) store name condition are there none =
     changed store name (without_found condition) table there (table_left table condition (table_in store name table there are.tables)) are
 
-rebuilds : (o : Option Table) (store : Store) (name : List ℕ) (choices : List LayoutChoice) → IsStore store → table_of store name ≡ o → first_that_holds (over o (λ table. rebuild_tests (chosen_columns choices) table)) ≡ None → IsStore (with_table store name (with_choices choices))
+rebuilds : (o : Option Table) (store : Store) (name : List ℕ) (choices : List LayoutChoice) → IsStore store → table_of store name ≡ o → first_that_holds (over o (rebuild_tests choices)) ≡ None → IsStore (with_table store name (with_choices choices))
 rebuilds None store name choices are there none = cc
 rebuilds (Some table) store name choices are there none =
-    changed store name (with_choices choices) table there (chosen_table table choices (table_in store name table there are.tables)) are
+    changed store name (with_choices choices) table there (chosen_table table choices (table_in store name table there are.tables) none) are
 
 -- how many columns a table has, where there is one
-width_few : (o : Option Table) → ((table : Table) → o ≡ Some table → IsTable table) → width_of o < 2 ^ 64
-width_few None is = omega arith
-width_few (Some table) is = let t = is table refl in omega (arith, t.headers.few)
+types_few : (o : Option Table) → ((table : Table) → o ≡ Some table → IsTable table) → length (types_in o) < 2 ^ 64
+types_few None is = omega arith
+types_few (Some table) is = let t = is table refl in omega (arith, t.headers.few, length-map table.headers (λ header. header.column_type))
 
 -- what is said to a LOAD fits its table
-pub fits_loaded : (store : Store) (name file : List ℕ) (first : FirstRecord) (said : Content) → IsStore store → MayBeSaid store (load name file first) said → FitsTable (width_of (table_of store name)) said
-fits_loaded store name file first said are may = said_to_load store name file first said (width_few (table_of store name) (λ table there. table_in store name table there are.tables)) may
+pub fits_loaded : (store : Store) (name file : List ℕ) (first : FirstRecord) (said : Content) → IsStore store → MayBeSaid store (load name file first) said → FitsTable (types_in (table_of store name)) said
+fits_loaded store name file first said are may = said_to_load store name file first said (types_few (table_of store name) (λ table there. table_in store name table there are.tables)) may
 
-lengthened : (table : Table) (said : Content) → IsTable table → FitsTable (length table.headers) said → first_that_holds (load_tests said table) ≡ None → IsTable (with_lines (lines_in said) table)
+lengthened : (table : Table) (said : Content) → IsTable table → FitsTable (types_of table.headers) said → first_that_holds (load_tests said table) ≡ None → IsTable (with_lines (lines_in said) table)
 lengthened table said is fits none =
     let p = none_holds (load_tests said table) none in
     record {
@@ -197,7 +187,7 @@ lengthened table said is fits none =
       few = omega (arith, length-append table.rows (lines_in said), ltb-false row_limit (length table.rows + length (lines_in said)) p.1.1.1.0);
     }
 
-loads : (o : Option Table) (store : Store) (name : List ℕ) (said : Content) → IsStore store → FitsTable (width_of o) said → table_of store name ≡ o → first_that_holds (over o (load_tests said)) ≡ None → IsStore (with_table store name (with_lines (lines_in said)))
+loads : (o : Option Table) (store : Store) (name : List ℕ) (said : Content) → IsStore store → FitsTable (types_in o) said → table_of store name ≡ o → first_that_holds (over o (load_tests said)) ≡ None → IsStore (with_table store name (with_lines (lines_in said)))
 loads None store name said are fits there none = cc
 loads (Some table) store name said are fits there none =
     changed store name (with_lines (lines_in said)) table there (lengthened table said (table_in store name table there are.tables) fits none) are
@@ -208,7 +198,7 @@ opens store name file said are may none =
     pushed store name (table_held said) are p.0 (leb-false table_limit (length store) p.1.0) (said_to_open store name file said may p.1.1.1.1.0).is
 
 carried : (store : Store) (said : Content) (statement : StatementTree) → IsStore store → MayBeSaid store statement said → first_that_holds (tests_of store said statement) ≡ None → IsStore (carried_out store said statement).1
-carried store said (create_table name columns) are may none = made columns name store are (passes (map (λ c. c.name) columns) name store none)
+carried store said (create_table name columns) are may none = made (map header_of columns) name store are (passes (map header_of columns) name store none)
 carried store said (drop_table name) are may none = taken_out store name are
 carried store said list_tables are may none = are
 carried store said (insert name listed rows) are may none = inserts (table_of store name) store name listed rows are refl none

@@ -16,11 +16,13 @@ pub mod NameTexts
 pub mod Names
 pub mod Naming
 pub mod OneTable
+pub mod OwnPlaces
 pub mod Passing
 pub mod RefusalTexts
 pub mod Replied
 pub mod ReplyTexts
 pub mod Said
 pub mod Stores
+pub mod Typed
 pub mod Unchanged
 pub mod Values

@@ -1,12 +1,16 @@
 -- Lists of names in which no name stands twice.
 use Rattle.std.proofs.Common.{◌≡◌, ℕ, ◌<◌, ◌≤◌, IsTrue, Bool, true, false, ◌&&◌, ◌||◌, not, List, [], ◌∷◌, ◌++◌, length, map, refl, sym, ap, ◌∙◌, arith}
-use Rattle.std.specs.List.{list_any}
+use Rattle.std.specs.List.{All, list_any}
+use Rattle.std.proofs.lemmas.Bool.{true≢false}
+use Rattle.std.proofs.lemmas.List.Elements.{All-cons, All-nil}
 use Rattle.std.specs.Str.{bytes_eq}
 use Rattle.std.proofs.lemmas.List.{length-map}
 use Rattle.std.proofs.lemmas.List.Folds.{list_any-append}
 use Rattle.std.proofs.lemmas.Slice.Eq.{bytes_eq-Decides}
 use Rattle.bw_sql.specs.declared.tree.ColumnDefinition.{ColumnDefinition}
-use Rattle.bw_model.specs.Store.{AreHeaders, are_distinct, header_of, names}
+use Rattle.bw_code.specs.Types.{holds_its_type}
+use Rattle.bw_model.specs.Refusals.{is_too_narrow}
+use Rattle.bw_model.specs.Store.{AreHeaders, Header, are_distinct, header_of, names}
 
 -- a is in the list, b the new one, d the rest is distinct, e the new one is in the rest
 pushed : (a b d e : Bool) → (not (a || (b || false)) && (d && not e)) ≡ ((not a && d) && not (b || e))
@@ -38,13 +42,18 @@ pub names_of_definitions : (columns : List ColumnDefinition) → names (map head
 names_of_definitions [] = refl
 names_of_definitions (column ∷ columns) = ap (λ l. column.name ∷ l) (names_of_definitions columns)
 
--- definitions of 1 to 64 columns, each with a name of its own, make headers
-pub headers_from : (columns : List ColumnDefinition) → 0 < length columns → length columns ≤ 64 → IsTrue (are_distinct (map (λ c. c.name) columns)) → AreHeaders (map header_of columns)
-headers_from columns some few distinct = record {
-  some = omega (arith, length-map columns header_of);
-  few = omega (arith, length-map columns header_of);
-  distinct = rw names_of_definitions distinct;
-}
+-- none is too narrow where each layout holds its type
+pub all_wide : (headers : List Header) → list_any is_too_narrow headers ≡ false → All (λ header. IsTrue (holds_its_type header)) headers
+all_wide [] none = All-nil (λ header. IsTrue (holds_its_type header))
+all_wide (header ∷ headers) none = by (holds_its_type header) refl none
+  where
+    by : (b : Bool) → holds_its_type header ≡ b → (not b || list_any is_too_narrow headers) ≡ false → All (λ h. IsTrue (holds_its_type h)) (header ∷ headers)
+    by true holds rest = All-cons (λ h. IsTrue (holds_its_type h)) header headers holds (all_wide headers rest)
+    by false holds rest = absurd (true≢false rest)
+
+-- 1 to 64 columns, each with a name of its own and in a layout that holds its type, are headers
+pub headers_from : (headers : List Header) → 0 < length headers → length headers ≤ 64 → IsTrue (are_distinct (names headers)) → list_any is_too_narrow headers ≡ false → AreHeaders headers
+headers_from headers some few distinct wide = record { some = some; few = few; distinct = distinct; held = all_wide headers wide }
 
 pub map-push : {A B : Type 0} (f : A → B) (xs : List A) (x : A) → map f (xs ++ x ∷ []) ≡ map f xs ++ f x ∷ []
 map-push f [] x = refl

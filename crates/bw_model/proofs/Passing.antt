@@ -1,10 +1,10 @@
 -- What the tests of a statement let pass.
 use Rattle.std.proofs.Common.{◌≡◌, ℕ, ◌<◌, ◌≤◌, ◌==◌, Bool, true, false, ◌&&◌, ◌||◌, is_some, List, [], ◌∷◌, length, nat_le, nat_lt, Option, None, Some, if◌then◌else◌, zero, suc, refl, sym, arith}
-use Rattle.std.specs.List.{All, list_all}
+use Rattle.std.specs.List.{All, list_all, list_any}
 use Rattle.std.proofs.lemmas.Bool.{eqb-true, leb-false, ltb-false, not-false, true≢false}
 use Rattle.std.proofs.lemmas.List.Elements.{All-cons, All-nil}
-use Rattle.bw_model.specs.Refusals.{Tests, create_tests, first_that_holds}
-use Rattle.bw_model.specs.Store.{Store, are_distinct, column_limit, table_limit, table_of}
+use Rattle.bw_model.specs.Refusals.{Tests, create_tests, first_that_holds, is_too_narrow}
+use Rattle.bw_model.specs.Store.{Header, Store, are_distinct, column_limit, names, table_limit, table_of}
 use Rattle.bw_model.specs.declared.refusal.Refusal.{Refusal}
 
 pub two : (b c : Bool) → (b && c) ≡ true → (b ≡ true) × (c ≡ true)
@@ -35,18 +35,19 @@ widths w (row ∷ rows) all =
     All-cons (λ r. length r ≡ w) row rows (eqb-true (length row) w p.0) (widths w rows p.1)
 
 -- what the tests of CREATE let pass
-pub record Passes (columns : List (List ℕ)) (name : List ℕ) (store : Store) : Type 0 where
+pub record Passes (columns : List Header) (name : List ℕ) (store : Store) : Type 0 where
   pub some : 0 < length columns
   pub absent : is_some (table_of store name) ≡ false
-  pub distinct : are_distinct columns ≡ true
+  pub distinct : are_distinct (names columns) ≡ true
   pub few : length columns ≤ column_limit
   pub room : length store < table_limit
+  pub wide : list_any is_too_narrow columns ≡ false
 
 pub neither : (b c : Bool) → (b || c) ≡ false → (b ≡ false) × (c ≡ false)
 neither true c e = absurd (true≢false e)
 neither false c e = (refl, e)
 
-pub passes : (columns : List (List ℕ)) (name : List ℕ) (store : Store) → first_that_holds (create_tests columns name store) ≡ None → Passes columns name store
+pub passes : (columns : List Header) (name : List ℕ) (store : Store) → first_that_holds (create_tests columns name store) ≡ None → Passes columns name store
 passes columns name store none =
     let p = none_holds (create_tests columns name store) none in
     let within = neither (length columns == 0 || nat_lt column_limit (length columns)) (nat_le table_limit (length store)) p.1.1.0 in
@@ -54,7 +55,8 @@ passes columns name store none =
     record {
       some = more (length columns) fits.0;
       absent = p.0;
-      distinct = not-false (are_distinct columns) p.1.0;
+      distinct = not-false (are_distinct (names columns)) p.1.0;
       few = ltb-false column_limit (length columns) fits.1;
       room = leb-false table_limit (length store) within.1;
+      wide = p.1.1.1.0;
     }

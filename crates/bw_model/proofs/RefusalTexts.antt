@@ -38,6 +38,7 @@ by_code n =
     else if n == 43 then refusal.NotInteger 0 0
     else if n == 44 then refusal.NotTableFile
     else if n == 46 then refusal.FileTooLarge
+    else if n == 60 then refusal.LayoutTooNarrow
     else refusal.OutOfMemory
 
 coded : (r : Refusal) → by_code (code (refusal_text r)) ≡ kind r

@@ -13,19 +13,19 @@ use Rattle.bw_sql.specs.Tree.{ConditionTree, ItemsTree, StatementTree, create_ta
 use Rattle.bw_code.specs.declared.kind.Layout.TheVariants.{V}
 use Rattle.bw_code.specs.declared.kind.Kind.TheVariants.{Offset}
 use Rattle.bw_model.specs.Condition.{found_rows, is_found}
-use Rattle.bw_model.specs.Contents.{MayBeSaid, lines_in, table_held, width_of}
+use Rattle.bw_model.specs.Contents.{MayBeSaid, lines_in, table_held, types_in}
 use Rattle.bw_model.specs.Insert.{target_columns}
 use Rattle.bw_model.specs.Listing.{listing, table_line}
 use Rattle.bw_model.specs.Named.{AreNamed, HaveNames}
-use Rattle.bw_model.specs.Refusals.{Tests, chosen_columns, delete_tests, first_that_holds, insert_tests, is_in_range, is_missing, load_tests, open_tests, over, rebuild_tests, save_tests, select_tests, tests_of, update_tests}
+use Rattle.bw_model.specs.Refusals.{Tests, delete_tests, first_that_holds, insert_tests, is_missing, load_tests, open_tests, over, rebuild_tests, save_tests, select_tests, tests_of, update_tests}
 use Rattle.bw_model.specs.Select.{answer, columns_in, function_heading, has_functions, heading_of, line_of, said_of, shown, shown_items}
 use Rattle.bw_sql.specs.declared.tree.SelectItem.{SelectItem}
 use Rattle.bw_sql.specs.declared.tree.SelectItem.TheVariants as item
 use Rattle.bw_sql.specs.declared.tree.SetFunction.{SetFunction}
 use Rattle.bw_sql.specs.declared.tree.SetFunction.TheVariants.{Count, Sum, Min, Max, Median}
-use Rattle.bw_model.proofs.Folded.{folded_fits}
+use Rattle.bw_model.proofs.Folded.{IsNullOrStored, folded_fits}
 use Rattle.bw_model.specs.Step.{Step, carried_out, refused_or, table_or_none}
-use Rattle.bw_model.specs.Store.{Header, Row, Store, Table, Value, place_of, row_limit, table_of, value_from}
+use Rattle.bw_model.specs.Store.{Header, Row, Store, Table, Value, place_of, row_limit, table_of, type_at, value_from}
 use Rattle.bw_model.specs.Told.{IsCell, IsHeading, IsRefusal, IsReply}
 use Rattle.bw_model.specs.WellFormed.{IsRow, IsStore, IsTable}
 use Rattle.bw_model.specs.declared.answer.Cell.TheVariants.{Name, Number}
@@ -35,7 +35,12 @@ use Rattle.bw_model.specs.declared.content.Content.{Content}
 use Rattle.bw_model.specs.declared.refusal.Refusal.{Refusal}
 use Rattle.bw_model.specs.declared.reply.Reply.{Reply}
 use Rattle.bw_model.specs.declared.reply.Reply.TheVariants.{Rows}
-use Rattle.bw_model.proofs.Changed.{everywhere, few_found, place_fits}
+use Rattle.bw_code.specs.Types.{IsNullOrOfType, types_of}
+use Rattle.bw_code.specs.declared.kind.ColumnType.{ColumnType}
+use Rattle.bw_code.specs.declared.kind.ColumnType.TheVariants.{BigInt, Integer}
+use Rattle.std.proofs.lemmas.Int.{ints}
+use Rattle.bw_model.proofs.Changed.{everywhere, few_found}
+use Rattle.bw_model.proofs.Typed.{typed_from}
 use Rattle.bw_model.proofs.Kept.{fits_loaded, table_in}
 use Rattle.bw_model.proofs.Naming.{named_in}
 use Rattle.bw_model.proofs.Passing.{neither, none_holds, two}
@@ -59,20 +64,20 @@ plain_over : (there : Option Table) (tests : Table → Tests) → ((table : Tabl
 plain_over None tests each = (tt, tt)
 plain_over (Some table) tests each = each table
 
-plain_load : (there : Option Table) (said : Content) → FitsTable (width_of there) said → ArePlain (over there (load_tests said))
+plain_load : (there : Option Table) (said : Content) → FitsTable (types_in there) said → ArePlain (over there (load_tests said))
 plain_load None said fits = (tt, tt)
-plain_load (Some table) said fits = (tt, (tt, (fault_is (length table.headers) said fits, (tt, tt))))
+plain_load (Some table) said fits = (tt, (tt, (fault_is (types_of table.headers) said fits, (tt, tt))))
 
 plain_tests : (store : Store) (said : Content) (statement : StatementTree) → IsStore store → MayBeSaid store statement said → ArePlain (tests_of store said statement)
-plain_tests store said (create_table name definitions) are may = (tt, (tt, (tt, tt)))
+plain_tests store said (create_table name definitions) are may = (tt, (tt, (tt, (tt, tt))))
 plain_tests store said (drop_table name) are may = plain_over (table_of store name) (λ table. []) (λ table. tt)
 plain_tests store said list_tables are may = tt
 plain_tests store said (insert name listed rows) are may =
     plain_over (table_of store name) (λ table. insert_tests (target_columns table.headers listed) rows table) (λ table. (tt, (tt, (tt, (tt, (tt, tt))))))
 plain_tests store said (update name sets condition) are may =
-    plain_over (table_of store name) (λ table. update_tests sets condition table) (λ table. (tt, (tt, (tt, (tt, (tt, (tt, tt)))))))
+    plain_over (table_of store name) (update_tests sets condition) (λ table. (tt, (tt, (tt, (tt, (tt, (tt, (tt, tt))))))))
 plain_tests store said (delete name condition) are may = plain_over (table_of store name) (λ table. delete_tests condition table) (λ table. (tt, (tt, tt)))
-plain_tests store said (rebuild name choices) are may = plain_over (table_of store name) (λ table. rebuild_tests (chosen_columns choices) table) (λ table. (tt, (tt, tt)))
+plain_tests store said (rebuild name choices) are may = plain_over (table_of store name) (rebuild_tests choices) (λ table. (tt, (tt, (tt, tt))))
 plain_tests store said (select items name condition) are may =
     plain_over (table_of store name) (λ table. select_tests (shown_items table.headers items) condition table) (λ table. (tt, (tt, (tt, (tt, tt)))))
 plain_tests store said (load name file first) are may = plain_load (table_of store name) said (fits_loaded store name file first said are may)
@@ -81,19 +86,23 @@ plain_tests store said (open_table name file) are may = (tt, (tt, (tt, (tt, (tt,
 
 -- cells
 
-integer_fits : (n : ℤ) → is_in_range (Some n) ≡ true → FitsSigned w128 n
-integer_fits (pos n) e = let few = leb-true n 2147483647 e in omega (arith, few)
-integer_fits (negsuc n) e = let few = leb-true n 2147483647 (two _ _ e).0 in omega (arith, few)
-
-cell_fits : (value : Value) → is_in_range value ≡ true → IsCell (shown value)
+cell_fits : (value : Value) → IsNullOrStored value → IsCell (shown value)
 cell_fits None e = tt
-cell_fits (Some n) e = integer_fits n e
+cell_fits (Some n) e = omega (arith, ints, e)
+
+stored : (t : ColumnType) (value : Value) → IsNullOrOfType t value → IsNullOrStored value
+stored t None is = tt
+stored Integer (Some n) is = omega (arith, ints, is)
+stored BigInt (Some n) is = is
+
+place_fits : (headers : List Header) (row : Row) (place : Option ℕ) → IsRow headers row → IsNullOrStored (value_from row place)
+place_fits headers row place is = stored (type_at headers place) (value_from row place) (typed_from headers row place is)
 
 line_fits : (headers : List Header) (list : List (List ℕ)) (row : Row) → IsRow headers row → All IsCell (line_of headers list row)
 line_fits headers list row is =
     All-map IsCell (λ name. shown (value_from row (place_of headers name))) list
     (everywhere (λ name. IsCell (shown (value_from row (place_of headers name)))) list
-    (λ name. cell_fits (value_from row (place_of headers name)) (place_fits row (place_of headers name) is.integers)))
+    (λ name. cell_fits (value_from row (place_of headers name)) (place_fits headers row (place_of headers name) is)))
 
 lines_fit : (headers : List Header) (list : List (List ℕ)) (rows : List Row) → All (IsRow headers) rows → All (All IsCell) (map (line_of headers list) rows)
 lines_fit headers list [] all = All-nil (All IsCell)
@@ -106,7 +115,7 @@ lines_fit headers list (row ∷ rows) all =
 name_there : (headers : List Header) (name : List ℕ) (place : Option ℕ) → place_of headers name ≡ place → not (is_some place) ≡ false → HaveNames headers → IsName name
 name_there headers name None at there named = absurd (true≢false there)
 name_there headers name (Some i) at there named =
-    let header : Header = record { name = name; layout = V; kind = Offset } in
+    let header : Header = record { name = name; column_type = Integer; layout = V; kind = Offset } in
     let p = position-Some (λ h. bytes_eq name h.name) headers i header at in
     let same = (bytes_eq-Decides name (get_or headers i header).name).0 p.1 in
     subst IsName (sym same) (All-get_or (λ h. IsName h.name) headers i header p.0 named)
@@ -137,11 +146,11 @@ few_fits n few = omega (arith, few)
 
 -- what items say of rows
 module _ (headers : List Header) (rows : List Row) (few : length rows ≤ row_limit) (are : All (IsRow headers) rows) where
-  values_fit : (place : Option ℕ) (xs : List Row) → All (IsRow headers) xs → All (λ value. is_in_range value ≡ true) (map (λ row. value_from row place) xs)
-  values_fit place [] all = All-nil (λ value. is_in_range value ≡ true)
+  values_fit : (place : Option ℕ) (xs : List Row) → All (IsRow headers) xs → All IsNullOrStored (map (λ row. value_from row place) xs)
+  values_fit place [] all = All-nil IsNullOrStored
   values_fit place (x ∷ xs) all =
       let row = All-head (IsRow headers) x xs all in
-      All-cons (λ value. is_in_range value ≡ true) (value_from x place) (map (λ r. value_from r place) xs) (place_fits x place row.integers) (values_fit place xs (All-tail (IsRow headers) x xs all))
+      All-cons IsNullOrStored (value_from x place) (map (λ r. value_from r place) xs) (place_fits headers x place row) (values_fit place xs (All-tail (IsRow headers) x xs all))
 
   said_fits : (one : SelectItem) → IsCell (said_of headers rows one)
   said_fits (item.Column name) = tt

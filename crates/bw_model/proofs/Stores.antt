@@ -14,24 +14,23 @@ use Rattle.bw_model.specs.Changes.{with_choices, with_updates, without_found}
 use Rattle.bw_model.specs.Condition.{found_rows}
 use Rattle.bw_model.specs.Contents.{lines_in, table_held}
 use Rattle.bw_model.specs.Insert.{target_columns, with_rows}
-use Rattle.bw_model.specs.Refusals.{Tests, chosen_columns, create_tests, delete_tests, first_that_holds, insert_tests, load_tests, open_tests, over, rebuild_tests, select_tests, tests_of, update_tests}
+use Rattle.bw_model.specs.Refusals.{Tests, create_tests, delete_tests, first_that_holds, insert_tests, load_tests, open_tests, over, rebuild_tests, select_tests, tests_of, update_tests}
 use Rattle.bw_model.specs.Answers.{Shown}
 use Rattle.bw_model.specs.Select.{answer, shown_items}
 use Rattle.bw_model.specs.Step.{carried_out, outcome_of, refused_or, table_or_none, with_lines, with_table}
-use Rattle.bw_model.specs.Store.{Header, Row, Store, Table, header_of, names, table_of}
+use Rattle.bw_model.specs.Store.{Header, Row, Store, Table, header_of, table_of}
 use Rattle.bw_model.specs.declared.content.Content.{Content}
 use Rattle.bw_model.specs.declared.content.Content.TheVariants.{Nothing}
 use Rattle.bw_model.specs.declared.refusal.Refusal.{Refusal}
 use Rattle.bw_model.specs.declared.refusal.Refusal.TheVariants.{NoSuchTable}
 use Rattle.bw_model.specs.declared.reply.Reply.{Reply}
 use Rattle.bw_model.specs.declared.reply.Reply.TheVariants.{Count, Done, Refused, Rows}
-use Rattle.bw_model.proofs.Names.{names_of_definitions}
 
--- the tests of CREATE, from the names of the columns that it makes
-pub create_first : (store : Store) (name : List ℕ) (columns : List ColumnDefinition) (headers : List Header) (list : List (List ℕ)) (tests : Tests) (first : Option Refusal)
-    → headers ≡ map header_of columns → list ≡ names headers → tests ≡ create_tests list name store → first ≡ first_that_holds tests → first_that_holds (tests_of store Nothing (create_table name columns)) ≡ first
-create_first store name columns headers list tests first made named tested is =
-    sym (is ∙ ap first_that_holds (tested ∙ ap (λ l. create_tests l name store) (named ∙ ap names made ∙ names_of_definitions columns)))
+-- the tests of CREATE, from the columns that it makes
+pub create_first : (store : Store) (name : List ℕ) (columns : List ColumnDefinition) (headers : List Header) (tests : Tests) (first : Option Refusal)
+    → headers ≡ map header_of columns → tests ≡ create_tests headers name store → first ≡ first_that_holds tests → first_that_holds (tests_of store Nothing (create_table name columns)) ≡ first
+create_first store name columns headers tests first made tested is =
+    sym (is ∙ ap first_that_holds (tested ∙ ap (λ l. create_tests l name store) made))
 
 -- where the first test that holds is this one, or none does
 pub outcome_is : (store : Store) (said : Content) (statement : StatementTree) (first : Option Refusal) → first_that_holds (tests_of store said statement) ≡ first → outcome_of store said statement ≡ refused_or first store (carried_out store said statement)
@@ -149,12 +148,12 @@ module _ (store : Store) (name : List ℕ) (condition : Option ConditionTree) wh
 
 module _ (store : Store) (name : List ℕ) (choices : List LayoutChoice) where
   pub rebuilt : {E : Type 0} (i : ℕ) (d : List ℕ × Table) (new : Table) (r : Result Reply E) → position (λ e. bytes_eq name e.0) store ≡ Some i → d ≡ get_or store i d
-      → IfOk r (λ reply. MatchOption (first_that_holds (rebuild_tests (chosen_columns choices) (get_or store i d).1)) ((reply ≡ Done) × (new ≡ with_choices choices (get_or store i d).1)) (λ refusal. (reply ≡ Refused refusal) × (new ≡ (get_or store i d).1)))
+      → IfOk r (λ reply. MatchOption (first_that_holds (rebuild_tests choices (get_or store i d).1)) ((reply ≡ Done) × (new ≡ with_choices choices (get_or store i d).1)) (λ refusal. (reply ≡ Refused refusal) × (new ≡ (get_or store i d).1)))
       → IfOk r (λ reply. ◌≡◌ {A = Reply × Store} (reply, set store i ((get_or store i d).0, new)) (outcome_of store Nothing (rebuild name choices)))
-  rebuilt = changed_at store Nothing name (rebuild name choices) (rebuild_tests (chosen_columns choices)) (λ table. Done) (with_choices choices) refl refl
+  rebuilt = changed_at store Nothing name (rebuild name choices) (rebuild_tests choices) (λ table. Done) (with_choices choices) refl refl
 
   pub not_rebuilt : table_of store name ≡ None → ◌≡◌ {A = Reply × Store} (Refused NoSuchTable, store) (outcome_of store Nothing (rebuild name choices))
-  not_rebuilt = no_table store Nothing name (rebuild name choices) (rebuild_tests (chosen_columns choices)) (λ table. Done) (with_choices choices) refl refl
+  not_rebuilt = no_table store Nothing name (rebuild name choices) (rebuild_tests choices) (λ table. Done) (with_choices choices) refl refl
 
 -- what a SELECT shows
 pub selected : (store : Store) (items : ItemsTree) (name : List ℕ) (condition : Option ConditionTree) (table : Table) (shows : Shown)

@@ -1,7 +1,8 @@
 -- A refusal changes nothing, and comes first where the tests that need no file have one.
-use Rattle.std.proofs.Common.{◌≡◌, ◌∙◌, inl, inr, ap, Bool, true, false, is_some, nat_le, length, [], Option, None, Some, if◌then◌else◌}
-use Rattle.bw_sql.specs.Tree.{StatementTree, create_table, delete, drop_table, insert, list_tables, load, open_table, rebuild, save, select, update}
-use Rattle.bw_model.specs.Refusals.{first_that_holds, load_tests, over, refused_early, tests_of}
+use Rattle.std.proofs.Common.{◌≡◌, ◌∙◌, inl, inr, ap, Bool, true, false, is_some, nat_le, length, List, [], ◌∷◌, ◌++◌, Option, None, Some, if◌then◌else◌}
+use Rattle.bw_sql.specs.declared.tree.SetClause.{SetClause}
+use Rattle.bw_sql.specs.Tree.{ConditionTree, StatementTree, create_table, delete, drop_table, insert, list_tables, load, open_table, rebuild, save, select, update}
+use Rattle.bw_model.specs.Refusals.{Tests, copy_test, first_that_holds, load_tests, over, refused_early, set_tests, tests_of, update_tests}
 use Rattle.bw_model.specs.Step.{Step, carried_out, refused_or}
 use Rattle.bw_model.specs.Store.{Store, Table, table_limit, table_of}
 use Rattle.bw_model.specs.declared.content.Content.{Content}
@@ -37,6 +38,19 @@ early_load : (there : Option Table) (said : Content) (refusal : Refusal) → fir
 early_load None said refusal e = e
 early_load (Some table) said refusal e = absurd (cc)
 
+early_front : (tests later : Tests) (refusal : Refusal) → first_that_holds tests ≡ Some refusal → first_that_holds (tests ++ later) ≡ Some refusal
+early_front [] later refusal e = absurd (cc)
+early_front (test ∷ tests) later refusal e = by test.1 e
+  where
+    by : (b : Bool) → (if b then Some test.0 else first_that_holds tests) ≡ Some refusal → (if b then Some test.0 else first_that_holds (tests ++ later)) ≡ Some refusal
+    by true here = here
+    by false there = early_front tests later refusal there
+
+early_update : (there : Option Table) (sets : List SetClause) (condition : Option ConditionTree) (refusal : Refusal)
+    → first_that_holds (over there (set_tests sets condition)) ≡ Some refusal → first_that_holds (over there (update_tests sets condition)) ≡ Some refusal
+early_update None sets condition refusal e = e
+early_update (Some table) sets condition refusal e = early_front (set_tests sets condition table) (copy_test sets condition table ∷ []) refusal e
+
 early_open : (taken full : Bool) (later : Option Refusal) (refusal : Refusal) → (if taken then Some TableExists else if full then Some OverLimit else None) ≡ Some refusal
     → (if taken then Some TableExists else if full then Some OverLimit else later) ≡ Some refusal
 early_open true full later refusal e = e
@@ -48,7 +62,7 @@ early_first store said (create_table name columns) refusal e = e
 early_first store said (drop_table name) refusal e = e
 early_first store said list_tables refusal e = e
 early_first store said (insert name listed rows) refusal e = e
-early_first store said (update name sets condition) refusal e = e
+early_first store said (update name sets condition) refusal e = early_update (table_of store name) sets condition refusal e
 early_first store said (delete name condition) refusal e = e
 early_first store said (rebuild name choices) refusal e = e
 early_first store said (select items name condition) refusal e = e

@@ -37,12 +37,12 @@ without_found condition table = record {
   rows = filter (λ row. not (is_found table.headers condition row)) table.rows;
 }
 
--- the column as it is chosen to lie; its kind stays where none is said
+-- the column as it is chosen to lie; its type stays, and its kind where none is said
 abbrev pub chosen_header : List LayoutChoice → Header → Header
 chosen_header [] header = header
 chosen_header (choice ∷ choices) header =
     if bytes_eq header.name choice.column
-    then record { name = header.name; layout = layout_of choice.layout; kind = kind_or choice.kind header.kind }
+    then record { name = header.name; column_type = header.column_type; layout = layout_of choice.layout; kind = kind_or choice.kind header.kind }
     else chosen_header choices header
 
 -- the table with its columns as they are chosen to lie; no row changes

@@ -1,6 +1,8 @@
 -- What a statement's file says to it: the rows of a CSV file (RFC 4180, as `csv` reads it) or the table of a table file (this product's own).
 use Rattle.std.specs.Prelude.{◌≡◌, ◌⊎◌, ℕ, Bool, true, false, List, [], length, nat_lt, Option, Some, None, Result, Ok, Err}
 use Rattle.std.specs.Bool.{MatchBool}
+use Rattle.bw_code.specs.Types.{types_of}
+use Rattle.bw_code.specs.declared.kind.ColumnType.{ColumnType}
 use Rattle.bw_csvload.specs.Rows.{rows_of_file}
 use Rattle.bw_csvload.specs.declared.fault.CsvFault.{CsvFault}
 use Rattle.bw_csvload.specs.declared.load.FirstRecord.{FirstRecord as CsvFirst}
@@ -44,10 +46,10 @@ abbrev pub lines_or_fault : Result (List Row) CsvFault → Content
 lines_or_fault (Ok rows) = content.Lines rows
 lines_or_fault (Err fault) = content.Fault fault
 
--- how many columns a table has
-abbrev pub width_of : Option Table → ℕ
-width_of None = 0
-width_of (Some table) = length table.headers
+-- the types of a table's columns
+abbrev pub types_in : Option Table → List ColumnType
+types_in None = []
+types_in (Some table) = types_of table.headers
 
 -- these bytes hold this table, or none
 abbrev pub IsTableIn : List ℕ → Content → Type 0
@@ -57,7 +59,7 @@ IsTableIn bytes _ = ⊥
 
 -- what bytes that are not too many say to a statement
 abbrev pub IsReadAs : Store → StatementTree → List ℕ → Content → Type 0
-IsReadAs store (load name file first) bytes said = said ≡ lines_or_fault (rows_of_file (width_of (table_of store name)) (first_of first) bytes)
+IsReadAs store (load name file first) bytes said = said ≡ lines_or_fault (rows_of_file (types_in (table_of store name)) (first_of first) bytes)
 IsReadAs store (open_table name file) bytes said = IsTableIn bytes said
 IsReadAs store _ bytes said = said ≡ content.Nothing
 

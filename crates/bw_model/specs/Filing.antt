@@ -2,6 +2,7 @@
 use Rattle.std.specs.Prelude.{◌≡◌, ℕ, List, All, length, map}
 use Rattle.std.specs.List.{range_with_len}
 use Rattle.bw_file.specs.Format.{Spells, spelled_length}
+use Rattle.bw_file.specs.declared.version.Version.TheVariants.{Second}
 use Rattle.bw_file.specs.Table as file
 use Rattle.bw_model.specs.Store.{Row, Table, Value, value_at}
 
@@ -26,6 +27,6 @@ pub record Holds (bytes : List ℕ) (table : Table) : Type 0 where
   pub wide : All (λ row. length row ≡ length table.headers) table.rows
   pub spells : Spells bytes (filed table)
 
--- how many bytes hold a table
+-- how many bytes hold a table in the second version of the format, by which it is saved
 abbrev pub filed_length : Table → ℕ
-filed_length table = spelled_length table.headers (length table.rows)
+filed_length table = spelled_length Second (filed table)

@@ -1,7 +1,9 @@
 -- Why a statement is refused: for each statement the refusals in their order, and the first that holds (SQL-92, the syntax rules
 -- of table definition, drop table statement, insert statement, searched update and delete statements and query specification, and limits of this product's own).
-use Rattle.std.specs.Prelude.{ℕ, ◌+◌, ◌==◌, Bool, true, false, ◌||◌, ◌&&◌, not, nat_le, nat_lt, int_le, pos, negsuc, List, [], ◌∷◌, Option, Some, None, is_some, length, map, if◌then◌else◌}
+use Rattle.std.specs.Prelude.{ℕ, ◌+◌, ◌++◌, ◌==◌, Bool, true, false, ◌||◌, not, nat_le, nat_lt, List, [], ◌∷◌, Option, Some, None, is_some, length, map, if◌then◌else◌}
 use Rattle.std.specs.List.{list_all, list_any}
+use Rattle.bw_code.specs.Types.{are_of_types, holds_its_type, is_null_or_of_type}
+use Rattle.bw_code.specs.declared.kind.ColumnType.{ColumnType}
 use Rattle.bw_lex.specs.declared.fault.SqlFault.{SqlFault}
 use Rattle.bw_lex.specs.declared.fault.SqlFault.TheVariants as fault
 use Rattle.bw_sql.specs.Tree.{ConditionTree, ConditionTrees, StatementTree, among, between, comparison, create_table, delete, drop_table, each_of, insert, list_tables, load, more, negated, none, null, open_table, rebuild, save, select, some_of, tested, update}
@@ -12,11 +14,13 @@ use Rattle.bw_sql.specs.declared.tree.SelectItem.{SelectItem}
 use Rattle.bw_sql.specs.declared.tree.SetClause.{SetClause}
 use Rattle.bw_csvload.specs.declared.fault.CsvFault.{CsvFault}
 use Rattle.bw_csvload.specs.declared.fault.CsvFault.TheVariants as csv
+use Rattle.bw_model.specs.Changes.{chosen_header}
+use Rattle.bw_model.specs.Condition.{found_rows, value_of}
 use Rattle.bw_model.specs.Contents.{is_missing_file, is_no_table, is_too_large, lines_in}
 use Rattle.bw_model.specs.Filing.{file_limit, filed_length}
 use Rattle.bw_model.specs.Insert.{target_columns}
 use Rattle.bw_model.specs.Select.{columns_in, is_mixed, shown_items}
-use Rattle.bw_model.specs.Store.{Header, Row, Store, Table, Value, are_distinct, column_limit, place_of, row_limit, table_limit, table_of}
+use Rattle.bw_model.specs.Store.{Header, Row, Store, Table, are_distinct, column_limit, header_of, names, place_of, row_limit, table_limit, table_of, type_named}
 use Rattle.bw_model.specs.declared.content.Content.{Content}
 use Rattle.bw_model.specs.declared.content.Content.TheVariants as content
 use Rattle.bw_model.specs.declared.refusal.Refusal.{Refusal}
@@ -100,45 +104,61 @@ abbrev pub lists_too_long : Option ConditionTree → Bool
 lists_too_long None = false
 lists_too_long (Some condition) = has_long_list condition
 
--- whether a value is an INTEGER
-abbrev pub is_in_range : Value → Bool
-is_in_range None = true
-is_in_range (Some number) = int_le (negsuc 2147483647) number && int_le number (pos 2147483647)
+-- whether a layout is said that doesn't hold the column's type
+abbrev pub is_too_narrow : Header → Bool
+is_too_narrow header = not (holds_its_type header)
 
-abbrev pub create_tests : List (List ℕ) → List ℕ → Store → Tests
+abbrev pub create_tests : List Header → List ℕ → Store → Tests
 create_tests columns name store =
     (refusal.TableExists, is_some (table_of store name))
-    ∷ (refusal.ColumnNamedTwice, not (are_distinct columns))
+    ∷ (refusal.ColumnNamedTwice, not (are_distinct (names columns)))
     ∷ (refusal.OverLimit, length columns == 0 || nat_lt column_limit (length columns) || nat_le table_limit (length store))
+    ∷ (refusal.LayoutTooNarrow, list_any is_too_narrow columns)
     ∷ []
+
+-- the types of the columns of these names
+abbrev pub types_named : List Header → List (List ℕ) → List ColumnType
+types_named headers columns = map (type_named headers) columns
 
 abbrev pub insert_tests : List (List ℕ) → List Row → Table → Tests
 insert_tests columns rows table =
     (refusal.NoSuchColumn, list_any (is_missing table.headers) columns)
     ∷ (refusal.ColumnNamedTwice, not (are_distinct columns))
     ∷ (refusal.WrongNumberOfValues, not (list_all (λ row. length row == length columns) rows))
-    ∷ (refusal.OutOfRange, not (list_all (list_all is_in_range) rows))
+    ∷ (refusal.OutOfRange, not (list_all (are_of_types (types_named table.headers columns)) rows))
     ∷ (refusal.TableFull, nat_lt row_limit (length table.rows + length rows))
     ∷ []
 
--- whether a column may be set to this; a column's values are INTEGER
-abbrev pub may_be_set : Operand → Bool
-may_be_set (Column name) = true
-may_be_set (Constant value) = is_in_range value
+-- whether a column of a type may be set to this, as far as it can be said without a row: a literal is of the type
+abbrev pub may_be_set : ColumnType → Operand → Bool
+may_be_set t (Column name) = true
+may_be_set t (Constant value) = is_null_or_of_type t value
+
+-- whether what each column is set to in a row is of its type
+abbrev pub fits_in : List Header → List SetClause → Row → Bool
+fits_in headers sets row = list_all (λ set. is_null_or_of_type (type_named headers set.column) (value_of headers row set.source)) sets
 
 -- the columns on the left sides
 abbrev pub set_columns : List SetClause → List (List ℕ)
 set_columns sets = map (λ set. set.column) sets
 
-abbrev pub update_tests : List SetClause → Option ConditionTree → Table → Tests
-update_tests sets condition table =
+-- the tests of UPDATE that look at no row
+abbrev pub set_tests : List SetClause → Option ConditionTree → Table → Tests
+set_tests sets condition table =
     (refusal.NoSuchColumn, list_any (is_missing table.headers) (set_columns sets))
     ∷ (refusal.NoSuchColumn, list_any (λ set. operand_is_missing table.headers set.source) sets)
     ∷ (refusal.NoSuchColumn, condition_misses table.headers condition)
     ∷ (refusal.ColumnNamedTwice, not (are_distinct (set_columns sets)))
     ∷ (refusal.OverLimit, lists_too_long condition)
-    ∷ (refusal.OutOfRange, not (list_all (λ set. may_be_set set.source) sets))
+    ∷ (refusal.OutOfRange, not (list_all (λ set. may_be_set (type_named table.headers set.column) set.source) sets))
     ∷ []
+
+-- what an UPDATE copies in a found row is of its column's type
+abbrev pub copy_test : List SetClause → Option ConditionTree → Table → Refusal × Bool
+copy_test sets condition table = (refusal.OutOfRange, not (list_all (fits_in table.headers sets) (found_rows table condition)))
+
+abbrev pub update_tests : List SetClause → Option ConditionTree → Table → Tests
+update_tests sets condition table = set_tests sets condition table ++ copy_test sets condition table ∷ []
 
 abbrev pub delete_tests : Option ConditionTree → Table → Tests
 delete_tests condition table =
@@ -150,10 +170,11 @@ delete_tests condition table =
 abbrev pub chosen_columns : List LayoutChoice → List (List ℕ)
 chosen_columns choices = map (λ choice. choice.column) choices
 
-abbrev pub rebuild_tests : List (List ℕ) → Table → Tests
-rebuild_tests columns table =
-    (refusal.NoSuchColumn, list_any (is_missing table.headers) columns)
-    ∷ (refusal.ColumnNamedTwice, not (are_distinct columns))
+abbrev pub rebuild_tests : List LayoutChoice → Table → Tests
+rebuild_tests choices table =
+    (refusal.NoSuchColumn, list_any (is_missing table.headers) (chosen_columns choices))
+    ∷ (refusal.ColumnNamedTwice, not (are_distinct (chosen_columns choices)))
+    ∷ (refusal.LayoutTooNarrow, list_any (λ header. is_too_narrow (chosen_header choices header)) table.headers)
     ∷ []
 
 abbrev pub select_tests : List SelectItem → Option ConditionTree → Table → Tests
@@ -191,24 +212,25 @@ open_tests name store said =
 
 -- a statement's tests, with what its file says to it
 abbrev pub tests_of : Store → Content → StatementTree → Tests
-tests_of store said (create_table name columns) = create_tests (map (λ c. c.name) columns) name store
+tests_of store said (create_table name columns) = create_tests (map header_of columns) name store
 tests_of store said (drop_table name) = over (table_of store name) (λ table. [])
 tests_of store said list_tables = []
 tests_of store said (insert name listed rows) = over (table_of store name) (λ table. insert_tests (target_columns table.headers listed) rows table)
-tests_of store said (update name sets condition) = over (table_of store name) (λ table. update_tests sets condition table)
+tests_of store said (update name sets condition) = over (table_of store name) (update_tests sets condition)
 tests_of store said (delete name condition) = over (table_of store name) (λ table. delete_tests condition table)
-tests_of store said (rebuild name choices) = over (table_of store name) (λ table. rebuild_tests (chosen_columns choices) table)
+tests_of store said (rebuild name choices) = over (table_of store name) (rebuild_tests choices)
 tests_of store said (select items name condition) = over (table_of store name) (λ table. select_tests (shown_items table.headers items) condition table)
 tests_of store said (load name file first) = over (table_of store name) (load_tests said)
 tests_of store said (save name file) = over (table_of store name) save_tests
 tests_of store said (open_table name file) = open_tests name store said
 
--- the tests that need no file
+-- the tests that need neither a file nor a look at rows
 abbrev pub early_tests : Store → StatementTree → Tests
+early_tests store (update name sets condition) = over (table_of store name) (set_tests sets condition)
 early_tests store (load name file first) = over (table_of store name) (λ table. [])
 early_tests store (open_table name file) = (refusal.TableExists, is_some (table_of store name)) ∷ (refusal.OverLimit, nat_le table_limit (length store)) ∷ []
 early_tests store statement = tests_of store content.Nothing statement
 
--- why a statement is refused whatever its file says
+-- why a statement is refused whatever its file says, and whichever rows are found
 abbrev pub refused_early : Store → StatementTree → Option Refusal
 refused_early store statement = first_that_holds (early_tests store statement)

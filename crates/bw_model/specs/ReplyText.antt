@@ -72,6 +72,7 @@ refusal_text (refusal.NotInteger record' field) =
     codes "error 43: record " ++ decimal record' ++ codes " field " ++ decimal field ++ codes " is not an integer"
 refusal_text refusal.NotTableFile = codes "error 44: not a table file"
 refusal_text refusal.FileTooLarge = codes "error 46: file too large"
+refusal_text refusal.LayoutTooNarrow = codes "error 60: layout H holds no BIGINT"
 refusal_text refusal.OutOfMemory = codes "error 90: out of memory"
 
 abbrev pub reply_text : Reply → List ℕ

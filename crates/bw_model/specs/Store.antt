@@ -1,16 +1,19 @@
 -- What a store holds: tables in the order in which they were made, each with its columns and its rows (SQL-92, tables).
-use Rattle.std.specs.Prelude.{ℕ, ℤ, List, [], ◌∷◌, Option, Some, None, map, position, slice_get, if◌then◌else◌}
+use Rattle.std.specs.Prelude.{ℕ, ℤ, List, [], ◌∷◌, Option, Some, None, map, position, slice_get, slice_index_or, if◌then◌else◌}
 use Rattle.std.specs.Str.{bytes_eq}
 -- the most columns and rows of a table
 pub use Rattle.bw_code.specs.Headers.{column_limit, row_limit}
+use Rattle.bw_code.specs.Types.{types_of}
+use Rattle.bw_code.specs.declared.kind.ColumnType.{ColumnType}
+use Rattle.bw_code.specs.declared.kind.ColumnType.TheVariants.{Integer}
 use Rattle.bw_code.specs.declared.kind.Kind.TheVariants.{Offset}
 use Rattle.bw_code.specs.declared.kind.Layout.TheVariants.{V}
 -- no name stands twice in the list
 pub use Rattle.bw_sql.specs.Names.{are_distinct}
--- a column's name, layout and kind; 1 to 64 of them, each with a name of its own
+-- a column's name, type, layout and kind; 1 to 64 of them, each with a name of its own and a layout that holds its type
 pub use Rattle.bw_file.specs.Table.{AreHeaders, Header}
 use Rattle.bw_sql.specs.declared.tree.ColumnDefinition.{ColumnDefinition}
-use Rattle.bw_model.specs.Words.{kind_or, layout_or}
+use Rattle.bw_model.specs.Words.{kind_or, layout_or, type_of}
 
 -- an integer, or null
 abbrev pub Value : Type 0
@@ -43,7 +46,21 @@ place_of headers name = position (λ header. bytes_eq name header.name) headers
 
 -- the column that a definition makes: in layout V and of kind OFFSET where it says none
 abbrev pub header_of : ColumnDefinition → Header
-header_of definition = record { name = definition.name; layout = layout_or definition.layout V; kind = kind_or definition.kind Offset }
+header_of definition = record {
+  name = definition.name;
+  column_type = type_of definition.column_type;
+  layout = layout_or definition.layout V;
+  kind = kind_or definition.kind Offset;
+}
+
+-- the type of the column at this place; where there is none, any
+abbrev pub type_at : List Header → Option ℕ → ColumnType
+type_at headers None = Integer
+type_at headers (Some place) = slice_index_or (types_of headers) place Integer
+
+-- the type of the column of this name
+abbrev pub type_named : List Header → List ℕ → ColumnType
+type_named headers name = type_at headers (place_of headers name)
 
 abbrev pub value_or_null : Option Value → Value
 value_or_null None = None

@@ -1,12 +1,11 @@
 -- What every store is that statements lead to: names are distinct, rows fit their columns, and nothing is above a limit (SQL-92, tables and columns; limits of this product's own).
-use Rattle.std.specs.Prelude.{◌≡◌, ◌≤◌, List, All, IsTrue, length, map}
-use Rattle.bw_model.specs.Refusals.{is_in_range}
+use Rattle.std.specs.Prelude.{◌≤◌, List, All, IsTrue, length, map}
+use Rattle.bw_code.specs.Types.{IsRowOf, types_of}
 use Rattle.bw_model.specs.Store.{AreHeaders, Header, Row, Store, Table, are_distinct, row_limit, table_limit}
 
--- an INTEGER or null for each column
-pub record IsRow (headers : List Header) (row : Row) : Type 0 where
-  pub full : length row ≡ length headers
-  pub integers : All (λ value. IsTrue (is_in_range value)) row
+-- for each column a value of its type
+abbrev pub IsRow : List Header → Row → Type 0
+IsRow headers row = IsRowOf (types_of headers) row
 
 pub record IsTable (table : Table) : Type 0 where
   pub headers : AreHeaders table.headers

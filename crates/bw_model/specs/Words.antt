@@ -1,5 +1,7 @@
--- The layouts and kinds that the words of a statement spell.
+-- The types, layouts and kinds that the words of a statement spell.
 use Rattle.std.specs.Prelude.{None, Option, Some}
+use Rattle.bw_code.specs.declared.kind.ColumnType.{ColumnType}
+use Rattle.bw_code.specs.declared.kind.ColumnType.TheVariants.{BigInt, Integer}
 use Rattle.bw_code.specs.declared.kind.Kind.{Kind}
 use Rattle.bw_code.specs.declared.kind.Kind.TheVariants.{Dictionary, Offset}
 use Rattle.bw_code.specs.declared.kind.Layout.{Layout}
@@ -8,6 +10,12 @@ use Rattle.bw_sql.specs.declared.tree.KindWord.{KindWord}
 use Rattle.bw_sql.specs.declared.tree.KindWord.TheVariants as kind
 use Rattle.bw_sql.specs.declared.tree.LayoutWord.{LayoutWord}
 use Rattle.bw_sql.specs.declared.tree.LayoutWord.TheVariants as layout
+use Rattle.bw_sql.specs.declared.tree.TypeWord.{TypeWord}
+use Rattle.bw_sql.specs.declared.tree.TypeWord.TheVariants as word
+
+abbrev pub type_of : TypeWord → ColumnType
+type_of word.Integer = Integer
+type_of word.BigInt = BigInt
 
 abbrev pub layout_of : LayoutWord → Layout
 layout_of layout.P = P

@@ -9,7 +9,7 @@ ghost use Rattle.bw_sql.specs.Tree.{condition_of};
 ghost use Rattle.bw_sql.specs.declared.tree.Operand.TheVariants.{Column};
 
 use crate::condition::{found_rows, is_found, value_of};
-use crate::refusals::{delete_tests, first_that_holds, rebuild_tests, update_tests};
+use crate::refusals::{copy_test, delete_tests, first_that_holds, rebuild_tests, set_tests};
 use crate::reply::Reply;
 use crate::store::{Row, Table, place_of, same_header, value_from};
 use crate::words::{kind_or, layout_of};
@@ -30,10 +30,14 @@ pub(crate) fn update_rows(
     ensures unchanged { OnErr result (table.new ≡ table.old) }
 {
     let columns = set_columns(alloc, sets)?;
-    if let Some(refusal) = first_that_holds(&update_tests(&columns, sets, condition, table)) {
+    if let Some(refusal) = first_that_holds(&set_tests(&columns, sets, condition, table)) {
         return Ok(Reply::Refused(refusal));
     }
-    let count = found_rows(alloc, table, condition)?.len();
+    let found = found_rows(alloc, table, condition)?;
+    if let Some(refusal) = first_that_holds(&[copy_test(table.headers(), sets, &found)]) {
+        return Ok(Reply::Refused(refusal));
+    }
+    let count = found.len();
     let rows = rows_updated(alloc, table, sets, condition)?;
     table.replace_rows(rows);
     Ok(Reply::Count(count as u64))
@@ -153,16 +157,16 @@ pub(crate) fn rebuild_columns(
     table: &mut Table,
     choices: &[LayoutChoice],
 ) -> Result<Reply, AllocError>
-    ensures outcome { IfOk result (λ reply. MatchOption (first_that_holds (rebuild_tests (chosen_columns choices.now) table.old))
+    ensures outcome { IfOk result (λ reply. MatchOption (first_that_holds (rebuild_tests choices.now table.old))
         ((reply ≡ Done) × (table.new ≡ with_choices choices.now table.old))
         (λ refusal. (reply ≡ Refused refusal) × (table.new ≡ table.old))) }
     ensures unchanged { OnErr result (table.new ≡ table.old) }
 {
     let columns = chosen_columns(alloc, choices)?;
-    if let Some(refusal) = first_that_holds(&rebuild_tests(&columns, table)) {
+    let headers = headers_chosen(alloc, table.headers(), choices)?;
+    if let Some(refusal) = first_that_holds(&rebuild_tests(&columns, &headers, choices, table)) {
         return Ok(Reply::Refused(refusal));
     }
-    let headers = headers_chosen(alloc, table.headers(), choices)?;
     table.replace_headers(headers);
     Ok(Reply::Done)
 }
@@ -193,7 +197,7 @@ fn headers_chosen(
     Ok(chosen)
 }
 
-/// The column as it is chosen to lie. Its kind stays where none is said.
+/// The column as it is chosen to lie. Its type stays, and its kind where none is said.
 fn chosen_header(
     alloc: Global,
     header: &Header<Name>,
@@ -205,6 +209,7 @@ fn chosen_header(
         if header.name == choice.column {
             return Ok(Header {
                 name: header.name.try_clone(alloc)?,
+                column_type: header.column_type,
                 layout: layout_of(choice.layout),
                 kind: kind_or(choice.kind, header.kind),
             });

@@ -3,9 +3,10 @@
 ghost use Rattle.std.specs.Prelude.{◌≡◌, IfOk, map, position};
 ghost use Rattle.std.specs.Str.{bytes_eq};
 ghost use Rattle.bw_model.specs.Insert.{row_for, target_columns};
+ghost use Rattle.bw_model.specs.Refusals.{types_named};
 
-use crate::store::{Row, names, value_from};
-use bw_code::Header;
+use crate::store::{Row, names, type_named, value_from};
+use bw_code::{ColumnType, Header};
 use bw_sql::{Name, NameList, Value, ValueRows};
 use std::alloc::{AllocError, Global};
 
@@ -32,6 +33,20 @@ pub(crate) fn copied(alloc: Global, names: &[Name]) -> Result<Vec<Name>, AllocEr
         list.push(name.try_clone(alloc)?)?;
     }
     Ok(list)
+}
+
+/// The types of the columns of these names.
+pub(crate) fn types_named(
+    alloc: Global,
+    headers: &[Header<Name>],
+    columns: &[Name],
+) -> Result<Vec<ColumnType>, AllocError>
+    ensures { IfOk result (λ types. types.items ≡ types_named headers.now columns.now) }
+{
+    columns
+        .iter()
+        .map(|name| type_named(headers, name))
+        .collect(alloc)
 }
 
 /// The row of these values: a column that isn't listed is NULL.

@@ -49,6 +49,8 @@ pub enum Refusal {
     NotTableFile,
     /// Error 46.
     FileTooLarge,
+    /// Error 60: a BIGINT column in layout H, whose codes have at most 32 bits.
+    LayoutTooNarrow,
     /// Error 90: a growth was refused.
     OutOfMemory,
 }

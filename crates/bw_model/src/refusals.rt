@@ -1,20 +1,25 @@
 //! Why a statement is refused.
 
-ghost use Rattle.std.specs.Prelude.{◌≡◌, ◌==◌, ◌||◌, length, nat_le, nat_lt, option_map};
+ghost use Rattle.std.specs.Prelude.{◌≡◌, ◌==◌, ◌||◌, IfOk, Option, length, map, nat_le, nat_lt, option_map};
 ghost use Rattle.std.specs.List.{list_all, list_any};
-ghost use Rattle.bw_model.specs.Refusals.{condition_misses, create_tests, fault_test, first_that_holds, has_long_list, delete_tests, insert_tests, is_in_range, is_missing, lists_too_long, load_tests, may_be_set, names_missing, open_tests, operand_is_missing, save_tests, rebuild_tests, select_tests, set_columns, update_tests};
+ghost use Rattle.bw_model.specs.Refusals.{chosen_columns, condition_misses, copy_test, create_tests, delete_tests, fault_test, first_that_holds, fits_in, has_long_list, insert_tests, is_missing, is_too_narrow, lists_too_long, load_tests, may_be_set, names_missing, open_tests, operand_is_missing, rebuild_tests, save_tests, select_tests, set_columns, set_tests, types_named};
 ghost use Rattle.bw_model.specs.Contents.{is_missing_file, is_no_table, is_too_large, lines_in};
 ghost use Rattle.bw_model.specs.Select.{columns_in, is_column, is_mixed};
-ghost use Rattle.bw_model.specs.Store.{column_limit, table_limit};
-ghost use Rattle.bw_sql.specs.Tree.{condition_of};
+ghost use Rattle.bw_code.specs.Types.{are_of_types, is_null_or_of_type};
+ghost use Rattle.bw_model.specs.Changes.{chosen_header};
+ghost use Rattle.bw_model.specs.Condition.{found_rows};
+ghost use Rattle.bw_model.specs.Store.{Table as AnyTable, column_limit, names as names_of, table_limit, type_named};
+ghost use Rattle.bw_sql.specs.Tree.{ConditionTree, condition_of};
 
+use crate::condition::value_of;
 use crate::content::Content;
 use crate::filing::is_too_long;
 use crate::refusal::Refusal;
 use crate::select::{has_functions, is_column};
-use crate::store::{Row, Table, are_distinct, place_of, table_of};
-use bw_code::Header;
-use bw_sql::{Condition, Name, Operand, SelectItem, SetClause, Value};
+use crate::store::{Row, Table, are_distinct, place_of, table_of, type_named};
+use bw_code::{ColumnType, Header};
+use bw_sql::{Condition, LayoutChoice, Name, Operand, SelectItem, SetClause, Value};
+use std::alloc::{AllocError, Global};
 
 /// The most columns that a table has.
 const COLUMN_LIMIT: usize = 64;
@@ -122,27 +127,47 @@ fn lists_too_long(condition: &Option<Condition>) -> bool
     }
 }
 
-/// Whether a value is an INTEGER.
-fn is_in_range(value: &Value) -> bool
-    ensures { result ≡ is_in_range value.now }
+/// Whether a value is NULL or an integer of the type.
+fn is_null_or_of_type(column_type: ColumnType, value: Value) -> bool
+    ensures { result ≡ is_null_or_of_type column_type value }
 {
     match value {
         None => true,
-        Some(number) => *number >= -2_147_483_648 && *number <= 2_147_483_647,
+        Some(number) => column_type.contains(number),
     }
 }
 
-/// The tests of CREATE TABLE.
-pub(crate) fn create_tests(columns: &[Name], name: &Name, tables: &[(Name, Table)]) -> [Test; 3]
+/// Whether a layout is said that doesn't hold the column's type.
+fn is_too_narrow(header: &Header<Name>) -> bool
+    ensures { result ≡ is_too_narrow header.now }
+{
+    !header.layout.holds(header.column_type)
+}
+
+fn any_is_too_narrow(headers: &[Header<Name>]) -> bool
+    ensures { result ≡ list_any is_too_narrow headers.now }
+{
+    headers.iter().any(is_too_narrow)
+}
+
+/// The tests of CREATE TABLE, of which these are the names of the columns.
+pub(crate) fn create_tests(
+    names: &[Name],
+    columns: &[Header<Name>],
+    name: &Name,
+    tables: &[(Name, Table)],
+) -> [Test; 4]
+    requires { names.now ≡ names_of columns.now }
     ensures { result ≡ create_tests columns.now name.now tables.now }
 {
     [
         (Refusal::TableExists, table_of(tables, name).is_some()),
-        (Refusal::ColumnNamedTwice, !are_distinct(columns)),
+        (Refusal::ColumnNamedTwice, !are_distinct(names)),
         (
             Refusal::OverLimit,
             is_over_limit(columns.len(), tables.len()),
         ),
+        (Refusal::LayoutTooNarrow, any_is_too_narrow(columns)),
     ]
 }
 
@@ -153,8 +178,14 @@ fn is_over_limit(columns: usize, tables: usize) -> bool
     columns == 0 || columns > COLUMN_LIMIT || tables >= TABLE_LIMIT
 }
 
-/// The tests of INSERT over a table.
-pub(crate) fn insert_tests(columns: &[Name], rows: &[Row], table: &Table) -> [Test; 5]
+/// The tests of INSERT over a table, of which these are the types of the columns that the values are for.
+pub(crate) fn insert_tests(
+    columns: &[Name],
+    types: &[ColumnType],
+    rows: &[Row],
+    table: &Table,
+) -> [Test; 5]
+    requires { types.now ≡ types_named table.now.headers columns.now }
     ensures { result ≡ insert_tests columns.now rows.now table.now }
 {
     let width = columns.len();
@@ -163,20 +194,20 @@ pub(crate) fn insert_tests(columns: &[Name], rows: &[Row], table: &Table) -> [Te
         (Refusal::NoSuchColumn, misses_any(table.headers(), columns)),
         (Refusal::ColumnNamedTwice, !are_distinct(columns)),
         (Refusal::WrongNumberOfValues, !are_of_width(rows, width)),
-        (Refusal::OutOfRange, !are_in_range(rows)),
+        (Refusal::OutOfRange, !all_are_of_types(types, rows)),
         (Refusal::TableFull, count > ROW_LIMIT),
     ]
 }
 
-/// The tests of UPDATE over a table, of which these are the columns that it sets.
-pub(crate) fn update_tests(
+/// The tests of UPDATE over a table that look at no row. These are the columns that it sets.
+pub(crate) fn set_tests(
     columns: &[Name],
     sets: &[SetClause],
     condition: &Option<Condition>,
     table: &Table,
 ) -> [Test; 6]
     requires { columns.now ≡ set_columns sets.now }
-    ensures { result ≡ update_tests sets.now (option_map condition_of condition.now) table.now }
+    ensures { result ≡ set_tests sets.now (option_map condition_of condition.now) table.now }
 {
     let headers = table.headers();
     [
@@ -185,7 +216,7 @@ pub(crate) fn update_tests(
         (Refusal::NoSuchColumn, condition_misses(headers, condition)),
         (Refusal::ColumnNamedTwice, !are_distinct(columns)),
         (Refusal::OverLimit, lists_too_long(condition)),
-        (Refusal::OutOfRange, !may_all_be_set(sets)),
+        (Refusal::OutOfRange, !may_all_be_set(headers, sets)),
     ]
 }
 
@@ -197,20 +228,47 @@ fn misses_source(headers: &[Header<Name>], sets: &[SetClause]) -> bool
         .any(|set| operand_is_missing(headers, &set.source))
 }
 
-fn may_all_be_set(sets: &[SetClause]) -> bool
-    ensures { result ≡ list_all (λ set. may_be_set set.source) sets.now }
+fn may_all_be_set(headers: &[Header<Name>], sets: &[SetClause]) -> bool
+    ensures { result ≡ list_all (λ set. may_be_set (type_named headers.now set.column) set.source) sets.now }
 {
-    sets.iter().all(|set| may_be_set(&set.source))
+    sets.iter()
+        .all(|set| may_be_set(type_named(headers, &set.column), &set.source))
 }
 
-/// Whether a column may be set to this: a literal has to be an INTEGER, as a column's values are.
-fn may_be_set(source: &Operand) -> bool
-    ensures { result ≡ may_be_set source.now }
+/// Whether a column of a type may be set to this, as far as no row is looked at: a literal has to be of the type.
+fn may_be_set(column_type: ColumnType, source: &Operand) -> bool
+    ensures { result ≡ may_be_set column_type source.now }
 {
     match source {
         Operand::Column(_) => true,
-        Operand::Constant(value) => is_in_range(value),
+        Operand::Constant(value) => is_null_or_of_type(column_type, *value),
     }
+}
+
+/// Whether what each column is set to in a row is of its type.
+fn fits_in(headers: &[Header<Name>], sets: &[SetClause], row: &Row) -> bool
+    ensures { result ≡ fits_in headers.now sets.now row.now }
+{
+    sets.iter().all(|set| {
+        is_null_or_of_type(
+            type_named(headers, &set.column),
+            value_of(headers, row, &set.source),
+        )
+    })
+}
+
+/// The test of UPDATE over a table that looks at the found rows.
+pub(crate) fn copy_test(headers: &[Header<Name>], sets: &[SetClause], found: &[&Row]) -> Test
+    ensures { (table : AnyTable) (condition : Option ConditionTree) → headers.now ≡ table.headers → map (λ row. row.now) found.now ≡ found_rows table condition
+        → result ≡ copy_test sets.now condition table }
+{
+    (Refusal::OutOfRange, !all_fit_in(headers, sets, found))
+}
+
+fn all_fit_in(headers: &[Header<Name>], sets: &[SetClause], found: &[&Row]) -> bool
+    ensures { result ≡ list_all (fits_in headers.now sets.now) (map (λ row. row.now) found.now) }
+{
+    found.iter().all(|row| fits_in(headers, sets, row))
 }
 
 /// The tests of DELETE over a table.
@@ -224,13 +282,22 @@ pub(crate) fn delete_tests(condition: &Option<Condition>, table: &Table) -> [Tes
     ]
 }
 
-/// The tests of REBUILD over a table, of which these columns are to be laid anew.
-pub(crate) fn rebuild_tests(columns: &[Name], table: &Table) -> [Test; 2]
-    ensures { result ≡ rebuild_tests columns.now table.now }
+/// The tests of REBUILD over a table, of which these columns are to be laid anew, and these are all as they are chosen
+/// to lie.
+pub(crate) fn rebuild_tests(
+    columns: &[Name],
+    chosen: &[Header<Name>],
+    choices: &[LayoutChoice],
+    table: &Table,
+) -> [Test; 3]
+    requires columns { columns.now ≡ chosen_columns choices.now }
+    requires chosen { chosen.now ≡ map (chosen_header choices.now) table.now.headers }
+    ensures { result ≡ rebuild_tests choices.now table.now }
 {
     [
         (Refusal::NoSuchColumn, misses_any(table.headers(), columns)),
         (Refusal::ColumnNamedTwice, !are_distinct(columns)),
+        (Refusal::LayoutTooNarrow, any_is_too_narrow(chosen)),
     ]
 }
 
@@ -278,16 +345,25 @@ fn are_of_width(rows: &[Row], width: usize) -> bool
     rows.iter().all(|row| row.values().len() == width)
 }
 
-fn are_in_range(rows: &[Row]) -> bool
-    ensures { result ≡ list_all (list_all is_in_range) rows.now }
+fn all_are_of_types(types: &[ColumnType], rows: &[Row]) -> bool
+    ensures { result ≡ list_all (are_of_types types.now) rows.now }
 {
-    rows.iter().all(is_row_in_range)
+    rows.iter().all(|row| are_of_types(types, row.values()))
 }
 
-fn is_row_in_range(row: &Row) -> bool
-    ensures { result ≡ list_all is_in_range row.now }
+/// Whether each value of a row is of its column's type, as far as both go.
+fn are_of_types(types: &[ColumnType], values: &[Value]) -> bool
+    ensures { result ≡ are_of_types types.now values.now }
 {
-    row.values().iter().all(is_in_range)
+    match types {
+        [] => true,
+        [column_type, types @ ..] => match values {
+            [] => true,
+            [value, values @ ..] => {
+                is_null_or_of_type(*column_type, *value) && are_of_types(types, values)
+            }
+        },
+    }
 }
 
 /// Whether there is no file, or none that can be read.
@@ -358,8 +434,8 @@ pub(crate) fn open_tests(name: &Name, tables: &[(Name, Table)], said: &Content) 
 }
 
 /// The tests of SAVE over a table.
-pub(crate) fn save_tests(table: &Table) -> [Test; 1]
-    ensures { result ≡ save_tests table.now }
+pub(crate) fn save_tests(alloc: Global, table: &Table) -> Result<[Test; 1], AllocError>
+    ensures { IfOk result (λ tests. tests ≡ save_tests table.now) }
 {
-    [(Refusal::FileTooLarge, is_too_long(table))]
+    Ok([(Refusal::FileTooLarge, is_too_long(alloc, table)?)])
 }

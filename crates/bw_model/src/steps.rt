@@ -15,7 +15,7 @@ ghost use Rattle.bw_sql.specs.declared.tree.Statement.TheVariants as statements;
 
 use crate::changes::{delete_rows, rebuild_columns, update_rows};
 use crate::content::Content;
-use crate::insert::{rows_for, rows_of, target_columns};
+use crate::insert::{rows_for, rows_of, target_columns, types_named};
 use crate::listing::listing_of;
 use crate::refusal::Refusal;
 use crate::refusals::{
@@ -53,7 +53,7 @@ pub fn step(
         Statement::Rebuild(change) => rebuild(alloc, &mut store.tables, change),
         Statement::Select(query) => select(alloc, &store.tables, query),
         Statement::Load(request) => load(alloc, &mut store.tables, said, request),
-        Statement::Save(request) => Ok(save(&store.tables, request)),
+        Statement::Save(request) => save(alloc, &store.tables, request),
         Statement::Open(request) => open_table(alloc, &mut store.tables, said, request),
     }
 }
@@ -68,7 +68,12 @@ fn create_table(
 {
     let headers = headers_of(alloc, &create.columns)?;
     let columns = names(alloc, &headers)?;
-    if let Some(refusal) = first_that_holds(&create_tests(&columns, &create.table, tables)) {
+    if let Some(refusal) = first_that_holds(&create_tests(
+        &columns,
+        &headers,
+        &create.table,
+        tables,
+    )) {
         return Ok(Reply::Refused(refusal));
     }
     let name = create.table.try_clone(alloc)?;
@@ -123,7 +128,8 @@ fn insert_rows(
     ensures unchanged { OnErr result (table.new ≡ table.old) }
 {
     let columns = target_columns(alloc, table.headers(), listed)?;
-    if let Some(refusal) = first_that_holds(&insert_tests(&columns, rows, table)) {
+    let types = types_named(alloc, table.headers(), &columns)?;
+    if let Some(refusal) = first_that_holds(&insert_tests(&columns, &types, rows, table)) {
         return Ok(Reply::Refused(refusal));
     }
     let new = rows_for(alloc, table.headers(), &columns, rows)?;
@@ -215,16 +221,16 @@ fn load_lines(alloc: Global, table: &mut Table, said: &Content) -> Result<Reply,
     Ok(Reply::Count(rows.len() as u64))
 }
 
-fn save(tables: &[(Name, Table)], request: &Save) -> Reply
-    ensures { ◌≡◌ {A = AnyReply × AnyStore} (result, tables.now) (outcome_of tables.now Nothing (statement_of (statements.Save request.now))) }
+fn save(alloc: Global, tables: &[(Name, Table)], request: &Save) -> Result<Reply, AllocError>
+    ensures { IfOk result (λ reply. ◌≡◌ {A = AnyReply × AnyStore} (reply, tables.now) (outcome_of tables.now Nothing (statement_of (statements.Save request.now)))) }
 {
     let Some(table) = table_of(tables, &request.table) else {
-        return Reply::Refused(Refusal::NoSuchTable);
+        return Ok(Reply::Refused(Refusal::NoSuchTable));
     };
-    if let Some(refusal) = first_that_holds(&save_tests(table)) {
-        return Reply::Refused(refusal);
+    if let Some(refusal) = first_that_holds(&save_tests(alloc, table)?) {
+        return Ok(Reply::Refused(refusal));
     }
-    Reply::Count(table.rows().len() as u64)
+    Ok(Reply::Count(table.rows().len() as u64))
 }
 
 fn open_table(

@@ -4,10 +4,10 @@ ghost use Rattle.std.specs.Prelude.{◌≡◌, ◌<◌, [], ◌++◌, IfOk, OnOk
 ghost use Rattle.std.specs.List.{list_any};
 ghost use Rattle.std.specs.Option.{option_copied};
 ghost use Rattle.std.specs.Str.{bytes_eq};
-ghost use Rattle.bw_model.specs.Store.{are_distinct, header_of, names, place_of, table_of, value_at, value_from};
+ghost use Rattle.bw_model.specs.Store.{are_distinct, header_of, names, place_of, table_of, type_named, value_at, value_from};
 
-use crate::words::{kind_or, layout_or};
-use bw_code::{Header, Kind, Layout};
+use crate::words::{kind_or, layout_or, type_of};
+use bw_code::{ColumnType, Header, Kind, Layout};
 use bw_sql::{ColumnDefinition, Name, Value};
 use std::alloc::{AllocError, Global};
 use std::marker::Model;
@@ -205,6 +205,7 @@ pub fn header_of(alloc: Global, definition: &ColumnDefinition) -> Result<Header<
 {
     Ok(Header {
         name: definition.name.try_clone(alloc)?,
+        column_type: type_of(definition.column_type),
         layout: layout_or(definition.layout, Layout::V),
         kind: kind_or(definition.kind, Kind::Offset),
     })
@@ -216,6 +217,7 @@ pub(crate) fn same_header(alloc: Global, header: &Header<Name>) -> Result<Header
 {
     Ok(Header {
         name: header.name.try_clone(alloc)?,
+        column_type: header.column_type,
         layout: header.layout,
         kind: header.kind,
     })
@@ -295,6 +297,16 @@ pub(crate) fn place_of(headers: &[Header<Name>], name: &Name) -> Option<usize>
     ensures { result ≡ place_of headers.now name.now }
 {
     headers.iter().position(|header| name == &header.name)
+}
+
+/// The type of the column of this name; of a name that no column has, any.
+pub(crate) fn type_named(headers: &[Header<Name>], name: &Name) -> ColumnType
+    ensures { result ≡ type_named headers.now name.now }
+{
+    match place_of(headers, name) {
+        Some(place) => headers[place].column_type,
+        None => ColumnType::Integer,
+    }
 }
 
 /// The value at this place of a row, or NULL where there is none.

@@ -176,6 +176,7 @@ fn refusal_text(alloc: Global, refusal: Refusal) -> Result<String, AllocError>
         }
         Refusal::NotTableFile => String::from_str(alloc, "error 44: not a table file"),
         Refusal::FileTooLarge => String::from_str(alloc, "error 46: file too large"),
+        Refusal::LayoutTooNarrow => String::from_str(alloc, "error 60: layout H holds no BIGINT"),
         Refusal::OutOfMemory => String::from_str(alloc, "error 90: out of memory"),
     }
 }

@@ -1,10 +1,20 @@
-//! The layouts and kinds that the words of a statement spell.
+//! The types, layouts and kinds that the words of a statement spell.
 
 ghost use Rattle.std.specs.Prelude.{◌≡◌};
-ghost use Rattle.bw_model.specs.Words.{kind_of, kind_or, layout_of, layout_or};
+ghost use Rattle.bw_model.specs.Words.{kind_of, kind_or, layout_of, layout_or, type_of};
 
-use bw_code::{Kind, Layout};
-use bw_sql::{KindWord, LayoutWord};
+use bw_code::{ColumnType, Kind, Layout};
+use bw_sql::{KindWord, LayoutWord, TypeWord};
+
+/// The type that a word spells.
+pub(crate) fn type_of(word: TypeWord) -> ColumnType
+    ensures { result ≡ type_of word }
+{
+    match word {
+        TypeWord::Integer => ColumnType::Integer,
+        TypeWord::BigInt => ColumnType::BigInt,
+    }
+}
 
 /// The layout that a word spells.
 pub(crate) fn layout_of(word: LayoutWord) -> Layout

@@ -7,18 +7,7 @@ use Rattle.std.proofs.lemmas.List.{take_more}
 use Rattle.std.proofs.lemmas.List.Folds.{list_any-append}
 use Rattle.bw_model.specs.Store.{are_distinct}
 use Rattle.bw_model.proofs.Names.{are_distinct-push}
-
-fronts : (a b c d : Bool) → (c ≡ true → d ≡ true) → (not (a || b) && c) ≡ true → (not a && d) ≡ true
-fronts true b c d rest e = e
-fronts false true c d rest e = absurd (true≢false (sym e))
-fronts false false c d rest e = rest e
-
--- the front of a list without a name that stands twice
-pub are_distinct_front : (xs ys : List (List ℕ)) → are_distinct (xs ++ ys) ≡ true → are_distinct xs ≡ true
-are_distinct_front [] ys e = refl
-are_distinct_front (x ∷ xs) ys e =
-    fronts (list_any (bytes_eq x) xs) (list_any (bytes_eq x) ys) (are_distinct (xs ++ ys)) (are_distinct xs) (are_distinct_front xs ys)
-    (subst (λ b. (not b && are_distinct (xs ++ ys)) ≡ true) (list_any-append (bytes_eq x) xs ys) e)
+use Rattle.bw_model.proofs.OwnPlaces.{are_distinct_front}
 
 not_both : (d e : Bool) → e ≡ true → (d && not e) ≡ false
 not_both true true p = refl

@@ -23,7 +23,7 @@ use Rattle.bw_plan.specs.Plans.{source_at, source_of}
 use Rattle.bw_plan.specs.Sets.{AreSetsFor, AreSettable, source_to}
 use Rattle.bw_plan.specs.declared.plan.Source.{Source}
 use Rattle.bw_plan.specs.declared.plan.Source.TheVariants.{Constant, Place}
-use Rattle.bw_plan.proofs.Places.{get_or-mapped, place_at, place_of-names}
+use Rattle.bw_model.proofs.OwnPlaces.{get_or-mapped, place_at, place_of-names}
 
 -- what passes nowhere doesn't pass at a place
 pub none_at : {A B : Type 0} (p : B → Bool) (f : A → B) (xs : List A) (i : ℕ) (x : A) → list_any p (map f xs) ≡ false → i < length xs → x ≡ get_or xs i x → p (f x) ≡ false
