@@ -7,8 +7,9 @@ use Rattle.bw_sql.specs.declared.terminal.Terminal.TheVariants as t
 use Rattle.bw_sql.specs.declared.tree.LayoutWord.{LayoutWord}
 use Rattle.bw_sql.specs.declared.tree.KindWord.{KindWord}
 use Rattle.bw_sql.specs.declared.tree.ColumnDefinition.{ColumnDefinition}
-use Rattle.bw_sql.specs.Grammar.{ListOf, last, next, NamePart, name, LiteralPart, number, plus, minus, ValuePart, null_value, literal_value, RowPart, row, TypePart, integer, int, UsingPart, no_layout, using_layout, KindPart, no_kind, kind, ColumnPart, column}
-use Rattle.bw_sql.specs.Reading.{Read, after_comma, after_type, column_at, columns_at, kind_at, layout_at, literal_at, more_at, name_at, names_at, negative, number_at, parts_at, positive, row_at, rows_at, using_at, value_at, values_at, with_first}
+use Rattle.bw_sql.specs.declared.tree.TypeWord.{TypeWord}
+use Rattle.bw_sql.specs.Grammar.{ListOf, last, next, NamePart, name, LiteralPart, number, plus, minus, ValuePart, null_value, literal_value, RowPart, row, TypePart, bigint, int, integer, UsingPart, no_layout, using_layout, KindPart, no_kind, kind, ColumnPart, column}
+use Rattle.bw_sql.specs.Reading.{Read, after_comma, column_at, columns_at, kind_at, layout_at, literal_at, more_at, name_at, names_at, negative, number_at, parts_at, positive, row_at, rows_at, type_at, using_at, value_at, values_at, with_first}
 use Rattle.bw_sql.proofs.WordLemmas.{kind_of-spelling, layout_of-spelling}
 
 module _ {A : Type 0} (after : List Terminal → Option (List Terminal)) (read : List Terminal → Read A) where
@@ -126,18 +127,21 @@ unfolding using_at layout_at
 using_reads ts us rest l d no_layout k ends = kind_no_using ts rest d k ends
 using_reads ts us rest l d (using_layout {l = word}) k ends = rw (layout_of-spelling word) refl
 
-type_reads : (ts us : List Terminal) → TypePart ts us → after_type ts ≡ Some us
-type_reads ts us integer = refl
-type_reads ts us int = refl
+type_reads : (ts us : List Terminal) (word : TypeWord) → TypePart ts word us → type_at ts ≡ Some (word, us)
+unfolding type_at
+type_reads ts us word integer = refl
+type_reads ts us word int = refl
+type_reads ts us word bigint = refl
 
 column_reads : (ts rest : List Terminal) (x : ColumnDefinition) → ColumnPart ts x rest → EndsColumn rest → column_at ts ≡ Some (x, rest)
 unfolding column_at name_at
-column_reads ts rest x (column {word} {l} {d} {ts = us} {us = vs} {vs = ws} a b c) ends =
-    rw (type_reads us vs a, using_reads vs ws rest l d b c ends, kind_reads ws rest d c ends) refl
+column_reads ts rest x (column {word} {c = type_word} {l} {d} {ts = us} {us = vs} {vs = ws} a b c) ends =
+    rw (type_reads us vs type_word a, using_reads vs ws rest l d b c ends, kind_reads ws rest d c ends) refl
 
-type_shorter : (ts us : List Terminal) → TypePart ts us → length us < length ts
-type_shorter ts us integer = omega arith
-type_shorter ts us int = omega arith
+type_shorter : (ts us : List Terminal) (word : TypeWord) → TypePart ts word us → length us < length ts
+type_shorter ts us word integer = omega arith
+type_shorter ts us word int = omega arith
+type_shorter ts us word bigint = omega arith
 
 using_shorter : (ts us : List Terminal) (l : Option LayoutWord) → UsingPart ts l us → length us ≤ length ts
 using_shorter ts us l no_layout = omega arith
@@ -148,8 +152,8 @@ kind_shorter ts us d no_kind = omega arith
 kind_shorter ts us d kind = omega arith
 
 column_shorter : (ts rest : List Terminal) (x : ColumnDefinition) → ColumnPart ts x rest → length rest < length ts
-column_shorter ts rest x (column {word} {l} {d} {ts = us} {us = vs} {vs = ws} a b c) =
-    omega (arith, type_shorter us vs a, using_shorter vs ws l b, kind_shorter ws rest d c)
+column_shorter ts rest x (column {word} {c = type_word} {l} {d} {ts = us} {us = vs} {vs = ws} a b c) =
+    omega (arith, type_shorter us vs type_word a, using_shorter vs ws l b, kind_shorter ws rest d c)
 
 pub columns_read : {ts rest : List Terminal} {xs : List ColumnDefinition} → ListOf ColumnPart ts xs (t.Symbol s.Close ∷ rest) → (n : ℕ) → length ts < n → columns_at n ts ≡ Some (xs, t.Symbol s.Close ∷ rest)
 unfolding columns_at

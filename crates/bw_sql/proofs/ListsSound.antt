@@ -6,11 +6,13 @@ use Rattle.bw_sql.specs.declared.keyword.Keyword.TheVariants as k
 use Rattle.bw_sql.specs.declared.terminal.StatementWord.{StatementWord}
 use Rattle.bw_sql.specs.declared.terminal.Terminal.{Terminal}
 use Rattle.bw_sql.specs.declared.terminal.Terminal.TheVariants as t
+use Rattle.bw_sql.specs.declared.tree.TypeWord.{TypeWord}
+use Rattle.bw_sql.specs.declared.tree.TypeWord.TheVariants.{BigInt, Integer}
 use Rattle.bw_sql.specs.declared.tree.LayoutWord.{LayoutWord}
 use Rattle.bw_sql.specs.declared.tree.KindWord.{KindWord}
 use Rattle.bw_sql.specs.Words.{kind_of, layout_of, statement_spelling, statement_word_of}
-use Rattle.bw_sql.specs.Grammar.{ListOf, last, next, NamePart, name, LiteralPart, number, plus, minus, ValuePart, null_value, literal_value, RowPart, row, TypePart, integer, int, UsingPart, no_layout, using_layout, KindPart, no_kind, kind, ColumnPart, column}
-use Rattle.bw_sql.specs.Reading.{Read, after_and, after_close, after_comma, after_null, after_or, after_from, after_into, after_open, after_table, after_type, after_values, closed, column_at, columns_at, go_on, kind_at, kind_taken, layout_at, literal_at, map_first, more_at, name_at, names_at, negative, number_at, parts_at, positive, row_at, rows_at, statement_word_at, using_at, value_at, values_at, with_first, with_rest, ◌>>=◌}
+use Rattle.bw_sql.specs.Grammar.{ListOf, last, next, NamePart, name, LiteralPart, number, plus, minus, ValuePart, null_value, literal_value, RowPart, row, TypePart, bigint, int, integer, UsingPart, no_layout, using_layout, KindPart, no_kind, kind, ColumnPart, column}
+use Rattle.bw_sql.specs.Reading.{Read, after_and, after_close, after_comma, after_null, after_or, after_from, after_into, after_open, after_table, after_values, closed, column_at, columns_at, go_on, kind_at, kind_taken, layout_at, literal_at, map_first, more_at, name_at, names_at, negative, number_at, parts_at, positive, row_at, rows_at, statement_word_at, type_at, using_at, value_at, values_at, with_first, with_rest, ◌>>=◌}
 use Rattle.bw_sql.proofs.WordLemmas.{kind_of-is, layout_of-is, statement_word_of-is}
 
 -- a reader answers only what stands in the relation
@@ -62,11 +64,6 @@ after_values-is _ mid h = cc
 pub after_from-is : (ts mid : List Terminal) → after_from ts ≡ Some mid → ts ≡ t.Keyword k.From ∷ mid
 after_from-is (t.Keyword k.From ∷ ts) mid h = cc
 after_from-is _ mid h = cc
-
-pub type_sound : (ts mid : List Terminal) → after_type ts ≡ Some mid → TypePart ts mid
-type_sound (t.Keyword k.Integer ∷ ts) mid h = let e : ts ≡ mid = cc in rw e integer
-type_sound (t.Keyword k.Int ∷ ts) mid h = let e : ts ≡ mid = cc in rw e int
-type_sound _ mid h = cc
 
 -- one answer is the other: so the values are one, and so are the rests
 pub answers_once : {A : Type 0} (x y : A) (left rest : List Terminal) → ◌≡◌ {A = Read A} (Some (x, left)) (Some (y, rest)) → (x ≡ y) × (left ≡ rest)
@@ -206,6 +203,13 @@ pub rows_sound : (n : ℕ) → IsSound (ListOf RowPart) (rows_at n)
 unfolding rows_at
 rows_sound n = parts_sound RowPart (row_at n) (row_sound n) n
 
+type_sound : IsSound TypePart type_at
+unfolding type_at
+type_sound (t.Keyword k.Integer ∷ ts) word rest h = moved TypePart _ Integer word ts rest integer h
+type_sound (t.Keyword k.Int ∷ ts) word rest h = moved TypePart _ Integer word ts rest int h
+type_sound (t.Keyword k.Bigint ∷ ts) word rest h = moved TypePart _ BigInt word ts rest bigint h
+type_sound _ word rest h = cc
+
 pub using_word : (ts : List Terminal) (l : LayoutWord) (rest : List Terminal) → layout_at ts ≡ Some (l, rest) → UsingPart (t.Keyword k.Using ∷ ts) (Some l) rest
 unfolding layout_at
 using_word (t.Name word ∷ ts) l rest h =
@@ -231,12 +235,15 @@ pub column_sound : IsSound ColumnPart column_at
 unfolding column_at
 column_sound ts x rest h =
     let a = bound (name_at ts) _ (x, rest) h in
-    let b = bound (after_type a.0.1) _ (x, rest) a.2 in
-    let c = bound (using_at b.0) _ (x, rest) b.2 in
-    moved ColumnPart ts (record { name = a.0.0; layout = c.0.0; kind = (kind_at c.0.1).0 }) x (kind_at c.0.1).1 rest (named ts a.0.0 a.0.1 (name_sound ts a.0.0 a.0.1 a.1) c.0.0 (kind_at c.0.1).0 b.0 c.0.1 (kind_at c.0.1).1 (type_sound a.0.1 b.0 b.1) (using_sound b.0 c.0.0 c.0.1 c.1) (kind_sound c.0.1)) c.2
+    let b = bound (type_at a.0.1) _ (x, rest) a.2 in
+    let c = bound (using_at b.0.1) _ (x, rest) b.2 in
+    let k = kind_at c.0.1 in
+    let part = named ts a.0.0 a.0.1 (name_sound ts a.0.0 a.0.1 a.1) b.0.0 c.0.0 k.0 b.0.1 c.0.1 k.1 (type_sound a.0.1 b.0.0 b.0.1 b.1) (using_sound b.0.1 c.0.0 c.0.1 c.1) (kind_sound c.0.1) in
+    moved ColumnPart ts (record { name = a.0.0; column_type = b.0.0; layout = c.0.0; kind = k.0 }) x k.1 rest part c.2
   where
-    named : (ts : List Terminal) (word : List ℕ) (us : List Terminal) → NamePart ts word us → (l : Option LayoutWord) (d : Option KindWord) (vs ws rest : List Terminal) → TypePart us vs → UsingPart vs l ws → KindPart ws d rest → ColumnPart ts (record { name = word; layout = l; kind = d }) rest
-    named ts word us name l d vs ws rest x y z = column x y z
+    named : (ts : List Terminal) (word : List ℕ) (us : List Terminal) → NamePart ts word us → (c : TypeWord) (l : Option LayoutWord) (d : Option KindWord) (vs ws rest : List Terminal) → TypePart us c vs → UsingPart vs l ws → KindPart ws d rest →
+        ColumnPart ts (record { name = word; column_type = c; layout = l; kind = d }) rest
+    named ts word us name c l d vs ws rest x y z = column x y z
 
 pub columns_sound : (n : ℕ) → IsSound (ListOf ColumnPart) (columns_at n)
 unfolding columns_at

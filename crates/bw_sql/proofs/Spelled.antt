@@ -5,7 +5,7 @@ use Rattle.std.specs.Char.{to_ascii_uppercase}
 use Rattle.std.specs.List.{All}
 use Rattle.std.proofs.lemmas.List.Elements.{All-cons, All-nil}
 use Rattle.std.proofs.Math.Seq.{drop-append_seam, take-append_seam}
-use Rattle.bw_sql.specs.Grammar.{ColumnPart, KindPart, ListOf, Spells, TypePart, UsingPart, column, creates, deletes, deletes_where, drops, inserts, inserts_into, int, integer, kind, last, lists_tables, loads, loads_with_header, next, no_kind, no_layout, opens, rebuilds, rebuilds_columns, saves, selects, selects_where, updates, updates_where, using_layout}
+use Rattle.bw_sql.specs.Grammar.{ColumnPart, KindPart, ListOf, Spells, TypePart, UsingPart, bigint, column, creates, deletes, deletes_where, drops, inserts, inserts_into, int, integer, kind, last, lists_tables, loads, loads_with_header, next, no_kind, no_layout, opens, rebuilds, rebuilds_columns, saves, selects, selects_where, updates, updates_where, using_layout}
 use Rattle.bw_sql.specs.Files.{IsFileName}
 use Rattle.bw_sql.specs.Named.{files_named}
 use Rattle.bw_sql.specs.Names.{IsName, keyword_of}
@@ -23,6 +23,7 @@ use Rattle.bw_lex.specs.declared.token.Token.{Token}
 use Rattle.bw_lex.specs.declared.token.TokenKind.{TokenKind}
 use Rattle.bw_lex.specs.declared.token.TokenKind.TheVariants as k
 use Rattle.bw_sql.specs.declared.tree.ColumnDefinition.{ColumnDefinition}
+use Rattle.bw_sql.specs.declared.tree.TypeWord.{TypeWord}
 use Rattle.bw_sql.specs.declared.tree.KindWord.{KindWord}
 use Rattle.bw_sql.specs.declared.tree.LayoutWord.{LayoutWord}
 use Rattle.bw_sql.proofs.NameLemmas.{word_is_name}
@@ -67,9 +68,10 @@ module _ (text : List ℕ) where
 
 -- the columns of a CREATE TABLE
 
-past_type : {ts rest : List Terminal} → TypePart ts rest → Each IsSeen ts → Each IsSeen rest
+past_type : {ts rest : List Terminal} {word : TypeWord} → TypePart ts word rest → Each IsSeen ts → Each IsSeen rest
 past_type integer seen = seen.1
 past_type int seen = seen.1
+past_type bigint seen = seen.1
 
 past_using : {ts rest : List Terminal} {layout : Option LayoutWord} → UsingPart ts layout rest → Each IsSeen ts → Each IsSeen rest
 past_using no_layout seen = seen

@@ -8,6 +8,8 @@ use Rattle.bw_lex.specs.declared.token.Symbol.TheVariants as s
 use Rattle.bw_sql.specs.declared.keyword.Keyword.TheVariants as k
 use Rattle.bw_sql.specs.declared.terminal.Terminal.{Terminal}
 use Rattle.bw_sql.specs.declared.terminal.Terminal.TheVariants as t
+use Rattle.bw_sql.specs.declared.tree.TypeWord.{TypeWord}
+use Rattle.bw_sql.specs.declared.tree.TypeWord.TheVariants.{BigInt, Integer}
 use Rattle.bw_sql.specs.declared.tree.LayoutWord.{LayoutWord}
 use Rattle.bw_sql.specs.declared.tree.KindWord.{KindWord}
 use Rattle.bw_sql.specs.declared.tree.Operand.{Operand}
@@ -47,10 +49,11 @@ pub data ValuePart : List Terminal → Option ℤ → List Terminal → Type 0 w
 pub data RowPart : List Terminal → List (Option ℤ) → List Terminal → Type 0 where
   row : {values : List (Option ℤ)} {ts rest : List Terminal} → ListOf ValuePart ts values (t.Symbol s.Close ∷ rest) → RowPart (t.Symbol s.Open ∷ ts) values rest
 
--- INTEGER | INT
-pub data TypePart : List Terminal → List Terminal → Type 0 where
-  integer : {rest : List Terminal} → TypePart (t.Keyword k.Integer ∷ rest) rest
-  int : {rest : List Terminal} → TypePart (t.Keyword k.Int ∷ rest) rest
+-- INTEGER | INT | BIGINT
+pub data TypePart : List Terminal → TypeWord → List Terminal → Type 0 where
+  integer : {rest : List Terminal} → TypePart (t.Keyword k.Integer ∷ rest) Integer rest
+  int : {rest : List Terminal} → TypePart (t.Keyword k.Int ∷ rest) Integer rest
+  bigint : {rest : List Terminal} → TypePart (t.Keyword k.Bigint ∷ rest) BigInt rest
 
 -- [USING layout]
 pub data UsingPart : List Terminal → Option LayoutWord → List Terminal → Type 0 where
@@ -62,10 +65,10 @@ pub data KindPart : List Terminal → Option KindWord → List Terminal → Type
   no_kind : {rest : List Terminal} → KindPart rest None rest
   kind : {word : KindWord} {rest : List Terminal} → KindPart (t.Name (kind_spelling word) ∷ rest) (Some word) rest
 
--- coldef = name (INTEGER | INT) [USING layout] [kind]
+-- coldef = name (INTEGER | INT | BIGINT) [USING layout] [kind]
 pub data ColumnPart : List Terminal → ColumnDefinition → List Terminal → Type 0 where
-  column : {word : List ℕ} {l : Option LayoutWord} {d : Option KindWord} {ts us vs rest : List Terminal} →
-      TypePart ts us → UsingPart us l vs → KindPart vs d rest → ColumnPart (t.Name word ∷ ts) (record { name = word; layout = l; kind = d }) rest
+  column : {word : List ℕ} {c : TypeWord} {l : Option LayoutWord} {d : Option KindWord} {ts us vs rest : List Terminal} →
+      TypePart ts c us → UsingPart us l vs → KindPart vs d rest → ColumnPart (t.Name word ∷ ts) (record { name = word; column_type = c; layout = l; kind = d }) rest
 
 -- item = name | COUNT ( * ) | function ( name )
 pub data ItemPart : List Terminal → SelectItem → List Terminal → Type 0 where

@@ -10,6 +10,8 @@ use Rattle.bw_sql.specs.declared.terminal.StatementWord.{StatementWord}
 use Rattle.bw_sql.specs.declared.terminal.StatementWord.TheVariants.{Load, Rebuild, Save, Tables}
 use Rattle.bw_sql.specs.declared.terminal.Terminal.{Terminal}
 use Rattle.bw_sql.specs.declared.terminal.Terminal.TheVariants as t
+use Rattle.bw_sql.specs.declared.tree.TypeWord.{TypeWord}
+use Rattle.bw_sql.specs.declared.tree.TypeWord.TheVariants.{BigInt, Integer}
 use Rattle.bw_sql.specs.declared.tree.LayoutWord.{LayoutWord}
 use Rattle.bw_sql.specs.declared.tree.KindWord.{KindWord}
 use Rattle.bw_sql.specs.declared.tree.Operand.{Operand}
@@ -121,11 +123,6 @@ abbrev pub after_equals : List Terminal → Option (List Terminal)
 after_equals (t.Symbol (s.Compare Eq) ∷ ts) = Some ts
 after_equals _ = None
 
-abbrev pub after_type : List Terminal → Option (List Terminal)
-after_type (t.Keyword k.Integer ∷ ts) = Some ts
-after_type (t.Keyword k.Int ∷ ts) = Some ts
-after_type _ = None
-
 -- with one more value first
 abbrev pub with_first : {A : Type 0} → A → Read (List A) → Read (List A)
 with_first x read = read >>= λ y. Some (x ∷ y.0, y.1)
@@ -198,6 +195,12 @@ row_at n _ = None
 unfoldable pub rows_at : ℕ → List Terminal → Read (List (List (Option ℤ)))
 rows_at n ts = parts_at after_comma (row_at n) n ts
 
+unfoldable pub type_at : List Terminal → Read TypeWord
+type_at (t.Keyword k.Integer ∷ ts) = Some (Integer, ts)
+type_at (t.Keyword k.Int ∷ ts) = Some (Integer, ts)
+type_at (t.Keyword k.Bigint ∷ ts) = Some (BigInt, ts)
+type_at _ = None
+
 unfoldable pub layout_at : List Terminal → Read LayoutWord
 layout_at (t.Name word ∷ ts) = with_rest (layout_of word) ts
 layout_at _ = None
@@ -215,11 +218,13 @@ unfoldable pub kind_at : List Terminal → Option KindWord × List Terminal
 kind_at (t.Name word ∷ ts) = kind_taken (kind_of word) (t.Name word ∷ ts) ts
 kind_at ts = (None, ts)
 
-abbrev pub defined : List ℕ → Option LayoutWord → Option KindWord × List Terminal → Read ColumnDefinition
-defined name layout kind = Some (record { name = name; layout = layout; kind = kind.0 }, kind.1)
+abbrev pub defined : List ℕ → TypeWord → Option LayoutWord → Option KindWord × List Terminal → Read ColumnDefinition
+defined name column_type layout kind = Some (record { name = name; column_type = column_type; layout = layout; kind = kind.0 }, kind.1)
 
 unfoldable pub column_at : List Terminal → Read ColumnDefinition
-column_at ts = name_at ts >>= λ name. after_type name.1 >>= λ us. using_at us >>= λ layout. defined name.0 layout.0 (kind_at layout.1)
+column_at ts =
+    name_at ts >>= λ name. type_at name.1 >>= λ word. using_at word.1 >>= λ layout.
+    defined name.0 word.0 layout.0 (kind_at layout.1)
 
 unfoldable pub columns_at : ℕ → List Terminal → Read (List ColumnDefinition)
 columns_at n ts = parts_at after_comma column_at n ts

@@ -1,25 +1,29 @@
 //! CREATE TABLE, out of terminals.
 
-ghost use Rattle.std.specs.Prelude.{◌≡◌, ◌<◌, ◌≤◌, ℕ, MatchResult, OnOk, length};
+ghost use Rattle.std.specs.Prelude.{◌≡◌, ◌<◌, ◌≤◌, ℕ, OnOk, length};
 ghost use Rattle.bw_sql.specs.Reading as reading;
 ghost use Rattle.bw_sql.specs.Reading.{Gives};
 ghost use Rattle.bw_sql.specs.Tree.{statement_of};
 
 use crate::keyword::Keyword;
 use crate::parser::Parser;
-use crate::tree::{ColumnDefinition, CreateTable, LayoutWord, Statement};
+use crate::tree::{ColumnDefinition, CreateTable, LayoutWord, Statement, TypeWord};
 use bw_lex::{SqlFault, Symbol};
 
 impl<'a> Parser<'a> {
-    // INTEGER | INT
-    fn column_type(&mut self) -> Result<(), SqlFault>
+    // INTEGER | INT | BIGINT
+    #[tactic(auto, unfolding(crate::specs::Reading::type_at))]
+    fn column_type(&mut self) -> Result<TypeWord, SqlFault>
         ensures shorter { OnOk result (length self.new.rest.now < length self.old.rest.now) }
-        ensures read { MatchResult result (λ _. reading.after_type self.old.rest.now ≡ Some self.new.rest.now) (λ fault. (fault ≡ SqlFault.Syntax) × (reading.after_type self.old.rest.now ≡ None)) }
+        ensures read { Gives (λ word. word) result self.new.rest.now (reading.type_at self.old.rest.now) }
     {
-        if self.eat_word(Keyword::Integer) {
-            Ok(())
+        if self.eat_word(Keyword::Bigint) {
+            Ok(TypeWord::BigInt)
+        } else if self.eat_word(Keyword::Integer) {
+            Ok(TypeWord::Integer)
         } else {
-            self.take_word(Keyword::Int)
+            self.take_word(Keyword::Int)?;
+            Ok(TypeWord::Integer)
         }
     }
 
@@ -36,17 +40,22 @@ impl<'a> Parser<'a> {
         }
     }
 
-    // coldef = name (INTEGER | INT) [USING layout] [kind]
+    // coldef = name (INTEGER | INT | BIGINT) [USING layout] [kind]
     #[tactic(auto, unfolding(crate::specs::Reading::column_at))]
     fn column(&mut self) -> Result<ColumnDefinition, SqlFault>
         ensures shorter { OnOk result (length self.new.rest.now < length self.old.rest.now) }
         ensures read { Gives (λ column. column) result self.new.rest.now (reading.column_at self.old.rest.now) }
     {
         let name = self.name()?;
-        self.column_type()?;
+        let column_type = self.column_type()?;
         let layout = self.using()?;
         let kind = self.kind();
-        Ok(ColumnDefinition { name, layout, kind })
+        Ok(ColumnDefinition {
+            name,
+            column_type,
+            layout,
+            kind,
+        })
     }
 
     // coldef {, coldef}

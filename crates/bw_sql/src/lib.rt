@@ -41,5 +41,5 @@ pub use statement_text::{
 pub use tree::{
     ColumnDefinition, Condition, CreateTable, Delete, FirstRecord, Insert, KindWord, LayoutChoice,
     LayoutWord, Load, Open, Operand, Rebuild, Save, Select, SelectItem, SelectItems, SetClause,
-    SetFunction, Statement, TruthWord, Update, Value,
+    SetFunction, Statement, TruthWord, TypeWord, Update, Value,
 };

@@ -35,12 +35,20 @@ pub struct CreateTable {
     pub columns: Vec<ColumnDefinition>,
 }
 
-/// `name INTEGER [USING layout] [kind]`.
+/// `name type [USING layout] [kind]`.
 #[derive(Debug, Drop)]
 pub struct ColumnDefinition {
     pub name: Name,
+    pub column_type: TypeWord,
     pub layout: Option<LayoutWord>,
     pub kind: Option<KindWord>,
+}
+
+/// Which integers a column takes, as it is spelled: INT is another spelling of INTEGER.
+#[derive(Clone, Copy, Debug, PartialEq, Eq)]
+pub enum TypeWord {
+    Integer,
+    BigInt,
 }
 
 /// How a column lies in memory, as it is spelled.
