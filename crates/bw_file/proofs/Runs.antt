@@ -1,34 +1,15 @@
 -- A column's bits and words, a run of cells at a time.
-use Rattle.std.proofs.Common.{List, Option, ap, arith, drop, get_or, inl, inr, length, min, subst, sym, take, take-append-drop, ℕ, ℤ, ◌%◌, ◌*◌, ◌+◌, ◌++◌, ◌-◌, ◌/◌, ◌<◌, ◌≡◌, ◌≤◌, ◌∙◌, ◌⊎◌}
-use Rattle.std.proofs.Math.Seq.{take-append-add}
+use Rattle.std.proofs.Common.{List, Option, ap, arith, drop, get_or, inl, inr, length, min, take, ℕ, ℤ, ◌%◌, ◌*◌, ◌+◌, ◌++◌, ◌-◌, ◌/◌, ◌<◌, ◌≡◌, ◌≤◌, ◌∙◌, ◌⊎◌}
 use Rattle.std.proofs.lemmas.Bool.{cases_lt}
-use Rattle.std.proofs.lemmas.Grind.{flat_map-append}
-use Rattle.std.proofs.lemmas.List.{drop-drop, drop-take, get_or-append-add, get_or-take, get_or_append_left, length-drop, length-take, take-append-le, take-take, take_all}
-use Rattle.std.specs.List.{flat_map}
-use Rattle.bw_file.specs.Cells.{cell_bytes, presence_byte, presence_bytes, presence_size}
-use Rattle.bw_file.proofs.Places.{byte-presence_bytes, length-presence_bytes, length-words}
+use Rattle.std.proofs.lemmas.List.{drop-drop, drop-take, get_or-append-add, get_or-take, get_or_append_left, length-drop, length-take, take-take, take_all}
+use Rattle.bw_file.specs.Cells.{presence_byte, presence_bytes, presence_size}
+use Rattle.bw_file.proofs.Places.{byte-presence_bytes, length-presence_bytes}
 use borrow.Rule.Slice.PartMut.{put_mid}
 
 -- as many are taken from what was taken
 pub taken_of : {X : Type 0} (n m : ℕ) (xs : List X) → (n ≤ m) ⊎ (length xs ≤ m) → take n (take m xs) ≡ take n xs
 taken_of n m xs (inl less) = take-take n m xs less
 taken_of n m xs (inr short) = ap (take n) (take_all m xs short)
-
--- a list up to the end of a run
-pub up_to : {X : Type 0} (start n : ℕ) (xs : List X) → start ≤ length xs → take (start + n) xs ≡ take start xs ++ take n (drop start xs)
-up_to start n xs h =
-    let front : length (take start xs) ≡ start = omega (arith, length-take start xs) in
-    ap (take (start + n)) (sym (take-append-drop start xs)) ∙ ap (λ k. take (k + n) (take start xs ++ drop start xs)) (sym front) ∙ take-append-add (take start xs) (drop start xs) n
-
--- the words of a run, put after those of what stands before it
-pub words_more : {X : Type 0} (word : X → List ℕ) (xs : List X) (out new post : List ℕ) (start n : ℕ) → start + n ≤ length xs → length out ≡ 4 * length xs → length new ≡ 4 * n
-    → take (4 * start) out ≡ flat_map word (take start xs) → new ≡ flat_map word (take n (drop start xs))
-    → take (4 * (start + n)) (take (4 * start) out ++ (new ++ post)) ≡ flat_map word (take (start + n) xs)
-words_more word xs out new post start n within long size so_far wrote =
-    let front = take (4 * start) out in
-    let end : 4 * (start + n) ≡ length front + length new = omega (arith, length-take (4 * start) out) in
-    ap (λ k. take k (front ++ (new ++ post))) end ∙ take-append-add front (new ++ post) (length new) ∙ ap (λ ys. front ++ ys) (take-append-le (length new) new post (omega arith) ∙ take_all (length new) new (omega arith))
-    ∙ ap (λ ys. ys ++ new) so_far ∙ ap (λ ys. flat_map word (take start xs) ++ ys) wrote ∙ sym (ap (flat_map word) (up_to start n xs (omega arith)) ∙ flat_map-append word (take start xs) (take n (drop start xs)))
 
 -- a byte of a run's bits is one of the column's, where the run ends with a whole byte or with the column
 pub run_byte : (cells : List (Option ℤ)) (start n j : ℕ) → j < presence_size n → (n % 8 ≡ 0) ⊎ (length cells ≤ start + n)
@@ -82,15 +63,3 @@ module _ (cells : List (Option ℤ)) (r rows end : ℕ) (count : length cells �
       by : (r * 64 + 64 < rows) ⊎ (rows ≤ r * 64 + 64) → (n % 8 ≡ 0) ⊎ (length cells ≤ r * 64 / 8 * 8 + n)
       by (inl before) = let full : n ≡ 64 = omega arith in inl (ap (λ m. m % 8) full)
       by (inr past) = inr (omega arith)
-
-  pub words_next : (words new : List ℕ) (k : ℕ) → length words ≡ 4 * rows → new ≡ flat_map cell_bytes run
-      → take (4 * min (r * 64) rows) words ≡ flat_map cell_bytes (take (min (r * 64) rows) cells)
-      → take (4 * min ((r + 1) * 64) rows) (put_mid (4 * (r * 64)) k words new) ≡ flat_map cell_bytes (take (min ((r + 1) * 64) rows) cells)
-  words_next words new k long wrote so_far =
-      let reached : min (r * 64) rows ≡ r * 64 = omega arith in
-      let next : r * 64 + n ≡ min ((r + 1) * 64) rows = omega arith in
-      let before : take (4 * (r * 64)) words ≡ flat_map cell_bytes (take (r * 64) cells) = subst (λ m. take (4 * m) words ≡ flat_map cell_bytes (take m cells)) reached so_far in
-      let size : length run ≡ n = omega (arith, length-take n (drop (r * 64) cells), length-drop (r * 64) cells) in
-      let all : length new ≡ 4 * n = ap length wrote ∙ length-words run ∙ ap (λ m. 4 * m) size in
-      subst (λ m. take (4 * m) (put_mid (4 * (r * 64)) k words new) ≡ flat_map cell_bytes (take m cells)) next
-      (words_more cell_bytes cells words new _ (r * 64) n (omega arith) (omega arith) all before wrote)

@@ -1,9 +1,7 @@
 -- Cells as numbers of four bytes.
-use Rattle.std.proofs.Common.{List, None, Option, Some, [], ap, arith, drop, drop-cons, get_or, length, refl, slice_index, suc, sym, take, ℕ, ℤ, ◌%◌, ◌*◌, ◌+◌, ◌++◌, ◌/◌, ◌<◌, ◌≡◌, ◌≤◌, ◌∙◌, ◌∷◌}
+use Rattle.std.proofs.Common.{List, None, Option, Some, [], ap, arith, drop, drop-cons, get_or, length, refl, slice_index, suc, sym, ℕ, ℤ, ◌%◌, ◌*◌, ◌+◌, ◌++◌, ◌/◌, ◌<◌, ◌≡◌, ◌∙◌, ◌∷◌}
 use Rattle.std.proofs.Math.Facts.{Fits-lt-pow, Fits-of_z}
-use Rattle.std.proofs.Math.Seq.{take-append-add}
-use Rattle.std.proofs.lemmas.Grind.{flat_map-append}
-use Rattle.std.proofs.lemmas.List.{append-nil, drop-drop, length-take, take_more}
+use Rattle.std.proofs.lemmas.List.{drop-drop}
 use Rattle.std.proofs.lemmas.List.Elements.{All-get_or}
 use Rattle.std.specs.Int.{cast_unsigned, w32}
 use Rattle.std.specs.List.{flat_map}
@@ -11,7 +9,6 @@ use Rattle.std.specs.Prelude.{All}
 use Rattle.byteorder.specs.Endian.{little_bytes, little_number}
 use Rattle.byteorder.specs.Numbers.{little_number-reads_back}
 use Rattle.bw_file.specs.Cells.{IsCell, cell_bytes, cell_number}
-use Rattle.bw_file.proofs.LowWords.{low_bytes}
 use Rattle.bw_file.proofs.Places.{drop-words}
 
 -- four bytes are those of their number
@@ -53,16 +50,3 @@ words-by_numbers (a ∷ b ∷ d ∷ e ∷ words) (c ∷ cells) small long each =
     let step : 4 * suc k ≡ 4 + 4 * k = omega arith in
     ap (little_number 4) (drop-drop (4 * k) 4 (a ∷ b ∷ d ∷ e ∷ words) ∙ ap (λ m. drop m (a ∷ b ∷ d ∷ e ∷ words)) (sym step)) ∙ each (suc k) (omega arith)) in
     ap (λ xs. xs ++ words) first ∙ ap (λ xs. cell_bytes c ++ xs) rest
-
--- one number more is written
-pub write_next : (numbers out new rest post : List ℕ) (i : ℕ) → i < length numbers → 4 * i ≤ length out → take (4 * i) out ≡ flat_map low_bytes (take i numbers)
-    → new ≡ low_bytes (get_or numbers i 0) ++ rest → take (4 * (i + 1)) (take (4 * i) out ++ (new ++ post)) ≡ flat_map low_bytes (take (i + 1) numbers)
-write_next numbers out new rest post i h room so_far wrote =
-    let front = take (4 * i) out in
-    let long : length front ≡ 4 * i = omega (arith, length-take (4 * i) out) in
-    let end : 4 * (i + 1) ≡ length front + 4 = omega arith in
-    let word = low_bytes (get_or numbers i 0) in
-    let next : flat_map low_bytes (take (i + 1) numbers) ≡ flat_map low_bytes (take i numbers) ++ low_bytes (get_or numbers i 0) =
-    ap (flat_map low_bytes) (take_more numbers i 0 h) ∙ flat_map-append low_bytes (take i numbers) (get_or numbers i 0 ∷ []) ∙ ap (λ xs. flat_map low_bytes (take i numbers) ++ xs) (append-nil (low_bytes (get_or numbers i 0))) in
-    ap (λ n. take n (front ++ (new ++ post))) end ∙ take-append-add front (new ++ post) 4 ∙ ap (λ xs. front ++ take 4 (xs ++ post)) wrote
-    ∙ ap (λ xs. xs ++ word) so_far ∙ sym next

@@ -1,33 +1,64 @@
--- The bytes of a table file of version 1: mark, version, counts, headers, columns, with nothing after them. Numbers are unsigned, the lowest byte first.
-use Rattle.std.specs.Prelude.{List, codes, length, ℕ, ◌*◌, ◌+◌, ◌++◌, ◌≡◌}
+-- The bytes of a table file: mark, version, counts, headers, columns, with nothing after them. Numbers are unsigned, the lowest byte first. There are two
+-- versions. The first has no types, and columns of cells; the second has columns of planes.
+use Rattle.std.specs.Prelude.{All, List, Option, codes, length, ℕ, ℤ, ⊤, ◌+◌, ◌++◌, ◌≡◌, ◌⊎◌}
 use Rattle.std.specs.List.{flat_map, sum_by}
 use Rattle.byteorder.specs.Endian.{little_bytes}
-use Rattle.bw_file.specs.Cells.{column_bytes, column_size}
-use Rattle.bw_file.specs.Headers.{header_bytes}
-use Rattle.bw_file.specs.Table.{Header, IsTable, Table}
+use Rattle.bw_cells.specs.Known.{known}
+use Rattle.bw_code.specs.declared.kind.ColumnType.TheVariants.{Integer}
+use Rattle.bw_file.specs.Cells as cells
+use Rattle.bw_file.specs.Headers.{header_bytes, header_size}
+use Rattle.bw_file.specs.Planes as planes
+use Rattle.bw_file.specs.Table.{IsTable, Table, Header}
+use Rattle.bw_file.specs.declared.version.Version.{Version}
+use Rattle.bw_file.specs.declared.version.Version.TheVariants.{First, Second}
 
 abbrev pub mark : List ℕ
 mark = codes "BITCOL"
 
-abbrev pub version_bytes : List ℕ
-version_bytes = little_bytes 2 1
+abbrev pub version_number : Version → ℕ
+version_number First = 1
+version_number Second = 2
 
 -- how many columns there are, and how many rows
 abbrev pub count_bytes : ℕ → ℕ → List ℕ
 count_bytes columns rows = little_bytes 2 columns ++ little_bytes 4 rows
 
 -- what stands before the headers
-abbrev pub front_bytes : ℕ → ℕ → List ℕ
-front_bytes columns rows = mark ++ version_bytes ++ count_bytes columns rows
+abbrev pub front_bytes : Version → ℕ → ℕ → List ℕ
+front_bytes version columns rows = mark ++ little_bytes 2 (version_number version) ++ count_bytes columns rows
 
-abbrev pub spelling : Table → List ℕ
-spelling t = front_bytes (length t.headers) t.rows ++ flat_map header_bytes t.headers ++ flat_map column_bytes t.columns
+abbrev pub column_bytes : Version → List (Option ℤ) → List ℕ
+column_bytes First list = cells.column_bytes list
+column_bytes Second list = planes.column_bytes list
+
+-- how many bytes a column has
+abbrev pub column_size : Version → List (Option ℤ) → ℕ
+column_size First list = cells.column_size (length list)
+column_size Second list = planes.column_size (planes.frame_of (known list)).width (length list)
+
+-- how many bytes a column of so many rows has at least: in version 2 those of one plane
+abbrev pub least_column_size : Version → ℕ → ℕ
+least_column_size First rows = cells.column_size rows
+least_column_size Second rows = planes.column_size 1 rows
+
+abbrev pub spelling : Version → Table → List ℕ
+spelling version t = front_bytes version (length t.headers) t.rows ++ flat_map (header_bytes version) t.headers ++ flat_map (column_bytes version) t.columns
+
+-- a type that the version has: the first has INTEGER alone
+abbrev pub HasType : Version → Header → Type 0
+HasType First header = header.column_type ≡ Integer
+HasType Second header = ⊤
+
+-- these bytes spell this table by this version
+pub record SpelledBy (version : Version) (bytes : List ℕ) (t : Table) : Type 0 where
+  pub table : IsTable t
+  pub types : All (HasType version) t.headers
+  pub bytes_are : bytes ≡ spelling version t
 
 -- these bytes spell this table
-pub record Spells (bytes : List ℕ) (t : Table) : Type 0 where
-  pub table : IsTable t
-  pub bytes_are : bytes ≡ spelling t
+abbrev pub Spells : List ℕ → Table → Type 0
+Spells bytes t = SpelledBy First bytes t ⊎ SpelledBy Second bytes t
 
--- how long the spelling is of a table of these headers and so many rows
-abbrev pub spelled_length : List Header → ℕ → ℕ
-spelled_length headers rows = 14 + sum_by (λ header. 3 + length header.name) headers + length headers * column_size rows
+-- how long the spelling of a table is
+abbrev pub spelled_length : Version → Table → ℕ
+spelled_length version t = 14 + sum_by (header_size version) t.headers + sum_by (column_size version) t.columns

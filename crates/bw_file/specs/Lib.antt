@@ -1,5 +1,7 @@
 pub mod Cells
 pub mod Format
 pub mod Headers
+pub mod Lent
+pub mod Planes
 pub mod Reading
 pub mod Table

@@ -1,72 +1,99 @@
 //! A column that lies in the bytes of a table file.
 
-ghost use Rattle.std.specs.Prelude.{All, IfSome, List, None, Option, length, ◌*◌, ◌++◌, ◌+◌, ◌≡◌, ◌≤◌, ℤ};
+ghost use Rattle.std.specs.Prelude.{All, IfSome, List, None, Option, length, ℕ, ℤ, ◌++◌, ◌≡◌, ◌≤◌};
+ghost use Rattle.bw_code.specs.Types.{IsNullOrOfType};
+ghost use Rattle.bw_code.specs.declared.kind.ColumnType.TheVariants.{Integer};
 ghost use Rattle.bw_code.specs.Headers.{row_limit};
-ghost use Rattle.bw_file.specs.Cells.{column_bytes, column_size, presence_size, IsCell};
+ghost use Rattle.bw_file.specs.Format.{column_bytes};
+ghost use Rattle.bw_file.specs.Planes.{IsWideCell};
+ghost use Rattle.bw_file.specs.declared.version.Version.TheVariants.{First};
 
-use crate::cells::read_cells;
-use crate::distances::{presence_of_rows, read_distances};
-use crate::ends::{Spelling, spelled_ends};
-use crate::presence::has_spare_bit;
-use bw_cells::{Cells, Measured, distances_in_run};
-use bw_code::Ends;
+use crate::plane_column::PlaneColumn;
+use crate::version::Version;
+use crate::word_column::WordColumn;
+use bw_cells::{Cells, Measured};
+use bw_code::{ColumnType, Ends};
 use std::marker::Model;
+
+/// A column by the version of its file.
+#[derive(Drop)]
+pub(crate) enum LentColumn<'a> {
+    Words(WordColumn<'a>),
+    Planes(PlaneColumn<'a>),
+}
 
 /// A column of a table file, lent from the file's bytes. A contract sees the list of its cells.
 #[derive(Drop)]
 pub struct FileColumn<'a> {
-    // A bit for each row.
-    present: &'a [u8],
-    // Four bytes for each row.
-    words: &'a [u8],
-    rows: usize,
-    // Of the cells that are integers.
-    ends: Option<Ends>,
+    column: LentColumn<'a>,
 }
 
 impl<'a> Model for FileColumn<'a> {
     ghost use Rattle.std.specs.Prelude.{List, Option, ℤ};
-    ghost use Rattle.bw_file.specs.Reading.{IsColumn, cells_in};
+    ghost use Rattle.bw_file.specs.Lent.{lent_cells};
 
     ghost Value = { List (Option ℤ) };
 
-    ghost view = { λ column. cells_in column.rows column.present.now column.words.now };
-
-    ghost invariant = { λ column. IsColumn column.rows column.present.now column.words.now column.ends };
+    ghost view = { λ file. lent_cells file.column };
 }
 
 impl<'a> FileColumn<'a> {
-    /// How many rows the column has. The cell of each is NULL or an INTEGER.
+    /// How many rows the column has. The cell of each is NULL or a BIGINT.
     pub fn rows(&self) -> usize
         ensures count { result ≡ length self.now }
         ensures few { length self.now ≤ row_limit }
-        ensures integers { All IsCell self.now }
+        ensures wide { All IsWideCell self.now }
     {
-        self.rows
+        match &self.column {
+            LentColumn::Words(column) => column.rows(),
+            LentColumn::Planes(column) => column.rows(),
+        }
     }
 
-    /// The column of so many rows whose bytes these are, if they are those of one.
-    pub(crate) fn in_bytes(bytes: &'a [u8], rows: usize) -> Option<FileColumn<'a>>
+    /// The column of so many rows and of this type that stands first, and the bytes behind it, if one stands there. In
+    /// version 1 the type is INTEGER.
+    pub(crate) fn first_in(
+        version: Version,
+        bytes: &'a [u8],
+        rows: usize,
+        column_type: ColumnType,
+    ) -> Option<(FileColumn<'a>, &'a [u8])>
         requires few { rows ≤ row_limit }
-        requires long { length bytes.now ≡ column_size rows }
-        ensures count { IfSome result (λ cells. length cells ≡ rows) }
-        ensures integers { IfSome result (λ cells. All IsCell cells) }
-        ensures spelled { IfSome result (λ cells. bytes.entry.now ≡ column_bytes cells) }
-        ensures none { result ≡ None → (cells : List (Option ℤ)) → length cells ≡ rows → All IsCell cells → bytes.entry.now ≡ column_bytes cells → ⊥ }
+        requires integer { version ≡ First → column_type ≡ Integer }
+        ensures count { IfSome result (λ f. length f.0 ≡ rows) }
+        ensures typed { IfSome result (λ f. All (IsNullOrOfType column_type) f.0) }
+        ensures spelled { IfSome result (λ f. bytes.entry.now ≡ column_bytes version f.0 ++ f.1.now) }
+        ensures none { result ≡ None → (cells : List (Option ℤ)) (tail : List ℕ) → length cells ≡ rows → All (IsNullOrOfType column_type) cells → bytes.entry.now ≡ column_bytes version cells ++ tail → ⊥ }
     {
-        let (present, words) = bytes.split_at(rows.div_ceil(8));
-        if has_spare_bit(present, rows) {
-            return None;
+        match version {
+            Version::First => {
+                let size = rows.div_ceil(8) + 4 * rows;
+                if bytes.len() < size {
+                    return None;
+                }
+                let (first, after) = bytes.split_at(size);
+                let Some(column) = WordColumn::in_bytes(first, rows) else {
+                    return None;
+                };
+                Some((
+                    FileColumn {
+                        column: LentColumn::Words(column),
+                    },
+                    after,
+                ))
+            }
+            Version::Second => {
+                let Some((column, after)) = PlaneColumn::first_in(bytes, rows, column_type) else {
+                    return None;
+                };
+                Some((
+                    FileColumn {
+                        column: LentColumn::Planes(column),
+                    },
+                    after,
+                ))
+            }
         }
-        let Spelling::Right(ends) = spelled_ends(present, words, rows) else {
-            return None;
-        };
-        Some(FileColumn {
-            present,
-            words,
-            rows,
-            ends,
-        })
     }
 }
 
@@ -74,24 +101,32 @@ impl<'a> Cells for FileColumn<'a> {
     ghost cells = { λ cells. cells };
 
     fn len(&self) -> usize {
-        self.rows
+        match &self.column {
+            LentColumn::Words(column) => column.len(),
+            LentColumn::Planes(column) => column.len(),
+        }
     }
 
     fn read(&self, at: usize, out: &mut [Option<i64>]) {
-        read_cells(self.present, self.words, at, out);
+        match &self.column {
+            LentColumn::Words(column) => column.read(at, out),
+            LentColumn::Planes(column) => column.read(at, out),
+        }
     }
 }
 
 impl<'a> Measured for FileColumn<'a> {
     fn ends(&self) -> Option<Ends> {
-        self.ends
+        match &self.column {
+            LentColumn::Words(column) => column.ends(),
+            LentColumn::Planes(column) => column.ends(),
+        }
     }
 
     fn distances(&self, at: usize, base: i64, out: &mut [u64]) -> u64 {
-        if at % 8 != 0 {
-            return distances_in_run(self, at, base, out);
+        match &self.column {
+            LentColumn::Words(column) => column.distances(at, base, out),
+            LentColumn::Planes(column) => column.distances(at, base, out),
         }
-        read_distances(self.present, self.words, at, base, out);
-        presence_of_rows(self.present, at, out.len())
     }
 }

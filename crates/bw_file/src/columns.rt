@@ -1,24 +1,86 @@
 //! The columns of a table file, one after another.
 
-ghost use Rattle.std.specs.Prelude.{All, IfOk, IfSome, List, None, OnOk, Option, length, map, ◌*◌, ◌++◌, ◌≡◌, ◌≤◌, ℤ};
-ghost use Rattle.std.specs.List.{flat_map};
-ghost use Rattle.bw_code.specs.Headers.{row_limit};
-ghost use Rattle.bw_file.specs.Cells.{column_bytes, column_size, IsCell};
+ghost use Rattle.std.specs.Prelude.{All, IfOk, IfSome, List, None, OnOk, Option, length, map, ◌*◌, ◌++◌, ◌≡◌, ◌≤◌, ℕ, ℤ};
+ghost use Rattle.std.specs.List.{flat_map, sum_by, AllZip};
+ghost use Rattle.bw_cells.specs.Known.{known};
+ghost use Rattle.bw_code.specs.Headers.{row_limit, column_limit};
+ghost use Rattle.bw_file.specs.Format.{column_bytes, column_size, HasType};
+ghost use Rattle.bw_file.specs.Planes.{column_size as plane_column_size, frame_of, IsWideCell};
+ghost use Rattle.bw_code.specs.Types.{IsTyped};
+ghost use Rattle.bw_file.specs.declared.version.Version.TheVariants.{Second};
 
 use crate::column::FileColumn;
-use crate::writing::write_column;
+use crate::planes::write_column;
+use crate::version::Version;
 use bw_cells::Measured;
+use bw_code::{Header, Offset};
+use bw_sql::Name;
 use std::alloc::{AllocError, Global};
 
-/// How many bytes a column of so many rows has.
-pub(crate) fn column_size(rows: usize) -> usize
-    requires { rows ≤ row_limit }
-    ensures { result ≡ column_size rows }
+/// A column of so many rows for each header, which stand first one after another, and the bytes behind them; `None` if no
+/// such columns stand there.
+pub(crate) fn columns_in<'a>(
+    alloc: Global,
+    version: Version,
+    bytes: &'a [u8],
+    headers: &[Header<Name>],
+    rows: usize,
+) -> Result<Option<(Vec<FileColumn<'a>>, &'a [u8])>, AllocError>
+    requires few { rows ≤ row_limit }
+    requires types { All (HasType version) headers.now }
+    ensures long { IfOk result (λ found. IfSome found (λ f. All (λ cells. length cells ≡ rows) f.0.items)) }
+    ensures typed { IfOk result (λ found. IfSome found (λ f. AllZip IsTyped headers.now f.0.items)) }
+    ensures spelled { IfOk result (λ found. IfSome found (λ f. bytes.entry.now ≡ flat_map (column_bytes version) f.0.items ++ f.1.now)) }
+    ensures none { IfOk result (λ found. found ≡ None → (columns : List (List (Option ℤ))) (tail : List ℕ) → All (λ cells. length cells ≡ rows) columns → AllZip IsTyped headers.now columns
+        → bytes.entry.now ≡ flat_map (column_bytes version) columns ++ tail → ⊥) }
 {
-    rows.div_ceil(8) + 4 * rows
+    let mut columns = Vec::with_capacity(alloc, headers.len())?;
+    let mut rest = bytes;
+    'columns: for i in 0..headers.len() {
+        let found = FileColumn::first_in(version, rest, rows, headers[i].column_type);
+        let Some((column, after)) = found else {
+            return Ok(None);
+        };
+        columns.push(column)?;
+        rest = after;
+    }
+    Ok(Some((columns, rest)))
 }
 
-/// Puts the bytes of columns of so many rows last.
+/// The base and the width of a column's codes in version 2.
+fn frame<C: Measured>(column: &C) -> Offset
+    ensures base { result.base ≡ (frame_of (known (C.cells column.now))).base }
+    ensures width { result.width ≡ (frame_of (known (C.cells column.now))).width }
+{
+    Offset::spanning(column.ends())
+}
+
+/// How many bytes planes of so many bits and of so many rows have, with what stands before them in a column.
+fn planes_size(width: u32, rows: usize) -> u64
+    requires narrow { width ≤ 64 }
+    requires few { rows ≤ row_limit }
+    ensures value { result ≡ plane_column_size width rows }
+    ensures short { result ≤ 136314889 }
+{
+    9 + (u64::from(width) + 1) * rows.div_ceil(8) as u64
+}
+
+/// How many bytes columns of so many rows have in version 2. Takes no memory.
+pub(crate) fn columns_size<C: Measured>(columns: &[C], rows: usize) -> u64
+    requires some { length columns.now ≤ column_limit }
+    requires few { rows ≤ row_limit }
+    requires long { All (λ cells. length cells ≡ rows) (map C.cells columns.now) }
+    ensures size { result ≡ sum_by (column_size Second) (map C.cells columns.now) }
+    ensures short { result ≤ 136314889 * length columns.now }
+{
+    let mut size = 0;
+    'columns: for i in 0..columns.len() {
+        size += planes_size(frame(&columns[i]).width, rows);
+    }
+    size
+}
+
+/// Puts the bytes of columns of so many rows last, by version 2.
 pub(crate) fn put_columns<C: Measured>(
     bytes: &mut Vec<u8>,
     rows: usize,
@@ -26,8 +88,8 @@ pub(crate) fn put_columns<C: Measured>(
 ) -> Result<(), AllocError>
     requires few { rows ≤ row_limit }
     requires long { All (λ cells. length cells ≡ rows) (map C.cells columns.now) }
-    requires integers { All (All IsCell) (map C.cells columns.now) }
-    ensures { OnOk result (bytes.new.items ≡ bytes.old.items ++ flat_map column_bytes (map C.cells columns.now)) }
+    requires wide { All (All IsWideCell) (map C.cells columns.now) }
+    ensures { OnOk result (bytes.new.items ≡ bytes.old.items ++ flat_map (column_bytes Second) (map C.cells columns.now)) }
 {
     'columns: for i in 0..columns.len() {
         put_column(bytes, rows, &columns[i])?;
@@ -35,45 +97,22 @@ pub(crate) fn put_columns<C: Measured>(
     Ok(())
 }
 
-/// Puts the bytes of a column of so many rows last.
+/// Puts the bytes of a column of so many rows last, by version 2.
 fn put_column<C: Measured>(bytes: &mut Vec<u8>, rows: usize, column: &C) -> Result<(), AllocError>
     requires few { rows ≤ row_limit }
     requires long { length (C.cells column.now) ≡ rows }
-    requires integers { All IsCell (C.cells column.now) }
-    ensures { OnOk result (bytes.new.items ≡ bytes.old.items ++ column_bytes (C.cells column.now)) }
+    requires wide { All IsWideCell (C.cells column.now) }
+    ensures { OnOk result (bytes.new.items ≡ bytes.old.items ++ column_bytes Second (C.cells column.now)) }
 {
+    let frame = frame(column);
     let start = bytes.len();
-    bytes.resize(start + column_size(rows), 0)?;
-    write_column(&mut bytes[start..], rows, column);
+    bytes.resize(start + planes_size(frame.width, rows) as usize, 0)?;
+    write_column(
+        &mut bytes[start..],
+        rows,
+        frame.base,
+        frame.width as usize,
+        column,
+    );
     Ok(())
-}
-
-/// So many columns of so many rows, if the bytes are theirs.
-pub(crate) fn columns_in<'a>(
-    alloc: Global,
-    bytes: &'a [u8],
-    count: usize,
-    rows: usize,
-) -> Result<Option<Vec<FileColumn<'a>>>, AllocError>
-    requires few { rows ≤ row_limit }
-    requires long { length bytes.now ≡ count * column_size rows }
-    ensures wide { IfOk result (λ found. IfSome found (λ columns. length columns.items ≡ count)) }
-    ensures long { IfOk result (λ found. IfSome found (λ columns. All (λ cells. length cells ≡ rows) columns.items)) }
-    ensures integers { IfOk result (λ found. IfSome found (λ columns. All (All IsCell) columns.items)) }
-    ensures spelled { IfOk result (λ found. IfSome found (λ columns. bytes.entry.now ≡ flat_map column_bytes columns.items)) }
-    ensures none { IfOk result (λ found. found ≡ None → (columns : List (List (Option ℤ))) → length columns ≡ count → All (λ cells. length cells ≡ rows) columns → All (All IsCell) columns
-        → bytes.entry.now ≡ flat_map column_bytes columns → ⊥) }
-{
-    let size = column_size(rows);
-    let mut columns = Vec::with_capacity(alloc, count)?;
-    let mut rest = bytes;
-    'columns: for i in 0..count {
-        let (first, after) = rest.split_at(size);
-        let Some(column) = FileColumn::in_bytes(first, rows) else {
-            return Ok(None);
-        };
-        columns.push(column)?;
-        rest = after;
-    }
-    Ok(Some(columns))
 }

@@ -7,22 +7,28 @@ ghost use Rattle.bw_code.specs.Headers.{column_limit};
 ghost use Rattle.bw_sql.specs.Names.{are_distinct, IsName};
 ghost use Rattle.bw_code.specs.declared.kind.Kind.{Kind};
 ghost use Rattle.bw_code.specs.declared.kind.Layout.{Layout};
-ghost use Rattle.bw_file.specs.Headers.{header_bytes, kind_number, layout_number};
+ghost use Rattle.bw_code.specs.declared.kind.ColumnType.{ColumnType};
+ghost use Rattle.bw_file.specs.Format.{HasType};
+ghost use Rattle.bw_file.specs.Headers.{header_bytes, header_size, kind_number, layout_number, type_bytes, type_number};
+ghost use Rattle.bw_code.specs.Types.{holds_its_type};
 ghost use Rattle.bw_file.specs.Table.{Header as AnyHeader};
+ghost use Rattle.bw_code.specs.declared.kind.ColumnType.TheVariants.{Integer};
+ghost use Rattle.bw_file.specs.declared.version.Version.TheVariants.{First, Second};
 
-use bw_code::{Header, Kind, Layout};
+use crate::version::Version;
+use bw_code::{ColumnType, Header, Kind, Layout};
 use bw_sql::{Name, is_name};
 use std::alloc::{AllocError, Global};
 
-/// How many bytes the headers have.
+/// How many bytes the headers have in version 2.
 pub(crate) fn headers_size(headers: &[Header<Name>]) -> u64
     requires { length headers.now ≤ column_limit }
-    ensures size { result ≡ sum_by (λ header. 3 + length header.name) headers.now }
-    ensures bound { result ≤ 131 * length headers.now }
+    ensures size { result ≡ sum_by (header_size Second) headers.now }
+    ensures bound { result ≤ 132 * length headers.now }
 {
     let mut size = 0;
     'headers: for i in 0..headers.len() {
-        size += 3 + name_length(&headers[i].name);
+        size += 4 + name_length(&headers[i].name);
     }
     size
 }
@@ -36,9 +42,9 @@ fn name_length(name: &Name) -> u64
     name.as_bytes().len() as u64
 }
 
-/// Puts the bytes of headers last.
+/// Puts the bytes of headers last, by version 2.
 pub(crate) fn put_headers(bytes: &mut Vec<u8>, headers: &[Header<Name>]) -> Result<(), AllocError>
-    ensures { OnOk result (bytes.new.items ≡ bytes.old.items ++ flat_map header_bytes headers.now) }
+    ensures { OnOk result (bytes.new.items ≡ bytes.old.items ++ flat_map (header_bytes Second) headers.now) }
 {
     'headers: for i in 0..headers.len() {
         put_header(bytes, &headers[i])?;
@@ -46,15 +52,25 @@ pub(crate) fn put_headers(bytes: &mut Vec<u8>, headers: &[Header<Name>]) -> Resu
     Ok(())
 }
 
-/// Puts the bytes of a header last.
+/// Puts the bytes of a header last, by version 2.
 fn put_header(bytes: &mut Vec<u8>, header: &Header<Name>) -> Result<(), AllocError>
-    ensures { OnOk result (bytes.new.items ≡ bytes.old.items ++ header_bytes header.now) }
+    ensures { OnOk result (bytes.new.items ≡ bytes.old.items ++ header_bytes Second header.now) }
 {
     bytes.push(name_length(&header.name) as u8)?;
     bytes.extend_from_slice(header.name.as_bytes())?;
+    bytes.push(type_number(header.column_type))?;
     bytes.push(layout_number(header.layout))?;
     bytes.push(kind_number(header.kind))?;
     Ok(())
+}
+
+fn type_number(column_type: ColumnType) -> u8
+    ensures { result ≡ type_number column_type }
+{
+    match column_type {
+        ColumnType::Integer => 0,
+        ColumnType::BigInt => 1,
+    }
 }
 
 fn layout_number(layout: Layout) -> u8
@@ -74,6 +90,18 @@ fn kind_number(kind: Kind) -> u8
     match kind {
         Kind::Offset => 0,
         Kind::Dictionary => 1,
+    }
+}
+
+/// The type of this number.
+fn type_of(number: u8) -> Option<ColumnType>
+    ensures found { IfSome result (λ column_type. number ≡ type_number column_type) }
+    ensures none { result ≡ None → (column_type : ColumnType) → number ≡ type_number column_type → ⊥ }
+{
+    match number {
+        0 => Some(ColumnType::Integer),
+        1 => Some(ColumnType::BigInt),
+        _ => None,
     }
 }
 
@@ -103,20 +131,24 @@ fn kind_of(number: u8) -> Option<Kind>
     }
 }
 
-/// So many headers that stand first, and the bytes after them; `None` if no headers stand there.
+/// So many headers of this version that stand first, and the bytes after them; `None` if no headers stand there.
 pub(crate) fn read_headers<'a>(
     alloc: Global,
+    version: Version,
     bytes: &'a [u8],
     count: usize,
 ) -> Result<Option<(Vec<Header<Name>>, &'a [u8])>, AllocError>
-    ensures headers { IfOk result (λ found. IfSome found (λ f. (length f.0.items ≡ count) × (bytes.entry.now ≡ flat_map header_bytes f.0.items ++ f.1.now))) }
+    ensures count { IfOk result (λ found. IfSome found (λ f. length f.0.items ≡ count)) }
+    ensures types { IfOk result (λ found. IfSome found (λ f. All (HasType version) f.0.items)) }
+    ensures held { IfOk result (λ found. IfSome found (λ f. All (λ header. IsTrue (holds_its_type header)) f.0.items)) }
+    ensures bytes { IfOk result (λ found. IfSome found (λ f. bytes.entry.now ≡ flat_map (header_bytes version) f.0.items ++ f.1.now)) }
     ensures none { IfOk result (λ found. found ≡ None → (headers : List AnyHeader) (tail : List ℕ) → length headers ≡ count → All (λ header. IsName header.name) headers
-        → bytes.entry.now ≡ flat_map header_bytes headers ++ tail → ⊥) }
+        → All (HasType version) headers → All (λ header. IsTrue (holds_its_type header)) headers → bytes.entry.now ≡ flat_map (header_bytes version) headers ++ tail → ⊥) }
 {
     let mut headers = Vec::with_capacity(alloc, count)?;
     let mut rest = bytes;
     'headers: for i in 0..count {
-        let found = read_header(alloc, rest)?;
+        let found = read_header(alloc, version, rest)?;
         let Some((header, after)) = found else {
             return Ok(None);
         };
@@ -126,13 +158,16 @@ pub(crate) fn read_headers<'a>(
     Ok(Some((headers, rest)))
 }
 
-/// The header that stands first, and the bytes after it; `None` if none stands there.
+/// The header of this version that stands first, and the bytes after it; `None` if none stands there.
 fn read_header<'a>(
     alloc: Global,
+    version: Version,
     bytes: &'a [u8],
 ) -> Result<Option<(Header<Name>, &'a [u8])>, AllocError>
-    ensures header { IfOk result (λ found. IfSome found (λ f. bytes.entry.now ≡ header_bytes f.0 ++ f.1.now)) }
-    ensures none { IfOk result (λ found. found ≡ None → (header : AnyHeader) (tail : List ℕ) → IsName header.name → bytes.entry.now ≡ header_bytes header ++ tail → ⊥) }
+    ensures kept { IfOk result (λ found. IfSome found (λ f. HasType version f.0 × IsTrue (holds_its_type f.0))) }
+    ensures header { IfOk result (λ found. IfSome found (λ f. bytes.entry.now ≡ header_bytes version f.0 ++ f.1.now)) }
+    ensures none { IfOk result (λ found. found ≡ None → (header : AnyHeader) (tail : List ℕ) → IsName header.name → HasType version header → IsTrue (holds_its_type header)
+        → bytes.entry.now ≡ header_bytes version header ++ tail → ⊥) }
 {
     let [size, rest @ ..] = bytes else {
         return Ok(None);
@@ -142,6 +177,9 @@ fn read_header<'a>(
         return Ok(None);
     }
     let (name, numbers) = rest.split_at(size);
+    let Some((column_type, numbers)) = read_type(version, numbers) else {
+        return Ok(None);
+    };
     let [layout, kind, after @ ..] = numbers else {
         return Ok(None);
     };
@@ -151,11 +189,37 @@ fn read_header<'a>(
     let Some(kind) = kind_of(*kind) else {
         return Ok(None);
     };
+    if !layout.holds(column_type) {
+        return Ok(None);
+    }
     if !is_name(name) {
         return Ok(None);
     }
     let name = Name::from_bytes(alloc, name)?;
-    Ok(Some((Header { name, layout, kind }, after)))
+    let header = Header {
+        name,
+        column_type,
+        layout,
+        kind,
+    };
+    Ok(Some((header, after)))
+}
+
+/// The type that stands first, and the bytes after it; `None` if none stands there. Version 1 has no byte for it.
+fn read_type<'a>(version: Version, bytes: &'a [u8]) -> Option<(ColumnType, &'a [u8])>
+    ensures first { version ≡ First → IfSome result (λ f. f.0 ≡ Integer) }
+    ensures bytes { IfSome result (λ f. bytes.entry.now ≡ type_bytes version f.0 ++ f.1.now) }
+    ensures none { result ≡ None → (column_type : ColumnType) (tail : List ℕ) → bytes.entry.now ≡ type_bytes version column_type ++ tail → ⊥ }
+{
+    match version {
+        Version::First => Some((ColumnType::Integer, bytes)),
+        Version::Second => {
+            let [number, rest @ ..] = bytes else {
+                return None;
+            };
+            Some((type_of(*number)?, rest))
+        }
+    }
 }
 
 /// Whether two headers have one name.

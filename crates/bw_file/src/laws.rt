@@ -1,16 +1,40 @@
 //! Laws of the format.
 
-ghost use Rattle.std.specs.Prelude.{List, length, ℕ, ◌≡◌};
-ghost use Rattle.bw_file.specs.Format.{Spells, spelled_length};
+ghost use Rattle.std.specs.Prelude.{All, List, Option, length, slice_index, ℕ, ℤ, ◌<◌, ◌≡◌};
+ghost use Rattle.bw_cells.specs.Known.{known};
+ghost use Rattle.bw_code.specs.Encodings.{IsOffsetFit};
+ghost use Rattle.bw_code.specs.declared.offset.Offset.{Offset};
+ghost use Rattle.bw_file.specs.Cells.{presence_bytes, presence_size};
+ghost use Rattle.bw_file.specs.Format.{spelled_length, SpelledBy, Spells};
+ghost use Rattle.bw_file.specs.Planes.{cells_in, frame_of, plane_bytes, ArePlanes, IsWideCell};
 ghost use Rattle.bw_file.specs.Table.{Table};
+ghost use Rattle.bw_file.specs.declared.version.Version.{Version};
 
-/// A table has one spelling, and bytes spell one table at most.
+/// A table has one spelling by a version, and bytes spell one table at most.
 pub fn one_spelling()
-    ensures bytes { (a b : List ℕ) (t : Table) → Spells a t → Spells b t → a ≡ b }
+    ensures bytes { (version : Version) (a b : List ℕ) (t : Table) → SpelledBy version a t → SpelledBy version b t → a ≡ b }
     ensures tables { (bytes : List ℕ) (t u : Table) → Spells bytes t → Spells bytes u → t ≡ u }
 {}
 
-/// How long a spelling is, is told by the headers and the number of rows.
+/// How long a spelling is.
 pub fn spelling_by_length()
-    ensures { (bytes : List ℕ) (t : Table) → Spells bytes t → length bytes ≡ spelled_length t.headers t.rows }
+    ensures { (version : Version) (bytes : List ℕ) (t : Table) → SpelledBy version bytes t → length bytes ≡ spelled_length version t }
+{}
+
+/// The base and the width of a column of planes are those of the offset that fits its values.
+pub fn frames_fit()
+    ensures { (values : List ℤ) (o : Offset) → IsOffsetFit values o → (o.base ≡ (frame_of values).base) × (o.width ≡ (frame_of values).width) }
+{}
+
+/// Bits and planes in which no bit is set but at a cell are those of the cells which are read there.
+pub fn planes_spelled()
+    ensures { (rows k : ℕ) (base : ℤ) (present planes : List ℕ) → ArePlanes rows k present planes → ((j : ℕ) → slice_index present j < 256) → ((j : ℕ) → slice_index planes j < 256)
+        → (present ≡ presence_bytes (presence_size rows) (cells_in rows base k present planes)) × (planes ≡ plane_bytes base k (presence_size rows) (cells_in rows base k present planes)) }
+{}
+
+/// In the bits and planes of a column no bit is set but at a cell, and its cells are read there.
+pub fn columns_are_planes()
+    ensures { (cells : List (Option ℤ)) → All IsWideCell cells
+        → ArePlanes (length cells) (frame_of (known cells)).width (presence_bytes (presence_size (length cells)) cells) (plane_bytes (frame_of (known cells)).base (frame_of (known cells)).width (presence_size (length cells)) cells)
+        × (cells_in (length cells) (frame_of (known cells)).base (frame_of (known cells)).width (presence_bytes (presence_size (length cells)) cells) (plane_bytes (frame_of (known cells)).base (frame_of (known cells)).width (presence_size (length cells)) cells) ≡ cells) }
 {}

@@ -1,9 +1,11 @@
-//! A table as the bytes of a table file, and back. The specs give the format; a table has one spelling, and
-//! bytes spell one table at most. A table that is read is lent from the file's bytes, and one that is written is
-//! read in runs of cells: neither makes a second copy of the cells.
+//! A table as the bytes of a table file, and back. The specs give the format; a table has one spelling by each of the two
+//! versions, and bytes spell one table at most. A table that is read is lent from the file's bytes, and one that is written
+//! is read in runs of cells: neither makes a second copy of the cells.
 #![tactic(auto)]
 
 mod cells;
+mod code_ends;
+mod codes;
 mod column;
 mod columns;
 mod decoding;
@@ -14,13 +16,20 @@ mod fault;
 mod front;
 mod headers;
 mod laws;
+mod plane_bits;
+mod plane_column;
+mod plane_parts;
+mod planes;
 mod presence;
+mod stray;
 mod table;
-mod writing;
+mod version;
+mod word_column;
 
 pub use column::FileColumn;
 pub use decoding::decode;
 pub use encoding::{encode, file_length};
 pub use fault::FileFault;
-pub use laws::{one_spelling, spelling_by_length};
+pub use laws::{columns_are_planes, frames_fit, one_spelling, planes_spelled, spelling_by_length};
 pub use table::TableFile;
+pub use version::Version;

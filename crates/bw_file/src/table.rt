@@ -1,8 +1,9 @@
 //! A table that lies in the bytes of a table file.
 
 ghost use Rattle.std.specs.Prelude.{All, length, ◌≡◌, ◌≤◌};
+ghost use Rattle.std.specs.List.{AllZip};
 ghost use Rattle.bw_code.specs.Headers.{row_limit};
-ghost use Rattle.bw_file.specs.Cells.{IsCell};
+ghost use Rattle.bw_code.specs.Types.{IsTyped};
 ghost use Rattle.bw_file.specs.Table.{AreHeaders, IsTable};
 
 use crate::column::FileColumn;
@@ -39,10 +40,10 @@ impl<'a> TableFile<'a> {
     ) -> TableFile<'a>
         requires headers { AreHeaders headers.items }
         requires few { rows ≤ row_limit }
-        requires wide { length columns.items ≡ length headers.items }
         requires long { All (λ cells. length cells ≡ rows) columns.items }
-        requires integers { All (All IsCell) columns.items }
-        ensures { result ≡ record { headers = headers.items; rows = rows; columns = columns.entry.items } }
+        requires typed { AllZip IsTyped headers.items columns.items }
+        ensures value { result ≡ record { headers = headers.items; rows = rows; columns = columns.entry.items } }
+        ensures table { IsTable result }
     {
         have_names(&headers);
         TableFile {

@@ -3,4 +3,4 @@ use Rattle.bw_file.proofs.Fronts.{length-spelling}
 use Rattle.bw_file.proofs.laws.spelling_by_length.Goals as goal
 
 pub returns : goal.returns
-returns c bytes t s = ap length s.bytes_are ∙ length-spelling t s.table
+returns c version bytes t s = ap length s.bytes_are ∙ length-spelling version t

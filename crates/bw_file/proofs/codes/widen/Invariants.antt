@@ -1,0 +1,8 @@
+use Rattle.std.proofs.Common.{get_or, length, ℕ, ◌<◌, ◌≡◌}
+use Rattle.bw_file.proofs.codes.widen.Given as goal
+
+abbrev pub invariant-loop-r : goal.invariant-loop-r
+invariant-loop-r l = record {
+  len : length l.out ≡ length l.fn.out;
+  same : (r : ℕ) → r < l.r → get_or l.out r 0 ≡ get_or l.numbers r 0;
+}

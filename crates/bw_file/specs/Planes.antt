@@ -1,0 +1,112 @@
+-- A column of a table file as bytes, version 2: a bit for each row, which says whether its cell is not null; the base, 8 bytes in two's complement; the
+-- width; and as many planes of bits, that of the highest bit first, each laid out as the bits of the rows. Numbers stand lowest byte first.
+use Rattle.std.specs.Prelude.{All, Bool, FitsSigned, List, None, Option, Some, [], drop, fold, if◌then◌else◌, length, map, pos, slice_index, suc, take, true, zero, ℕ, ℤ, ⊤, ◌%◌, ◌*◌, ◌+ℤ◌, ◌+◌, ◌++◌, ◌-◌, ◌/◌, ◌<◌, ◌==◌, ◌^◌, ◌≡◌, ◌≤ℤ◌, ◌≤◌, ◌∷◌}
+use Rattle.std.specs.Int.{bit_at, cast_unsigned, int_max, int_min, w64}
+use Rattle.std.specs.List.{range_with_len}
+use Rattle.std.specs.Simd.Lanes.{mask_l}
+use Rattle.byteorder.specs.Endian.{little_bytes}
+use Rattle.bw_cells.specs.Known.{known}
+use Rattle.bw_mask.specs.Masks.{rows_of}
+use Rattle.bw_code.specs.Encodings.{bits_of, distance}
+use Rattle.bw_code.specs.Fittings.{AreEnds}
+use Rattle.bw_code.specs.declared.ends.Ends.{Ends}
+use Rattle.bw_code.specs.Headers.{row_limit}
+use Rattle.bw_file.specs.Cells.{presence_bytes, presence_size}
+use Rattle.bw_file.specs.declared.code_ends.CodeEnds.{CodeEnds}
+use Rattle.bw_file.specs.Reading.{HasNoSpareBit}
+
+-- NULL or a BIGINT
+abbrev pub IsWideCell : Option ℤ → Type 0
+IsWideCell None = ⊤
+IsWideCell (Some z) = FitsSigned w64 z
+
+-- bit b of how far a cell lies above a base; 0 at a null
+abbrev pub bit_in : ℤ → ℕ → Option ℤ → ℕ
+bit_in base b None = 0
+bit_in base b (Some z) = bit_at (distance z base) b
+
+-- a byte of which bit i is that of cell i; spare bits are 0
+abbrev pub bit_byte : (Option ℤ → ℕ) → List (Option ℤ) → ℕ
+bit_byte bit [] = 0
+bit_byte bit (cell ∷ cells) = bit cell + 2 * bit_byte bit cells
+
+-- so many bytes, each for the next eight cells
+abbrev pub bit_bytes : (Option ℤ → ℕ) → ℕ → List (Option ℤ) → List ℕ
+bit_bytes bit zero cells = []
+bit_bytes bit (suc n) cells = bit_byte bit (take 8 cells) ∷ bit_bytes bit n (drop 8 cells)
+
+-- the planes of k bits, each of so many bytes
+abbrev pub plane_bytes : ℤ → ℕ → ℕ → List (Option ℤ) → List ℕ
+plane_bytes base zero size cells = []
+plane_bytes base (suc b) size cells = bit_bytes (bit_in base b) size cells ++ plane_bytes base b size cells
+
+-- what codes are counted from, and how many bits they have
+pub record Frame : Type 0 where
+  pub base : ℤ
+  pub width : ℕ
+
+-- the least of some integers and the bits of how far the greatest lies above it; of none 0 and 1
+abbrev pub frame_of : List ℤ → Frame
+frame_of [] = record { base = pos 0; width = 1 }
+frame_of (x ∷ xs) = record { base = fold int_min x xs; width = bits_of (distance (fold int_max x xs) (fold int_min x xs)) }
+
+abbrev pub framed_bytes : Frame → List (Option ℤ) → List ℕ
+framed_bytes frame cells =
+    presence_bytes (presence_size (length cells)) cells
+    ++ (little_bytes 8 (cast_unsigned w64 frame.base) ++ (frame.width ∷ plane_bytes frame.base frame.width (presence_size (length cells)) cells))
+
+abbrev pub column_bytes : List (Option ℤ) → List ℕ
+column_bytes cells = framed_bytes (frame_of (known cells)) cells
+
+-- how many bytes a column of so many bits and rows has
+abbrev pub column_size : ℕ → ℕ → ℕ
+column_size width rows = 9 + (width + 1) * presence_size rows
+
+-- bit i of plane p, of planes of so many bytes
+abbrev pub plane_bit : ℕ → List ℕ → ℕ → ℕ → ℕ
+plane_bit size planes p i = bit_at (slice_index planes (p * size + i / 8)) (i % 8)
+
+-- the code of row i: its bit b is in plane k - 1 - b
+abbrev pub code_in : ℕ → ℕ → List ℕ → ℕ → ℕ
+code_in k size planes i = mask_l (rows_of k (λ b. plane_bit size planes (k - 1 - b) i == 1))
+
+abbrev pub read_cell : ℤ → ℕ → ℕ → List ℕ → List ℕ → ℕ → Option ℤ
+read_cell base k size present planes i = if bit_at (slice_index present (i / 8)) (i % 8) == 1 then Some (base +ℤ pos (code_in k size planes i)) else None
+
+-- the cells of the first rows
+abbrev pub cells_in : ℕ → ℤ → ℕ → List ℕ → List ℕ → List (Option ℤ)
+cells_in rows base k present planes = map (read_cell base k (presence_size rows) present planes) (range_with_len 0 rows)
+
+-- no bit of a plane is set where that of a cell is not
+abbrev pub HasNoStrayBit : ℕ → ℕ → List ℕ → List ℕ → Type 0
+HasNoStrayBit k size present planes = (p i : ℕ) → p < k → i / 8 < size → bit_at (slice_index present (i / 8)) (i % 8) ≡ 0 → plane_bit size planes p i ≡ 0
+
+-- bits of so many rows, and planes in which none is set but where a cell is not null
+pub record ArePlanes (rows k : ℕ) (present planes : List ℕ) : Type 0 where
+  pub bits : length present ≡ presence_size rows
+  pub long : length planes ≡ k * presence_size rows
+  pub spare : HasNoSpareBit rows present
+  pub inside : HasNoStrayBit k (presence_size rows) present planes
+
+-- NULL, or a BIGINT so near above a base that its code has k bits
+abbrev pub IsNear : ℤ → ℕ → Option ℤ → Type 0
+IsNear base k None = ⊤
+IsNear base k (Some z) = FitsSigned w64 z × (base ≤ℤ z) × (distance z base < 2 ^ k)
+
+-- whether row i is not null
+abbrev pub has_in : List ℕ → ℕ → Bool
+has_in present i = bit_at (slice_index present (i / 8)) (i % 8) == 1
+
+-- of the codes of those of the first n rows that have one: whether there is any, the least and the greatest
+pub record AreCodeEnds (has : ℕ → Bool) (code : ℕ → ℕ) (n : ℕ) (ends : CodeEnds) : Type 0 where
+  pub bounds : (i : ℕ) → i < n → has i ≡ true → (ends.any ≡ true) × (ends.least ≤ code i) × (code i ≤ ends.greatest)
+  pub least : ends.any ≡ true → (i : ℕ) × (i < n) × (has i ≡ true) × (code i ≡ ends.least)
+  pub greatest : ends.any ≡ true → (i : ℕ) × (i < n) × (has i ≡ true) × (code i ≡ ends.greatest)
+
+-- bits and planes of so many rows, whose cells are read from the base on, and the ends of these
+pub record IsPlaneColumn (rows : ℕ) (base : ℤ) (k : ℕ) (present planes : List ℕ) (ends : Option Ends) : Type 0 where
+  pub few : rows ≤ row_limit
+  pub narrow : k ≤ 64
+  pub are : ArePlanes rows k present planes
+  pub wide : All IsWideCell (cells_in rows base k present planes)
+  pub measured : AreEnds (known (cells_in rows base k present planes)) ends

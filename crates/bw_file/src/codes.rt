@@ -1,0 +1,72 @@
+//! The codes of a column off its planes, 64 at a time.
+
+ghost use Rattle.std.specs.Prelude.{length, nat_lt, slice_index, ℕ, ◌%◌, ◌&&◌, ◌*◌, ◌+◌, ◌-◌, ◌<◌, ◌==◌, ◌^◌, ◌≡◌, ◌≤◌};
+ghost use Rattle.bw_mask.specs.Masks.{bit_of};
+ghost use Rattle.bw_file.specs.Planes.{code_in, plane_bit};
+
+use crate::plane_bits::bits_of_rows;
+use bw_vertical::codes_of_words;
+
+/// Word b has bit b of the codes of so many rows from row `at` on, which is the first whose bit lies in its byte.
+fn words_at(planes: &[u8], size: usize, k: usize, at: usize, count: usize) -> [u64; 64]
+    requires narrow { k ≤ 64 }
+    requires few { count ≤ 64 }
+    requires first { at % 8 ≡ 0 }
+    requires short { size ≤ 2 ^ 24 }
+    requires inside { at + count ≤ 8 * size }
+    requires planes { length planes.now ≡ k * size }
+    ensures bits { (b r : ℕ) → b < k → bit_of (slice_index result b) r ≡ ((plane_bit size planes.now (k - 1 - b) (at + r) == 1) && nat_lt r count) }
+    ensures rest { (b : ℕ) → k ≤ b → slice_index result b ≡ 0 }
+{
+    let mut words = [0; 64];
+    for i in 0..k {
+        words[k - 1 - i] = bits_of_rows(planes, 8 * (i * size) + at, count);
+    }
+    words
+}
+
+/// Fills `out` with the first of the numbers.
+fn widen(numbers: &[u32; 64], out: &mut [u64])
+    requires few { length out.old ≤ 64 }
+    ensures len { length out.new ≡ length out.old }
+    ensures same { (r : ℕ) → r < length out.old → slice_index out.new r ≡ slice_index numbers.now r }
+{
+    for r in 0..out.len() {
+        out[r] = u64::from(numbers[r]);
+    }
+}
+
+/// Fills `out` with the first of the numbers of 64 bits that have these halves.
+fn join(low: &[u32; 64], high: &[u32; 64], out: &mut [u64])
+    requires few { length out.old ≤ 64 }
+    ensures len { length out.new ≡ length out.old }
+    ensures same { (r : ℕ) → r < length out.old → slice_index out.new r ≡ slice_index low.now r + 2 ^ 32 * slice_index high.now r }
+{
+    for r in 0..out.len() {
+        out[r] = u64::from(low[r]) + 0x1_0000_0000 * u64::from(high[r]);
+    }
+}
+
+/// Fills `out` with the codes of k bits of at most 64 rows from row `at` on, which is the first whose bit lies in its byte. The planes have so
+/// many bytes each.
+pub(crate) fn read_codes(planes: &[u8], size: usize, k: usize, at: usize, out: &mut [u64])
+    requires narrow { k ≤ 64 }
+    requires few { length out.old ≤ 64 }
+    requires first { at % 8 ≡ 0 }
+    requires short { size ≤ 2 ^ 24 }
+    requires inside { at + length out.old ≤ 8 * size }
+    requires planes { length planes.now ≡ k * size }
+    ensures len { length out.new ≡ length out.old }
+    ensures codes { (r : ℕ) → r < length out.old → slice_index out.new r ≡ code_in k size planes.now (at + r) }
+{
+    let words = words_at(planes, size, k, at, out.len());
+    if k <= 32 {
+        widen(&codes_of_words(&words, k), out);
+    } else {
+        join(
+            &codes_of_words(&words, 32),
+            &codes_of_words(&words[32..], k - 32),
+            out,
+        );
+    }
+}

@@ -1,0 +1,46 @@
+//! Bits of rows as a word (as bw_file has them in its distances.rt).
+
+ghost use Rattle.std.specs.Prelude.{length, nat_lt, slice_index, ℕ, ◌%◌, ◌&&◌, ◌*◌, ◌+◌, ◌/◌, ◌<◌, ◌^◌, ◌≡◌, ◌≤◌};
+ghost use Rattle.bw_mask.specs.Masks.{bit_of};
+
+use byteorder::{ByteOrder, LittleEndian};
+
+/// The bits from bit `at` on, of which that is the first in its byte. No bit is set past so many.
+pub(crate) fn bits_of_rows(bytes: &[u8], at: usize, count: usize) -> u64
+    requires few { count ≤ 64 }
+    requires first { at % 8 ≡ 0 }
+    requires there { at + count ≤ 8 * length bytes.now }
+    requires short { at < 2 ^ 60 }
+    ensures { (k : ℕ) → bit_of result k ≡ (bit_of (slice_index bytes.now ((at + k) / 8)) ((at + k) % 8) && nat_lt k count) }
+{
+    bits_of_bytes(&bytes[at / 8..]) & low_bits(count)
+}
+
+/// The bits of the first eight bytes, or of as many as there are, those of the first byte lowest.
+fn bits_of_bytes(bytes: &[u8]) -> u64
+    ensures { (k : ℕ) → k < 64 → k / 8 < length bytes.now → bit_of result k ≡ bit_of (slice_index bytes.now (k / 8)) (k % 8) }
+{
+    if bytes.len() >= 8 {
+        return LittleEndian::read_u64(bytes);
+    }
+    let mut eight = [0; 8];
+    eight[..bytes.len()].copy_from_slice(bytes);
+    LittleEndian::read_u64(&eight)
+}
+
+/// The n lowest bits.
+fn low_bits(n: usize) -> u64
+    requires { n ≤ 64 }
+    ensures { (i : ℕ) → bit_of result i ≡ nat_lt i n }
+{
+    if n == 0 { 0 } else { u64::MAX >> (64 - n) }
+}
+
+/// Whether bit i is set.
+#[inline]
+pub(crate) fn has_bit(word: u64, i: usize) -> bool
+    requires { i < 64 }
+    ensures { result ≡ bit_of word i }
+{
+    word >> i & 1 == 1
+}

@@ -1,0 +1,104 @@
+//! The planes of a column, written 64 rows at a time.
+
+ghost use Rattle.std.specs.Prelude.{All, length, slice_index, ℕ, ◌%◌, ◌*◌, ◌+◌, ◌-◌, ◌/◌, ◌<◌, ◌==◌, ◌^◌, ◌≡◌, ◌≤◌};
+ghost use Rattle.bw_mask.specs.Masks.{bit_of};
+ghost use Rattle.bw_cells.specs.Known.{known};
+ghost use Rattle.bw_code.specs.Headers.{row_limit};
+ghost use Rattle.bw_file.specs.Cells.{presence_bytes, presence_size};
+ghost use Rattle.bw_file.specs.Planes.{column_bytes, column_size, frame_of, plane_bit, plane_bytes, IsNear, IsWideCell};
+
+use crate::presence::write_presence;
+use bw_cells::Measured;
+use bw_vertical::wide_plane_words;
+use byteorder::{ByteOrder, LittleEndian};
+
+// How many cells are read at a time: as many as one word has bits for.
+const RUN: usize = 64;
+
+/// Writes the first bytes of a word, the lowest first.
+fn put_word(out: &mut [u8], word: u64)
+    requires few { length out.old ≤ 8 }
+    ensures len { length out.new ≡ length out.old }
+    ensures bits { (i : ℕ) → i / 8 < length out.old → bit_of (slice_index out.new (i / 8)) (i % 8) ≡ bit_of word i }
+{
+    // All runs but the last have 8 bytes, which are written as one word.
+    if out.len() == 8 {
+        LittleEndian::write_u64(out, word);
+    } else {
+        out.copy_from_slice(&word.to_le_bytes()[..out.len()]);
+    }
+}
+
+/// Writes the bits of 64 rows, of which the first is row `at` and has the first bit of a byte. Word b has bit b of their codes. The planes have so
+/// many bytes each; bits past them are left out.
+fn put_words(planes: &mut [u8], size: usize, k: usize, at: usize, words: &[u64; 64])
+    requires narrow { k ≤ 64 }
+    requires first { at % 8 ≡ 0 }
+    requires short { size ≤ 2 ^ 24 }
+    requires there { at / 8 ≤ size }
+    requires planes { length planes.old ≡ k * size }
+    ensures len { length planes.new ≡ length planes.old }
+    ensures inside { (p i : ℕ) → p < k → i / 8 < size → at ≤ i → i < at + 64 → (plane_bit size planes.new p i == 1) ≡ bit_of (slice_index words.now (k - 1 - p)) (i - at) }
+    ensures outside { (p i : ℕ) → p < k → i / 8 < size → (at ≤ i → at + 64 ≤ i) → plane_bit size planes.new p i ≡ plane_bit size planes.old p i }
+{
+    let end = size.min(at / 8 + 8);
+    for p in 0..k {
+        put_word(
+            &mut planes[p * size + at / 8..p * size + end],
+            words[k - 1 - p],
+        );
+    }
+}
+
+/// Writes the bits and the planes of a column whose codes have k bits from the base on.
+pub(crate) fn write_planes<C: Measured>(
+    present: &mut [u8],
+    planes: &mut [u8],
+    rows: usize,
+    base: i64,
+    k: usize,
+    column: &C,
+)
+    requires narrow { k ≤ 64 }
+    requires few { rows ≤ row_limit }
+    requires count { length (C.cells column.now) ≡ rows }
+    requires present { length present.old ≡ presence_size rows }
+    requires long { length planes.old ≡ k * presence_size rows }
+    requires near { All (IsNear base k) (C.cells column.now) }
+    ensures bits { present.new ≡ presence_bytes (presence_size rows) (C.cells column.now) }
+    ensures planes { planes.new ≡ plane_bytes base k (presence_size rows) (C.cells column.now) }
+{
+    let mut run = [0; RUN];
+    let size = rows.div_ceil(8);
+    'runs: for r in 0..rows.div_ceil(RUN) {
+        let at = r * RUN;
+        let end = rows.min(at + RUN);
+        let codes = &mut run[..end - at];
+        let bits = column.distances(at, base, codes);
+        write_presence(&mut present[at / 8..end.div_ceil(8)], bits);
+        put_words(planes, size, k, at, &wide_plane_words(codes, k));
+    }
+}
+
+/// Writes a column of so many rows, of which these are the base and the width.
+pub(crate) fn write_column<C: Measured>(
+    out: &mut [u8],
+    rows: usize,
+    base: i64,
+    width: usize,
+    column: &C,
+)
+    requires few { rows ≤ row_limit }
+    requires count { length (C.cells column.now) ≡ rows }
+    requires base { base ≡ (frame_of (known (C.cells column.now))).base }
+    requires width { width ≡ (frame_of (known (C.cells column.now))).width }
+    requires long { length out.old ≡ column_size width rows }
+    requires wide { All IsWideCell (C.cells column.now) }
+    ensures { out.new ≡ column_bytes (C.cells column.now) }
+{
+    let (present, rest) = out.split_at_mut(rows.div_ceil(8));
+    let (head, planes) = rest.split_at_mut(9);
+    head[8] = width as u8;
+    LittleEndian::write_i64(head, base);
+    write_planes(present, planes, rows, base, width, column);
+}
