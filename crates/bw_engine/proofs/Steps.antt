@@ -16,7 +16,7 @@ use Rattle.bw_model.specs.declared.reply.Reply.{Reply}
 use Rattle.bw_model.specs.declared.reply.Reply.TheVariants.{Refused}
 use Rattle.bw_plan.specs.Checks.{Answers, MayRefuse}
 use Rattle.bw_plan.proofs.Tests.{answers_same}
-use Rattle.bw_engine.specs.Outcomes.{CarriesOut, reply_of}
+use Rattle.bw_engine.specs.Outcomes.{AnswersAfter, CarriesOut, reply_of}
 use Rattle.bw_engine.specs.StoredChanges.{IsChanged}
 use Rattle.bw_engine.specs.Stores.{Stored, StoredTable, store_of, table_in}
 
@@ -95,6 +95,20 @@ module _ (tables : Stored) (name : List ℕ) (table : StoredTable) (there : look
         λ j. (replied j, stored j))
         answers
 
+    pub changes_after : (early tests : Table → Tests) (says : Table → Reply) (change : Table → Table) (r : Result Reply Refusal)
+        → AnswersAfter (early (table_in table)) (tests (table_in table)) r (λ reply. (reply ≡ says (table_in table)) × (table_in new ≡ change (table_in table)))
+        → AnswersAfter (over (table_of (store_of tables) name) early) (over (table_of (store_of tables) name) tests) r
+            (λ reply. ◌≡◌ {A = Reply × Store} (reply, store_of after) (says (table_or_none (table_of (store_of tables) name)), with_table (store_of tables) name change))
+    changes_after early tests says change (Ok reply) answers =
+        let replied = answers.1.0 ∙ ap (λ o. says (table_or_none o)) (sym is_there) in
+        let stored = ap store_of is ∙ changed_in tables name table new change there answers.1.1 in
+        (ap (λ o. first_that_holds (over o tests)) is_there ∙ answers.0, λ j. (replied j, stored j))
+    changes_after early tests says change (Err e) answers =
+        elim answers [
+          | inl p ↦ inl (ap (λ o. first_that_holds (over o early)) is_there ∙ p.0, p.1)
+          | inr p ↦ inr (ap (λ o. first_that_holds (over o tests)) is_there ∙ p)
+        ]
+
     pub changes_stored : (Change : StoredTable → StoredTable → Type 0) (r : Result Reply Refusal) → OnOk r (Change table new) → OnOk r (IsChanged Change tables name after)
     changes_stored Change r changed = on_ok_weaker r (λ c. record { old = table; new = new; there = there; changed = c; set = is }) changed
 
@@ -114,6 +128,10 @@ module _ (tables : Stored) (name : List ℕ) (table : StoredTable) (there : look
 -- a statement over a table that isn't there
 pub no_table : (tables : Stored) (name : List ℕ) (tests : Table → Tests) → lookup (bytes_eq name) tables ≡ None → MayRefuse (over (table_of (store_of tables) name) tests) NoSuchTable
 no_table tables name tests absent = inr (ap (λ o. first_that_holds (over o tests)) (found_in tables name ∙ ap (option_map table_in) absent))
+
+-- the same where not all of the tests are early
+pub first_no_table : (tables : Stored) (name : List ℕ) (tests : Table → Tests) → lookup (bytes_eq name) tables ≡ None → first_that_holds (over (table_of (store_of tables) name) tests) ≡ Some NoSuchTable
+first_no_table tables name tests absent = ap (λ o. first_that_holds (over o tests)) (found_in tables name ∙ ap (option_map table_in) absent)
 
 pub absent-none : {A : Type 0} (o : Option A) → is_some o ≡ false → o ≡ None
 absent-none None e = refl

@@ -3,6 +3,7 @@ use Rattle.std.specs.Prelude.{◌≡◌, ◌⊎◌, ◌∷◌, [], ℕ, List, le
 use Rattle.std.specs.Bool.{MatchBool}
 use Rattle.std.specs.Borrow.{Bor}
 use Rattle.std.specs.Result.{IsOkAnd}
+use Rattle.bw_code.specs.declared.kind.ColumnType.{ColumnType}
 use Rattle.bw_csvload.specs.Rows.{rows_of_file}
 use Rattle.bw_sql.specs.Tree.{StatementTree, save}
 use Rattle.bw_sql.specs.declared.tree.FirstRecord.{FirstRecord}
@@ -29,13 +30,14 @@ use Rattle.bw_engine.specs.declared.outcome.Outcome.{Outcome}
 use Rattle.bw_engine.specs.declared.outcome.Outcome.TheVariants as outcome
 use Rattle.bw_engine.specs.declared.outcome.Saving.{Saving}
 
--- By what was handed in: P of what the file says, where bytes may say it by `says`; or W, where there was no memory for them.
+-- By what was handed in: P of what the file says, where bytes may say it by `says`; or W, where there was no memory for them
+-- or for what they say.
 abbrev pub IsAnswered : FileAnswer → (List ℕ → Content → Type 0) → (Content → Type 0) → Type 0 → Type 0
 IsAnswered file.NotAsked says P W = P Missing
 IsAnswered file.Unreadable says P W = P Missing
 IsAnswered file.TooLarge says P W = P TooLarge
 IsAnswered file.NoMemory says P W = W
-IsAnswered (file.Bytes bytes) says P W = (said : Content) × says bytes.now said × P said
+IsAnswered (file.Bytes bytes) says P W = W ⊎ ((said : Content) × says bytes.now said × P said)
 
 -- the reply and the store after a statement that reads a file, where there is one
 abbrev pub RepliesBy : Option (List ℕ) → Store → StatementTree → FileAnswer → Reply → Store → Type 0
@@ -75,9 +77,9 @@ AnswersFile tests result P = MatchResult result (λ x. (first_that_holds tests �
 abbrev pub Within : (List ℕ → Content → Type 0) → List ℕ → Content → Type 0
 Within says bytes said = MatchBool (nat_lt file_limit (length bytes)) (said ≡ TooLarge) (says bytes said)
 
--- bytes as a CSV file for so many columns
-abbrev pub SaysLines : ℕ → FirstRecord → List ℕ → Content → Type 0
-SaysLines columns first bytes said = said ≡ lines_or_fault (rows_of_file columns (first_of first) bytes)
+-- bytes as a CSV file for columns of these types
+abbrev pub SaysLines : List ColumnType → FirstRecord → List ℕ → Content → Type 0
+SaysLines types first bytes said = said ≡ lines_or_fault (rows_of_file types (first_of first) bytes)
 
 -- the file's bytes, or why there are none
 abbrev pub IsBytesOf : FileAnswer → Result (Bor (List ℕ)) Refusal → Type 0

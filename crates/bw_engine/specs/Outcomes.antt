@@ -1,7 +1,7 @@
 -- What a statement answers, and the store behind it.
 use Rattle.std.specs.Prelude.{◌≡◌, ◌⊎◌, None, Some, Result, Ok, Err, MatchResult}
 use Rattle.bw_sql.specs.Tree.{StatementTree}
-use Rattle.bw_model.specs.Refusals.{first_that_holds, refused_early, tests_of}
+use Rattle.bw_model.specs.Refusals.{Tests, first_that_holds, refused_early, tests_of}
 use Rattle.bw_model.specs.Step.{carried_out}
 use Rattle.bw_model.specs.Store.{Store}
 use Rattle.bw_model.specs.declared.content.Content.{Content}
@@ -17,6 +17,10 @@ reply_of (Err e) = Refused e
 -- the first test that holds; or want of memory, where no test holds that needs no file
 abbrev pub MayRefuseStep : Store → Content → StatementTree → Refusal → Type 0
 MayRefuseStep store said statement e = ((refused_early store statement ≡ None) × (e ≡ OutOfMemory)) ⊎ (first_that_holds (tests_of store said statement) ≡ Some e)
+
+-- P of a value where no test holds; else the first test that holds, or, where none of the early ones does, want of memory
+abbrev pub AnswersAfter : {T : Type 0} → Tests → Tests → Result T Refusal → (T → Type 0) → Type 0
+AnswersAfter early tests result P = MatchResult result (λ x. (first_that_holds tests ≡ None) × P x) (λ e. ((first_that_holds early ≡ None) × (e ≡ OutOfMemory)) ⊎ (first_that_holds tests ≡ Some e))
 
 -- where no test holds, the reply and the store after are those of the statement
 abbrev pub CarriesOut : Store → Content → StatementTree → Result Reply Refusal → Store → Type 0

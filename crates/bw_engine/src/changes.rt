@@ -3,12 +3,12 @@
 ghost use Rattle.std.specs.Prelude.{◌≡◌, length, option_map, OnErr, OnOk};
 ghost use Rattle.bw_model.specs.Changes.{with_choices, with_updates, without_found};
 ghost use Rattle.bw_model.specs.Condition.{found_rows};
-ghost use Rattle.bw_model.specs.Refusals.{chosen_columns, delete_tests, rebuild_tests, update_tests};
+ghost use Rattle.bw_model.specs.Refusals.{delete_tests, rebuild_tests, set_tests, update_tests};
 ghost use Rattle.bw_model.specs.declared.reply.Reply.TheVariants.{Count, Done};
 ghost use Rattle.bw_sql.specs.Tree.{condition_of, statement_of};
 ghost use Rattle.bw_sql.specs.declared.tree.Statement.TheVariants as statements;
 ghost use Rattle.bw_model.specs.declared.content.Content.TheVariants.{Nothing};
-ghost use Rattle.bw_engine.specs.Outcomes.{CarriesOut};
+ghost use Rattle.bw_engine.specs.Outcomes.{AnswersAfter, CarriesOut};
 ghost use Rattle.bw_engine.specs.StoredChanges.{BuildsAnew, ChangesStored, KillsFound, SetsFound};
 ghost use Rattle.bw_engine.specs.Stores.{store_of, table_in};
 ghost use Rattle.bw_plan.specs.Checks.{Answers};
@@ -16,7 +16,9 @@ ghost use Rattle.bw_plan.specs.Checks.{Answers};
 use crate::found::found_slots;
 use crate::table::Table;
 use bw_model::{Refusal, Reply};
-use bw_plan::{resolve_delete, resolve_rebuild, resolve_update};
+use bw_plan::{
+    check_choices, chooses_too_narrow, resolve_delete, resolve_rebuild, resolve_update,
+};
 use bw_sql::{Condition, Delete, LayoutChoice, Name, Rebuild, SetClause, Update};
 use indexmap::IndexMap;
 use std::alloc::Global;
@@ -76,14 +78,15 @@ pub(crate) fn rebuild(
     }
 }
 
-/// Updates the found rows of this table. All that can be refused comes before the table changes.
+/// Updates the found rows of this table. All that can be refused comes before the table changes: first what is refused
+/// whatever rows are found, and then values that are copied in them.
 fn update_rows(
     alloc: Global,
     table: &mut Table,
     sets: &[SetClause],
     condition: &Option<Condition>,
 ) -> Result<Reply, Refusal>
-    ensures reply { Answers (update_tests sets.now (option_map condition_of condition.now) (table_in table.old)) result (λ reply. (reply ≡ Count (length (found_rows (table_in table.old) (option_map condition_of condition.now)))) × (table_in table.new ≡ with_updates sets.now (option_map condition_of condition.now) (table_in table.old))) }
+    ensures reply { AnswersAfter (set_tests table.old.headers sets.now (option_map condition_of condition.now)) (update_tests sets.now (option_map condition_of condition.now) (table_in table.old)) result (λ reply. (reply ≡ Count (length (found_rows (table_in table.old) (option_map condition_of condition.now)))) × (table_in table.new ≡ with_updates sets.now (option_map condition_of condition.now) (table_in table.old))) }
     ensures stored { OnOk result (SetsFound sets.now (option_map condition_of condition.now) table.old table.new) }
     ensures refused { OnErr result (table.new ≡ table.old) }
 {
@@ -115,10 +118,14 @@ fn rebuild_columns(
     table: &mut Table,
     choices: &[LayoutChoice],
 ) -> Result<Reply, Refusal>
-    ensures reply { Answers (rebuild_tests (chosen_columns choices.now) (table_in table.old)) result (λ reply. (reply ≡ Done) × (table_in table.new ≡ with_choices choices.now (table_in table.old))) }
+    ensures reply { Answers (rebuild_tests choices.now (table_in table.old)) result (λ reply. (reply ≡ Done) × (table_in table.new ≡ with_choices choices.now (table_in table.old))) }
     ensures stored { OnOk result (BuildsAnew choices.now table.old table.new) }
     ensures refused { OnErr result (table.new ≡ table.old) }
 {
+    check_choices(&table.headers(), choices)?;
+    if chooses_too_narrow(&table.headers(), choices) {
+        return Err(Refusal::LayoutTooNarrow);
+    }
     let choices = resolve_rebuild(alloc, &table.headers(), choices)?;
     table.rebuild(alloc, choices.as_slice())?;
     Ok(Reply::Done)

@@ -1,10 +1,10 @@
 //! CREATE TABLE.
 
-ghost use Rattle.std.specs.Prelude.{◌≡◌, ◌++◌, ◌≤◌, ◌<◌, [], ◌∷◌, length, map, ◌==◌, nat_le, nat_lt, not, ◌||◌, IfOk, IsTrue, OnErr, OnOk};
+ghost use Rattle.std.specs.Prelude.{◌≡◌, [], length, map, ◌==◌, nat_le, nat_lt, not, ◌||◌, IfOk, OnErr, OnOk};
 ghost use Rattle.std.specs.List.{list_any};
 ghost use Rattle.std.specs.Str.{bytes_eq};
 ghost use Rattle.bw_model.specs.Refusals.{create_tests};
-ghost use Rattle.bw_model.specs.Store.{are_distinct, column_limit, header_of, table_limit};
+ghost use Rattle.bw_model.specs.Store.{AreHeaders, are_distinct, column_limit, header_of, table_limit};
 ghost use Rattle.bw_sql.specs.Tree.{statement_of};
 ghost use Rattle.bw_sql.specs.declared.tree.Statement.TheVariants as statements;
 ghost use Rattle.bw_model.specs.declared.content.Content.TheVariants.{Nothing};
@@ -15,14 +15,14 @@ ghost use Rattle.bw_plan.specs.Checks.{Decides};
 
 use crate::table::Table;
 use bw_model::{Refusal, Reply};
-use bw_plan::header_for;
+use bw_plan::{defines_too_narrow, header_for};
 use bw_sql::{ColumnDefinition, CreateTable, Name};
 use bw_table::Header;
 use indexmap::{IndexMap, IndexSet};
 use std::alloc::{AllocError, Global};
 
 /// The most columns that a table has.
-const COLUMN_LIMIT: usize = 64;
+pub(crate) const COLUMN_LIMIT: usize = 64;
 
 /// The most tables that a store holds.
 pub const TABLE_LIMIT: usize = 64;
@@ -51,7 +51,7 @@ fn check(
     table: &Name,
     columns: &[ColumnDefinition],
 ) -> Result<(), Refusal>
-    ensures { Decides (create_tests (map (λ c. c.name) columns.now) table.now (store_of tables.now.entries)) result (λ _. Unit {0}) }
+    ensures { Decides (create_tests (map header_of columns.now) table.now (store_of tables.now.entries)) result (λ _. Unit {0}) }
 {
     if tables.contains_key(table) {
         return Err(Refusal::TableExists);
@@ -61,6 +61,9 @@ fn check(
     }
     if is_over_limit(columns.len(), tables.len()) {
         return Err(Refusal::OverLimit);
+    }
+    if defines_too_narrow(columns) {
+        return Err(Refusal::LayoutTooNarrow);
     }
     Ok(())
 }
@@ -116,9 +119,7 @@ fn twice_by_set(alloc: Global, columns: &[ColumnDefinition]) -> Result<bool, All
 
 /// The table that definitions make, without rows.
 fn empty_table(alloc: Global, columns: Vec<ColumnDefinition>) -> Result<Table, AllocError>
-    requires some { 0 < length columns.items }
-    requires few { length columns.items ≤ 64 }
-    requires distinct { IsTrue (are_distinct (map (λ c. c.name) columns.items)) }
+    requires { AreHeaders (map header_of columns.items) }
     ensures table { IfOk result (λ table. table_in table ≡ record { headers = map header_of columns.items; rows = [] }) }
     ensures is_new { IfOk result IsNew }
 {

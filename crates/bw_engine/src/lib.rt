@@ -11,6 +11,7 @@ mod found;
 mod insert;
 mod listing;
 mod live_cells;
+mod live_ends;
 mod load;
 mod open;
 mod outcome;

@@ -1,8 +1,9 @@
 //! The columns of a table as a SAVE writes them: their cells in the rows.
 
-ghost use Rattle.std.specs.Prelude.{◌≡◌, ◌<◌, All, IfOk, length, map};
-ghost use Rattle.std.specs.List.{range_with_len};
-ghost use Rattle.bw_column.specs.Values.{IsNullOrInteger};
+ghost use Rattle.std.specs.Prelude.{◌≡◌, ◌<◌, IfOk, length, map, slice_index_or};
+ghost use Rattle.std.specs.List.{AllZip, range_with_len};
+ghost use Rattle.bw_model.specs.Store.{Header};
+ghost use Rattle.bw_code.specs.Types.{IsTyped};
 ghost use Rattle.bw_model.specs.Filing.{column_of};
 ghost use Rattle.bw_engine.specs.Saving.{saved_cells};
 ghost use Rattle.bw_engine.specs.Stores.{rows_in};
@@ -58,7 +59,7 @@ pub(crate) fn live_columns<'a>(
     table: &'a Table,
 ) -> Result<Vec<LiveCells<'a>>, AllocError>
     ensures cells { IfOk result (λ columns. map saved_cells columns.items ≡ map (column_of (rows_in table.entry.now.slots)) (range_with_len 0 (length table.entry.now.headers))) }
-    ensures integers { IfOk result (λ columns. All (All IsNullOrInteger) (map saved_cells columns.items)) }
+    ensures typed { IfOk result (λ columns. AllZip IsTyped table.entry.now.headers (map saved_cells columns.items)) }
 {
     let width = table.headers().len();
     let mut columns = Vec::with_capacity(alloc, width)?;
@@ -72,7 +73,7 @@ pub(crate) fn live_columns<'a>(
 fn live_column<'a>(alloc: Global, table: &'a Table, k: usize) -> Result<LiveCells<'a>, AllocError>
     requires { k < length table.now.headers }
     ensures cells { IfOk result (λ column. saved_cells column ≡ column_of (rows_in table.entry.now.slots) k) }
-    ensures integers { IfOk result (λ column. All IsNullOrInteger (saved_cells column)) }
+    ensures typed { (h : Header) → IfOk result (λ column. IsTyped (slice_index_or table.entry.now.headers k h) (saved_cells column)) }
 {
     let stored = table.stored();
     let column = stored.column(k);

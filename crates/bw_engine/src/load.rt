@@ -1,7 +1,7 @@
 //! LOAD.
 
 ghost use Rattle.std.specs.Prelude.{◌≡◌, ◌+◌, ◌∷◌, [], All, Err, OnErr, OnOk, length, nat_lt};
-ghost use Rattle.bw_column.specs.Values.{IsNullOrInteger};
+ghost use Rattle.bw_code.specs.Types.{IsRowOf, types_of};
 ghost use Rattle.bw_model.specs.Contents.{first_of, lines_in};
 ghost use Rattle.bw_model.specs.Refusals.{load_tests};
 ghost use Rattle.bw_model.specs.Step.{with_lines};
@@ -17,8 +17,11 @@ ghost use Rattle.bw_engine.specs.Stores.{rows_in, store_of, table_in};
 
 use crate::file_answer::{FileAnswer, bytes_of};
 use crate::table::Table;
+use crate::create::COLUMN_LIMIT;
+use bw_code::ColumnType;
 use bw_csvload::{CsvRows, FirstRecord as CsvFirst, rows};
 use bw_model::{Refusal, Reply};
+use bw_plan::Headers;
 use bw_sql::{FirstRecord, Load, Name};
 use bw_table::Rows;
 use indexmap::IndexMap;
@@ -53,27 +56,40 @@ fn load_file(
     first: FirstRecord,
     file: FileAnswer<'_>,
 ) -> Result<Reply, Refusal>
-    ensures reply { IsAnswered file.entry (Within (SaysLines (length table.old.headers) first))
+    ensures reply { IsAnswered file.entry (Within (SaysLines (types_of table.old.headers) first))
         (λ said. AnswersFile (load_tests said (table_in table.old)) result (λ reply. (reply ≡ Count (length (lines_in said))) × (table_in table.new ≡ with_lines (lines_in said) (table_in table.old))))
         (result ≡ Err OutOfMemory) }
     ensures stored { OnOk result (Grows table.old table.new) }
     ensures refused { OnErr result (table.new ≡ table.old) }
 {
-    let rows = rows_in_file(alloc, file, table.headers().len(), first)?;
+    let mut list = [ColumnType::Integer; COLUMN_LIMIT];
+    let types = &mut list[..table.headers().len()];
+    take_types(&table.headers(), types);
+    let rows = rows_in_file(alloc, file, types, first)?;
     load_rows(alloc, table, rows)
 }
 
-/// The rows that a CSV file spells for so many columns.
+/// Puts the type of each column in its place.
+fn take_types(headers: &Headers<'_>, types: &mut [ColumnType])
+    requires { length types.old ≡ length headers.now }
+    ensures { types.new ≡ types_of headers.now }
+{
+    for k in 0..types.len() {
+        types[k] = headers.column_type(k);
+    }
+}
+
+/// The rows that a CSV file spells for columns of these types.
 fn rows_in_file(
     alloc: Global,
     file: FileAnswer<'_>,
-    columns: usize,
+    types: &[ColumnType],
     first: FirstRecord,
 ) -> Result<CsvRows, Refusal>
-    ensures { IsAnswered file.entry (Within (SaysLines columns first)) (λ said. AnswersFile (lines_tests said) result (λ rows. said ≡ Lines rows)) (result ≡ Err OutOfMemory) }
+    ensures { IsAnswered file.entry (Within (SaysLines types.now first)) (λ said. AnswersFile (lines_tests said) result (λ rows. said ≡ Lines rows)) (result ≡ Err OutOfMemory) }
 {
     let bytes = bytes_of(file)?;
-    Ok(rows(alloc, bytes, columns, first_of(first))?)
+    Ok(rows(alloc, bytes, types, first_of(first))?)
 }
 
 /// Whether the first record is a row, as the reader of CSV files has it.
@@ -88,8 +104,7 @@ fn first_of(first: FirstRecord) -> CsvFirst
 
 /// Puts rows last in this table, if there is room for them.
 fn load_rows(alloc: Global, table: &mut Table, rows: CsvRows) -> Result<Reply, Refusal>
-    requires wide { All (λ row. length row ≡ length table.old.headers) rows }
-    requires integers { All (λ row. All IsNullOrInteger row) rows }
+    requires { All (IsRowOf (types_of table.old.headers)) rows }
     ensures reply { AnswersFile ((TableFull, nat_lt row_limit (length (rows_in table.old.slots) + length rows)) ∷ []) result (λ reply. (reply ≡ Count (length rows)) × (table_in table.new ≡ with_lines rows (table_in table.old))) }
     ensures stored { OnOk result (Grows table.old table.new) }
     ensures refused { OnErr result (table.new ≡ table.old) }

@@ -1,16 +1,21 @@
 //! SAVE.
 
-ghost use Rattle.std.specs.Prelude.{◌≡◌, IfOk};
-ghost use Rattle.bw_model.specs.Filing.{Holds, filed_length};
+ghost use Rattle.std.specs.Prelude.{◌≡◌, IfOk, length};
+ghost use Rattle.std.specs.List.{AllZip};
+ghost use Rattle.bw_file.specs.Format.{AreEndsOf};
+ghost use Rattle.bw_model.specs.Filing.{Holds, filed, filed_length};
 ghost use Rattle.bw_sql.specs.Tree.{statement_of};
 ghost use Rattle.bw_sql.specs.declared.tree.Statement.TheVariants as statements;
 ghost use Rattle.bw_engine.specs.Files.{SavesOr};
 ghost use Rattle.bw_engine.specs.Stores.{store_of, table_in};
 
+use crate::create::COLUMN_LIMIT;
 use crate::live_cells::live_columns;
+use crate::live_ends::live_ends;
 use crate::outcome::Saving;
 use crate::table::Table;
-use bw_file::{encode, file_length};
+use bw_code::Ends;
+use bw_file::{encode, length_by_ends};
 use bw_model::{FILE_LIMIT, Refusal};
 use bw_sql::{Name, Save};
 use indexmap::IndexMap;
@@ -55,6 +60,19 @@ fn filed_length(table: &Table) -> u64
     ensures { result ≡ filed_length (table_in table.now) }
 {
     // There are at most 64 columns.
-    let _valid = table.headers();
-    file_length(table.stored().headers(), table.row_count())
+    let width = table.headers().len();
+    let mut list = [None; COLUMN_LIMIT];
+    let ends = &mut list[..width];
+    take_ends(table, ends);
+    length_by_ends(table.stored().headers(), table.row_count(), ends)
+}
+
+/// Puts the ends of each column's values in its place.
+fn take_ends(table: &Table, ends: &mut [Option<Ends>])
+    requires { length ends.old ≡ length table.now.headers }
+    ensures { AllZip AreEndsOf ends.new (filed (table_in table.now)).columns }
+{
+    for k in 0..ends.len() {
+        ends[k] = live_ends(table, k);
+    }
 }

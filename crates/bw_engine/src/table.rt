@@ -1,11 +1,13 @@
 //! A table in memory.
 
-ghost use Rattle.std.specs.Prelude.{◌≡◌, ◌+◌, ◌≤◌, ◌++◌, [], All, IfOk, OnErr, OnOk, length, map};
-ghost use Rattle.bw_column.specs.Values.{IsNullOrInteger};
+ghost use Rattle.std.specs.Prelude.{◌≡◌, ◌⊎◌, ◌+◌, ◌≤◌, ◌++◌, [], All, IfOk, MatchResult, OnErr, OnOk, false, length, map, true};
+ghost use Rattle.std.specs.List.{AllZip};
+ghost use Rattle.bw_model.specs.declared.refusal.Refusal.TheVariants.{OutOfMemory, OutOfRange};
+ghost use Rattle.bw_code.specs.Types.{IsRowOf, IsTyped, types_of};
 ghost use Rattle.bw_mask.specs.Masks.{len};
 ghost use Rattle.bw_model.specs.Store.{AreHeaders, row_limit};
 ghost use Rattle.bw_plan.specs.Sets.{AreSettable};
-ghost use Rattle.bw_table.specs.Changes.{AreInserted, AreRebuilt, AreUpdated, slots_with, slots_without};
+ghost use Rattle.bw_table.specs.Changes.{AreInserted, AreRebuilt, AreUpdated, copies_fit, slots_with, slots_without};
 ghost use Rattle.bw_table.specs.Opening.{rows_across};
 ghost use Rattle.bw_table.specs.Tables.{AreChosen, slots_in};
 ghost use Rattle.bw_engine.specs.StoredChanges.{IsNew};
@@ -13,6 +15,7 @@ ghost use Rattle.bw_engine.specs.Stores.{rows_in};
 
 use bw_cells::Measured;
 use bw_mask::Mask;
+use bw_model::Refusal;
 use bw_plan::Headers;
 use bw_sql::Name;
 use bw_table::{Choice, Header, Rows, SetTo, Table as SlotTable, TableFault};
@@ -64,9 +67,8 @@ impl Table {
     ) -> Result<Table, AllocError>
         requires headers { AreHeaders headers.items }
         requires few { rows ≤ row_limit }
-        requires wide { length columns.now ≡ length headers.items }
         requires long { All (λ cells. length cells ≡ rows) (map C.cells columns.now) }
-        requires integers { All (All IsNullOrInteger) (map C.cells columns.now) }
+        requires typed { AllZip IsTyped headers.items (map C.cells columns.now) }
         ensures headers { IfOk result (λ t. t.headers ≡ headers.items) }
         ensures rows { IfOk result (λ t. rows_in t.slots ≡ rows_across rows (map C.cells columns.now)) }
         ensures is_new { IfOk result IsNew }
@@ -110,8 +112,7 @@ impl Table {
     /// Puts these rows last. Where memory is wanting, nothing changes.
     #[tactic(auto, using(crate::proofs::Inserted::not_full))]
     pub(crate) fn insert(&mut self, alloc: Global, rows: &Rows<'_>) -> Result<(), AllocError>
-        requires widths { All (λ row. length row ≡ length self.old.headers) rows.now }
-        requires integers { All (λ row. All IsNullOrInteger row) rows.now }
+        requires typed { All (IsRowOf (types_of self.old.headers)) rows.now }
         requires room { length (rows_in self.old.slots) + length rows.now ≤ row_limit }
         ensures headers { self.new.headers ≡ self.old.headers }
         ensures rows { OnOk result (rows_in self.new.slots ≡ rows_in self.old.slots ++ rows.now) }
@@ -121,26 +122,33 @@ impl Table {
         match self.table.insert(alloc, rows) {
             Ok(()) => Ok(()),
             Err(TableFault::Memory) => Err(AllocError),
-            Err(TableFault::Full) => unreachable!(),
+            Err(TableFault::Full | TableFault::Range) => unreachable!(),
         }
     }
 
-    /// Sets columns in the found slots, all at once: a column that is set to another takes what that had before. Where
-    /// memory is wanting, nothing changes.
+    /// Sets columns in the found slots, all at once: a column that is set to another takes what that had before. Refused
+    /// where a value so copied is not of the type of the column that takes it, or memory is wanting; nothing changes then.
     pub(crate) fn update(
         &mut self,
         alloc: Global,
         found: &Mask,
         sets: &[(usize, SetTo)],
-    ) -> Result<(), AllocError>
+    ) -> Result<(), Refusal>
         requires found { len found.now ≡ length self.old.slots }
-        requires settable { AreSettable (length self.old.headers) sets.now }
+        requires settable { AreSettable self.old.headers sets.now }
+        ensures fit { OnOk result (copies_fit (types_of self.old.headers) found.now sets.now self.old.slots ≡ true) }
+        ensures refusal { MatchResult result (λ _. Unit {0}) (λ e. (e ≡ OutOfMemory) ⊎ ((e ≡ OutOfRange) × (copies_fit (types_of self.old.headers) found.now sets.now self.old.slots ≡ false))) }
         ensures headers { self.new.headers ≡ self.old.headers }
         ensures slots { OnOk result (self.new.slots ≡ slots_with found.now sets.now self.old.slots) }
         ensures updated { OnOk result (AreUpdated found.now sets.now (slots_in self.old) (slots_in self.new)) }
         ensures unchanged { OnErr result (self.new ≡ self.old) }
     {
-        self.table.update(alloc, found, sets)
+        match self.table.update(alloc, found, sets) {
+            Ok(()) => Ok(()),
+            Err(TableFault::Range) => Err(Refusal::OutOfRange),
+            Err(TableFault::Memory) => Err(Refusal::OutOfMemory),
+            Err(TableFault::Full) => unreachable!(),
+        }
     }
 
     /// Takes the found slots out. Takes no memory.
@@ -153,12 +161,14 @@ impl Table {
         self.table.delete(found);
     }
 
-    /// Lays columns anew, as they are chosen to lie. Where memory is wanting, nothing changes.
+    /// Lays columns anew, as they are chosen to lie: each in a layout that holds its type. Where memory is wanting,
+    /// nothing changes.
     pub(crate) fn rebuild(
         &mut self,
         alloc: Global,
         choices: &[(usize, Choice)],
     ) -> Result<(), AllocError>
+        requires { HoldTypes choices.now self.old.headers }
         ensures headers { OnOk result (AreChosen choices.now self.old.headers self.new.headers) }
         ensures rows { OnOk result (rows_in self.new.slots ≡ rows_in self.old.slots) }
         ensures rebuilt { OnOk result (AreRebuilt choices.now (slots_in self.old) (slots_in self.new)) }

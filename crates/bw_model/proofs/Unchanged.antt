@@ -47,9 +47,9 @@ early_front (test ∷ tests) later refusal e = by test.1 e
     by false there = early_front tests later refusal there
 
 early_update : (there : Option Table) (sets : List SetClause) (condition : Option ConditionTree) (refusal : Refusal)
-    → first_that_holds (over there (set_tests sets condition)) ≡ Some refusal → first_that_holds (over there (update_tests sets condition)) ≡ Some refusal
+    → first_that_holds (over there (λ table. set_tests table.headers sets condition)) ≡ Some refusal → first_that_holds (over there (update_tests sets condition)) ≡ Some refusal
 early_update None sets condition refusal e = e
-early_update (Some table) sets condition refusal e = early_front (set_tests sets condition table) (copy_test sets condition table ∷ []) refusal e
+early_update (Some table) sets condition refusal e = early_front (set_tests table.headers sets condition) (copy_test sets condition table ∷ []) refusal e
 
 early_open : (taken full : Bool) (later : Option Refusal) (refusal : Refusal) → (if taken then Some TableExists else if full then Some OverLimit else None) ≡ Some refusal
     → (if taken then Some TableExists else if full then Some OverLimit else later) ≡ Some refusal

@@ -142,15 +142,15 @@ fits_in headers sets row = list_all (λ set. is_null_or_of_type (type_named head
 abbrev pub set_columns : List SetClause → List (List ℕ)
 set_columns sets = map (λ set. set.column) sets
 
--- the tests of UPDATE that look at no row
-abbrev pub set_tests : List SetClause → Option ConditionTree → Table → Tests
-set_tests sets condition table =
-    (refusal.NoSuchColumn, list_any (is_missing table.headers) (set_columns sets))
-    ∷ (refusal.NoSuchColumn, list_any (λ set. operand_is_missing table.headers set.source) sets)
-    ∷ (refusal.NoSuchColumn, condition_misses table.headers condition)
+-- the tests of UPDATE of a table of these columns that look at no row
+abbrev pub set_tests : List Header → List SetClause → Option ConditionTree → Tests
+set_tests headers sets condition =
+    (refusal.NoSuchColumn, list_any (is_missing headers) (set_columns sets))
+    ∷ (refusal.NoSuchColumn, list_any (λ set. operand_is_missing headers set.source) sets)
+    ∷ (refusal.NoSuchColumn, condition_misses headers condition)
     ∷ (refusal.ColumnNamedTwice, not (are_distinct (set_columns sets)))
     ∷ (refusal.OverLimit, lists_too_long condition)
-    ∷ (refusal.OutOfRange, not (list_all (λ set. may_be_set (type_named table.headers set.column) set.source) sets))
+    ∷ (refusal.OutOfRange, not (list_all (λ set. may_be_set (type_named headers set.column) set.source) sets))
     ∷ []
 
 -- what an UPDATE copies in a found row is of its column's type
@@ -158,7 +158,7 @@ abbrev pub copy_test : List SetClause → Option ConditionTree → Table → Ref
 copy_test sets condition table = (refusal.OutOfRange, not (list_all (fits_in table.headers sets) (found_rows table condition)))
 
 abbrev pub update_tests : List SetClause → Option ConditionTree → Table → Tests
-update_tests sets condition table = set_tests sets condition table ++ copy_test sets condition table ∷ []
+update_tests sets condition table = set_tests table.headers sets condition ++ copy_test sets condition table ∷ []
 
 abbrev pub delete_tests : Option ConditionTree → Table → Tests
 delete_tests condition table =
@@ -226,7 +226,7 @@ tests_of store said (open_table name file) = open_tests name store said
 
 -- the tests that need neither a file nor a look at rows
 abbrev pub early_tests : Store → StatementTree → Tests
-early_tests store (update name sets condition) = over (table_of store name) (set_tests sets condition)
+early_tests store (update name sets condition) = over (table_of store name) (λ table. set_tests table.headers sets condition)
 early_tests store (load name file first) = over (table_of store name) (λ table. [])
 early_tests store (open_table name file) = (refusal.TableExists, is_some (table_of store name)) ∷ (refusal.OverLimit, nat_le table_limit (length store)) ∷ []
 early_tests store statement = tests_of store content.Nothing statement

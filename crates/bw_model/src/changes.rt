@@ -30,7 +30,12 @@ pub(crate) fn update_rows(
     ensures unchanged { OnErr result (table.new ≡ table.old) }
 {
     let columns = set_columns(alloc, sets)?;
-    if let Some(refusal) = first_that_holds(&set_tests(&columns, sets, condition, table)) {
+    if let Some(refusal) = first_that_holds(&set_tests(
+        &columns,
+        table.headers(),
+        sets,
+        condition,
+    )) {
         return Ok(Reply::Refused(refusal));
     }
     let found = found_rows(alloc, table, condition)?;

@@ -199,17 +199,16 @@ pub(crate) fn insert_tests(
     ]
 }
 
-/// The tests of UPDATE over a table that look at no row. These are the columns that it sets.
+/// The tests of UPDATE of a table of these columns that look at no row, and the columns that it sets.
 pub(crate) fn set_tests(
     columns: &[Name],
+    headers: &[Header<Name>],
     sets: &[SetClause],
     condition: &Option<Condition>,
-    table: &Table,
 ) -> [Test; 6]
     requires { columns.now ≡ set_columns sets.now }
-    ensures { result ≡ set_tests sets.now (option_map condition_of condition.now) table.now }
+    ensures { result ≡ set_tests headers.now sets.now (option_map condition_of condition.now) }
 {
-    let headers = table.headers();
     [
         (Refusal::NoSuchColumn, misses_any(headers, columns)),
         (Refusal::NoSuchColumn, misses_source(headers, sets)),

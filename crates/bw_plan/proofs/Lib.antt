@@ -11,4 +11,5 @@ pub mod SetLaws
 pub mod Selecting
 pub mod Shrinking
 pub mod Spending
+pub mod Targeting
 pub mod Tests

@@ -1,23 +1,23 @@
 -- Columns by their names and by their places, and the sets of an UPDATE.
-use Rattle.std.proofs.Common.{◌≡◌, ◌≢◌, ◌∙◌, ℕ, ℤ, ◌<◌, ◌==◌, Bool, true, false, List, [], ◌∷◌, get_or, int_le, length, map, negsuc, not, pos, Option, None, Some, zero, suc, refl, sym, ap, arith}
+use Rattle.std.proofs.Common.{◌≡◌, ◌≢◌, ◌∙◌, ℕ, ℤ, ◌<◌, ◌==◌, Bool, true, false, List, [], ◌∷◌, get_or, length, map, not, Option, None, Some, zero, suc, refl, sym, ap, subst, arith}
 use Rattle.std.specs.List.{All, AllPairs, list_all, list_any}
 use Rattle.std.specs.Str.{bytes_eq}
 use Rattle.std.proofs.lemmas.Bool.{eq-eqb, eqb-true, true≢false}
-use Rattle.std.proofs.lemmas.Int.{ints}
 use Rattle.std.proofs.lemmas.List.{length-map}
 use Rattle.std.proofs.lemmas.List.Elements.{All-cons, All-nil}
 use Rattle.std.proofs.lemmas.List.Kept.{AllPairs-cons}
 use Rattle.std.proofs.lemmas.List.Quantifiers.{position-Some}
 use Rattle.std.proofs.lemmas.Slice.Eq.{bytes_eq-Decides}
-use Rattle.bw_column.specs.Values.{IsInteger}
+use Rattle.bw_code.specs.Types.{is_null_or_of_type, types_of}
+use Rattle.bw_code.proofs.Types.{null_or_of_type}
 use Rattle.bw_sql.specs.declared.tree.Operand.{Operand}
 use Rattle.bw_sql.specs.declared.tree.Operand.TheVariants as operand
 use Rattle.bw_sql.specs.declared.tree.SetClause.{SetClause}
-use Rattle.bw_table.specs.Changes.{IsSetTo}
+use Rattle.bw_table.specs.Changes.{IsSetTo, MayTake}
 use Rattle.bw_table.specs.declared.setting.SetTo.{SetTo}
 use Rattle.bw_table.specs.declared.setting.SetTo.TheVariants as to
-use Rattle.bw_model.specs.Refusals.{is_in_range, may_be_set, set_columns}
-use Rattle.bw_model.specs.Store.{AreHeaders, Header, Value, are_distinct, names, place_of}
+use Rattle.bw_model.specs.Refusals.{may_be_set, set_columns}
+use Rattle.bw_model.specs.Store.{AreHeaders, Header, Value, are_distinct, names, place_of, type_at, type_named}
 use Rattle.bw_model.proofs.Passing.{neither, two}
 use Rattle.bw_plan.specs.Plans.{source_at, source_of}
 use Rattle.bw_plan.specs.Sets.{AreSetsFor, AreSettable, source_to}
@@ -64,10 +64,6 @@ module _ (headers : List Header) (valid : AreHeaders headers) (k : ℕ) (header 
     pub same_test : (place == k) ≡ bytes_eq header.name column
     same_test = alike (place == k) (bytes_eq header.name column) this_place this_column
 
--- an INTEGER is one that a column may hold
-pub integer_in : (x : ℤ) → is_in_range (Some x) ≡ true → IsInteger x
-integer_in x e = let p = two (int_le (negsuc 2147483647) x) (int_le x (pos 2147483647)) e in omega (arith, ints, p.0, p.1)
-
 -- The sets of an UPDATE that is not refused.
 
 pub place_inside : (headers : List Header) (name : List ℕ) (k : ℕ) → place_of headers name ≡ Some k → k < length headers
@@ -83,23 +79,23 @@ one_name (h ∷ headers) a b k e f =
     (bytes_eq-Decides a b).1 ((bytes_eq-Decides a (get_or (h ∷ headers) k h).name).0 p ∙ sym ((bytes_eq-Decides b (get_or (h ∷ headers) k h).name).0 q))
 
 module _ (headers : List Header) where
-  by_place : (name : List ℕ) (o : Option ℕ) (set : SetTo) → place_of headers name ≡ o → source_to set ≡ source_at o → IsSetTo (length headers) set
-  by_place name None (to.Value None) at e = tt
-  by_place name None (to.Value (Some x)) at e = absurd cc
-  by_place name None (to.Column k) at e = absurd cc
-  by_place name (Some j) (to.Value v) at e = absurd cc
-  by_place name (Some j) (to.Column k) at e =
-      let same : j ≡ k = cc in place_inside headers name k (at ∙ ap (λ n. Some n) same)
+  by_place : (k : ℕ) (name : List ℕ) (o : Option ℕ) (set : SetTo) → place_of headers name ≡ o → source_to set ≡ source_at o → MayTake (types_of headers) k set
+  by_place k name None (to.Value None) at e = tt
+  by_place k name None (to.Value (Some x)) at e = absurd cc
+  by_place k name None (to.Column j) at e = absurd cc
+  by_place k name (Some i) (to.Value v) at e = absurd cc
+  by_place k name (Some i) (to.Column j) at e =
+      let same : i ≡ j = cc in
+      let low = place_inside headers name j (at ∙ ap (λ n. Some n) same) in omega (arith, low, length-map headers (λ h. h.column_type))
 
-  by_constant : (set : SetTo) (v : Value) → source_to set ≡ Constant v → is_in_range v ≡ true → IsSetTo (length headers) set
-  by_constant (to.Value None) v e may = tt
-  by_constant (to.Value (Some x)) v e may =
-      let same : ◌≡◌ {A = Value} (Some x) v = cc in integer_in x (ap is_in_range same ∙ may)
-  by_constant (to.Column k) v e may = absurd cc
+  by_constant : (k : ℕ) (set : SetTo) (v : Value) → source_to set ≡ Constant v → is_null_or_of_type (type_at headers (Some k)) v ≡ true → MayTake (types_of headers) k set
+  by_constant k (to.Value x) v e may =
+      let same : ◌≡◌ {A = Value} x v = cc in null_or_of_type (type_at headers (Some k)) x (ap (is_null_or_of_type (type_at headers (Some k))) same ∙ may)
+  by_constant k (to.Column j) v e may = absurd cc
 
-  value_set : (set : SetTo) (source : Operand) → source_to set ≡ source_of headers source → may_be_set source ≡ true → IsSetTo (length headers) set
-  value_set set (operand.Column name) e may = by_place name (place_of headers name) set refl e
-  value_set set (operand.Constant v) e may = by_constant set v e may
+  value_set : (k : ℕ) (set : SetTo) (source : Operand) → source_to set ≡ source_of headers source → may_be_set (type_at headers (Some k)) source ≡ true → MayTake (types_of headers) k set
+  value_set k set (operand.Column name) e may = by_place k name (place_of headers name) set refl e
+  value_set k set (operand.Constant v) e may = by_constant k set v e may
 
   first_set : (s : SetClause) (p : ℕ × SetTo) (sets : List SetClause) (placed : List (ℕ × SetTo)) → AreSetsFor headers (s ∷ sets) (p ∷ placed)
       → ◌≡◌ {A = Option ℕ × Source} (Some p.0, source_to p.1) (place_of headers s.column, source_of headers s.source)
@@ -111,12 +107,14 @@ module _ (headers : List Header) where
   named (s ∷ sets) (p ∷ placed) e =
       All-cons (λ set. set.0 < length headers) p placed (place_inside headers s.column p.0 (sym (ap (λ q. q.0) (first_set s p sets placed e)))) (named sets placed (ap rest_of e))
 
-  valued : (sets : List SetClause) (placed : List (ℕ × SetTo)) → AreSetsFor headers sets placed → list_all (λ set. may_be_set set.source) sets ≡ true → All (λ set. IsSetTo (length headers) set.1) placed
-  valued sets [] e may = All-nil (λ set. IsSetTo (length headers) set.1)
+  valued : (sets : List SetClause) (placed : List (ℕ × SetTo)) → AreSetsFor headers sets placed → list_all (λ set. may_be_set (type_named headers set.column) set.source) sets ≡ true → All (IsSetTo (types_of headers)) placed
+  valued sets [] e may = All-nil (IsSetTo (types_of headers))
   valued [] (p ∷ placed) e may = absurd (omega (arith, ap length e))
   valued (s ∷ sets) (p ∷ placed) e may =
-      let both = two (may_be_set s.source) (list_all (λ set. may_be_set set.source) sets) may in
-      All-cons (λ set. IsSetTo (length headers) set.1) p placed (value_set p.1 s.source (ap (λ q. q.1) (first_set s p sets placed e)) both.0) (valued sets placed (ap rest_of e) both.1)
+      let both = two (may_be_set (type_named headers s.column) s.source) (list_all (λ set. may_be_set (type_named headers set.column) set.source) sets) may in
+      let first = first_set s p sets placed e in
+      let here = subst (λ o. may_be_set (type_at headers o) s.source ≡ true) (sym (ap (λ q. q.0) first)) both.0 in
+      All-cons (IsSetTo (types_of headers)) p placed (value_set p.0 p.1 s.source (ap (λ q. q.1) first) here) (valued sets placed (ap rest_of e) both.1)
 
   apart_from : (name : List ℕ) (k : ℕ) (sets : List SetClause) (placed : List (ℕ × SetTo)) → AreSetsFor headers sets placed → place_of headers name ≡ Some k
       → list_any (bytes_eq name) (set_columns sets) ≡ false → All (λ other. k ≢ other.0) placed
@@ -141,5 +139,5 @@ module _ (headers : List Header) where
       not_true true h = sym h
       not_true false h = refl
 
-  pub settable : (sets : List SetClause) (placed : List (ℕ × SetTo)) → AreSetsFor headers sets placed → are_distinct (set_columns sets) ≡ true → list_all (λ set. may_be_set set.source) sets ≡ true → AreSettable (length headers) placed
+  pub settable : (sets : List SetClause) (placed : List (ℕ × SetTo)) → AreSetsFor headers sets placed → are_distinct (set_columns sets) ≡ true → list_all (λ set. may_be_set (type_named headers set.column) set.source) sets ≡ true → AreSettable headers placed
   settable sets placed e distinct may = record { named = named sets placed e; apart = set_apart sets placed e distinct; values = valued sets placed e may }

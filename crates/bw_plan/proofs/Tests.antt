@@ -5,8 +5,8 @@ use Rattle.std.proofs.lemmas.Bool.{eq-eqb, not-false, true≢false}
 use Rattle.std.proofs.lemmas.List.Elements.{All-head, All-tail}
 use Rattle.std.proofs.lemmas.List.Folds.{list_all-append}
 use Rattle.bw_sql.specs.Rows.{joined}
-use Rattle.bw_model.specs.Refusals.{Tests, first_that_holds, is_in_range}
-use Rattle.bw_model.specs.Store.{Row}
+use Rattle.bw_model.specs.Refusals.{Tests, first_that_holds}
+use Rattle.bw_model.specs.Store.{Header, Row}
 use Rattle.bw_model.specs.declared.refusal.Refusal.{Refusal}
 use Rattle.bw_model.proofs.Passing.{if_none, widths}
 use Rattle.bw_plan.specs.Checks.{Answers, Decides, MayRefuse, value_tests}
@@ -79,11 +79,8 @@ of_width w (row ∷ rows) all =
     ∙ of_width w rows (All-tail (λ r. length r ≡ w) row rows all)
 
 -- rows that the tests on values let pass
-pub all_of_width : (w room : ℕ) (rows : List Row) → first_that_holds (value_tests w room rows) ≡ None → All (λ row. length row ≡ w) rows
-all_of_width w room rows none = widths w rows (not-false _ (if_none _ _ _ none).0)
-
-pub all_integers : (w room : ℕ) (rows : List Row) → first_that_holds (value_tests w room rows) ≡ None → list_all is_in_range (joined rows) ≡ true
-all_integers w room rows none = sym (list_all-joined is_in_range rows) ∙ not-false _ (if_none _ _ _ (if_none _ _ _ none).1).0
+pub all_of_width : (headers : List Header) (columns : List (List ℕ)) (room : ℕ) (rows : List Row) → first_that_holds (value_tests headers columns room rows) ≡ None → All (λ row. length row ≡ length columns) rows
+all_of_width headers columns room rows none = widths (length columns) rows (not-false _ (if_none _ _ _ none).0)
 
 pub no_test : (b : Bool) (x : Refusal) (r : Option Refusal) → b ≡ false → (if b then Some x else r) ≡ r
 no_test true x r e = absurd (true≢false e)

@@ -3,8 +3,8 @@ use Rattle.std.specs.Prelude.{◌≡◌, ◌⊎◌, ◌==◌, ℕ, List, [], ◌
 use Rattle.std.specs.List.{list_all, list_any}
 use Rattle.bw_sql.specs.Tree.{ConditionTree}
 use Rattle.bw_sql.specs.declared.tree.SelectItem.{SelectItem}
-use Rattle.bw_sql.specs.declared.tree.SetClause.{SetClause}
-use Rattle.bw_model.specs.Refusals.{Tests, condition_misses, first_that_holds, is_in_range, is_missing, lists_too_long, may_be_set, operand_is_missing, set_columns}
+use Rattle.bw_code.specs.Types.{are_of_types}
+use Rattle.bw_model.specs.Refusals.{Tests, condition_misses, first_that_holds, is_missing, lists_too_long, types_named}
 use Rattle.bw_model.specs.Select.{is_mixed}
 use Rattle.bw_model.specs.Store.{Header, Row, are_distinct}
 use Rattle.bw_model.specs.declared.refusal.Refusal.{Refusal}
@@ -31,27 +31,16 @@ condition_tests headers condition = (refusal.NoSuchColumn, condition_misses head
 abbrev pub mixed_tests : List SelectItem → Tests
 mixed_tests list = (refusal.MixedItems, is_mixed list) ∷ []
 
--- of an UPDATE of a table of these columns
-abbrev pub set_tests : List Header → List SetClause → Option ConditionTree → Tests
-set_tests headers sets condition =
-    (refusal.NoSuchColumn, list_any (is_missing headers) (set_columns sets))
-    ∷ (refusal.NoSuchColumn, list_any (λ set. operand_is_missing headers set.source) sets)
-    ∷ (refusal.NoSuchColumn, condition_misses headers condition)
-    ∷ (refusal.ColumnNamedTwice, not (are_distinct (set_columns sets)))
-    ∷ (refusal.OverLimit, lists_too_long condition)
-    ∷ (refusal.OutOfRange, not (list_all (λ set. may_be_set set.source) sets))
-    ∷ []
-
 abbrev pub listed_tests : List Header → List (List ℕ) → Tests
 listed_tests headers columns =
     (refusal.NoSuchColumn, list_any (is_missing headers) columns)
     ∷ (refusal.ColumnNamedTwice, not (are_distinct columns))
     ∷ []
 
--- of rows to be added where there is room for so many
-abbrev pub value_tests : ℕ → ℕ → List Row → Tests
-value_tests width room rows =
-    (refusal.WrongNumberOfValues, not (list_all (λ row. length row == width) rows))
-    ∷ (refusal.OutOfRange, not (list_all (list_all is_in_range) rows))
+-- of rows of values for these columns to be added where there is room for so many
+abbrev pub value_tests : List Header → List (List ℕ) → ℕ → List Row → Tests
+value_tests headers columns room rows =
+    (refusal.WrongNumberOfValues, not (list_all (λ row. length row == length columns) rows))
+    ∷ (refusal.OutOfRange, not (list_all (are_of_types (types_named headers columns)) rows))
     ∷ (refusal.TableFull, nat_lt room (length rows))
     ∷ []

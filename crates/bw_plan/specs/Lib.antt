@@ -4,3 +4,4 @@ pub mod Operands
 pub mod Plans
 pub mod Selections
 pub mod Sets
+pub mod Targeting

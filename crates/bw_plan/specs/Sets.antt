@@ -1,6 +1,7 @@
 -- Columns that are set, and columns that are laid anew, by their places (SQL-92, searched update statement; REBUILD is this product's own).
-use Rattle.std.specs.Prelude.{◌≡◌, ◌≢◌, ◌<◌, ℕ, List, Option, Some, map, option_map}
+use Rattle.std.specs.Prelude.{◌≡◌, ◌≢◌, ◌<◌, ℕ, List, Option, Some, length, map, option_map}
 use Rattle.std.specs.List.{All, AllPairs}
+use Rattle.bw_code.specs.Types.{types_of}
 use Rattle.bw_code.specs.declared.kind.Kind.{Kind}
 use Rattle.bw_code.specs.declared.kind.Layout.{Layout}
 use Rattle.bw_sql.specs.declared.tree.LayoutChoice.{LayoutChoice}
@@ -26,10 +27,10 @@ AreSetsFor headers sets placed =
     ◌≡◌ {A = List (Option ℕ × Source)} (map (λ set. (Some set.0, source_to set.1)) placed) (map (λ set. (place_of headers set.column, source_of headers set.source)) sets)
 
 -- sets of columns that are there, of each once, to a value of its type or to a column that is there
-pub record AreSettable (columns : ℕ) (sets : List (ℕ × SetTo)) : Type 0 where
-  pub named : All (λ set. set.0 < columns) sets
+pub record AreSettable (headers : List Header) (sets : List (ℕ × SetTo)) : Type 0 where
+  pub named : All (λ set. set.0 < length headers) sets
   pub apart : AllPairs (λ set other. set.0 ≢ other.0) sets
-  pub values : All (λ set. IsSetTo columns set.1) sets
+  pub values : All (IsSetTo (types_of headers)) sets
 
 -- the choices of a REBUILD, each with the place of its column
 abbrev pub AreChoicesFor : List Header → List LayoutChoice → List (ℕ × Choice) → Type 0

@@ -3,19 +3,20 @@
 ghost use Rattle.std.specs.Prelude.{◌≡◌, IfOk, false, length, not, option_map};
 ghost use Rattle.std.specs.List.{list_all, list_any};
 ghost use Rattle.std.specs.Str.{bytes_eq};
-ghost use Rattle.bw_model.specs.Refusals.{chosen_columns, is_missing, may_be_set, operand_is_missing, set_columns};
-ghost use Rattle.bw_model.specs.Store.{AreHeaders, are_distinct};
-ghost use Rattle.bw_plan.specs.Checks.{Answers, Decides, condition_tests, listed_tests, set_tests};
+ghost use Rattle.bw_model.specs.Refusals.{chosen_columns, is_missing, may_be_set, operand_is_missing, set_columns, set_tests};
+ghost use Rattle.bw_model.specs.Store.{AreHeaders, are_distinct, type_named};
+ghost use Rattle.bw_plan.specs.Checks.{Answers, Decides, condition_tests, listed_tests};
 ghost use Rattle.bw_plan.specs.Plans.{plan_of, planned, source_of, value_by};
 ghost use Rattle.bw_plan.specs.Sets.{AreChoicesFor, AreSetsFor, AreSettable, source_to};
 ghost use Rattle.bw_sql.specs.Tree.{condition_of};
 
 use crate::headers::Headers;
-use crate::insertion::is_integer;
 use crate::plan::{RowCondition, Source};
 use crate::resolution::{check_condition, has_long_lists, is_missing, misses, source};
 use crate::selection::plan_if_any;
+use crate::targets::is_null_or_of_type;
 use crate::words::choice_for;
+use bw_code::ColumnType;
 use bw_model::Refusal;
 use bw_sql::{Condition, LayoutChoice, Name, Operand, SetClause};
 use bw_table::{Choice, SetTo};
@@ -33,14 +34,15 @@ pub struct UpdatePlan {
 /// The places of an UPDATE's columns in a table of these columns, and its condition over places. It is
 /// refused, in this order, where a column on a side of SET or of the condition isn't there, where a
 /// column is set twice, where an IN list has more than 1,000 entries, and where a literal on a right side
-/// is no INTEGER. All of this is found before any memory is asked for.
+/// is not of its column's type. All of this is found before any memory is asked for. That a copied value is of its column's
+/// type is not looked at here.
 pub fn resolve_update(
     alloc: Global,
     headers: &Headers<'_>,
     sets: &[SetClause],
     condition: &Option<Condition>,
 ) -> Result<UpdatePlan, Refusal>
-    ensures settable { IfOk result (λ plan. AreSettable (length headers.now) plan.sets.items) }
+    ensures settable { IfOk result (λ plan. AreSettable headers.now plan.sets.items) }
     ensures plan { let found = option_map condition_of condition.now in Answers (set_tests headers.now sets.now found) result (λ plan. AreSetsFor headers.now sets.now plan.sets.items × (option_map plan_of plan.condition ≡ option_map (planned headers.now) found)) }
 {
     check_sets(headers, sets, condition)?;
@@ -100,14 +102,14 @@ fn check_sets(
     if has_long_lists(condition) {
         return Err(Refusal::OverLimit);
     }
-    if !may_all_be_set(sets) {
+    if !may_all_be_set(headers, sets) {
         return Err(Refusal::OutOfRange);
     }
     Ok(())
 }
 
-/// Refuses columns to be laid anew that aren't there, and one that is named twice.
-fn check_choices(headers: &Headers<'_>, choices: &[LayoutChoice]) -> Result<(), Refusal>
+/// Refuses columns to be laid anew that aren't there, and then one that is named twice. Takes no memory.
+pub fn check_choices(headers: &Headers<'_>, choices: &[LayoutChoice]) -> Result<(), Refusal>
     ensures { Decides (listed_tests headers.now (chosen_columns choices.now)) result (λ _. Unit {0}) }
 {
     if lacks_chosen_column(headers, choices) {
@@ -160,19 +162,20 @@ fn is_set(sets: &[SetClause], name: &Name) -> bool
     false
 }
 
-/// Whether each right side is a column, an INTEGER or NULL.
-fn may_all_be_set(sets: &[SetClause]) -> bool
-    ensures { result ≡ list_all (λ set. may_be_set set.source) sets.now }
+/// Whether each literal on a right side is of its column's type.
+fn may_all_be_set(headers: &Headers<'_>, sets: &[SetClause]) -> bool
+    ensures { result ≡ list_all (λ set. may_be_set (type_named headers.now set.column) set.source) sets.now }
 {
-    sets.iter().all(|set| may_be_set(&set.source))
+    sets.iter()
+        .all(|set| may_be_set(headers.type_named(&set.column), &set.source))
 }
 
-fn may_be_set(source: &Operand) -> bool
-    ensures { result ≡ may_be_set source.now }
+fn may_be_set(column_type: ColumnType, source: &Operand) -> bool
+    ensures { result ≡ may_be_set column_type source.now }
 {
     match source {
         Operand::Column(_) => true,
-        Operand::Constant(value) => is_integer(value),
+        Operand::Constant(value) => is_null_or_of_type(column_type, *value),
     }
 }
 

@@ -1,9 +1,10 @@
 //! The columns of a table, by their names.
 
-ghost use Rattle.std.specs.Prelude.{◌≡◌, ◌<◌, get_or, length};
-ghost use Rattle.bw_model.specs.Store.{AreHeaders, Header as AnyHeader, place_of};
+ghost use Rattle.std.specs.Prelude.{All, IsTrue, ◌≡◌, ◌<◌, get_or, length};
+ghost use Rattle.bw_code.specs.declared.kind.ColumnType.TheVariants.{Integer};
+ghost use Rattle.bw_model.specs.Store.{AreHeaders, Header as AnyHeader, place_of, type_named};
 
-use bw_code::Header;
+use bw_code::{ColumnType, Header};
 use bw_sql::Name;
 use std::marker::Model;
 
@@ -41,6 +42,13 @@ impl<'a> Headers<'a> {
         self.headers.len()
     }
 
+    /// The columns, in order.
+    pub(crate) fn as_slice(&self) -> &'a [Header<Name>]
+        ensures { result.now ≡ self.now }
+    {
+        self.headers
+    }
+
     /// The name of column i.
     pub fn name(&self, i: usize) -> &'a Name
         requires { i < length self.now }
@@ -50,6 +58,39 @@ impl<'a> Headers<'a> {
             Some(header) => &header.name,
             None => unreachable!(),
         }
+    }
+
+    /// The type of column i.
+    pub fn column_type(&self, i: usize) -> ColumnType
+        requires { i < length self.now }
+        ensures { (d : AnyHeader) → result ≡ (get_or self.now i d).column_type }
+    {
+        match self.headers.get(i) {
+            Some(header) => header.column_type,
+            None => unreachable!(),
+        }
+    }
+
+    /// The type of the column of this name; of a name that no column has, any.
+    pub fn type_named(&self, name: &Name) -> ColumnType
+        ensures { result ≡ type_named self.now name.now }
+    {
+        match self.place(name) {
+            Some(place) => self.column_type(place),
+            None => ColumnType::Integer,
+        }
+    }
+
+    /// Whether all columns are INTEGER.
+    pub(crate) fn are_integer(&self) -> bool
+        ensures { IsTrue result → All (λ header. header.column_type ≡ Integer) self.now }
+    {
+        for header in self.headers {
+            if header.column_type != ColumnType::Integer {
+                return false;
+            }
+        }
+        true
     }
 
     /// The place of the column of this name.

@@ -1,16 +1,18 @@
 //! INSERT: the cells of its rows, in the places of their columns.
 
 ghost use Rattle.std.specs.Prelude.{◌≡◌, ◌++◌, ◌<◌, All, length, map, not, position, true, IfOk, OnOk};
-ghost use Rattle.std.specs.List.{list_all, list_any};
+ghost use Rattle.std.specs.List.{list_any};
+ghost use Rattle.bw_plan.specs.Targeting.{names_of};
 ghost use Rattle.std.specs.Str.{bytes_eq};
 ghost use Rattle.bw_model.specs.Answers.{AreWholeLines, lines_of};
 ghost use Rattle.bw_model.specs.Insert.{row_for, target_columns};
-ghost use Rattle.bw_model.specs.Refusals.{is_in_range, is_missing};
+ghost use Rattle.bw_model.specs.Refusals.{is_missing};
 ghost use Rattle.bw_model.specs.Store.{are_distinct, names, value_at, value_from};
 ghost use Rattle.bw_plan.specs.Checks.{Answers, Decides, listed_tests, value_tests};
 ghost use Rattle.bw_sql.specs.Rows.{joined};
 
 use crate::headers::Headers;
+use crate::targets::{Targets, rows_fit};
 use bw_model::Refusal;
 use bw_sql::{Name, NameList, Value, ValueRows};
 use std::alloc::{AllocError, Global};
@@ -18,7 +20,7 @@ use std::alloc::{AllocError, Global};
 /// The cells of the rows that an INSERT adds to a table of these columns, row after row: each value
 /// in the place of its column, and NULL in the places of columns that aren't listed. It is refused,
 /// in this order, where a listed column isn't there, where one is listed twice, where a row has
-/// another number of values than there are columns, where a value is no INTEGER, and where there are
+/// another number of values than there are columns, where a value is not of its column's type, and where there are
 /// more rows than the table has room for. All of this is found before any memory is asked for. Where no column is
 /// listed, the cells are the values as they lie, and take no memory.
 pub fn resolve_insert(
@@ -28,7 +30,7 @@ pub fn resolve_insert(
     rows: ValueRows,
     room: usize,
 ) -> Result<Vec<Value>, Refusal>
-    ensures { let targets = target_columns headers.now columns.now in Answers (listed_tests headers.now targets ++ value_tests (length targets) room rows) result (λ cells. cells.items ≡ joined (map (row_for headers.now targets) rows)) }
+    ensures { let targets = target_columns headers.now columns.now in Answers (listed_tests headers.now targets ++ value_tests headers.now targets room rows) result (λ cells. cells.items ≡ joined (map (row_for headers.now targets) rows)) }
 {
     match columns {
         Some(names) => listed_cells(alloc, headers, names.as_slice(), rows, room),
@@ -38,9 +40,9 @@ pub fn resolve_insert(
 
 /// The cells of rows that name all columns in order.
 fn whole_cells(headers: &Headers<'_>, rows: ValueRows, room: usize) -> Result<Vec<Value>, Refusal>
-    ensures { Answers (listed_tests headers.now (names headers.now) ++ value_tests (length (names headers.now)) room rows) result (λ cells. cells.items ≡ joined (map (row_for headers.now (names headers.now)) rows)) }
+    ensures { Answers (listed_tests headers.now (names headers.now) ++ value_tests headers.now (names headers.now) room rows) result (λ cells. cells.items ≡ joined (map (row_for headers.now (names headers.now)) rows)) }
 {
-    check_rows(headers.len(), &rows, room)?;
+    check_rows(headers, Targets::All, &rows, room)?;
     Ok(rows.into_values())
 }
 
@@ -53,10 +55,10 @@ fn listed_cells(
     room: usize,
 ) -> Result<Vec<Value>, Refusal>
     requires { 0 < length names.now }
-    ensures { Answers (listed_tests headers.now names.now ++ value_tests (length names.now) room rows) result (λ cells. cells.items ≡ joined (map (row_for headers.now names.now) rows)) }
+    ensures { Answers (listed_tests headers.now names.now ++ value_tests headers.now names.now room rows) result (λ cells. cells.items ≡ joined (map (row_for headers.now names.now) rows)) }
 {
     check_listed(headers, names)?;
-    check_rows(names.len(), &rows, room)?;
+    check_rows(headers, Targets::Listed(names), &rows, room)?;
     let cells = placed_cells(alloc, headers, names, rows)?;
     Ok(cells)
 }
@@ -90,36 +92,26 @@ fn check_listed(headers: &Headers<'_>, names: &[Name]) -> Result<(), Refusal>
     Ok(())
 }
 
-/// Refuses a row of another width, a value that is no INTEGER, and more rows than there is room for.
-fn check_rows(width: usize, rows: &ValueRows, room: usize) -> Result<(), Refusal>
-    ensures { Decides (value_tests width room rows.now) result (λ _. Unit {0}) }
+/// Refuses a row of another width, a value that is not of its column's type, and more rows than there is room for.
+fn check_rows(
+    headers: &Headers<'_>,
+    targets: Targets<'_>,
+    rows: &ValueRows,
+    room: usize,
+) -> Result<(), Refusal>
+    requires { 0 < length (names_of headers.now targets) }
+    ensures { Decides (value_tests headers.now (names_of headers.now targets) room rows.now) result (λ _. Unit {0}) }
 {
-    if !rows.are_all_of_width(width) {
+    if !rows.are_all_of_width(targets.len(headers)) {
         return Err(Refusal::WrongNumberOfValues);
     }
-    if !are_integers(rows.values()) {
+    if !rows_fit(headers, targets, rows) {
         return Err(Refusal::OutOfRange);
     }
     if rows.len() > room {
         return Err(Refusal::TableFull);
     }
     Ok(())
-}
-
-/// Whether each value is an INTEGER, which is -2147483648 to 2147483647, or NULL.
-fn are_integers(values: &[Value]) -> bool
-    ensures { result ≡ list_all is_in_range values.now }
-{
-    values.iter().all(is_integer)
-}
-
-pub(crate) fn is_integer(value: &Value) -> bool
-    ensures { result ≡ is_in_range value.now }
-{
-    match value {
-        Some(number) => i32::try_from(*number).is_ok(),
-        None => true,
-    }
 }
 
 /// Whether one of the names isn't that of a column.

@@ -1,20 +1,26 @@
-//! The layouts and kinds that the words of a statement spell.
+//! The types, layouts and kinds that the words of a statement spell.
 
 ghost use Rattle.std.specs.Prelude.{◌≡◌, option_map};
 ghost use Rattle.bw_model.specs.Store.{header_of};
-ghost use Rattle.bw_model.specs.Words.{kind_of, kind_or, layout_of, layout_or};
+ghost use Rattle.bw_model.specs.Words.{kind_of, kind_or, layout_of, layout_or, type_of};
 
-use bw_code::{Header, Kind, Layout};
-use bw_sql::{ColumnDefinition, KindWord, LayoutWord, Name};
+use bw_code::{ColumnType, Header, Kind, Layout};
+use bw_sql::{ColumnDefinition, KindWord, LayoutWord, Name, TypeWord};
 use bw_table::Choice;
 
 /// The column that a definition makes: in layout V and of kind OFFSET where it says none.
 pub fn header_for(definition: ColumnDefinition) -> Header<Name>
     ensures { result ≡ header_of definition }
 {
-    let ColumnDefinition { name, layout, kind } = definition;
+    let ColumnDefinition {
+        name,
+        column_type,
+        layout,
+        kind,
+    } = definition;
     Header {
         name,
+        column_type: type_of(column_type),
         layout: layout_or(layout, Layout::V),
         kind: kind_or(kind, Kind::Offset),
     }
@@ -31,7 +37,16 @@ pub(crate) fn choice_for(layout: LayoutWord, kind: Option<KindWord>) -> Choice
     }
 }
 
-fn layout_or(word: Option<LayoutWord>, otherwise: Layout) -> Layout
+pub(crate) fn type_of(word: TypeWord) -> ColumnType
+    ensures { result ≡ type_of word }
+{
+    match word {
+        TypeWord::Integer => ColumnType::Integer,
+        TypeWord::BigInt => ColumnType::BigInt,
+    }
+}
+
+pub(crate) fn layout_or(word: Option<LayoutWord>, otherwise: Layout) -> Layout
     ensures { result ≡ layout_or word otherwise }
 {
     match word {
@@ -58,7 +73,7 @@ fn kind_if_any(word: Option<KindWord>) -> Option<Kind>
     }
 }
 
-fn layout_of(word: LayoutWord) -> Layout
+pub(crate) fn layout_of(word: LayoutWord) -> Layout
     ensures { result ≡ layout_of word }
 {
     match word {

@@ -1,0 +1,36 @@
+-- What an UPDATE answers by its tests: those that look at no row come first.
+use Rattle.std.proofs.Common.{◌≡◌, ◌∙◌, Bool, true, false, not, List, [], ◌∷◌, ◌++◌, None, Some, Result, Ok, Err, IsErrAnd, MatchResult, inl, inr, sym, ap, subst, ◌⊎◌}
+use Rattle.bw_model.specs.Refusals.{Tests, first_that_holds}
+use Rattle.bw_model.specs.declared.refusal.Refusal.{Refusal}
+use Rattle.bw_model.specs.declared.refusal.Refusal.TheVariants.{OutOfMemory, OutOfRange}
+use Rattle.bw_plan.specs.Checks.{MayRefuse}
+use Rattle.bw_plan.proofs.Tests.{first-append_none, first-append_some, no_test, this_test}
+use Rattle.bw_engine.specs.Outcomes.{AnswersAfter}
+
+module _ {T : Type 0} (early : Tests) where
+  -- refused by what looks at no row
+  pub after_early : (last : Refusal × Bool) (r : Result T Refusal) (P : T → Type 0) (x : Refusal) → MayRefuse early x → IsErrAnd r (λ e. e ≡ x) → AnswersAfter early (early ++ last ∷ []) r P
+  after_early last (Ok y) P x may same = absurd same
+  after_early last (Err e) P x may same =
+      elim may [
+        | inl p ↦ inl (p.0, same ∙ p.1)
+        | inr p ↦ inr (first-append_some early (last ∷ []) x p ∙ ap (λ y. Some y) (sym same))
+      ]
+
+  -- memory is wanting behind it
+  pub after_memory : (last : Refusal × Bool) (r : Result T Refusal) (P : T → Type 0) → first_that_holds early ≡ None → IsErrAnd r (λ e. e ≡ OutOfMemory) → AnswersAfter early (early ++ last ∷ []) r P
+  after_memory last (Ok y) P none same = absurd same
+  after_memory last (Err e) P none same = inl (none, same)
+
+  -- a copied value is of another type, or memory is wanting
+  pub after_fault : (fit : Bool) (r : Result T Refusal) (P : T → Type 0) (x : Refusal) → first_that_holds early ≡ None → ((x ≡ OutOfMemory) ⊎ ((x ≡ OutOfRange) × (fit ≡ false))) → IsErrAnd r (λ e. e ≡ x)
+      → AnswersAfter early (early ++ (OutOfRange, not fit) ∷ []) r P
+  after_fault fit (Ok y) P x none may same = absurd same
+  after_fault fit (Err e) P x none may same =
+      elim may [
+        | inl p ↦ inl (none, same ∙ p)
+        | inr p ↦ inr (first-append_none early ((OutOfRange, not fit) ∷ []) none ∙ this_test (not fit) OutOfRange None (ap not p.1) ∙ ap (λ y. Some y) (sym (same ∙ p.0)))
+      ]
+
+  pub after_none : (fit : Bool) → first_that_holds early ≡ None → fit ≡ true → first_that_holds (early ++ (OutOfRange, not fit) ∷ []) ≡ None
+  after_none fit none fits = first-append_none early ((OutOfRange, not fit) ∷ []) none ∙ no_test (not fit) OutOfRange None (ap not fits)
