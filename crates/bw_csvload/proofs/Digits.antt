@@ -1,4 +1,4 @@
--- A number of digits, read until it is too large for an INTEGER.
+-- A number of digits, read until it is too large for each type.
 use Rattle.std.proofs.Common.{Bool, List, Option, [], add-one, ap, arith, drop, drop-cons, false, get_or, length, min, refl, suc, sym, take, take-append-drop, true, ℕ, ◌<◌, ◌&&◌, ◌*◌, ◌+◌, ◌++◌, ◌-◌, ◌≡◌, ◌∙◌, ◌∷◌, ◌≤◌}
 use Rattle.std.proofs.lemmas.Bool.Decides.{nat_tests}
 use Rattle.std.proofs.lemmas.List.{take_rest}

@@ -1,8 +1,12 @@
 -- What was put last so far, and what the rest gives, make the whole.
-use Rattle.std.proofs.Common.{Err, Option, length-append, ℤ, List, Ok, Result, [], ap, refl, sym, ℕ, ◌+◌, ◌++◌, ◌*◌, ◌≡◌, ◌∙◌, ◌∷◌, add-one, append_assoc, arith, drop, drop-cons, get_or, length, suc, ◌<◌}
+use Rattle.std.proofs.Common.{Err, Option, length-append, ℤ, List, Ok, Result, [], ap, ap₂, map, refl, sym, zero, ℕ, ◌+◌, ◌++◌, ◌*◌, ◌≡◌, ◌∙◌, ◌∷◌, add-one, append_assoc, arith, drop, drop-cons, get_or, length, suc, ◌<◌}
 use Rattle.std.proofs.lemmas.Bool.Decides.{nat_tests}
-use Rattle.std.proofs.lemmas.List.{append-nil}
+use Rattle.std.proofs.lemmas.List.{append-nil, get_or-map, length-map}
+use Rattle.std.proofs.lemmas.Slice.Zip.{get_or-zip, length-zip}
 use Rattle.std.specs.Prelude.{true, ◌==◌}
+use Rattle.std.specs.List.{All, zip}
+use Rattle.bw_code.specs.declared.kind.ColumnType.{ColumnType}
+use Rattle.bw_code.specs.declared.kind.ColumnType.TheVariants.{Integer}
 use Rattle.bw_csvload.specs.Rows.{Appends, IsFault, Row, all_or_first, before, cell_at, lines_of, numbered, row_of}
 use Rattle.bw_csvload.specs.declared.fault.CsvFault.{CsvFault}
 use Rattle.bw_csvload.specs.declared.fault.CsvFault.TheVariants as fault
@@ -71,8 +75,35 @@ module _ {A B : Type 0} (f : ℕ → A → Result B CsvFault) (xs : List A) (i :
       grow_more (all_or_first (numbered f 1 xs)) old now y (all_or_first (numbered f (i + 1 + 1) (drop (i + 1) xs))) (record { added = g.added; grown = g.grown; goes_on = g.goes_on ∙ ap (after g.added) next })
 
 -- the row of a record of the right length
-pub row_of-fits : (columns n : ℕ) (fields : List (List ℕ)) → length fields ≡ columns → row_of columns n fields ≡ all_or_first (numbered (cell_at n) 1 fields)
-row_of-fits columns n fields e = let same : (length fields == columns) ≡ true = grind (arith, nat_tests) in rw same refl
+pub row_of-fits : (types : List ColumnType) (n : ℕ) (fields : List (List ℕ)) → length fields ≡ length types → row_of types n fields ≡ all_or_first (numbered (cell_at n) 1 (zip types fields))
+row_of-fits types n fields e = let same : (length fields == length types) ≡ true = grind (arith, nat_tests) in rw same refl
+
+-- the fields of columns of INTEGER alone
+pub integer_fields : (types : List ColumnType) (fields : List (List ℕ)) → All (λ t. t ≡ Integer) types → length fields ≡ length types → zip types fields ≡ map (λ text. (Integer, text)) fields
+integer_fields [] [] all same = refl
+integer_fields [] (text ∷ fields) all same = absurd (omega (arith, same))
+integer_fields (t ∷ types) [] all same = absurd (omega (arith, same))
+integer_fields (t ∷ types) (text ∷ fields) all same =
+    ap₂ (λ (first : ColumnType) rest. (first, text) ∷ rest) (all zero t (omega arith)) (integer_fields types fields (λ i other within. all (suc i) other (omega (arith, within))) (omega (arith, same)))
+
+-- the field at a place of a record, beside its column's type
+pub record IsThere {A : Type 0} (xs : List A) (i : ℕ) (d x : A) : Type 0 where
+  pub inside : i < length xs
+  pub is : get_or xs i d ≡ x
+
+pub field_there : (types : List ColumnType) (fields : List (List ℕ)) (i : ℕ) (d : ColumnType) (text : List ℕ) → length fields ≡ length types → i < length types → get_or fields i [] ≡ text
+    → IsThere {A = ColumnType × List ℕ} (zip types fields) i (d, []) (get_or types i d, text)
+field_there types fields i d text same there is = record {
+  inside = omega (arith, length-zip types fields);
+  is = get_or-zip types fields i (d, []) there (omega arith) ∙ ap (λ field. (get_or types i d, field)) is;
+}
+
+pub integer_there : (fields : List (List ℕ)) (i : ℕ) (text : List ℕ) → i < length fields → get_or fields i [] ≡ text
+    → IsThere {A = ColumnType × List ℕ} (map (λ field. (Integer, field)) fields) i (Integer, []) (Integer, text)
+integer_there fields i text there is = record {
+  inside = omega (arith, length-map {B = ColumnType × List ℕ} fields (λ field. (Integer, field)));
+  is = get_or-map {Y = ColumnType × List ℕ} (λ field. (Integer, field)) fields i [] (Integer, []) there ∙ ap (λ field. (Integer, field)) is;
+}
 
 -- the rows so far, and what the rest gives, make the whole
 pub record Loading (whole : Result (List Row) CsvFault) (columns count : ℕ) (cells : List (Option ℤ)) (rest : Result (List Row) CsvFault) : Type 0 where
@@ -102,14 +133,14 @@ pub load_done : (whole : Result (List Row) CsvFault) (columns count : ℕ) (cell
 load_done whole columns count cells l = l.goes_on ∙ ap Ok (append-nil (lines_of columns count cells))
 
 -- one record more
-pub load_next : (whole : Result (List Row) CsvFault) (columns count n m : ℕ) (cells row : List (Option ℤ)) (fields : List (List ℕ)) (left more : List (List (List ℕ)))
-    → Loading whole columns count cells (all_or_first (numbered (row_of columns) n left)) → left ≡ fields ∷ more → row_of columns n fields ≡ Ok row → length row ≡ columns → m ≡ n + 1
-    → Loading whole columns (count + 1) (cells ++ row) (all_or_first (numbered (row_of columns) m more))
-load_next whole columns count n m cells row fields left more l next good wide e =
-    load_more whole columns count cells row (all_or_first (numbered (row_of columns) m more)) wide (rw (next, good, ← e) at l)
+pub load_next : (whole : Result (List Row) CsvFault) (types : List ColumnType) (count n m : ℕ) (cells row : List (Option ℤ)) (fields : List (List ℕ)) (left more : List (List (List ℕ)))
+    → Loading whole (length types) count cells (all_or_first (numbered (row_of types) n left)) → left ≡ fields ∷ more → row_of types n fields ≡ Ok row → length row ≡ length types → m ≡ n + 1
+    → Loading whole (length types) (count + 1) (cells ++ row) (all_or_first (numbered (row_of types) m more))
+load_next whole types count n m cells row fields left more l next good wide e =
+    load_more whole (length types) count cells row (all_or_first (numbered (row_of types) m more)) wide (rw (next, good, ← e) at l)
 
 -- one record more, which is a fault
-pub load_stop : (whole : Result (List Row) CsvFault) (columns count n : ℕ) (cells : List (Option ℤ)) (fields : List (List ℕ)) (left more : List (List (List ℕ))) (e : CsvFault)
-    → Loading whole columns count cells (all_or_first (numbered (row_of columns) n left)) → left ≡ fields ∷ more → IsFault (row_of columns n fields) e → IsFault whole e
-load_stop whole columns count n cells fields left more e l next fault =
-    load_fault whole columns count cells (row_of columns n fields) (all_or_first (numbered (row_of columns) (n + 1) more)) e (rw next at l) fault
+pub load_stop : (whole : Result (List Row) CsvFault) (types : List ColumnType) (count n : ℕ) (cells : List (Option ℤ)) (fields : List (List ℕ)) (left more : List (List (List ℕ))) (e : CsvFault)
+    → Loading whole (length types) count cells (all_or_first (numbered (row_of types) n left)) → left ≡ fields ∷ more → IsFault (row_of types n fields) e → IsFault whole e
+load_stop whole types count n cells fields left more e l next fault =
+    load_fault whole (length types) count cells (row_of types n fields) (all_or_first (numbered (row_of types) (n + 1) more)) e (rw next at l) fault

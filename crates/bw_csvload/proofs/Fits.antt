@@ -1,12 +1,15 @@
--- The rows of a file fit the columns, and its fault's numbers fit 64 bits.
+-- The rows of a file are of the columns' types, and its fault's numbers fit 64 bits.
 use Rattle.std.proofs.Common.{Bool, Err, List, None, Ok, Option, Result, Some, [], arith, drop, false, if◌then◌else◌, length, length-drop, neg_ℤ, pos, refl, suc, true, zero, ℕ, ℤ, ◌<◌, ◌+◌, ◌^◌, ◌≡◌, ◌∷◌, ◌≤◌}
-use Rattle.std.specs.Prelude.{◌==◌, nat_le}
-use Rattle.std.specs.List.{All}
+use Rattle.std.specs.Prelude.{◌==◌}
+use Rattle.std.specs.List.{All, zip}
 use Rattle.std.specs.Str.Parse.{digits_value}
-use Rattle.std.proofs.lemmas.Bool.{eqb-true, leb-true}
+use Rattle.std.proofs.lemmas.Bool.{eqb-true}
 use Rattle.std.proofs.lemmas.List.Elements.{All-cons, All-nil}
-use Rattle.bw_csvload.specs.Fields.{are_digits, cell_of, integer_of, is_minus, is_null, without_sign}
-use Rattle.bw_csvload.specs.Fitting.{FitsColumns, IsCell, IsOrFault}
+use Rattle.bw_code.specs.Types.{IsNullOrOfType, IsRowOf, is_of_type}
+use Rattle.bw_code.specs.declared.kind.ColumnType.{ColumnType}
+use Rattle.bw_code.proofs.Types.{of_type}
+use Rattle.bw_csvload.specs.Fields.{are_digits, cell_of, is_minus, is_null, signed, within_type, without_sign}
+use Rattle.bw_csvload.specs.Fitting.{IsOrFault}
 use Rattle.bw_csvload.specs.Rows.{Row, all_or_first, before, cell_at, csv_records, located, numbered, row_of, rows_of, rows_of_file}
 use Rattle.bw_csvload.specs.declared.fault.CsvFault.{CsvFault}
 use Rattle.bw_csvload.specs.declared.fault.CsvFault.TheVariants as fault
@@ -17,43 +20,31 @@ use Rattle.bw_csvload.specs.declared.load.FirstRecord.TheVariants as first
 use Rattle.csv.specs.Reading.{strip_bom}
 use Rattle.bw_csvload.proofs.Fuel.{length-csv_records, length-strip_bom}
 
--- a field says null, an INTEGER, or a fault
+-- a field says null, an integer of its column's type, or a fault
 
-abbrev IsFieldCell : Result (Option ℤ) FieldFault → Type 0
-IsFieldCell (Ok cell) = IsCell cell
-IsFieldCell (Err e) = Unit {0}
+abbrev IsFieldCell : ColumnType → Result (Option ℤ) FieldFault → Type 0
+IsFieldCell t (Ok cell) = IsNullOrOfType t cell
+IsFieldCell t (Err e) = Unit {0}
 
-negative : (size : ℕ) → size ≤ 2147483648 → IsCell (Some (neg_ℤ (pos size)))
-negative zero few = omega arith
-negative (suc n) few = omega (arith, few)
-
-positive : (size : ℕ) → size ≤ 2147483647 → IsCell (Some (pos size))
-positive size few = omega (arith, few)
-
-integer_fits : (minus : Bool) (size : ℕ) → IsFieldCell (integer_of minus size)
-integer_fits true size = by (nat_le size 2147483648) refl
+integer_fits : (t : ColumnType) (x : ℤ) → IsFieldCell t (within_type t x)
+integer_fits t x = by (is_of_type t x) refl
   where
-    by : (b : Bool) → nat_le size 2147483648 ≡ b → IsFieldCell (if b then Ok (Some (neg_ℤ (pos size))) else Err field.Range)
-    by true e = negative size (leb-true size 2147483648 e)
-    by false e = tt
-integer_fits false size = by (nat_le size 2147483647) refl
-  where
-    by : (b : Bool) → nat_le size 2147483647 ≡ b → IsFieldCell (if b then Ok (Some (pos size)) else Err field.Range)
-    by true e = positive size (leb-true size 2147483647 e)
+    by : (b : Bool) → is_of_type t x ≡ b → IsFieldCell t (if b then Ok (Some x) else Err field.Range)
+    by true e = of_type t x e
     by false e = tt
 
-field_fits : (text : List ℕ) → IsFieldCell (cell_of text)
-field_fits text = by (is_null text) (are_digits (without_sign text)) (integer_of (is_minus text) (digits_value 10 (without_sign text))) (integer_fits (is_minus text) (digits_value 10 (without_sign text)))
+pub field_fits : (t : ColumnType) (text : List ℕ) → IsFieldCell t (cell_of t text)
+field_fits t text = let x = signed (is_minus text) (digits_value 10 (without_sign text)) in by (is_null text) (are_digits (without_sign text)) (within_type t x) (integer_fits t x)
   where
-    by : (null digits : Bool) (integer : Result (Option ℤ) FieldFault) → IsFieldCell integer → IsFieldCell (if null then Ok None else if digits then integer else Err field.NotInteger)
+    by : (null digits : Bool) (integer : Result (Option ℤ) FieldFault) → IsFieldCell t integer → IsFieldCell t (if null then Ok None else if digits then integer else Err field.NotInteger)
     by true digits integer fits = tt
     by false true integer fits = fits
     by false false integer fits = tt
 
-cell_fits : (record' place : ℕ) (text : List ℕ) → record' < 2 ^ 64 → place < 2 ^ 64 → IsOrFault IsCell (cell_at record' place text)
-cell_fits record' place text few near = by (cell_of text) (field_fits text)
+pub cell_fits : (record' place : ℕ) (t : ColumnType) (text : List ℕ) → record' < 2 ^ 64 → place < 2 ^ 64 → IsOrFault (IsNullOrOfType t) (cell_at record' place (t, text))
+cell_fits record' place t text few near = by (cell_of t text) (field_fits t text)
   where
-    by : (said : Result (Option ℤ) FieldFault) → IsFieldCell said → IsOrFault IsCell (located record' place said)
+    by : (said : Result (Option ℤ) FieldFault) → IsFieldCell t said → IsOrFault (IsNullOrOfType t) (located record' place said)
     by (Ok cell) fits = fits
     by (Err field.NotInteger) fits = (few, near)
     by (Err field.Range) fits = tt
@@ -77,30 +68,40 @@ module _ {A B : Type 0} (P : B → Type 0) (f : ℕ → A → Result B CsvFault)
       rw count at deeper
 
 -- the row of a record
-row_fits : (columns n : ℕ) (fields : List (List ℕ)) → columns < 2 ^ 64 → n < 2 ^ 64 → IsOrFault (FitsColumns columns) (row_of columns n fields)
-row_fits columns n fields few near = by (length fields == columns) refl
-  where
-    as_row : (cells : Result Row CsvFault) → length fields ≡ columns → IsOrFault (AreEach IsCell (length fields)) cells → IsOrFault (FitsColumns columns) cells
-    as_row (Ok row) same are = let full = are.full in record { full = omega arith; cells = are.all }
-    as_row (Err e) same are = are
 
-    by : (b : Bool) → (length fields == columns) ≡ b → IsOrFault (FitsColumns columns) (if b then all_or_first (numbered (cell_at n) 1 fields) else Err (fault.Fields n))
-    by true e =
-        let same = eqb-true (length fields) columns e in
-        as_row (all_or_first (numbered (cell_at n) 1 fields)) same (each_fits IsCell (cell_at n) (2 ^ 64) (λ place text within. cell_fits n place text near within) 1 fields (omega arith))
+cell_more : (t : ColumnType) (types : List ColumnType) (one : Result (Option ℤ) CsvFault) (rest : Result Row CsvFault)
+    → IsOrFault (IsNullOrOfType t) one → IsOrFault (IsRowOf types) rest → IsOrFault (IsRowOf (t ∷ types)) (before one rest)
+cell_more t types (Err e) rest is are = is
+cell_more t types (Ok cell) (Err e) is are = are
+cell_more t types (Ok cell) (Ok row) is are = (is, are)
+
+cells_fit : (record' n : ℕ) (types : List ColumnType) (fields : List (List ℕ)) → record' < 2 ^ 64 → length fields ≡ length types → n + length types ≤ 2 ^ 64 → IsOrFault (IsRowOf types) (all_or_first (numbered (cell_at record') n (zip types fields)))
+cells_fit record' n [] [] few same near = tt
+cells_fit record' n [] (text ∷ fields) few same near = absurd (omega (arith, same))
+cells_fit record' n (t ∷ types) [] few same near = absurd (omega (arith, same))
+cells_fit record' n (t ∷ types) (text ∷ fields) few same near =
+    cell_more t types (cell_at record' n (t, text)) (all_or_first (numbered (cell_at record') (n + 1) (zip types fields)))
+    (cell_fits record' n t text few (omega (arith, near)))
+    (cells_fit record' (n + 1) types fields few (omega (arith, same)) (omega (arith, near)))
+
+row_fits : (types : List ColumnType) (n : ℕ) (fields : List (List ℕ)) → length types < 2 ^ 64 → n < 2 ^ 64 → IsOrFault (IsRowOf types) (row_of types n fields)
+row_fits types n fields few near = by (length fields == length types) refl
+  where
+    by : (b : Bool) → (length fields == length types) ≡ b → IsOrFault (IsRowOf types) (if b then all_or_first (numbered (cell_at n) 1 (zip types fields)) else Err (fault.Fields n))
+    by true e = cells_fit n 1 types fields near (eqb-true (length fields) (length types) e) (omega (arith, few))
     by false e = near
 
-module _ (columns : ℕ) (few : columns < 2 ^ 64) where
-  rows_from : (n : ℕ) (records : List (List (List ℕ))) → n + length records ≤ 2 ^ 64 → IsOrFault (All (FitsColumns columns)) (all_or_first (numbered (row_of columns) n records))
-  rows_from n records near = by (all_or_first (numbered (row_of columns) n records)) (each_fits (FitsColumns columns) (row_of columns) (2 ^ 64) (λ m fields within. row_fits columns m fields few within) n records near)
+module _ (types : List ColumnType) (few : length types < 2 ^ 64) where
+  rows_from : (n : ℕ) (records : List (List (List ℕ))) → n + length records ≤ 2 ^ 64 → IsOrFault (All (IsRowOf types)) (all_or_first (numbered (row_of types) n records))
+  rows_from n records near = by (all_or_first (numbered (row_of types) n records)) (each_fits (IsRowOf types) (row_of types) (2 ^ 64) (λ m fields within. row_fits types m fields few within) n records near)
     where
-      by : (rows : Result (List Row) CsvFault) → IsOrFault (AreEach (FitsColumns columns) (length records)) rows → IsOrFault (All (FitsColumns columns)) rows
+      by : (rows : Result (List Row) CsvFault) → IsOrFault (AreEach (IsRowOf types) (length records)) rows → IsOrFault (All (IsRowOf types)) rows
       by (Ok rows) are = are.all
       by (Err e) are = are
 
-  rows_among : (first : FirstRecord) (records : List (List (List ℕ))) → length records < 2 ^ 63 → IsOrFault (All (FitsColumns columns)) (rows_of columns first records)
+  rows_among : (first : FirstRecord) (records : List (List (List ℕ))) → length records < 2 ^ 63 → IsOrFault (All (IsRowOf types)) (rows_of types first records)
   rows_among first.Row records near = rows_from 1 records (omega arith)
   rows_among first.Header records near = rows_from 2 (drop 1 records) (omega (arith, length-drop 1 records))
 
-  pub rows_in_file : (first : FirstRecord) (bytes : List ℕ) → length bytes < 2 ^ 62 → IsOrFault (All (FitsColumns columns)) (rows_of_file columns first bytes)
+  pub rows_in_file : (first : FirstRecord) (bytes : List ℕ) → length bytes < 2 ^ 62 → IsOrFault (All (IsRowOf types)) (rows_of_file types first bytes)
   rows_in_file first bytes near = rows_among first (csv_records (strip_bom bytes)) (omega (arith, length-csv_records (strip_bom bytes), length-strip_bom bytes))

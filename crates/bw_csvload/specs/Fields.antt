@@ -1,9 +1,11 @@
--- What a field of a CSV file says: NULL, or an INTEGER by an optional sign and digits.
-use Rattle.std.specs.Prelude.{Bool, Err, List, Ok, None, Option, Result, Some, [], codes, if◌then◌else◌, neg_ℤ, nat_le, not, pos, ℕ, ℤ, ◌&&◌, ◌==◌, ◌||◌, ◌∷◌, false, true, length}
+-- What a field of a CSV file says: NULL, or an integer of its column's type by an optional sign and digits.
+use Rattle.std.specs.Prelude.{Bool, Err, List, Ok, None, Option, Result, Some, [], codes, if◌then◌else◌, neg_ℤ, not, pos, ℕ, ℤ, ◌&&◌, ◌==◌, ◌||◌, ◌∷◌, false, true, length}
 use Rattle.std.specs.Char.{is_ascii_digit}
 use Rattle.std.specs.List.{list_all}
 use Rattle.std.specs.Str.{str_eq_ignore_ascii_case}
 use Rattle.std.specs.Str.Parse.{digits_value}
+use Rattle.bw_code.specs.Types.{is_of_type}
+use Rattle.bw_code.specs.declared.kind.ColumnType.{ColumnType}
 use Rattle.bw_csvload.specs.declared.fault.FieldFault.{FieldFault}
 use Rattle.bw_csvload.specs.declared.fault.FieldFault.TheVariants.{NotInteger, Range}
 
@@ -25,14 +27,17 @@ without_sign (b ∷ bytes) = if (b == 43) || (b == 45) then bytes else b ∷ byt
 abbrev pub are_digits : List ℕ → Bool
 are_digits text = not (length text == 0) && list_all is_ascii_digit text
 
--- an INTEGER of this size, if there is one
-abbrev pub integer_of : Bool → ℕ → Result (Option ℤ) FieldFault
-integer_of true size = if nat_le size 2147483648 then Ok (Some (neg_ℤ (pos size))) else Err Range
-integer_of false size = if nat_le size 2147483647 then Ok (Some (pos size)) else Err Range
+-- the integer of this sign and size
+abbrev pub signed : Bool → ℕ → ℤ
+signed minus size = if minus then neg_ℤ (pos size) else pos size
 
--- what a field says
-abbrev pub cell_of : List ℕ → Result (Option ℤ) FieldFault
-cell_of text =
+-- the integer, where the type has it
+abbrev pub within_type : ColumnType → ℤ → Result (Option ℤ) FieldFault
+within_type t x = if is_of_type t x then Ok (Some x) else Err Range
+
+-- what a field of a column of this type says
+abbrev pub cell_of : ColumnType → List ℕ → Result (Option ℤ) FieldFault
+cell_of t text =
     if is_null text then Ok None
-    else if are_digits (without_sign text) then integer_of (is_minus text) (digits_value 10 (without_sign text))
+    else if are_digits (without_sign text) then within_type t (signed (is_minus text) (digits_value 10 (without_sign text)))
     else Err NotInteger

@@ -1,6 +1,8 @@
 -- The rows that records spell, or the first fault by record and field.
 use Rattle.std.specs.Prelude.{Err, List, Ok, Option, Result, [], drop, if◌then◌else◌, length, take, zero, suc, ℕ, ℤ, ◌+◌, ◌==◌, ◌++◌, ◌∷◌, ◌≡◌, ⊤}
+use Rattle.std.specs.List.{zip}
 use Rattle.csv.specs.Reading.{default_config, records, strip_bom}
+use Rattle.bw_code.specs.declared.kind.ColumnType.{ColumnType}
 use Rattle.bw_csvload.specs.Fields.{cell_of}
 use Rattle.bw_csvload.specs.declared.fault.CsvFault.{CsvFault}
 use Rattle.bw_csvload.specs.declared.fault.CsvFault.TheVariants as fault
@@ -34,26 +36,27 @@ located record' n (Ok cell) = Ok cell
 located record' n (Err field.NotInteger) = Err (fault.NotInteger record' n)
 located record' n (Err field.Range) = Err fault.Range
 
-abbrev pub cell_at : ℕ → ℕ → List ℕ → Result (Option ℤ) CsvFault
-cell_at record' n text = located record' n (cell_of text)
+-- the same of field n, beside its column's type
+abbrev pub cell_at : ℕ → ℕ → ColumnType × List ℕ → Result (Option ℤ) CsvFault
+cell_at record' n field = located record' n (cell_of field.0 field.1)
 
--- the row of a record, or its first fault
-abbrev pub row_of : ℕ → ℕ → List (List ℕ) → Result Row CsvFault
-row_of columns record' fields =
-    if length fields == columns then all_or_first (numbered (cell_at record') 1 fields) else Err (fault.Fields record')
+-- the row of a record whose fields belong to columns of these types in order, or its first fault
+abbrev pub row_of : List ColumnType → ℕ → List (List ℕ) → Result Row CsvFault
+row_of types record' fields =
+    if length fields == length types then all_or_first (numbered (cell_at record') 1 (zip types fields)) else Err (fault.Fields record')
 
 -- the rows of these records, of which a header is left out unread
-abbrev pub rows_of : ℕ → FirstRecord → List (List (List ℕ)) → Result (List Row) CsvFault
-rows_of columns first.Row records = all_or_first (numbered (row_of columns) 1 records)
-rows_of columns first.Header records = all_or_first (numbered (row_of columns) 2 (drop 1 records))
+abbrev pub rows_of : List ColumnType → FirstRecord → List (List (List ℕ)) → Result (List Row) CsvFault
+rows_of types first.Row records = all_or_first (numbered (row_of types) 1 records)
+rows_of types first.Header records = all_or_first (numbered (row_of types) 2 (drop 1 records))
 
 -- the records that `csv` gives for a text
 abbrev pub csv_records : List ℕ → List (List (List ℕ))
 csv_records text = records default_config (strip_bom text)
 
 -- the rows of a file, whose one leading byte order mark is dropped before `csv` reads it
-abbrev pub rows_of_file : ℕ → FirstRecord → List ℕ → Result (List Row) CsvFault
-rows_of_file columns first bytes = rows_of columns first (csv_records (strip_bom bytes))
+abbrev pub rows_of_file : List ColumnType → FirstRecord → List ℕ → Result (List Row) CsvFault
+rows_of_file types first bytes = rows_of types first (csv_records (strip_bom bytes))
 
 -- this fault is answered where it is wanted; want of memory may be answered in any case
 abbrev pub IsFault : {A : Type 0} → Result A CsvFault → CsvFault → Type 0

@@ -1,13 +1,13 @@
--- The size of a number as far as INTEGER tells sizes apart, so that 64 bits hold what any digits write.
+-- The size of a number as far as the types tell sizes apart, so that 64 bits hold what any digits write.
 use Rattle.std.specs.Prelude.{List, Option, min, ℕ}
 use Rattle.std.specs.Bool.{then_some}
 use Rattle.std.specs.Char.{is_ascii_digit}
 use Rattle.std.specs.List.{list_all}
 use Rattle.std.specs.Str.Parse.{digits_value_after}
 
--- the first size that no INTEGER has, with either sign
+-- the first size that no BIGINT has, with either sign
 abbrev pub too_large : ℕ
-too_large = 2147483649
+too_large = 9223372036854775809
 
 -- the number that digits write after those of n, if there are digits alone
 abbrev pub size_after : ℕ → List ℕ → Option ℕ

@@ -1,9 +1,11 @@
 //! The rows of a file, flat in memory.
 
-ghost use Rattle.std.specs.Prelude.{◌≡◌, ◌<◌, ◌*◌, [], get_or, length};
+ghost use Rattle.std.specs.Prelude.{◌≡◌, ◌<◌, ◌+◌, ◌*◌, ◌≤◌, [], drop, get_or, length, take};
 ghost use Rattle.std.specs.List.{flat_map};
+ghost use Rattle.bw_csvload.specs.Forms.{cells_in, cells_of};
 ghost use Rattle.bw_csvload.specs.Rows.{lines_of};
 
+use crate::cells::{CellList, Cells};
 use std::marker::Model;
 
 /// The rows of a file, all of one width, one after the other in one buffer. A contract sees the
@@ -13,25 +15,36 @@ pub struct CsvRows {
     width: usize,
     /// How many rows there are: the cells don't tell, where a row has none.
     count: usize,
-    cells: Vec<Option<i32>>,
+    cells: CellList,
 }
 
 impl Model for CsvRows {
     ghost use Rattle.std.specs.Prelude.{List, ◌≡◌, ◌*◌, length};
+    ghost use Rattle.bw_csvload.specs.Forms.{cells_in};
     ghost use Rattle.bw_csvload.specs.Rows.{lines_of, Row};
 
     ghost Value = { List Row };
 
-    ghost view = { λ rows. lines_of rows.width rows.count rows.cells.items };
+    ghost view = { λ rows. lines_of rows.width rows.count (cells_in rows.cells) };
 
-    ghost invariant = { λ rows. length rows.cells.items ≡ rows.count * rows.width };
+    ghost invariant = { λ rows. length (cells_in rows.cells) ≡ rows.count * rows.width };
+}
+
+/// Line i of this width in these cells.
+fn line<T>(cells: &[T], width: usize, i: usize) -> &[T]
+    requires { i * width + width ≤ length cells.now }
+    ensures { result.now ≡ take width (drop (i * width) cells.now) }
+{
+    let (_, rest) = cells.split_at(i * width);
+    let (line, _) = rest.split_at(width);
+    line
 }
 
 impl CsvRows {
     /// So many rows of this width, which lie in these cells.
-    pub(crate) fn new(width: usize, count: usize, cells: Vec<Option<i32>>) -> CsvRows
-        requires { length cells.items ≡ count * width }
-        ensures { result ≡ lines_of width count cells.items }
+    pub(crate) fn new(width: usize, count: usize, cells: CellList) -> CsvRows
+        requires { length (cells_in cells) ≡ count * width }
+        ensures { result ≡ lines_of width count (cells_in cells) }
     {
         CsvRows {
             width,
@@ -47,20 +60,21 @@ impl CsvRows {
         self.count
     }
 
-    /// The cells of row i, where rows are counted from 0; NULL is `None`.
-    pub fn row(&self, i: usize) -> &[Option<i32>]
+    /// The cells of row i, where rows are counted from 0.
+    pub fn row(&self, i: usize) -> Cells<'_>
         requires { i < length self.now }
-        ensures { result.now ≡ get_or self.now i [] }
+        ensures { cells_of result ≡ get_or self.now i [] }
     {
-        let (_, rest) = self.cells.split_at(i * self.width);
-        let (row, _) = rest.split_at(self.width);
-        row
+        match self.cells.as_cells() {
+            Cells::Integers(cells) => Cells::Integers(line(cells, self.width, i)),
+            Cells::Values(cells) => Cells::Values(line(cells, self.width, i)),
+        }
     }
 
-    /// The cells of all rows, row after row; NULL is `None`.
-    pub fn cells(&self) -> &[Option<i32>]
-        ensures { result.now ≡ flat_map (λ row. row) self.now }
+    /// The cells of all rows, row after row.
+    pub fn cells(&self) -> Cells<'_>
+        ensures { cells_of result ≡ flat_map (λ row. row) self.now }
     {
-        &self.cells
+        self.cells.as_cells()
     }
 }

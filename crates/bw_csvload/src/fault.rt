@@ -13,7 +13,7 @@ pub enum CsvFault {
     Fields(u64),
     /// Of this record this field is neither NULL nor an integer.
     NotInteger(u64, u64),
-    /// An integer lies outside INTEGER, which goes from -2147483648 to 2147483647.
+    /// An integer lies outside the type of its column.
     Range,
     /// There was not enough memory for the rows or for a record.
     Memory,
@@ -32,6 +32,6 @@ impl<T: Drop> From<AllocFailed<T>> for CsvFault {
 pub(crate) enum FieldFault {
     /// It is neither NULL nor an integer.
     NotInteger,
-    /// It is an integer outside INTEGER.
+    /// It is an integer outside the type of its column.
     Range,
 }

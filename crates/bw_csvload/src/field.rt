@@ -1,21 +1,25 @@
 //! What a field of a file says.
 
-ghost use Rattle.std.specs.Prelude.{◌<◌, ◌≡◌};
+ghost use Rattle.std.specs.Prelude.{◌<◌, ◌^◌, ◌≡◌};
 ghost use Rattle.std.specs.Char.{is_ascii_digit};
 ghost use Rattle.std.specs.List.{list_all};
 ghost use Rattle.bw_csvload.specs.Sizes.{size_after, size_of};
-ghost use Rattle.bw_csvload.specs.Fields.{cell_of, is_minus, is_null, without_sign};
+ghost use Rattle.bw_csvload.specs.Fields.{cell_of, is_minus, is_null, within_type, without_sign};
 
 use crate::fault::FieldFault;
 use crate::lanes::{LANES, number_written};
+use bw_code::ColumnType;
 use std::simd::prelude::*;
 
-/// The first size that no INTEGER has, with either sign.
-const TOO_LARGE: u64 = 2_147_483_649;
+/// The first size that no BIGINT has, with either sign.
+const TOO_LARGE: u64 = 9_223_372_036_854_775_809;
 
-/// What a field says: NULL, or an INTEGER.
-pub(crate) fn cell(text: &[u8]) -> Result<Option<i32>, FieldFault>
-    ensures { result ≡ cell_of text.now }
+/// From this size on one digit more makes a number too large for each type. Below it 64 bits hold ten times as much.
+const FULL: u64 = 1_000_000_000_000_000_000;
+
+/// What a field of a column of this type says: NULL, or an integer of the type.
+pub(crate) fn cell(text: &[u8], column_type: ColumnType) -> Result<Option<i64>, FieldFault>
+    ensures { result ≡ cell_of column_type text.now }
 {
     if is_null(text) {
         return Ok(None);
@@ -27,11 +31,18 @@ pub(crate) fn cell(text: &[u8]) -> Result<Option<i32>, FieldFault>
     let Some(size) = size_of(digits) else {
         return Err(FieldFault::NotInteger);
     };
-    let size = size as i64;
+    let size = i128::from(size);
     let number = if is_minus(text) { -size } else { size };
-    match i32::try_from(number) {
-        Ok(number) => Ok(Some(number)),
-        Err(_) => Err(FieldFault::Range),
+    within_type(column_type, number)
+}
+
+/// The integer, where the type has it.
+fn within_type(column_type: ColumnType, number: i128) -> Result<Option<i64>, FieldFault>
+    ensures { result ≡ within_type column_type number }
+{
+    match i64::try_from(number) {
+        Ok(number) if column_type.contains(number) => Ok(Some(number)),
+        _ => Err(FieldFault::Range),
     }
 }
 
@@ -77,7 +88,7 @@ fn size_of(text: &[u8]) -> Option<u64>
 /// The number that the text writes after the digits of `front`, or `TOO_LARGE` where it is greater;
 /// `None` where not each byte is a digit.
 fn size_after(front: u64, text: &[u8]) -> Option<u64>
-    requires { front < TOO_LARGE }
+    requires { front < 10 ^ 19 }
     ensures { result ≡ size_after front text.now }
 {
     let mut size = front;
@@ -85,13 +96,13 @@ fn size_after(front: u64, text: &[u8]) -> Option<u64>
         if !text[i].is_ascii_digit() {
             return None;
         }
-        size = size * 10 + u64::from(text[i] - b'0');
         // Further digits would only make it greater, so that they need no number that holds them.
-        if size >= TOO_LARGE {
+        if size >= FULL {
             return all_digits(&text[i + 1..]).then_some(TOO_LARGE);
         }
+        size = size * 10 + u64::from(text[i] - b'0');
     }
-    Some(size)
+    Some(size.min(TOO_LARGE))
 }
 
 /// Whether there is nothing but digits.

@@ -1,6 +1,7 @@
-//! The rows of INTEGER cells that a CSV file spells, or its first fault.
+//! The rows that a CSV file spells for columns of given types, or its first fault.
 #![tactic(auto)]
 
+mod cells;
 mod csv_rows;
 mod fault;
 mod field;
@@ -9,6 +10,7 @@ mod laws;
 mod load;
 mod records;
 
+pub use cells::Cells;
 pub use csv_rows::CsvRows;
 pub use fault::CsvFault;
 pub use laws::rows_fit;

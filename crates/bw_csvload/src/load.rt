@@ -1,15 +1,21 @@
 //! The rows of a file, or its first fault.
 
-ghost use Rattle.std.specs.Prelude.{◌≡◌, ◌≤◌, ◌<◌, ◌+◌, ◌^◌, OnOk, length};
+ghost use Rattle.std.specs.Prelude.{◌≡◌, ◌≤◌, ◌<◌, ◌+◌, ◌^◌, OnOk, length, map};
+ghost use Rattle.std.specs.List.{zip};
 ghost use Rattle.csv.specs.Records.{fields_of};
 ghost use Rattle.csv.specs.Reading.{strip_bom};
+ghost use Rattle.bw_code.specs.Types.{IsNullOrOfType};
+ghost use Rattle.bw_code.specs.declared.kind.ColumnType.TheVariants.{Integer};
+ghost use Rattle.bw_csvload.specs.Forms.{cells_in, TakesCells};
 ghost use Rattle.bw_csvload.specs.Records.{records_left, IsReading};
 ghost use Rattle.bw_csvload.specs.Rows.{all_or_first, cell_at, numbered, row_of, rows_of_file, Answers, Appends};
 
+use crate::cells::CellList;
 use crate::csv_rows::CsvRows;
 use crate::fault::{CsvFault, FieldFault};
 use crate::field::cell;
 use crate::records::{read_next, records_of};
+use bw_code::ColumnType;
 use csv::{ByteRecord, Reader};
 use std::alloc::Global;
 
@@ -22,26 +28,26 @@ pub enum FirstRecord {
     Header,
 }
 
-/// The rows that the bytes of a CSV file spell for a table of so many columns, or the first fault
-/// by record and then by field. The fields of a record belong to the columns in order: an empty one
+/// The rows that the bytes of a CSV file spell for a table whose columns have these types, or the first
+/// fault by record and then by field. The fields of a record belong to the columns in order: an empty one
 /// or NULL is `None`, and an integer its value.
 pub fn rows(
     alloc: Global,
     bytes: &[u8],
-    columns: usize,
+    types: &[ColumnType],
     first: FirstRecord,
 ) -> Result<CsvRows, CsvFault>
-    ensures { Answers (rows_of_file columns first bytes.now) (λ rows. rows) result }
+    ensures { Answers (rows_of_file types.now first bytes.now) (λ rows. rows) result }
 {
     let mut reader = records_of(alloc, without_mark(bytes));
     if first == FirstRecord::Row {
-        return rows_after(alloc, &mut reader, columns, 0);
+        return rows_after(alloc, &mut reader, types, 0);
     }
     let mut header = ByteRecord::new(alloc);
     if read_next(&mut reader, &mut header)? {
-        rows_after(alloc, &mut reader, columns, 1)
+        rows_after(alloc, &mut reader, types, 1)
     } else {
-        Ok(CsvRows::new(columns, 0, Vec::new(alloc)))
+        Ok(CsvRows::new(types.len(), 0, CellList::new(alloc, types)))
     }
 }
 
@@ -49,21 +55,21 @@ pub fn rows(
 fn rows_after(
     alloc: Global,
     reader: &mut Reader<&[u8]>,
-    columns: usize,
+    types: &[ColumnType],
     before: u64,
 ) -> Result<CsvRows, CsvFault>
     requires reading { IsReading reader.old }
     requires few { before + length (records_left reader.old) < 2 ^ 64 }
-    ensures { Answers (all_or_first (numbered (row_of columns) (before + 1) (records_left reader.old))) (λ rows. rows) result }
+    ensures { Answers (all_or_first (numbered (row_of types.now) (before + 1) (records_left reader.old))) (λ rows. rows) result }
 {
     let mut fields = ByteRecord::new(alloc);
-    let mut cells = Vec::new(alloc);
+    let mut cells = CellList::new(alloc, types);
     let mut count = 0;
     'records: while read_next(reader, &mut fields)? {
-        push_row(&mut cells, columns, before + count + 1, &fields)?;
+        push_row(&mut cells, types, before + count + 1, &fields)?;
         count += 1;
     }
-    Ok(CsvRows::new(columns, count as usize, cells))
+    Ok(CsvRows::new(types.len(), count as usize, cells))
 }
 
 #[tactic(auto, unfolding(csv::specs::Reading::strip_bom))]
@@ -79,31 +85,85 @@ fn without_mark(text: &[u8]) -> &[u8]
 
 /// Puts the cells of a record last.
 fn push_row(
-    cells: &mut Vec<Option<i32>>,
-    columns: usize,
+    cells: &mut CellList,
+    types: &[ColumnType],
     number: u64,
     fields: &ByteRecord,
 ) -> Result<(), CsvFault>
-    ensures row { Appends (row_of columns number (fields_of fields.now)) cells.old.items cells.new.items result }
-    ensures wide { OnOk result (length cells.new.items ≡ length cells.old.items + columns) }
+    requires { TakesCells types.now cells.old }
+    ensures row { Appends (row_of types.now number (fields_of fields.now)) (cells_in cells.old) (cells_in cells.new) result }
+    ensures wide { OnOk result (length (cells_in cells.new) ≡ length (cells_in cells.old) + length types.now) }
+    ensures form { TakesCells types.now cells.new }
 {
-    if fields.len() != columns {
+    if fields.len() != types.len() {
         return Err(CsvFault::Fields(number));
     }
-    'places: for i in 0..columns {
+    match cells {
+        CellList::Integers(cells) => push_integers(cells, number, fields),
+        CellList::Values(cells) => push_values(cells, types, number, fields),
+    }
+}
+
+/// Puts the cells of a record last whose fields all belong to columns of INTEGER.
+fn push_integers(
+    cells: &mut Vec<Option<i32>>,
+    number: u64,
+    fields: &ByteRecord,
+) -> Result<(), CsvFault>
+    ensures row { Appends (all_or_first (numbered (cell_at number) 1 (map (λ text. (Integer, text)) (fields_of fields.now)))) cells.old.items cells.new.items result }
+    ensures wide { OnOk result (length cells.new.items ≡ length cells.old.items + length (fields_of fields.now)) }
+{
+    'places: for i in 0..fields.len() {
         let Some(text) = fields.get(i) else {
             unreachable!();
         };
-        cells.push(cell_at(number, i as u64 + 1, text)?)?;
+        let cell = cell_at(number, i as u64 + 1, ColumnType::Integer, text)?;
+        cells.push(narrow(cell))?;
     }
     Ok(())
 }
 
-/// What this field of a record says.
-fn cell_at(number: u64, place: u64, text: &[u8]) -> Result<Option<i32>, CsvFault>
-    ensures { result ≡ cell_at number place text.now }
+/// The same cell in 32 bits.
+fn narrow(cell: Option<i64>) -> Option<i32>
+    requires { IsNullOrOfType Integer cell }
+    ensures { result ≡ cell }
 {
-    match cell(text) {
+    match cell {
+        Some(number) => Some(number as i32),
+        None => None,
+    }
+}
+
+/// Puts the cells of a record last that has a field for each of these types.
+fn push_values(
+    cells: &mut Vec<Option<i64>>,
+    types: &[ColumnType],
+    number: u64,
+    fields: &ByteRecord,
+) -> Result<(), CsvFault>
+    requires { length (fields_of fields.now) ≡ length types.now }
+    ensures row { Appends (all_or_first (numbered (cell_at number) 1 (zip types.now (fields_of fields.now)))) cells.old.items cells.new.items result }
+    ensures wide { OnOk result (length cells.new.items ≡ length cells.old.items + length types.now) }
+{
+    'places: for i in 0..types.len() {
+        let Some(text) = fields.get(i) else {
+            unreachable!();
+        };
+        cells.push(cell_at(number, i as u64 + 1, types[i], text)?)?;
+    }
+    Ok(())
+}
+
+/// What this field of a record says, in a column of this type.
+fn cell_at(
+    number: u64,
+    place: u64,
+    column_type: ColumnType,
+    text: &[u8],
+) -> Result<Option<i64>, CsvFault>
+    ensures { result ≡ cell_at number place (column_type, text.now) }
+{
+    match cell(text, column_type) {
         Ok(cell) => Ok(cell),
         Err(FieldFault::NotInteger) => Err(CsvFault::NotInteger(number, place)),
         Err(FieldFault::Range) => Err(CsvFault::Range),

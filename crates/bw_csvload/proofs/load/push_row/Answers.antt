@@ -1,34 +1,11 @@
-use Rattle.std.proofs.Common.{[], arith, length, sym, ◌<◌, ◌∙◌}
-use Rattle.std.proofs.lemmas.Result.{err_from_is_err_and}
-use Rattle.csv.proofs.RecordFacts.{field-get, field-there}
+use Rattle.std.proofs.Common.{arith, length, sym, ◌≡◌, ◌∙◌}
 use Rattle.csv.specs.Records.{fields_of}
-use Rattle.bw_csvload.specs.Rows.{cell_at}
-use Rattle.bw_csvload.proofs.Firsts.{place_fault, place_more, row_of-fits}
+use Rattle.bw_csvload.proofs.Firsts.{integer_fields, row_of-fits}
 use Rattle.bw_csvload.proofs.load.push_row.Goals as goal
 
-pub unreachable-requires : goal.unreachable-requires
-unreachable-requires c =
-    let there : c.places.i < length (fields_of c.args.fields.now) = omega (arith, c.places.invariant.columns) in
-    field-there (fields_of c.args.fields.now) c.places.i there (sym c.in_default.ensures.value)
-
-pub returns-in_err-cell_at-clause-row : goal.returns-in_err-cell_at-clause-row
-returns-in_err-cell_at-clause-row c =
-    let p = err_from_is_err_and c.from_residual.result c.from_residual.ensures.1 in
+pub returns-in-Integers-clause-row : goal.returns-in-Integers-clause-row
+returns-in-Integers-clause-row c =
+    let types = c.args.types.now in
     let fields = fields_of c.args.fields.now in
-    let there : c.places.i < length fields = omega (arith, c.places.invariant.columns) in
-    let text = field-get fields c.places.i c.in-Some.text.now (sym c.in-Some.ensures.value) in
-    let fault = sym c.cell_at.ensures ∙ c.in_err-cell_at.was in
-    rw (p.1, p.2, row_of-fits c.args.columns c.args.number fields c.places.invariant.columns) (place_fault (cell_at c.args.number) fields c.places.i [] c.in-Some.text.now there text c.args.cells.now.items c.places.cells.items _ c.places.invariant.cells fault)
-
-pub places-preserved : goal.places-preserved
-places-preserved c =
-    let inv = c.places.invariant in
-    let fields = fields_of c.args.fields.now in
-    let there : c.places.i < length fields = omega (arith, inv.columns) in
-    let text = field-get fields c.places.i c.in-Some.text.now (sym c.in-Some.ensures.value) in
-    let good = sym c.cell_at.ensures ∙ c.in_ok-cell_at.was in
-    record {
-      columns = inv.columns;
-      wide = omega (arith, c.in_ok-push.ensures.len, inv.wide);
-      cells = rw c.in_ok-push.ensures.items (place_more (cell_at c.args.number) fields c.places.i [] c.in-Some.text.now there text c.args.cells.now.items c.places.cells.items _ inv.cells good);
-    }
+    let same : length fields ≡ length types = sym c.len.ensures ∙ c.if-len-types.false in
+    rw (row_of-fits types c.args.number fields same, integer_fields types fields (rw c.in-Integers.is at c.requires) same, c.in-Integers.is) c.push_integers.ensures.row
