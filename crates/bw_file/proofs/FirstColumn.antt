@@ -79,10 +79,13 @@ length-column First list = length-column_bytes list
 length-column Second list =
     let f = frame_of (known list) in
     let size = presence_size (length list) in
-    omega (arith, length-append (presence_bytes (presence_size (length list)) list) (framed (frame_of (known list)).base (frame_of (known list)).width (plane_bytes (frame_of (known list)).base (frame_of (known list)).width (presence_size (length list)) list)),
-    length-presence_bytes (presence_size (length list)) list,
-    length-framed (frame_of (known list)).base (frame_of (known list)).width (plane_bytes (frame_of (known list)).base (frame_of (known list)).width (presence_size (length list)) list),
-    length-planes (frame_of (known list)).base (frame_of (known list)).width (presence_size (length list)) list)
+    omega (
+      arith,
+      length-append (presence_bytes (presence_size (length list)) list) (framed (frame_of (known list)).base (frame_of (known list)).width (plane_bytes (frame_of (known list)).base (frame_of (known list)).width (presence_size (length list)) list)),
+      length-presence_bytes (presence_size (length list)) list,
+      length-framed (frame_of (known list)).base (frame_of (known list)).width (plane_bytes (frame_of (known list)).base (frame_of (known list)).width (presence_size (length list)) list),
+      length-planes (frame_of (known list)).base (frame_of (known list)).width (presence_size (length list)) list,
+    )
 
 -- the width of a column, by its bytes
 same_width : (p q : List ℕ) (y z : ℤ) (m n : ℕ) (xs ys r s : List ℕ) → length p ≡ length q → (p ++ framed y m xs) ++ r ≡ (q ++ framed z n ys) ++ s → m ≡ n

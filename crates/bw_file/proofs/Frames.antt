@@ -73,11 +73,13 @@ framed (x ∷ xs) all =
     let base : FitsSigned w64 (fold int_min x xs) = All-contains (FitsSigned w64) (x ∷ xs) (fold int_min x xs) all s.least.reached in
     let top : FitsSigned w64 (fold int_max x xs) = All-contains (FitsSigned w64) (x ∷ xs) (fold int_max x xs) all s.greatest.reached in
     let span : distance (fold int_max x xs) (fold int_min x xs) < 2 ^ 64 = omega (arith, ints, base, top) in
-    let holds : distance (fold int_max x xs) (fold int_min x xs) < 2 ^ bits_of (distance (fold int_max x xs) (fold int_min x xs)) = (bits_of_is (distance (fold int_max x xs) (fold int_min x xs)) span).holds in
-    (base, λ k d h.
-    let low : fold int_min x xs ≤ℤ get_or (x ∷ xs) k d = s.least.bound k d h in
-    let high : get_or (x ∷ xs) k d ≤ℤ fold int_max x xs = s.greatest.bound k d h in
-    record { above = low; low = omega (arith, ints, low, high, holds) })
+    let holds : distance (fold int_max x xs) (fold int_min x xs) < 2 ^ bits_of (distance (fold int_max x xs) (fold int_min x xs)) = (bits_of_is (distance (fold int_max x xs) (fold int_min x xs)) span).holds in (
+      base,
+      λ k d h.
+          let low : fold int_min x xs ≤ℤ get_or (x ∷ xs) k d = s.least.bound k d h in
+          let high : get_or (x ∷ xs) k d ≤ℤ fold int_max x xs = s.greatest.bound k d h in
+          record { above = low; low = omega (arith, ints, low, high, holds) },
+    )
 
 pub is_framed : (cells : List (Option ℤ)) → All IsWideCell cells → IsFramed cells
 is_framed cells all =

@@ -44,8 +44,14 @@ least_columns version n (c ∷ cs) all =
 
 pub least_length : (version : Version) (t : Table) → IsTable t → 14 + length t.headers * (4 + least_column_size version t.rows) ≤ length (spelling version t)
 least_length version t h =
-    omega (arith, length-spelling version t, headers_long version t.headers h.names, four_of_each (length t.headers) (least_column_size version t.rows),
-    least_columns version t.rows t.columns h.long, ap (λ n. n * least_column_size version t.rows) (wide t.headers t.columns h.typed))
+    omega (
+      arith,
+      length-spelling version t,
+      headers_long version t.headers h.names,
+      four_of_each (length t.headers) (least_column_size version t.rows),
+      least_columns version t.rows t.columns h.long,
+      ap (λ n. n * least_column_size version t.rows) (wide t.headers t.columns h.typed),
+    )
 
 -- what a front tells of the table that bytes spell
 pub record IsTold (front : FileFront) (bytes : List ℕ) (t : Table) : Type 0 where

@@ -12,7 +12,7 @@ ghost use Rattle.bw_file.specs.Planes.{cells_in, code_in, has_in, AreCodeEnds};
 ghost use Rattle.bw_file.specs.declared.code_ends.Values.TheVariants as found;
 
 use crate::codes::read_codes;
-use crate::plane_bits::{bits_of_rows, has_bit};
+use crate::row_bits::{bits_of_rows, has_bit};
 use bw_code::{ColumnType, Ends};
 
 // How many codes are read at a time: as many as one word has bits for.
@@ -123,7 +123,14 @@ fn value_of(base: i64, code: u64, column_type: ColumnType) -> Option<i64>
 }
 
 /// What the codes of k bits of so many rows stand for.
-pub(crate) fn values_in(present: &[u8], planes: &[u8], rows: usize, k: usize, base: i64, column_type: ColumnType) -> Values
+pub(crate) fn values_in(
+    present: &[u8],
+    planes: &[u8],
+    rows: usize,
+    k: usize,
+    base: i64,
+    column_type: ColumnType,
+) -> Values
     requires narrow { k ≤ 64 }
     requires few { rows ≤ row_limit }
     requires present { length present.now ≡ presence_size rows }

@@ -4,7 +4,7 @@ ghost use Rattle.std.specs.Prelude.{length, nat_lt, slice_index, ℕ, ◌%◌, �
 ghost use Rattle.bw_mask.specs.Masks.{bit_of};
 ghost use Rattle.bw_file.specs.Planes.{code_in, plane_bit};
 
-use crate::plane_bits::bits_of_rows;
+use crate::row_bits::bits_of_rows;
 use bw_vertical::codes_of_words;
 
 /// Word b has bit b of the codes of so many rows from row `at` on, which is the first whose bit lies in its byte.

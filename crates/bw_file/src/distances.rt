@@ -1,15 +1,13 @@
 //! How far the cells of a column lie above a base, by their bits and words.
 
-ghost use Rattle.std.specs.Prelude.{None, Some, drop, get_or, if◌then◌else◌, length, nat_lt, slice_index, ℕ, ◌%◌, ◌&&◌, ◌*◌, ◌+◌, ◌/◌, ◌<◌, ◌≡◌, ◌≤◌};
+ghost use Rattle.std.specs.Prelude.{None, Some, drop, get_or, if◌then◌else◌, length, slice_index, ℕ, ◌%◌, ◌*◌, ◌+◌, ◌/◌, ◌<◌, ◌≡◌, ◌≤◌};
 ghost use Rattle.std.specs.Int.{bit_at};
 ghost use Rattle.byteorder.specs.Endian.{little_number};
 ghost use Rattle.bw_cells.specs.Distances.{distance_from};
-ghost use Rattle.bw_mask.specs.Masks.{bit_of};
 ghost use Rattle.bw_code.specs.Headers.{row_limit};
 ghost use Rattle.bw_file.specs.Reading.{cell_by, read_cell};
 
 use crate::cells::{has_bit, has_cell, word_at};
-use byteorder::{ByteOrder, LittleEndian};
 
 /// Fills `out` with how far each cell from row `at` on lies above the base, modulo 2^64, and 0 at a null. That row is the
 /// first whose bit lies in its byte.
@@ -55,34 +53,4 @@ fn distance(there: bool, word: i32, base: i64) -> u64
     // A null is taken as the base: what is left to choose takes no branch.
     let number = if there { i64::from(word) } else { base };
     number.cast_unsigned().wrapping_sub(base.cast_unsigned())
-}
-
-/// The bits of the rows from row `at` on, of which that is the first in its byte. No bit is set past so many rows.
-pub(crate) fn presence_of_rows(present: &[u8], at: usize, count: usize) -> u64
-    requires few { count ≤ 64 }
-    requires first { at % 8 ≡ 0 }
-    requires present { at + count ≤ 8 * length present.now }
-    ensures { (k : ℕ) → bit_of result k ≡ (bit_of (slice_index present.now ((at + k) / 8)) ((at + k) % 8) && nat_lt k count) }
-{
-    bits_of_bytes(&present[at / 8..]) & low_bits(count)
-}
-
-/// The bits of the first eight bytes, or of as many as there are, those of the first byte lowest.
-fn bits_of_bytes(bytes: &[u8]) -> u64
-    ensures { (k : ℕ) → k < 64 → k / 8 < length bytes.now → bit_of result k ≡ bit_of (slice_index bytes.now (k / 8)) (k % 8) }
-{
-    if bytes.len() >= 8 {
-        return LittleEndian::read_u64(bytes);
-    }
-    let mut eight = [0; 8];
-    eight[..bytes.len()].copy_from_slice(bytes);
-    LittleEndian::read_u64(&eight)
-}
-
-/// The n lowest bits.
-fn low_bits(n: usize) -> u64
-    requires { n ≤ 64 }
-    ensures { (i : ℕ) → bit_of result i ≡ nat_lt i n }
-{
-    if n == 0 { 0 } else { u64::MAX >> (64 - n) }
 }

@@ -10,9 +10,9 @@ ghost use Rattle.bw_file.specs.Planes.{column_bytes, read_cell, IsWideCell};
 use crate::cells::has_cell;
 use crate::code_ends::{Values, values_in};
 use crate::codes::read_codes;
-use crate::plane_bits::{bits_of_rows, has_bit};
 use crate::plane_parts::plane_parts;
 use crate::presence::has_spare_bit;
+use crate::row_bits::{bits_of_rows, has_bit};
 use crate::stray::has_stray_bit;
 use bw_cells::{Cells, Measured, distances_in_run};
 use bw_code::{ColumnType, Ends, Offset};
@@ -165,14 +165,7 @@ fn read_plane_cells(
 }
 
 /// The cell of row i, which is read from the base on by its code of k bits.
-fn cell_at(
-    present: &[u8],
-    planes: &[u8],
-    rows: usize,
-    base: i64,
-    k: usize,
-    i: usize,
-) -> Option<i64>
+fn cell_at(present: &[u8], planes: &[u8], rows: usize, base: i64, k: usize, i: usize) -> Option<i64>
     requires narrow { k ≤ 64 }
     requires few { rows ≤ row_limit }
     requires inside { i < rows }

@@ -4,10 +4,17 @@ ghost use Rattle.std.specs.Prelude.{false, length, slice_index, true, ℕ, ◌%�
 ghost use Rattle.std.specs.Int.{bit_at};
 ghost use Rattle.bw_file.specs.Planes.{plane_bit, HasNoStrayBit};
 
-use crate::plane_bits::bits_of_rows;
+use crate::row_bits::bits_of_rows;
 
 /// Whether a plane has a bit in so many rows from row `at` on at one whose cell is null, or past the last row.
-fn has_stray_in(present: &[u8], planes: &[u8], size: usize, k: usize, at: usize, count: usize) -> bool
+fn has_stray_in(
+    present: &[u8],
+    planes: &[u8],
+    size: usize,
+    k: usize,
+    at: usize,
+    count: usize,
+) -> bool
     requires narrow { k ≤ 64 }
     requires few { count ≤ 64 }
     requires first { at % 8 ≡ 0 }

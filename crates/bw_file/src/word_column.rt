@@ -5,9 +5,10 @@ ghost use Rattle.bw_code.specs.Headers.{row_limit};
 ghost use Rattle.bw_file.specs.Cells.{column_bytes, column_size, presence_size, IsCell};
 
 use crate::cells::read_cells;
-use crate::distances::{presence_of_rows, read_distances};
+use crate::distances::read_distances;
 use crate::ends::{Spelling, spelled_ends};
 use crate::presence::has_spare_bit;
+use crate::row_bits::bits_of_rows;
 use bw_cells::{Cells, Measured, distances_in_run};
 use bw_code::Ends;
 use std::marker::Model;
@@ -92,6 +93,6 @@ impl<'a> Measured for WordColumn<'a> {
             return distances_in_run(self, at, base, out);
         }
         read_distances(self.present, self.words, at, base, out);
-        presence_of_rows(self.present, at, out.len())
+        bits_of_rows(self.present, at, out.len())
     }
 }

@@ -4,6 +4,10 @@
 #[cfg(test)]
 mod csv_rows;
 #[cfg(test)]
+mod files_seen;
+#[cfg(test)]
+mod first_version;
+#[cfg(test)]
 mod measured;
 #[cfg(test)]
 mod pieces;

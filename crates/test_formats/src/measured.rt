@@ -1,7 +1,8 @@
 //! How far cells lie above a base: cells in memory, and those of a table file.
 
+use crate::files_seen::table_of;
 use crate::seen::see_at;
-use crate::table_files::{NINE_ROWS, table_of};
+use crate::table_files::NINE_ROWS;
 use bw_cells::Measured;
 use std::process::Abort;
 

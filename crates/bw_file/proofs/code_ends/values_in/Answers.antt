@@ -45,8 +45,9 @@ returns-clause-ends c ends e =
     let high = c.in-Some-value_of.ensures.some in
     let values = known (cells_in c.args.rows c.args.base c.args.k c.args.present.now c.args.planes.now) in
     let any = on c.code_ends-codes.result.any c.if-not-codes.false in
-    subst (AreEnds (known (cells_in c.args.rows c.args.base c.args.k c.args.present.now c.args.planes.now))) (inside _ ends e)
-    (subst (IsLeast values) (sym (handed_on c.args.column_type c.args.base c.in-Some.least c.code_ends-codes.result.least fits low.0 low.1))
-    (least_value c.args.rows c.args.base c.args.k c.args.present.now c.args.planes.now c.code_ends-codes.result c.code_ends-codes.ensures any),
-    subst (IsGreatest values) (sym (handed_on c.args.column_type c.args.base c.in-Some-value_of.greatest c.code_ends-codes.result.greatest fits high.0 high.1))
-    (greatest_value c.args.rows c.args.base c.args.k c.args.present.now c.args.planes.now c.code_ends-codes.result c.code_ends-codes.ensures any))
+    subst (AreEnds (known (cells_in c.args.rows c.args.base c.args.k c.args.present.now c.args.planes.now))) (inside _ ends e) (
+      subst (IsLeast values) (sym (handed_on c.args.column_type c.args.base c.in-Some.least c.code_ends-codes.result.least fits low.0 low.1))
+          (least_value c.args.rows c.args.base c.args.k c.args.present.now c.args.planes.now c.code_ends-codes.result c.code_ends-codes.ensures any),
+      subst (IsGreatest values) (sym (handed_on c.args.column_type c.args.base c.in-Some-value_of.greatest c.code_ends-codes.result.greatest fits high.0 high.1))
+          (greatest_value c.args.rows c.args.base c.args.k c.args.present.now c.args.planes.now c.code_ends-codes.result c.code_ends-codes.ensures any),
+    )

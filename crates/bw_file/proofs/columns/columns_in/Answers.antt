@@ -18,7 +18,7 @@ returns-in_default-clause-none c e cs tail long typed whole =
     let version = c.args.version in
     let there : i < length cs = omega (arith, wide hs cs typed, c.columns-test.true) in
     let next = column_next version c.args.rows i cs c.columns.columns.items tail c.columns.rest.now c.args.bytes.now there inv.count long inv.long (all_fit version hs cs c.requires.types typed)
-        (all_fit version (take i hs) c.columns.columns.items (All-take (HasType c.args.version) i hs c.requires.types) inv.typed) inv.bytes whole in
+    (all_fit version (take i hs) c.columns.columns.items (All-take (HasType c.args.version) i hs c.requires.types) inv.typed) inv.bytes whole in
     let one : IsTyped (get_or hs i c.index-headers-i.result) (get_or cs i []) = typed_at hs cs i c.index-headers-i.result typed c.columns-test.true in
     c.first_in-found.ensures.none c.in_default.is (get_or cs i []) _ (All-get_or (λ x. length x ≡ c.args.rows) cs i [] there long) one next
 

@@ -1,4 +1,4 @@
-use Rattle.std.proofs.Common.{[], ap, arith, length, subst, sym, take, ◌*◌, ◌+◌, ◌++◌, ◌≡◌, ◌≤◌, ◌∙◌}
+use Rattle.std.proofs.Common.{[], ap, arith, length, subst, sym, take, ◌++◌, ◌≡◌, ◌∙◌}
 use Rattle.std.specs.Prelude.{All}
 use Rattle.std.specs.List.{AllZip, flat_map}
 use Rattle.std.proofs.lemmas.List.{append-nil}
@@ -13,11 +13,11 @@ use Rattle.bw_file.proofs.decoding.decode.Goals as goal
 pub returns-in_default-clause-none : goal.returns-in_default-clause-none
 returns-in_default-clause-none c e t s = not_told c.read_front.result c.args.bytes.now t c.read_front.ensures.told c.in_default.is s
 
-pub returns-then-least_size-clause-none : goal.returns-then-least_size-clause-none
-returns-then-least_size-clause-none c e t s =
+pub returns-then-bytes-least_size-clause-none : goal.returns-then-bytes-least_size-clause-none
+returns-then-bytes-least_size-clause-none c e t s =
     let told = is_told c.in-Some.front c.args.bytes.now t c.in-Some.ensures.told s in
     let least = c.least_size.ensures t told.spelled.table (sym told.columns) (sym told.rows) in
-    omega (arith, least, ap length told.spelled.bytes_are, c.if-least_size.true)
+    omega (arith, least, ap length told.spelled.bytes_are, c.if-bytes-least_size.true)
 
 pub returns-then-has_name_twice-clause-none : goal.returns-then-has_name_twice-clause-none
 returns-then-has_name_twice-clause-none c e t s =
@@ -27,7 +27,7 @@ returns-then-has_name_twice-clause-none c e t s =
     let rest = c.in-Some-found.rest.now in
     let types = rw c.in-Some-found.is at c.in_ok-found.ensures.types in
     let parts = told_headers version c.args.bytes.now t hs rest c.in-Some.front.columns told.spelled told.columns (rw c.in-Some-found.is at c.in_ok-found.ensures.count) types
-        (rw c.in-Some-found.is at c.in_ok-found.ensures.bytes) in
+    (rw c.in-Some-found.is at c.in_ok-found.ensures.bytes) in
     none_twice hs c.deref.result.now t.headers c.has_name_twice.result told.spelled.table.headers.distinct c.deref.ensures.value parts.0 c.has_name_twice.ensures c.if-has_name_twice.true
 
 pub returns-in_default-found-2-clause-none : goal.returns-in_default-found-2-clause-none
@@ -38,7 +38,7 @@ returns-in_default-found-2-clause-none c e t s =
     let rest = c.in-Some-found.rest.now in
     let types = rw c.in-Some-found.is at c.in_ok-found.ensures.types in
     let parts = told_headers version c.args.bytes.now t hs rest c.in-Some.front.columns told.spelled told.columns (rw c.in-Some-found.is at c.in_ok-found.ensures.count) types
-        (rw c.in-Some-found.is at c.in_ok-found.ensures.bytes) in
+    (rw c.in-Some-found.is at c.in_ok-found.ensures.bytes) in
     c.in_ok-found-2.ensures.none c.in_default-found-2.is t.columns [] (subst (λ n. All (λ cells. length cells ≡ n) t.columns) (sym told.rows) told.spelled.table.long)
     (subst (λ xs. AllZip IsTyped xs t.columns) (sym parts.0 ∙ sym c.deref-2.ensures.value) told.spelled.table.typed) (parts.1 ∙ sym (append-nil (flat_map (column_bytes version) t.columns)))
 
@@ -50,10 +50,10 @@ returns-then-not-is_empty-clause-none c e t s =
     let rest = c.in-Some-found.rest.now in
     let types = rw c.in-Some-found.is at c.in_ok-found.ensures.types in
     let parts = told_headers version c.args.bytes.now t hs rest c.in-Some.front.columns told.spelled told.columns (rw c.in-Some-found.is at c.in_ok-found.ensures.count) types
-        (rw c.in-Some-found.is at c.in_ok-found.ensures.bytes) in
+    (rw c.in-Some-found.is at c.in_ok-found.ensures.bytes) in
     let cs = c.in-Some-found-2.columns.items in
     let none = nothing_behind version c.args.bytes.now rest c.in-Some-found-2.behind.now t hs cs c.in-Some.front.rows told.spelled told.rows parts.0 types (rw c.in-Some-found-2.is at c.in_ok-found-2.ensures.long)
-        (subst (λ xs. AllZip IsTyped xs cs) c.deref-2.ensures.value (rw c.in-Some-found-2.is at c.in_ok-found-2.ensures.typed)) parts.1 (rw c.in-Some-found-2.is at c.in_ok-found-2.ensures.spelled) in
+    (subst (λ xs. AllZip IsTyped xs cs) c.deref-2.ensures.value (rw c.in-Some-found-2.is at c.in_ok-found-2.ensures.typed)) parts.1 (rw c.in-Some-found-2.is at c.in_ok-found-2.ensures.spelled) in
     some_bytes c.in-Some-found-2.behind.now none c.if-not-is_empty.ensures
 
 pub returns-clause-found : goal.returns-clause-found

@@ -1,4 +1,4 @@
-use Rattle.std.proofs.Common.{arith, get_or, length, ◌<◌}
+use Rattle.std.proofs.Common.{IsTrue, arith, get_or, length, ◌<◌}
 use Rattle.std.proofs.lemmas.List.Elements.{All-get_or}
 use Rattle.bw_sql.specs.Names.{IsName}
 use Rattle.bw_file.specs.Format.{HasType}

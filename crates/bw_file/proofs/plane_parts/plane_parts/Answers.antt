@@ -16,14 +16,14 @@ pub returns-then-width-gt64-clause-none : goal.returns-then-width-gt64-clause-no
 returns-then-width-gt64-clause-none c e cells tail count all same =
     let size : c.div_ceil-size.result ≡ presence_size (length cells) = omega (arith, c.div_ceil-size.ensures, count) in
     let are = told c.args.bytes.now c.split_at.result.0.now c.split_at.result.1.now c.div_ceil-size.result c.read_i64-base.result c.from-width.result (λ k. omega (arith, c.type_inv.bytes k)) c.split_at.ensures.front c.split_at.ensures.back
-        (omega (arith, c.if-bytes-size.false)) c.read_i64-base.ensures c.from-width.ensures cells tail all size same in
+    (omega (arith, c.if-bytes-size.false)) c.read_i64-base.ensures c.from-width.ensures cells tail all size same in
     omega (arith, are.width_is, few_wide (known cells), c.if-width-gt64.true)
 
 pub returns-then-rest-width-clause-none : goal.returns-then-rest-width-clause-none
 returns-then-rest-width-clause-none c e cells tail count all same =
     let size : c.div_ceil-size.result ≡ presence_size (length cells) = omega (arith, c.div_ceil-size.ensures, count) in
     let are = told c.args.bytes.now c.split_at.result.0.now c.split_at.result.1.now c.div_ceil-size.result c.read_i64-base.result c.from-width.result (λ k. omega (arith, c.type_inv.bytes k)) c.split_at.ensures.front c.split_at.ensures.back
-        (omega (arith, c.if-bytes-size.false)) c.read_i64-base.ensures c.from-width.ensures cells tail all size same in
+    (omega (arith, c.if-bytes-size.false)) c.read_i64-base.ensures c.from-width.ensures cells tail all size same in
     let there = planes_there cells c.split_at.result.0.now (drop 9 c.split_at.result.1.now) tail c.read_i64-base.result c.from-width.result are in
     omega (arith, there, c.if-rest-width.true, length-drop 9 c.split_at.result.1.now, ap (λ n. c.from-width.result * n) size)
 

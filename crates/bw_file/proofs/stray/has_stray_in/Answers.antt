@@ -15,8 +15,8 @@ returns-then-word-there-ne0-clause-yes c is clean =
     let fits : there < 2 ^ 64 = omega (arith, c.bits_of_rows-there.type_inv) in
     let word_fits : word < 2 ^ 64 = omega (arith, c.bits_of_rows-word.type_inv) in
     let none = none_there size at c.args.count p word there c.args.present.now planes fits word_fits c.requires.few c.bits_of_rows-there.ensures
-        (plane_word size at c.args.count p word planes c.requires.first c.bits_of_rows-word.ensures)
-        (λ i l h null. clean p i c.loop-p-test.true (omega (arith, h, c.requires.inside)) null) in
+    (plane_word size at c.args.count p word planes c.requires.first c.bits_of_rows-word.ensures)
+    (λ i l h null. clean p i c.loop-p-test.true (omega (arith, h, c.requires.inside)) null) in
     c.if-word-there-ne0.true none
 
 pub loop-p-preserved : goal.loop-p-preserved

@@ -18,11 +18,17 @@ read_distances-requires c =
       words = omega (arith, rows, inv.numbers, c.requires.inside);
     }
 
-pub presence_of_rows-requires-clause-present : goal.presence_of_rows-requires-clause-present
-presence_of_rows-requires-clause-present c =
+pub bits_of_rows-requires-clause-there : goal.bits_of_rows-requires-clause-there
+bits_of_rows-requires-clause-there c =
     let inside = c.self.inside in
     let rows : length c.args.self.now ≡ inside.rows = ap length (sym c.self.view_is) ∙ length-cells_in inside.rows inside.present.now inside.words.now in
     omega (arith, rows, c.self.invariant.bits, c.requires.inside, c.read_distances.ensures.count)
+
+pub bits_of_rows-requires-clause-short : goal.bits_of_rows-requires-clause-short
+bits_of_rows-requires-clause-short c =
+    let inside = c.self.inside in
+    let rows : length c.args.self.now ≡ inside.rows = ap length (sym c.self.view_is) ∙ length-cells_in inside.rows inside.present.now inside.words.now in
+    omega (arith, rows, c.self.invariant.few, c.requires.inside)
 
 pub returns-clause-distances : goal.returns-clause-distances
 returns-clause-distances c =
@@ -39,5 +45,5 @@ returns-clause-present c i =
     let inside = c.self.inside in
     let n = length c.args.out.now in
     let rows : length c.args.self.now ≡ inside.rows = ap length (sym c.self.view_is) ∙ length-cells_in inside.rows inside.present.now inside.words.now in
-    presence_in inside.rows c.args.at n inside.present.now inside.words.now (omega (arith, rows, c.requires.inside)) c.presence_of_rows.result i (rw c.read_distances.ensures.count at (c.presence_of_rows.ensures i))
+    presence_in inside.rows c.args.at n inside.present.now inside.words.now (omega (arith, rows, c.requires.inside)) c.bits_of_rows.result i (rw c.read_distances.ensures.count at (c.bits_of_rows.ensures i))
     ∙ ap (λ xs. is_some (get_or (take n (drop c.args.at xs)) i None)) c.self.view_is

@@ -2,7 +2,7 @@ use Rattle.std.proofs.Common.{ap, arith, drop, length, replicate, ◌++◌, ◌�
 use Rattle.byteorder.specs.Endian.{little_number}
 use Rattle.bw_mask.specs.Masks.{bit_of}
 use Rattle.bw_file.proofs.RowBits.{bit_of_bytes, bit_of_padded}
-use Rattle.bw_file.proofs.plane_bits.bits_of_bytes.Goals as goal
+use Rattle.bw_file.proofs.row_bits.bits_of_bytes.Goals as goal
 
 pub returns-then-bytes-ge8 : goal.returns-then-bytes-ge8
 returns-then-bytes-ge8 c k h there =

@@ -1,4 +1,4 @@
-//! Bits of rows as a word (as bw_file has them in its distances.rt).
+//! Bits of rows as a word.
 
 ghost use Rattle.std.specs.Prelude.{length, nat_lt, slice_index, ℕ, ◌%◌, ◌&&◌, ◌*◌, ◌+◌, ◌/◌, ◌<◌, ◌^◌, ◌≡◌, ◌≤◌};
 ghost use Rattle.bw_mask.specs.Masks.{bit_of};
