@@ -3,7 +3,8 @@ use Rattle.std.proofs.Common.{◌≡◌, ℕ, ◌+◌, ◌≤◌, None, ◌==◌
 use Rattle.std.specs.List.{list_all}
 use Rattle.std.proofs.lemmas.Bool.{ltb-false}
 use Rattle.std.proofs.lemmas.Bool.Decides.{nat_tests}
-use Rattle.bw_model.specs.Refusals.{Tests, first_that_holds, insert_tests, is_in_range}
+use Rattle.bw_code.specs.Types.{are_of_types}
+use Rattle.bw_model.specs.Refusals.{Tests, first_that_holds, insert_tests, types_named}
 use Rattle.bw_model.specs.Store.{Row, Table, row_limit}
 use Rattle.bw_model.specs.declared.refusal.Refusal.{Refusal}
 use Rattle.bw_model.specs.declared.refusal.Refusal.TheVariants.{OutOfRange, TableFull, WrongNumberOfValues}
@@ -13,9 +14,9 @@ use Rattle.bw_plan.specs.Checks.{MayRefuse, listed_tests, value_tests}
 same_room : (limit room count rows : ℕ) → room + count ≡ limit → nat_lt room rows ≡ nat_lt limit (count + rows)
 same_room limit room count rows whole = grind (arith, nat_tests, whole)
 
-pub added_tests : (targets : List (List ℕ)) (rows : List Row) (table : Table) (room : ℕ) → room + length table.rows ≡ row_limit → listed_tests table.headers targets ++ value_tests (length targets) room rows ≡ insert_tests targets rows table
+pub added_tests : (targets : List (List ℕ)) (rows : List Row) (table : Table) (room : ℕ) → room + length table.rows ≡ row_limit → listed_tests table.headers targets ++ value_tests table.headers targets room rows ≡ insert_tests targets rows table
 added_tests targets rows table room whole =
-    ap (λ full. listed_tests table.headers targets ++ (WrongNumberOfValues, not (list_all (λ row. length row == length targets) rows)) ∷ (OutOfRange, not (list_all (list_all is_in_range) rows)) ∷ (TableFull, full) ∷ [])
+    ap (λ full. listed_tests table.headers targets ++ (WrongNumberOfValues, not (list_all (λ row. length row == length targets) rows)) ∷ (OutOfRange, not (list_all (are_of_types (types_named table.headers targets)) rows)) ∷ (TableFull, full) ∷ [])
     (same_room row_limit room (length table.rows) (length rows) whole)
 
 -- what the tests let pass has room

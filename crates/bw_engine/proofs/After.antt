@@ -1,9 +1,10 @@
--- What an UPDATE answers by its tests: those that look at no row come first.
+-- What an UPDATE and a REBUILD answer by their tests.
+-- of an UPDATE those that look at no row come first
 use Rattle.std.proofs.Common.{◌≡◌, ◌∙◌, Bool, true, false, not, List, [], ◌∷◌, ◌++◌, None, Some, Result, Ok, Err, IsErrAnd, MatchResult, inl, inr, sym, ap, subst, ◌⊎◌}
 use Rattle.bw_model.specs.Refusals.{Tests, first_that_holds}
 use Rattle.bw_model.specs.declared.refusal.Refusal.{Refusal}
-use Rattle.bw_model.specs.declared.refusal.Refusal.TheVariants.{OutOfMemory, OutOfRange}
-use Rattle.bw_plan.specs.Checks.{MayRefuse}
+use Rattle.bw_model.specs.declared.refusal.Refusal.TheVariants.{LayoutTooNarrow, OutOfMemory, OutOfRange}
+use Rattle.bw_plan.specs.Checks.{Answers, MayRefuse}
 use Rattle.bw_plan.proofs.Tests.{first-append_none, first-append_some, no_test, this_test}
 use Rattle.bw_engine.specs.Outcomes.{AnswersAfter}
 
@@ -34,3 +35,27 @@ module _ {T : Type 0} (early : Tests) where
 
   pub after_none : (fit : Bool) → first_that_holds early ≡ None → fit ≡ true → first_that_holds (early ++ (OutOfRange, not fit) ∷ []) ≡ None
   after_none fit none fits = first-append_none early ((OutOfRange, not fit) ∷ []) none ∙ no_test (not fit) OutOfRange None (ap not fits)
+
+-- what a REBUILD answers by its tests: whether a layout is too narrow comes last, and before any memory
+module _ {T : Type 0} (listed : Tests) (narrow : Bool) where
+  pub chosen_early : (r : Result T Refusal) (P : T → Type 0) (x : Refusal) → first_that_holds listed ≡ Some x → IsErrAnd r (λ e. e ≡ x) → Answers (listed ++ (LayoutTooNarrow, narrow) ∷ []) r P
+  chosen_early (Ok y) P x first same = absurd same
+  chosen_early (Err e) P x first same = inr (first-append_some listed ((LayoutTooNarrow, narrow) ∷ []) x first ∙ ap (λ y. Some y) (sym same))
+
+  pub chosen_narrow : first_that_holds listed ≡ None → narrow ≡ true → MayRefuse (listed ++ (LayoutTooNarrow, narrow) ∷ []) LayoutTooNarrow
+  chosen_narrow none is = inr (first-append_none listed ((LayoutTooNarrow, narrow) ∷ []) none ∙ this_test narrow LayoutTooNarrow None is)
+
+  none_of : first_that_holds listed ≡ None → narrow ≡ false → first_that_holds (listed ++ (LayoutTooNarrow, narrow) ∷ []) ≡ None
+  none_of none is = first-append_none listed ((LayoutTooNarrow, narrow) ∷ []) none ∙ no_test narrow LayoutTooNarrow None is
+
+  pub chosen_wants : (r : Result T Refusal) (P : T → Type 0) → first_that_holds listed ≡ None → narrow ≡ false → IsErrAnd r (λ e. e ≡ OutOfMemory) → Answers (listed ++ (LayoutTooNarrow, narrow) ∷ []) r P
+  chosen_wants (Ok y) P none is same = absurd same
+  chosen_wants (Err e) P none is same = inl (none_of none is, same)
+
+  pub chosen_placed : (r : Result T Refusal) (P : T → Type 0) (x : Refusal) → first_that_holds listed ≡ None → narrow ≡ false → MayRefuse listed x → IsErrAnd r (λ e. e ≡ x) → Answers (listed ++ (LayoutTooNarrow, narrow) ∷ []) r P
+  chosen_placed (Ok y) P x none is may same = absurd same
+  chosen_placed (Err e) P x none is may same =
+      elim may [
+        | inl p ↦ inl (none_of none is, same ∙ p.1)
+        | inr p ↦ let no : ⊥ = cc in absurd no
+      ]

@@ -49,7 +49,7 @@ answered_so file.NotAsked says P Q W V so want h = so _ h
 answered_so file.Unreadable says P Q W V so want h = so _ h
 answered_so file.TooLarge says P Q W V so want h = so _ h
 answered_so file.NoMemory says P Q W V so want h = want h
-answered_so (file.Bytes bytes) says P Q W V so want h = (h.0, h.1, so h.0 h.2)
+answered_so (file.Bytes bytes) says P Q W V so want h = elim h [ inl w ↦ inl (want w) | inr p ↦ inr (p.0, p.1, so p.0 p.2) ]
 
 -- a statement that reads a file
 module _ (tables after : Stored) (statement : StatementTree) (answer : FileAnswer) (name : List ℕ) (named : use_in statement ≡ reads name) where
@@ -127,7 +127,7 @@ taken file.NotAsked says X h = h
 taken file.Unreadable says X h = h
 taken file.TooLarge says X h = h
 taken file.NoMemory says X h = h
-taken (file.Bytes bytes) says X h = h.2
+taken (file.Bytes bytes) says X h = elim h [ inl x ↦ x | inr p ↦ p.2 ]
 
 on_error : (tables after : Stored) (statement : StatementTree) (r : Result Reply Refusal) (e : Refusal) → r ≡ Err e → OnErr r (after ≡ tables) → LeavesBy tables statement (outcome.Reply (reply_of r)) after
 on_error tables after statement (Ok reply) e is stays = cc

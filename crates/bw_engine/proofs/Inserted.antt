@@ -4,17 +4,13 @@ use Rattle.std.specs.List.{All, list_all}
 use Rattle.std.specs.Str.{bytes_eq}
 use Rattle.std.proofs.lemmas.List.{drop-drop, drop_at, length-map, take_at}
 use Rattle.std.proofs.lemmas.List.Elements.{All-cons, All-head, All-nil, All-tail}
-use Rattle.bw_column.specs.Values.{IsNullOrInteger}
 use Rattle.bw_code.proofs.Lists.{made_is}
 use Rattle.bw_table.specs.Rows.{AreWholeRows, row_from, rows_from}
 use Rattle.bw_table.specs.Slots.{Slot, live_slots, slot_limit}
 use Rattle.bw_sql.specs.Rows.{joined}
 use Rattle.bw_model.specs.Insert.{row_for}
-use Rattle.bw_model.specs.Refusals.{is_in_range}
 use Rattle.bw_model.specs.Store.{Header, Row, Value, row_limit, value_at, value_from}
 use Rattle.bw_model.proofs.Lines.{All-map, count-of, length-joined, length-joined_map}
-use Rattle.bw_model.proofs.Passing.{two}
-use Rattle.bw_plan.proofs.SetLaws.{integer_in}
 use Rattle.bw_engine.specs.Stores.{rows_in}
 
 -- rows of one width, cut again
@@ -39,30 +35,7 @@ module _ {A : Type 0} (w : ℕ) where
       let count : length (joined rows) / w ≡ length rows = count-of w (length rows) (joined rows) some (length-joined w rows all) in
       sym (made_is (length (joined rows) / w) (row_from w (joined rows)) rows [] (sym count) (λ i h. sym (cut rows i (omega (arith, h, count)) all)))
 
--- values that are in range, in the places of their columns
-value_fits : (values : Row) (place : ℕ) → list_all is_in_range values ≡ true → IsNullOrInteger (value_at values place)
-value_fits [] place e = tt
-value_fits (None ∷ values) zero e = tt
-value_fits (Some x ∷ values) zero e = integer_in x (two (is_in_range (Some x)) (list_all is_in_range values) e).0
-value_fits (value ∷ values) (suc place) e = value_fits values place (two (is_in_range value) (list_all is_in_range values) e).1
-
-from_fits : (values : Row) (place : Option ℕ) → list_all is_in_range values ≡ true → IsNullOrInteger (value_from values place)
-from_fits values None e = tt
-from_fits values (Some place) e = value_fits values place e
-
 module _ (headers : List Header) (list : List (List ℕ)) where
-  row_fits : (hs : List Header) (values : Row) → list_all is_in_range values ≡ true → All IsNullOrInteger (map (λ h. value_from values (position (bytes_eq h.name) list)) hs)
-  row_fits [] values e = All-nil IsNullOrInteger
-  row_fits (h ∷ hs) values e =
-      All-cons IsNullOrInteger (value_from values (position (bytes_eq h.name) list)) (map (λ g. value_from values (position (bytes_eq g.name) list)) hs)
-      (from_fits values (position (bytes_eq h.name) list) e) (row_fits hs values e)
-
-  pub rows_fit : (rows : List Row) → list_all (list_all is_in_range) rows ≡ true → All (λ row. All IsNullOrInteger row) (map (row_for headers list) rows)
-  rows_fit [] e = All-nil (λ row. All IsNullOrInteger row)
-  rows_fit (row ∷ rows) e =
-      let both = two (list_all is_in_range row) (list_all (list_all is_in_range) rows) e in
-      All-cons (λ r. All IsNullOrInteger r) (row_for headers list row) (map (row_for headers list) rows) (row_fits headers row both.0) (rows_fit rows both.1)
-
   pub rows_wide : (n : ℕ) (rows : List Row) → n ≡ length headers → All (λ row. length row ≡ n) (map (row_for headers list) rows)
   rows_wide n rows same = All-map (row_for headers list) n rows (λ row. length-map headers (λ h. value_from row (position (bytes_eq h.name) list)) ∙ sym same)
 

@@ -1,7 +1,7 @@
 mod Added
 pub mod Chosen
 pub mod Columns
-pub mod Decided
+pub mod Copies
 pub mod Executed
 pub mod Folding
 mod FoundLaws

@@ -3,8 +3,10 @@ use Rattle.std.proofs.Common.{◌≡◌, ◌∙◌, inl, inr, ℕ, ◌<◌, Bool
 use Rattle.std.specs.Bool.{MatchBool}
 use Rattle.std.specs.List.{All, flat_map}
 use Rattle.std.proofs.lemmas.Bool.{ltb-false}
-use Rattle.bw_column.specs.Values.{IsNullOrInteger}
-use Rattle.bw_csvload.specs.Fitting.{FitsColumns, IsCell, IsOrFault}
+use Rattle.bw_code.specs.Types.{IsRowOf, types_of}
+use Rattle.bw_model.proofs.Typed.{row_wide}
+use Rattle.bw_code.specs.declared.kind.ColumnType.{ColumnType}
+use Rattle.bw_csvload.specs.Fitting.{IsOrFault}
 use Rattle.bw_csvload.specs.Rows.{IsFault, rows_of_file}
 use Rattle.bw_csvload.specs.declared.fault.CsvFault.{CsvFault}
 use Rattle.bw_csvload.specs.declared.fault.CsvFault.TheVariants as fault
@@ -31,17 +33,17 @@ abbrev pub AnswersLines : Result (List Row) Refusal → Content → Type 0
 AnswersLines r said = AnswersFile (lines_tests said) r (λ rows. said ≡ Lines rows)
 
 -- a file without bytes to be read
-module _ (columns : ℕ) (first : FirstRecord) (x : Refusal) where
+module _ (types : List ColumnType) (first : FirstRecord) (x : Refusal) where
   pub unread : (answer : FileAnswer) (r : Result (List Row) Refusal) → IsBytesOf answer (Err x) → IsErrAnd r (λ e. e ≡ x)
-      → IsAnswered answer (Within (SaysLines columns first)) (AnswersLines r) (r ≡ Err OutOfMemory)
+      → IsAnswered answer (Within (SaysLines types first)) (AnswersLines r) (r ≡ Err OutOfMemory)
   unread answer (Ok rows) is h = absurd h
   unread file.NotAsked (Err e) is h = let same : e ≡ UnreadableFile = cc in inr (ap Some (sym same))
   unread file.Unreadable (Err e) is h = let same : e ≡ UnreadableFile = cc in inr (ap Some (sym same))
   unread file.TooLarge (Err e) is h = let same : e ≡ FileTooLarge = cc in inr (ap Some (sym same))
   unread file.NoMemory (Err e) is h = let same : e ≡ OutOfMemory = cc in ap Err same
-  unread (file.Bytes bytes) (Err e) is h = by (nat_lt file_limit (length bytes.now)) is
+  unread (file.Bytes bytes) (Err e) is h = inr (by (nat_lt file_limit (length bytes.now)) is)
     where
-      by : (b : Bool) → MatchBool b (◌≡◌ {A = Result (Bor (List ℕ)) Refusal} (Err x) (Err FileTooLarge)) ⊥ → (said : Content) × MatchBool b (said ≡ TooLarge) (SaysLines columns first bytes.now said) × AnswersLines (Err e) said
+      by : (b : Bool) → MatchBool b (◌≡◌ {A = Result (Bor (List ℕ)) Refusal} (Err x) (Err FileTooLarge)) ⊥ → (said : Content) × MatchBool b (said ≡ TooLarge) (SaysLines types first bytes.now said) × AnswersLines (Err e) said
       by true long = let same : e ≡ FileTooLarge = cc in (TooLarge, refl, inr (ap Some (sym same)))
       by false none = absurd none
 
@@ -57,21 +59,21 @@ fault_answers (Err other) (fault.Fields record') (Err e) is h = let same : other
 fault_answers (Err other) (fault.NotInteger record' field) (Err e) is h = let same : other ≡ fault.NotInteger record' field = cc in inr (ap Some (ap refusal_of_csv same ∙ sym h))
 fault_answers (Err other) fault.Range (Err e) is h = let same : other ≡ fault.Range = cc in inr (ap Some (ap refusal_of_csv same ∙ sym h))
 
-module _ (columns : ℕ) (first : FirstRecord) (given : Bor (List ℕ)) (found : CsvFault) where
-  pub faulty : (answer : FileAnswer) (r : Result (List Row) Refusal) → IsBytesOf answer (Ok given) → IsFault (rows_of_file columns (first_of first) given.now) found → IsErrAnd r (λ e. e ≡ refusal_of_csv found)
-      → IsAnswered answer (Within (SaysLines columns first)) (AnswersLines r) (r ≡ Err OutOfMemory)
+module _ (types : List ColumnType) (first : FirstRecord) (given : Bor (List ℕ)) (found : CsvFault) where
+  pub faulty : (answer : FileAnswer) (r : Result (List Row) Refusal) → IsBytesOf answer (Ok given) → IsFault (rows_of_file types (first_of first) given.now) found → IsErrAnd r (λ e. e ≡ refusal_of_csv found)
+      → IsAnswered answer (Within (SaysLines types first)) (AnswersLines r) (r ≡ Err OutOfMemory)
   faulty file.NotAsked r is wrong h = absurd (cc)
   faulty file.Unreadable r is wrong h = absurd (cc)
   faulty file.TooLarge r is wrong h = absurd (cc)
   faulty file.NoMemory r is wrong h = absurd (cc)
-  faulty (file.Bytes bytes) r is wrong h = by (nat_lt file_limit (length bytes.now)) is
+  faulty (file.Bytes bytes) r is wrong h = inr (by (nat_lt file_limit (length bytes.now)) is)
     where
       by : (b : Bool) → MatchBool b (◌≡◌ {A = Result (Bor (List ℕ)) Refusal} (Ok given) (Err FileTooLarge)) (given.now ≡ bytes.now)
-          → (said : Content) × MatchBool b (said ≡ TooLarge) (SaysLines columns first bytes.now said) × AnswersLines r said
+          → (said : Content) × MatchBool b (said ≡ TooLarge) (SaysLines types first bytes.now said) × AnswersLines r said
       by true long = absurd (cc)
       by false same =
-          let wanted = rows_of_file columns (first_of first) bytes.now in
-          (lines_or_fault wanted, refl, fault_answers wanted found r (subst (λ text. IsFault (rows_of_file columns (first_of first) text) found) same wrong) h)
+          let wanted = rows_of_file types (first_of first) bytes.now in
+          (lines_or_fault wanted, refl, fault_answers wanted found r (subst (λ text. IsFault (rows_of_file types (first_of first) text) found) same wrong) h)
 
 -- the cells of all rows, and the rows again
 
@@ -93,35 +95,27 @@ module _ (headers : List Header) (rows : List Row) (n : ℕ) (cells : List Value
   pub lines_again : rows_from n cells ≡ rows
   lines_again = ap (rows_from n) (is ∙ flat-joined rows) ∙ rows_again n rows some wide_rows
 
+-- rows of values of the columns' types are as wide as these
+pub rows_wide : (headers : List Header) (rows : List Row) → All (IsRowOf (types_of headers)) rows → All (λ row. length row ≡ length headers) rows
+rows_wide headers rows all = λ i other within. row_wide headers (get_or rows i other) (all i other within)
+
 -- what is answered fits the columns
 
-as_cell : (value : Value) → IsCell value → IsNullOrInteger value
-as_cell None is = tt
-as_cell (Some number) is = is
-
-module _ (columns : ℕ) (few : columns < 2 ^ 64) (first : FirstRecord) (rows : List Row) where
-  among_lines : (wanted : Result (List Row) CsvFault) → IsOrFault (All (FitsColumns columns)) wanted → lines_or_fault wanted ≡ Lines rows → All (FitsColumns columns) rows
-  among_lines (Ok others) fits is = let same : others ≡ rows = cc in subst (All (FitsColumns columns)) same fits
+module _ (types : List ColumnType) (few : length types < 2 ^ 64) (first : FirstRecord) (rows : List Row) where
+  among_lines : (wanted : Result (List Row) CsvFault) → IsOrFault (All (IsRowOf types)) wanted → lines_or_fault wanted ≡ Lines rows → All (IsRowOf types) rows
+  among_lines (Ok others) fits is = let same : others ≡ rows = cc in subst (All (IsRowOf types)) same fits
   among_lines (Err found) fits is = absurd (cc)
 
-  fitting : (answer : FileAnswer) → IsAnswered answer (Within (SaysLines columns first)) (AnswersLines (Ok rows)) (◌≡◌ {A = Result (List Row) Refusal} (Ok rows) (Err OutOfMemory)) → All (FitsColumns columns) rows
+  pub fitting : (answer : FileAnswer) → IsAnswered answer (Within (SaysLines types first)) (AnswersLines (Ok rows)) (◌≡◌ {A = Result (List Row) Refusal} (Ok rows) (Err OutOfMemory)) → All (IsRowOf types) rows
   fitting file.NotAsked h = absurd (cc)
   fitting file.Unreadable h = absurd (cc)
   fitting file.TooLarge h = absurd (cc)
   fitting file.NoMemory h = absurd (cc)
-  fitting (file.Bytes bytes) h = by (nat_lt file_limit (length bytes.now)) refl h.1
+  fitting (file.Bytes bytes) h = elim h [ inl never ↦ absurd (no never) | inr p ↦ by p.0 (nat_lt file_limit (length bytes.now)) refl p.1 p.2.1 ]
     where
-      by : (b : Bool) → nat_lt file_limit (length bytes.now) ≡ b → MatchBool b (h.0 ≡ TooLarge) (SaysLines columns first bytes.now h.0) → All (FitsColumns columns) rows
-      by true long is = let lines : h.0 ≡ Lines rows = h.2.1 in absurd (cc)
-      by false short is = among_lines (rows_of_file columns (first_of first) bytes.now) (rows_in_file columns few (first_of first) bytes.now (omega (arith, ltb-false file_limit (length bytes.now) short))) (sym is ∙ h.2.1)
+      no : ◌≡◌ {A = Result (List Row) Refusal} (Ok rows) (Err OutOfMemory) → ⊥
+      no e = cc
 
-module _ (headers : List Header) (n : ℕ) (same : n ≡ length headers) (valid : AreHeaders headers) (first : FirstRecord) (rows : List Row) (answer : FileAnswer)
-    (h : IsAnswered answer (Within (SaysLines n first)) (AnswersLines (Ok rows)) (◌≡◌ {A = Result (List Row) Refusal} (Ok rows) (Err OutOfMemory))) where
-  few : n < 2 ^ 64
-  few = omega (arith, same, valid.few)
-
-  pub wide_lines : All (λ row. length row ≡ length headers) rows
-  wide_lines = λ i other within. (fitting n few first rows answer h i other within).full ∙ same
-
-  pub integer_lines : All (λ row. All IsNullOrInteger row) rows
-  integer_lines = λ i other within k value there. as_cell (get_or (get_or rows i other) k value) ((fitting n few first rows answer h i other within).cells k value there)
+      by : (said : Content) (b : Bool) → nat_lt file_limit (length bytes.now) ≡ b → MatchBool b (said ≡ TooLarge) (SaysLines types first bytes.now said) → said ≡ Lines rows → All (IsRowOf types) rows
+      by said true long is lines = absurd (cc)
+      by said false short is lines = among_lines (rows_of_file types (first_of first) bytes.now) (rows_in_file types few (first_of first) bytes.now (omega (arith, ltb-false file_limit (length bytes.now) short))) (sym is ∙ lines)

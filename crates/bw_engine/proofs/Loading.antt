@@ -2,9 +2,10 @@
 use Rattle.std.proofs.Common.{◌≡◌, ◌∙◌, inl, inr, ℕ, List, [], length, Option, None, Some, Result, Ok, Err, option_map, MatchOption, refl, sym, ap, subst}
 use Rattle.std.specs.Map.{lookup, set_value}
 use Rattle.std.specs.Str.{bytes_eq}
+use Rattle.bw_code.specs.Types.{types_of}
 use Rattle.bw_sql.specs.Tree.{StatementTree, load}
 use Rattle.bw_sql.specs.declared.tree.FirstRecord.{FirstRecord}
-use Rattle.bw_model.specs.Contents.{SaysTo, lines_in, width_of}
+use Rattle.bw_model.specs.Contents.{SaysTo, lines_in, types_in}
 use Rattle.bw_model.specs.Refusals.{first_that_holds, load_tests, over, refused_early}
 use Rattle.bw_model.specs.Step.{with_lines}
 use Rattle.bw_model.specs.Store.{Store, table_of}
@@ -28,7 +29,7 @@ answered_too file.NotAsked says reads P Q W bytes_so so h = so Missing h
 answered_too file.Unreadable says reads P Q W bytes_so so h = so Missing h
 answered_too file.TooLarge says reads P Q W bytes_so so h = so TooLarge h
 answered_too file.NoMemory says reads P Q W bytes_so so h = h
-answered_too (file.Bytes bytes) says reads P Q W bytes_so so h = (h.0, bytes_so bytes.now h.0 h.1, so h.0 h.2)
+answered_too (file.Bytes bytes) says reads P Q W bytes_so so h = elim h [ inl w ↦ inl w | inr p ↦ inr (p.0, bytes_so bytes.now p.0 p.1, so p.0 p.2) ]
 
 -- by the reason to refuse it that needs no file
 by_early : (store : Store) (statement : StatementTree) (answer : FileAnswer) (r : Result Reply Refusal) (after : Store) (early : Option Refusal) → refused_early store statement ≡ early
@@ -49,18 +50,18 @@ module _ (tables : Stored) (name file_name : List ℕ) (first : FirstRecord) whe
     accepted : refused_early (store_of tables) (load name file_name first) ≡ None
     accepted = ap (λ o. first_that_holds (over o (λ t. []))) is_there
 
-    says_lines : (bytes : List ℕ) (said : Content) → Within (SaysLines (length table.headers) first) bytes said → SaysTo (store_of tables) (load name file_name first) bytes said
+    says_lines : (bytes : List ℕ) (said : Content) → Within (SaysLines (types_of table.headers) first) bytes said → SaysTo (store_of tables) (load name file_name first) bytes said
     says_lines bytes said h =
-        subst (λ n. Within (SaysLines n first) bytes said) (sym (ap width_of is_there)) h
+        subst (λ types. Within (SaysLines types first) bytes said) (sym (ap types_in is_there)) h
 
     carries_lines : (said : Content) (r : Result Reply Refusal) → TakesLines table new r said → CarriesOut (store_of tables) said (load name file_name first) r (store_of after)
     carries_lines said (Ok reply) h = changes_table tables name table there new after is (load_tests said) (λ t. Count (length (lines_in said))) (with_lines (lines_in said)) (Ok reply) h
     carries_lines said (Err e) h = elim h [ inl p ↦ inl (accepted, p) | inr p ↦ inr (ap (λ o. first_that_holds (over o (load_tests said))) is_there ∙ p) ]
 
-    pub loads_table : (answer : FileAnswer) (r : Result Reply Refusal) → IsAnswered answer (Within (SaysLines (length table.headers) first)) (TakesLines table new r) (r ≡ Err OutOfMemory) → CarriesFile (store_of tables) (load name file_name first) answer r (store_of after)
+    pub loads_table : (answer : FileAnswer) (r : Result Reply Refusal) → IsAnswered answer (Within (SaysLines (types_of table.headers) first)) (TakesLines table new r) (r ≡ Err OutOfMemory) → CarriesFile (store_of tables) (load name file_name first) answer r (store_of after)
     loads_table answer r h =
         by_early (store_of tables) (load name file_name first) answer r (store_of after) None accepted
-        (answered_too answer (Within (SaysLines (length table.headers) first)) (SaysTo (store_of tables) (load name file_name first)) (TakesLines table new r) (λ said. CarriesOut (store_of tables) said (load name file_name first) r (store_of after))
+        (answered_too answer (Within (SaysLines (types_of table.headers) first)) (SaysTo (store_of tables) (load name file_name first)) (TakesLines table new r) (λ said. CarriesOut (store_of tables) said (load name file_name first) r (store_of after))
         (r ≡ Err OutOfMemory) says_lines (λ said. carries_lines said r) h)
 
   -- where there is no such table

@@ -6,6 +6,8 @@ use Rattle.std.specs.List.{All, range_with_len}
 use Rattle.std.specs.Result.{IsOkAnd}
 use Rattle.std.proofs.lemmas.List.{get_or-map, length-map}
 use Rattle.bw_code.proofs.Lists.{made_is, made_len}
+use Rattle.std.proofs.lemmas.Slice.Zip.{AllZip-long}
+use Rattle.bw_code.specs.Types.{IsTyped}
 use Rattle.bw_column.specs.Values as values
 use Rattle.bw_file.specs.Format.{Spells}
 use Rattle.bw_file.specs.Table as file
@@ -45,19 +47,24 @@ module _ (rows : ℕ) (columns : List (List (Option ℤ))) (long : All (λ cells
   columns_back : (n : ℕ) → length columns ≡ n → columns ≡ map (column_of (rows_across rows columns)) (range_with_len 0 n)
   columns_back n wide = made_is n (column_of (rows_across rows columns)) columns [] wide (λ k within. column_back k (omega (arith, within, wide)))
 
+columns_wide : (parts : file.Table) → file.IsTable parts → length parts.columns ≡ length parts.headers
+columns_wide parts is = AllZip-long IsTyped parts.headers parts.columns is.typed
+
 filed_back : (parts : file.Table) → file.IsTable parts → filed (unfiled parts) ≡ parts
 filed_back parts is =
     let rows = made_len parts.rows (row_across parts.columns) in
-    let columns = columns_back parts.rows parts.columns is.long (length parts.headers) is.wide in
+    let columns = columns_back parts.rows parts.columns is.long (length parts.headers) (columns_wide parts is) in
     λ j. record { headers = parts.headers; rows = rows j; columns = sym columns j }
 
 -- what the bytes of a table file hold
 pub holds_unfiled : (bytes : List ℕ) (parts : file.Table) → Spells bytes parts → Holds bytes (unfiled parts)
-holds_unfiled bytes parts spells = record {
-  wide = All-map (row_across parts.columns) (length parts.headers) (range_with_len 0 parts.rows)
-      (λ i. length-map parts.columns (λ cells. values.value_at cells i) ∙ spells.table.wide);
-  spells = subst (Spells bytes) (sym (filed_back parts spells.table)) spells;
-}
+holds_unfiled bytes parts spells =
+    let table : file.IsTable parts = elim spells [ inl first ↦ first.table | inr second ↦ second.table ] in
+    record {
+      wide = All-map (row_across parts.columns) (length parts.headers) (range_with_len 0 parts.rows)
+          (λ i. length-map parts.columns (λ cells. values.value_at cells i) ∙ columns_wide parts table);
+      spells = subst (Spells bytes) (sym (filed_back parts table)) spells;
+    }
 
 -- the table that a file is said to hold, or why there is none
 abbrev IsFound : Result file.Table Refusal → Content → Type 0
@@ -73,7 +80,7 @@ no_bytes answer.Unreadable x (Err e) is same = inr cc
 no_bytes answer.TooLarge x (Err e) is same = inr cc
 no_bytes answer.NoMemory x (Err e) is same = cc
 no_bytes (answer.Bytes bytes) x (Err e) is same =
-    by (nat_lt file_limit (length bytes.now)) is
+    inr (by (nat_lt file_limit (length bytes.now)) is)
   where
     by : (b : Bool) → MatchBool b (◌≡◌ {A = Result (Bor (List ℕ)) Refusal} (Err x) (Err FileTooLarge)) (IsOkAnd {E = Refusal} (Err x) (λ (given : Bor (List ℕ)). given.now ≡ bytes.now))
         → (said : Content) × MatchBool b (said ≡ TooLarge) (IsTableIn bytes.now said) × IsFound (Err e) said
@@ -86,12 +93,20 @@ by_bytes answer.Unreadable bytes r said is in_file found = let no : ⊥ = cc in 
 by_bytes answer.TooLarge bytes r said is in_file found = let no : ⊥ = cc in absurd no
 by_bytes answer.NoMemory bytes r said is in_file found = let no : ⊥ = cc in absurd no
 by_bytes (answer.Bytes handed) bytes r said is in_file found =
-    by (nat_lt file_limit (length handed.now)) is
+    inr (by (nat_lt file_limit (length handed.now)) is)
   where
     by : (b : Bool) → MatchBool b (◌≡◌ {A = Result (Bor (List ℕ)) Refusal} (Ok bytes) (Err FileTooLarge)) (IsOkAnd {E = Refusal} (Ok bytes) (λ (given : Bor (List ℕ)). given.now ≡ handed.now))
         → (said : Content) × MatchBool b (said ≡ TooLarge) (IsTableIn handed.now said) × IsFound r said
     by true long = let no : ⊥ = cc in absurd no
     by false same = (said, subst (λ l. IsTableIn l said) same in_file, found)
+
+-- memory is wanting for what the bytes say
+pub by_wants : (given : FileAnswer) (bytes : Bor (List ℕ)) → IsBytesOf given (Ok bytes) → FindsTable given (Err OutOfMemory)
+by_wants answer.NotAsked bytes is = let no : ⊥ = cc in absurd no
+by_wants answer.Unreadable bytes is = let no : ⊥ = cc in absurd no
+by_wants answer.TooLarge bytes is = let no : ⊥ = cc in absurd no
+by_wants answer.NoMemory bytes is = let no : ⊥ = cc in absurd no
+by_wants (answer.Bytes handed) bytes is = inl refl
 
 -- what follows from what a file says, whatever it says
 answered : (given : FileAnswer) (says : List ℕ → Content → Type 0) (P Q : Content → Type 0) (V W : Type 0) → ((said : Content) → P said → Q said) → (V → W) → IsAnswered given says P V → IsAnswered given says Q W
@@ -99,7 +114,7 @@ answered answer.NotAsked says P Q V W so wants h = so _ h
 answered answer.Unreadable says P Q V W so wants h = so _ h
 answered answer.TooLarge says P Q V W so wants h = so _ h
 answered answer.NoMemory says P Q V W so wants h = wants h
-answered (answer.Bytes bytes) says P Q V W so wants h = (h.0, h.1, so h.0 h.2)
+answered (answer.Bytes bytes) says P Q V W so wants h = elim h [ inl w ↦ inl (wants w) | inr p ↦ inr (p.0, p.1, so p.0 p.2) ]
 
 -- an OPEN by its tests
 module _ (store : Store) (name path : List ℕ) where

@@ -11,6 +11,7 @@ use Rattle.bw_code.proofs.Lists.{made_is}
 use Rattle.bw_table.specs.Changes.{new_value, row_with, set_of}
 use Rattle.bw_table.specs.declared.setting.SetTo.{SetTo}
 use Rattle.bw_table.specs.declared.setting.SetTo.TheVariants.{Column, Value}
+use Rattle.bw_code.specs.declared.kind.ColumnType.TheVariants.{Integer}
 use Rattle.bw_code.specs.declared.kind.Layout.TheVariants.{V}
 use Rattle.bw_code.specs.declared.kind.Kind.TheVariants.{Offset}
 use Rattle.bw_sql.specs.declared.tree.SetClause.{SetClause}
@@ -31,14 +32,14 @@ same_value (v ∷ row) zero = refl
 same_value (v ∷ row) (suc k) = same_value row k
 
 no_header : Header
-no_header = record { name = []; layout = V; kind = Offset }
+no_header = record { name = []; column_type = Integer; layout = V; kind = Offset }
 
 -- where a value comes from; a place that isn't set keeps its own
 abbrev source_or : Option SetTo → ℕ → Source
 source_or None k = Place k
 source_or (Some to) k = source_to to
 
-given : (to : SetTo) (row : Row) (k : ℕ) → new_value (Some to) row k ≡ value_by (source_to to) row
+pub given : (to : SetTo) (row : Row) (k : ℕ) → new_value (Some to) row k ≡ value_by (source_to to) row
 given (Value x) row k = refl
 given (Column place) row k = same_value row place
 

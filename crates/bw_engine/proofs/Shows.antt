@@ -6,6 +6,7 @@ use Rattle.std.proofs.lemmas.List.{get_or-map, length-map, map-append, take_all,
 use Rattle.bw_sql.specs.Rows.{joined}
 use Rattle.bw_sql.specs.Tree.{ConditionTree, ItemsTree}
 use Rattle.bw_sql.specs.declared.tree.SelectItem.TheVariants as item
+use Rattle.bw_code.specs.declared.kind.ColumnType.TheVariants.{Integer}
 use Rattle.bw_code.specs.declared.kind.Layout.TheVariants.{V}
 use Rattle.bw_code.specs.declared.kind.Kind.TheVariants.{Offset}
 use Rattle.bw_model.specs.Answers.{AreWholeLines, Shown, lines_of}
@@ -57,7 +58,7 @@ module _ (headers : List Header) (i : ℕ) (headings : List Heading) where
       ∙ sym (take_more (map (λ name. Column name) (names headers)) i (Column []) low)
     where
       some : Header
-      some = record { name = []; layout = V; kind = Offset }
+      some = record { name = []; column_type = Integer; layout = V; kind = Offset }
 
   pub all_headings_are : length headers ≤ i → headings ≡ take i (map (λ name. Column name) (names headers)) → headings ≡ map (λ name. Column name) (names headers)
   all_headings_are upto so_far = so_far ∙ take_all i (map (λ name. Column name) (names headers)) (omega (arith, upto, length-map (names headers) (λ name. Column name), length-map headers (λ h. h.name)))

@@ -2,6 +2,8 @@
 
 ghost use Rattle.std.specs.Prelude.{◌≡◌, ◌+◌, ◌∷◌, [], All, Err, OnErr, OnOk, length, nat_lt};
 ghost use Rattle.bw_code.specs.Types.{IsRowOf, types_of};
+ghost use Rattle.bw_csvload.specs.Forms.{cells_of};
+ghost use Rattle.bw_table.specs.Rows.{AreWholeRows, rows_from};
 ghost use Rattle.bw_model.specs.Contents.{first_of, lines_in};
 ghost use Rattle.bw_model.specs.Refusals.{load_tests};
 ghost use Rattle.bw_model.specs.Step.{with_lines};
@@ -19,7 +21,7 @@ use crate::file_answer::{FileAnswer, bytes_of};
 use crate::table::Table;
 use crate::create::COLUMN_LIMIT;
 use bw_code::ColumnType;
-use bw_csvload::{CsvRows, FirstRecord as CsvFirst, rows};
+use bw_csvload::{Cells, CsvRows, FirstRecord as CsvFirst, rows};
 use bw_model::{Refusal, Reply};
 use bw_plan::Headers;
 use bw_sql::{FirstRecord, Load, Name};
@@ -114,6 +116,17 @@ fn load_rows(alloc: Global, table: &mut Table, rows: CsvRows) -> Result<Reply, R
         return Err(Refusal::TableFull);
     }
     let width = table.headers().len();
-    table.insert(alloc, &Rows::of_integers(width, rows.cells()))?;
+    table.insert(alloc, &rows_in(width, rows.cells()))?;
     Ok(Reply::Count(count as u64))
+}
+
+/// The rows of this width that lie in these cells.
+fn rows_in(width: usize, cells: Cells<'_>) -> Rows<'_>
+    requires { AreWholeRows width (cells_of cells) }
+    ensures { result ≡ rows_from width (cells_of cells.entry) }
+{
+    match cells {
+        Cells::Integers(cells) => Rows::of_integers(width, cells),
+        Cells::Values(cells) => Rows::new(width, cells),
+    }
 }

@@ -32,16 +32,14 @@ everywhere P (x ∷ xs) each = All-cons P x xs (each x) (everywhere P xs each)
 module _ (headers : List Header) (row : Row) (is : IsRow headers row) where
   source_typed : (sets : List SetClause) (name : List ℕ) → fits_in headers sets row ≡ true → IsNullOrOfType (type_named headers name) (value_of headers row (source_for sets name))
   source_typed [] name fits = typed_from headers row (place_of headers name) is
-  source_typed (set ∷ sets) name fits = by (bytes_eq name set.column) refl
+  source_typed (set ∷ sets) name fits =
+      let p = two (is_null_or_of_type (type_named headers set.column) (value_of headers row set.source)) (fits_in headers sets row) fits in
+      by (bytes_eq name set.column) refl (null_or_of_type (type_named headers set.column) (value_of headers row set.source) p.0) (source_typed sets name p.1)
     where
-      p : (is_null_or_of_type (type_named headers set.column) (value_of headers row set.source) ≡ true) × (fits_in headers sets row ≡ true)
-      p = two (is_null_or_of_type (type_named headers set.column) (value_of headers row set.source)) (fits_in headers sets row) fits
-
-      by : (b : Bool) → bytes_eq name set.column ≡ b → IsNullOrOfType (type_named headers name) (value_of headers row (if b then set.source else source_for sets name))
-      by true same =
-          subst (λ n. IsNullOrOfType (type_named headers n) (value_of headers row set.source)) (sym ((bytes_eq-Decides name set.column).0 same))
-          (null_or_of_type (type_named headers set.column) (value_of headers row set.source) p.0)
-      by false other = source_typed sets name p.1
+      by : (b : Bool) → bytes_eq name set.column ≡ b → IsNullOrOfType (type_named headers set.column) (value_of headers row set.source) → IsNullOrOfType (type_named headers name) (value_of headers row (source_for sets name))
+          → IsNullOrOfType (type_named headers name) (value_of headers row (if b then set.source else source_for sets name))
+      by true same here others = subst (λ n. IsNullOrOfType (type_named headers n) (value_of headers row set.source)) (sym ((bytes_eq-Decides name set.column).0 same)) here
+      by false other here others = others
 
   row_updated : (sets : List SetClause) → IsTrue (are_distinct (names headers)) → fits_in headers sets row ≡ true → IsRow headers (updated_row headers sets row)
   row_updated sets distinct fits =
@@ -53,19 +51,18 @@ module _ (headers : List Header) (distinct : IsTrue (are_distinct (names headers
   rows_updated : (rows : List Row) → list_all (fits_in headers sets) (filter (is_found headers condition) rows) ≡ true → All (IsRow headers) rows
       → All (IsRow headers) (map (updated_if_found headers sets condition) rows)
   rows_updated [] fits all = All-nil (IsRow headers)
-  rows_updated (row ∷ rows) fits all = by (is_found headers condition row) fits
+  rows_updated (row ∷ rows) fits all = by (is_found headers condition row) fits (λ others. rows_updated rows others (All-tail (IsRow headers) row rows all))
     where
       this : IsRow headers row
       this = All-head (IsRow headers) row rows all
 
       by : (b : Bool) → list_all (fits_in headers sets) (if b then row ∷ filter (is_found headers condition) rows else filter (is_found headers condition) rows) ≡ true
+          → (list_all (fits_in headers sets) (filter (is_found headers condition) rows) ≡ true → All (IsRow headers) (map (updated_if_found headers sets condition) rows))
           → All (IsRow headers) ((if b then updated_row headers sets row else row) ∷ map (updated_if_found headers sets condition) rows)
-      by true found =
+      by true found deeper =
           let p = two (fits_in headers sets row) (list_all (fits_in headers sets) (filter (is_found headers condition) rows)) found in
-          All-cons (IsRow headers) (updated_row headers sets row) (map (updated_if_found headers sets condition) rows) (row_updated headers row this sets distinct p.0)
-          (rows_updated rows p.1 (All-tail (IsRow headers) row rows all))
-      by false found =
-          All-cons (IsRow headers) row (map (updated_if_found headers sets condition) rows) this (rows_updated rows found (All-tail (IsRow headers) row rows all))
+          All-cons (IsRow headers) (updated_row headers sets row) (map (updated_if_found headers sets condition) rows) (row_updated headers row this sets distinct p.0) (deeper p.1)
+      by false found deeper = All-cons (IsRow headers) row (map (updated_if_found headers sets condition) rows) this (deeper found)
 
 pub updated_table : (table : Table) (sets : List SetClause) (condition : Option ConditionTree) → IsTable table → first_that_holds (update_tests sets condition table) ≡ None → IsTable (with_updates sets condition table)
 updated_table table sets condition is none =

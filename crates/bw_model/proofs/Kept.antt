@@ -37,7 +37,7 @@ module _ (headers : List Header) (distinct : IsTrue (are_distinct (names headers
       (λ k d low. subst (λ t. IsNullOrOfType t (value_from values (position (bytes_eq (get_or headers k d).name) list))) (own_type headers k d distinct low)
       (listed_typed headers list values (get_or headers k d).name (position (bytes_eq (get_or headers k d).name) list) fit refl))
 
-  new_rows : (rows : List Row) → list_all (are_of_types (types_named headers list)) rows ≡ true → All (IsRow headers) (map (row_for headers list) rows)
+  pub new_rows : (rows : List Row) → list_all (are_of_types (types_named headers list)) rows ≡ true → All (IsRow headers) (map (row_for headers list) rows)
   new_rows [] all = All-nil (IsRow headers)
   new_rows (row ∷ rows) all =
       let p = two (are_of_types (types_named headers list) row) (list_all (are_of_types (types_named headers list)) rows) all in

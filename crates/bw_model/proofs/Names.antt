@@ -42,14 +42,20 @@ pub names_of_definitions : (columns : List ColumnDefinition) → names (map head
 names_of_definitions [] = refl
 names_of_definitions (column ∷ columns) = ap (λ l. column.name ∷ l) (names_of_definitions columns)
 
+-- those of which one is too narrow, as they are defined
+pub narrow_of_definitions : (columns : List ColumnDefinition) → list_any is_too_narrow (map header_of columns) ≡ list_any (λ definition. is_too_narrow (header_of definition)) columns
+narrow_of_definitions [] = refl
+narrow_of_definitions (column ∷ columns) = ap (λ b. is_too_narrow (header_of column) || b) (narrow_of_definitions columns)
+
 -- none is too narrow where each layout holds its type
 pub all_wide : (headers : List Header) → list_any is_too_narrow headers ≡ false → All (λ header. IsTrue (holds_its_type header)) headers
 all_wide [] none = All-nil (λ header. IsTrue (holds_its_type header))
-all_wide (header ∷ headers) none = by (holds_its_type header) refl none
+all_wide (header ∷ headers) none = by (holds_its_type header) refl none (all_wide headers)
   where
-    by : (b : Bool) → holds_its_type header ≡ b → (not b || list_any is_too_narrow headers) ≡ false → All (λ h. IsTrue (holds_its_type h)) (header ∷ headers)
-    by true holds rest = All-cons (λ h. IsTrue (holds_its_type h)) header headers holds (all_wide headers rest)
-    by false holds rest = absurd (true≢false rest)
+    by : (b : Bool) → holds_its_type header ≡ b → (not b || list_any is_too_narrow headers) ≡ false → (list_any is_too_narrow headers ≡ false → All (λ h. IsTrue (holds_its_type h)) headers)
+        → All (λ h. IsTrue (holds_its_type h)) (header ∷ headers)
+    by true holds rest others = All-cons (λ h. IsTrue (holds_its_type h)) header headers holds (others rest)
+    by false holds rest others = absurd (true≢false rest)
 
 -- 1 to 64 columns, each with a name of its own and in a layout that holds its type, are headers
 pub headers_from : (headers : List Header) → 0 < length headers → length headers ≤ 64 → IsTrue (are_distinct (names headers)) → list_any is_too_narrow headers ≡ false → AreHeaders headers

@@ -63,7 +63,7 @@ chosen_name [] header = refl
 chosen_name (choice ∷ choices) header = by (bytes_eq header.name choice.column) (chosen_name choices header)
   where
     by : (b : Bool) → (chosen_header choices header).name ≡ header.name
-        → (if b then record { name = header.name; layout = layout_of choice.layout; kind = kind_or choice.kind header.kind } else chosen_header choices header).name ≡ header.name
+        → (if b then record { name = header.name; column_type = header.column_type; layout = layout_of choice.layout; kind = kind_or choice.kind header.kind } else chosen_header choices header).name ≡ header.name
     by true deeper = refl
     by false deeper = deeper
 

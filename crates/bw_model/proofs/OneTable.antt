@@ -6,9 +6,10 @@ use Rattle.std.proofs.lemmas.List.{ext_get_or}
 use Rattle.std.proofs.lemmas.List.Elements.{All-head, All-tail}
 use Rattle.std.proofs.lemmas.List.FromFn.{get_or-map-range_with_len}
 use Rattle.bw_file.proofs.Fronts.{one-table}
+use Rattle.bw_file.specs.declared.version.Version.{Version}
 use Rattle.bw_sql.specs.Tree.{StatementTree, create_table, delete, drop_table, insert, list_tables, load, open_table, rebuild, save, select, update}
 use Rattle.bw_model.specs.Contents.{IsReadAs, IsSaid, IsTableIn}
-use Rattle.bw_model.specs.Filing.{Holds, column_of, file_limit, filed}
+use Rattle.bw_model.specs.Filing.{Holds, HoldsBy, column_of, file_limit, filed}
 use Rattle.bw_model.specs.Store.{Row, Store, Table, Value, value_at}
 use Rattle.bw_model.specs.declared.content.Content.{Content}
 use Rattle.bw_model.specs.declared.content.Content.TheVariants as content
@@ -57,8 +58,8 @@ one_held bytes table other holds held =
     (same_rows (length table.headers) table.rows other.rows (ap (λ t. t.rows) same) holds.wide wide
     (same_columns table.rows other.rows (length table.headers) (length other.headers) (ap length headers) (ap (λ t. t.columns) same)))
 
-pub one_file : (bytes others : List ℕ) (table : Table) → Holds bytes table → Holds others table → bytes ≡ others
-one_file bytes others table holds held = holds.spells.bytes_are ∙ sym held.spells.bytes_are
+pub one_file : (version : Version) (bytes others : List ℕ) (table : Table) → HoldsBy version bytes table → HoldsBy version others table → bytes ≡ others
+one_file version bytes others table holds held = one-spelling version bytes others (filed table) holds.spells held.spells
 
 -- what a file says
 

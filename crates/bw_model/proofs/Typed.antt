@@ -1,5 +1,5 @@
 -- Values are of the types of their columns.
-use Rattle.std.proofs.Common.{◌≡◌, ◌∙◌, ℕ, ℤ, ◌<◌, IsTrue, List, [], ◌∷◌, get_or, length, map, position, Option, None, Some, zero, suc, refl, sym, ap, subst, arith}
+use Rattle.std.proofs.Common.{◌≡◌, ◌∙◌, ℕ, ℤ, ◌<◌, IsTrue, List, [], ◌∷◌, get_or, length, map, position, Option, None, Some, zero, suc, refl, sym, true, ap, subst, arith}
 use Rattle.std.specs.Str.{bytes_eq}
 use Rattle.std.proofs.lemmas.List.{length-map}
 use Rattle.std.proofs.lemmas.List.Quantifiers.{position-Some}

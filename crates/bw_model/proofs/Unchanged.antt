@@ -40,11 +40,12 @@ early_load (Some table) said refusal e = absurd (cc)
 
 early_front : (tests later : Tests) (refusal : Refusal) → first_that_holds tests ≡ Some refusal → first_that_holds (tests ++ later) ≡ Some refusal
 early_front [] later refusal e = absurd (cc)
-early_front (test ∷ tests) later refusal e = by test.1 e
+early_front (test ∷ tests) later refusal e = by test.1 e (early_front tests later refusal)
   where
-    by : (b : Bool) → (if b then Some test.0 else first_that_holds tests) ≡ Some refusal → (if b then Some test.0 else first_that_holds (tests ++ later)) ≡ Some refusal
-    by true here = here
-    by false there = early_front tests later refusal there
+    by : (b : Bool) → (if b then Some test.0 else first_that_holds tests) ≡ Some refusal → (first_that_holds tests ≡ Some refusal → first_that_holds (tests ++ later) ≡ Some refusal)
+        → (if b then Some test.0 else first_that_holds (tests ++ later)) ≡ Some refusal
+    by true here deeper = here
+    by false there deeper = deeper there
 
 early_update : (there : Option Table) (sets : List SetClause) (condition : Option ConditionTree) (refusal : Refusal)
     → first_that_holds (over there (λ table. set_tests table.headers sets condition)) ≡ Some refusal → first_that_holds (over there (update_tests sets condition)) ≡ Some refusal

@@ -1,7 +1,8 @@
 -- A table as a table file holds it: by its columns (this product's own format).
 use Rattle.std.specs.Prelude.{◌≡◌, ℕ, List, All, length, map}
 use Rattle.std.specs.List.{range_with_len}
-use Rattle.bw_file.specs.Format.{Spells, spelled_length}
+use Rattle.bw_file.specs.Format.{SpelledBy, Spells, spelled_length}
+use Rattle.bw_file.specs.declared.version.Version.{Version}
 use Rattle.bw_file.specs.declared.version.Version.TheVariants.{Second}
 use Rattle.bw_file.specs.Table as file
 use Rattle.bw_model.specs.Store.{Row, Table, Value, value_at}
@@ -22,10 +23,15 @@ filed table = record {
   columns = map (column_of table.rows) (range_with_len 0 (length table.headers));
 }
 
--- these bytes hold this table: they spell it, and each row has a value for each column
+-- these bytes hold this table: they spell it by one of the versions of the format, and each row has a value for each column
 pub record Holds (bytes : List ℕ) (table : Table) : Type 0 where
   pub wide : All (λ row. length row ≡ length table.headers) table.rows
   pub spells : Spells bytes (filed table)
+
+-- the same by this version
+pub record HoldsBy (version : Version) (bytes : List ℕ) (table : Table) : Type 0 where
+  pub wide : All (λ row. length row ≡ length table.headers) table.rows
+  pub spells : SpelledBy version bytes (filed table)
 
 -- how many bytes hold a table in the second version of the format, by which it is saved
 abbrev pub filed_length : Table → ℕ

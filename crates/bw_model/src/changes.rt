@@ -43,6 +43,7 @@ pub(crate) fn update_rows(
         return Ok(Reply::Refused(refusal));
     }
     let count = found.len();
+    drop(found);
     let rows = rows_updated(alloc, table, sets, condition)?;
     table.replace_rows(rows);
     Ok(Reply::Count(count as u64))

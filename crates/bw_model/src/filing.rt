@@ -36,7 +36,7 @@ pub(crate) fn is_too_long(alloc: Global, table: &Table) -> Result<bool, AllocErr
 /// How many bytes the headers take.
 fn headers_size(headers: &[Header<Name>]) -> u128
     ensures size { result ≡ sum_by (header_size Second) headers.now }
-    ensures bound { result ≤ length headers.now * 2 ^ 65 }
+    ensures bound { result ≤ length headers.now * (2 ^ 64 + 4) }
 {
     match headers {
         [] => 0,
@@ -48,7 +48,7 @@ fn headers_size(headers: &[Header<Name>]) -> u128
 fn column_size(alloc: Global, rows: &[Row], k: usize) -> Result<u128, AllocError>
     requires { length rows.now ≤ 2 ^ 31 }
     ensures size { IfOk result (λ size. size ≡ column_size Second (column_of rows.now k)) }
-    ensures bound { IfOk result (λ size. size ≤ 2 ^ 64) }
+    ensures bound { IfOk result (λ size. size ≤ 2 ^ 36) }
 {
     let cells = column_of(alloc, rows, k)?;
     let width = Offset::spanning(cells.as_slice().ends()).width;

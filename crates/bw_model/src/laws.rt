@@ -3,7 +3,8 @@
 ghost use Rattle.std.specs.Prelude.{◌≡◌, ℕ, [], All, List, Option, Some, map};
 ghost use Rattle.std.specs.List.{flat_map};
 ghost use Rattle.bw_model.specs.Contents.{IsSaid, MayBeSaid};
-ghost use Rattle.bw_model.specs.Filing.{Holds};
+ghost use Rattle.bw_file.specs.declared.version.Version.{Version as AnyVersion};
+ghost use Rattle.bw_model.specs.Filing.{Holds, HoldsBy};
 ghost use Rattle.bw_model.specs.Named.{AreNamed};
 ghost use Rattle.bw_model.specs.Refusals.{refused_early};
 ghost use Rattle.bw_model.specs.ReplyText.{reply_text};
@@ -51,10 +52,11 @@ pub fn replies_are_told()
     ensures told { (store after : Store) (said : AnyContent) (statement : StatementTree) (reply : AnyReply) → IsStore store → AreNamed store → MayBeSaid store statement said → Step store said statement reply after → IsReply reply }
 {}
 
-/// Bytes hold one table at most, and one list of bytes holds a table: what is opened is what was saved.
+/// Bytes hold one table at most, whatever the version of the format, and by a version one list of bytes holds a table:
+/// what is opened is what was saved.
 pub fn one_table_a_file()
     ensures tables { (bytes : List ℕ) (table other : AnyTable) → Holds bytes table → Holds bytes other → table ≡ other }
-    ensures bytes { (bytes others : List ℕ) (table : AnyTable) → Holds bytes table → Holds others table → bytes ≡ others }
+    ensures bytes { (version : AnyVersion) (bytes others : List ℕ) (table : AnyTable) → HoldsBy version bytes table → HoldsBy version others table → bytes ≡ others }
 {}
 
 /// A file says one thing to a statement.

@@ -267,7 +267,10 @@ pub(crate) fn copy_test(headers: &[Header<Name>], sets: &[SetClause], found: &[&
 fn all_fit_in(headers: &[Header<Name>], sets: &[SetClause], found: &[&Row]) -> bool
     ensures { result ≡ list_all (fits_in headers.now sets.now) (map (λ row. row.now) found.now) }
 {
-    found.iter().all(|row| fits_in(headers, sets, row))
+    match found {
+        [] => true,
+        [row, rest @ ..] => fits_in(headers, sets, row) && all_fit_in(headers, sets, rest),
+    }
 }
 
 /// The tests of DELETE over a table.

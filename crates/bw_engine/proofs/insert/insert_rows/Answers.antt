@@ -4,13 +4,15 @@ use Rattle.std.proofs.lemmas.Bool.{not-false}
 use Rattle.std.proofs.lemmas.List.{length-map}
 use Rattle.bw_table.specs.Rows.{rows_from}
 use Rattle.bw_model.specs.Insert.{row_for, target_columns, with_rows}
-use Rattle.bw_model.specs.Refusals.{first_that_holds, insert_tests, is_in_range}
+use Rattle.bw_model.specs.Refusals.{first_that_holds, insert_tests, types_named}
 use Rattle.bw_model.specs.declared.reply.Reply.TheVariants.{Count}
+use Rattle.bw_code.specs.Types.{are_of_types}
+use Rattle.bw_model.proofs.Kept.{new_rows}
 use Rattle.bw_model.proofs.Passing.{none_holds}
 use Rattle.bw_plan.proofs.Tests.{passed_on}
 use Rattle.bw_engine.specs.Stores.{rows_in, table_in}
 use Rattle.bw_engine.proofs.Added.{added_tests, may_same, room_left}
-use Rattle.bw_engine.proofs.Inserted.{cells_rows, rows_fit, rows_wide, whole_cells}
+use Rattle.bw_engine.proofs.Inserted.{cells_rows, whole_cells}
 use Rattle.bw_engine.proofs.insert.insert_rows.Goals as goal
 
 pub returns-in_err-cells-clause-reply : goal.returns-in_err-cells-clause-reply
@@ -34,21 +36,8 @@ new-requires c =
     let some : 0 < c.len-width.result = omega (arith, same, c.headers.ensures.valid.some) in
     rw c.as_slice.ensures.value (whole_cells headers targets c.len-width.result rows c.in_ok-cells.cells.items same some fits.1)
 
-pub insert-requires-clause-widths : goal.insert-requires-clause-widths
-insert-requires-clause-widths c =
-    let table = c.args.table.now in
-    let headers = table.headers in
-    let targets = target_columns headers c.args.columns.now in
-    let rows = c.args.rows in
-    let fits = rw c.headers.ensures.value at c.in_ok-cells.ensures in
-    let same : c.len-width.result ≡ length headers = c.len-width.ensures.count ∙ ap length c.headers-2.ensures.value in
-    let some : 0 < c.len-width.result = omega (arith, same, c.headers.ensures.valid.some) in
-    let is : c.new.result ≡ map (row_for headers targets) rows =
-    c.new.ensures ∙ ap (rows_from c.len-width.result) c.as_slice.ensures.value ∙ cells_rows headers targets c.len-width.result rows c.in_ok-cells.cells.items same some fits.1 in
-    rw is (rows_wide headers targets (length table.headers) rows refl)
-
-pub insert-requires-clause-integers : goal.insert-requires-clause-integers
-insert-requires-clause-integers c =
+pub insert-requires-clause-typed : goal.insert-requires-clause-typed
+insert-requires-clause-typed c =
     let table = c.args.table.now in
     let headers = table.headers in
     let targets = target_columns headers c.args.columns.now in
@@ -59,7 +48,7 @@ insert-requires-clause-integers c =
     let is : c.new.result ≡ map (row_for headers targets) rows =
     c.new.ensures ∙ ap (rows_from c.len-width.result) c.as_slice.ensures.value ∙ cells_rows headers targets c.len-width.result rows c.in_ok-cells.cells.items same some fits.1 in
     let none = subst (λ tests. first_that_holds tests ≡ None) (added_tests targets rows (table_in table) c.room.result c.room.ensures) fits.0 in
-    rw is (rows_fit headers targets rows (not-false (list_all (list_all is_in_range) rows) (none_holds (insert_tests targets rows (table_in table)) none).1.1.1.0))
+    rw is (new_rows headers c.headers.ensures.valid.distinct targets rows (not-false (list_all (are_of_types (types_named headers targets)) rows) (none_holds (insert_tests targets rows (table_in table)) none).1.1.1.0))
 
 pub insert-requires-clause-room : goal.insert-requires-clause-room
 insert-requires-clause-room c =

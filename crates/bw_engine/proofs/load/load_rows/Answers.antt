@@ -5,44 +5,37 @@ use Rattle.bw_model.specs.declared.refusal.Refusal.TheVariants.{TableFull}
 use Rattle.bw_model.specs.declared.reply.Reply.TheVariants.{Count}
 use Rattle.bw_plan.proofs.Tests.{no_test}
 use Rattle.bw_engine.specs.Stores.{rows_in}
-use Rattle.bw_engine.proofs.Loaded.{lines_again, whole_lines}
+use Rattle.bw_csvload.specs.Forms.{cells_of}
+use Rattle.bw_engine.proofs.Loaded.{lines_again, rows_wide, whole_lines}
 use Rattle.bw_engine.proofs.load.load_rows.Goals as goal
 
-pub of_integers-requires : goal.of_integers-requires
-of_integers-requires c =
-    whole_lines c.args.table.now.headers c.args.rows c.len-width.result c.cells.result.now c.requires.wide (c.len-width.ensures.count ∙ ap length c.headers.ensures.value) c.headers.ensures.valid
+pub rows_in-requires : goal.rows_in-requires
+rows_in-requires c =
+    whole_lines c.args.table.now.headers c.args.rows c.len-width.result (cells_of c.cells.result) (rows_wide c.args.table.now.headers c.args.rows c.requires) (c.len-width.ensures.count ∙ ap length c.headers.ensures.value) c.headers.ensures.valid
     c.cells.ensures
 
-pub insert-requires-clause-widths : goal.insert-requires-clause-widths
-insert-requires-clause-widths c =
-    let is : c.of_integers.result ≡ c.args.rows =
-    c.of_integers.ensures
-    ∙ lines_again c.args.table.now.headers c.args.rows c.len-width.result c.cells.result.now c.requires.wide (c.len-width.ensures.count ∙ ap length c.headers.ensures.value) c.headers.ensures.valid
+pub insert-requires-clause-typed : goal.insert-requires-clause-typed
+insert-requires-clause-typed c =
+    let is : c.rows_in.result ≡ c.args.rows =
+    c.rows_in.ensures
+    ∙ lines_again c.args.table.now.headers c.args.rows c.len-width.result (cells_of c.cells.result) (rows_wide c.args.table.now.headers c.args.rows c.requires) (c.len-width.ensures.count ∙ ap length c.headers.ensures.value) c.headers.ensures.valid
     c.cells.ensures in
-    rw is c.requires.wide
-
-pub insert-requires-clause-integers : goal.insert-requires-clause-integers
-insert-requires-clause-integers c =
-    let is : c.of_integers.result ≡ c.args.rows =
-    c.of_integers.ensures
-    ∙ lines_again c.args.table.now.headers c.args.rows c.len-width.result c.cells.result.now c.requires.wide (c.len-width.ensures.count ∙ ap length c.headers.ensures.value) c.headers.ensures.valid
-    c.cells.ensures in
-    rw is c.requires.integers
+    rw is c.requires
 
 pub insert-requires-clause-room : goal.insert-requires-clause-room
 insert-requires-clause-room c =
-    let is : c.of_integers.result ≡ c.args.rows =
-    c.of_integers.ensures
-    ∙ lines_again c.args.table.now.headers c.args.rows c.len-width.result c.cells.result.now c.requires.wide (c.len-width.ensures.count ∙ ap length c.headers.ensures.value) c.headers.ensures.valid
+    let is : c.rows_in.result ≡ c.args.rows =
+    c.rows_in.ensures
+    ∙ lines_again c.args.table.now.headers c.args.rows c.len-width.result (cells_of c.cells.result) (rows_wide c.args.table.now.headers c.args.rows c.requires) (c.len-width.ensures.count ∙ ap length c.headers.ensures.value) c.headers.ensures.valid
     c.cells.ensures in
     omega (arith, ap length is)
 
 pub returns-clause-reply : goal.returns-clause-reply
 returns-clause-reply c =
     let table = c.args.table.now in
-    let is : c.of_integers.result ≡ c.args.rows =
-    c.of_integers.ensures
-    ∙ lines_again table.headers c.args.rows c.len-width.result c.cells.result.now c.requires.wide (c.len-width.ensures.count ∙ ap length c.headers.ensures.value) c.headers.ensures.valid
+    let is : c.rows_in.result ≡ c.args.rows =
+    c.rows_in.ensures
+    ∙ lines_again table.headers c.args.rows c.len-width.result (cells_of c.cells.result) (rows_wide c.args.table.now.headers c.args.rows c.requires) (c.len-width.ensures.count ∙ ap length c.headers.ensures.value) c.headers.ensures.valid
     c.cells.ensures in
     let stored = c.in_ok-insert.ensures.rows ∙ ap (λ l. rows_in table.slots ++ l) is in (
       no_test _ TableFull _ (le-ltb row_limit (length (rows_in table.slots) + length c.args.rows) (omega arith)),
@@ -50,4 +43,4 @@ returns-clause-reply c =
     )
 
 pub returns-clause-stored : goal.returns-clause-stored
-returns-clause-stored c = record { rows = c.of_integers.result; inserted = c.in_ok-insert.ensures.inserted }
+returns-clause-stored c = record { rows = c.rows_in.result; inserted = c.in_ok-insert.ensures.inserted }

@@ -1,10 +1,9 @@
-use Rattle.std.proofs.Common.{◌∙◌, Err, Ok, ap, inl, inr, refl}
+use Rattle.std.proofs.Common.{◌∙◌, Err, Ok, ap, inr, refl}
 use Rattle.bw_model.specs.Filing.{filed}
 use Rattle.bw_model.specs.declared.content.Content.TheVariants.{Held, NotTable}
-use Rattle.bw_model.specs.declared.refusal.Refusal.TheVariants.{NotTableFile, OutOfMemory}
+use Rattle.bw_model.specs.declared.refusal.Refusal.TheVariants.{NotTableFile}
 use Rattle.bw_engine.specs.Files.{unfiled}
-use Rattle.bw_engine.proofs.Decided.{said_in}
-use Rattle.bw_engine.proofs.Opened.{by_bytes, holds_unfiled, no_bytes}
+use Rattle.bw_engine.proofs.Opened.{by_bytes, by_wants, holds_unfiled, no_bytes}
 use Rattle.bw_engine.proofs.open.table_in_file.Goals as goal
 
 pub returns-in_err-bytes : goal.returns-in_err-bytes
@@ -20,5 +19,4 @@ returns-in-Err-NotTable c =
 
 pub returns-in-Err-Memory : goal.returns-in-Err-Memory
 returns-in-Err-Memory c =
-    let said = said_in c.in_ok-bytes.bytes.now in
-    by_bytes c.args.file c.in_ok-bytes.bytes (Err OutOfMemory) said.0 c.in_ok-bytes.ensures said.1 (inl refl)
+    by_wants c.args.file c.in_ok-bytes.bytes c.in_ok-bytes.ensures
