@@ -71,8 +71,8 @@ fn has_integers(column: &Column, mask: &Mask) -> bool
     true
 }
 
-/// Whether the values that a column has in the found slots are of the type of the column that they are copied to. They are
-/// looked at where a BIGINT column is copied to an INTEGER one.
+/// Whether the values that a column has in the found slots are of the type of the column that they are copied to. They
+/// are looked at only where a BIGINT column is copied to an INTEGER one.
 fn copy_fits(slots: &Slots, found: &Mask, from: usize, own: ColumnType, target: ColumnType) -> bool
     requires there { from < length slots.now.encodings }
     requires found { len found.now ≡ length slots.now.slots }

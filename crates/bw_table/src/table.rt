@@ -28,8 +28,9 @@ use bw_mask::Mask;
 use std::alloc::{AllocError, Global};
 use std::marker::Model;
 
-/// A table: its columns, and slots of which some are live. Its rows are those of the live slots, in order. The values of a
-/// column are of its header's type, and its layout holds them. A name of a column is whatever the layer above takes for one.
+/// A table: its columns, and slots of which some are live. Its rows are those of the live slots, in order. The values
+/// of a column are of the type that its header says, which its layout holds. A name of a column is whatever the layer
+/// above takes for one.
 #[derive(Drop)]
 pub struct Table<N> {
     headers: Vec<Header<N>>,
@@ -62,8 +63,9 @@ impl<N: Drop> Table<N> {
         Ok(Table { headers, slots })
     }
 
-    /// The table of these columns: for each header its values, which are of its type, in live slots. Each column is encoded
-    /// as its values ask, in the layout and of the kind that its header says. Refused only where memory is wanting.
+    /// The table of these columns: for each header its values, which are of its type, in live slots. Each column is
+    /// encoded as its values ask, in the layout and of the kind that its header says. Refused only where memory is
+    /// wanting.
     pub fn of_columns<C: Measured>(
         alloc: Global,
         headers: Vec<Header<N>>,
@@ -86,9 +88,10 @@ impl<N: Drop> Table<N> {
         Ok(Table { headers, slots })
     }
 
-    /// The columns, in order.
+    /// The columns, in order. Each one's layout holds its type.
     pub fn headers(&self) -> &[Header<N>]
-        ensures { result.now ≡ self.now.headers }
+        ensures is { result.now ≡ self.now.headers }
+        ensures held { All (λ header. IsTrue (holds_its_type header)) self.now.headers }
     {
         self.headers.as_slice()
     }
@@ -117,10 +120,11 @@ impl<N: Drop> Table<N> {
         &self.slots
     }
 
-    /// The slots that are live. Each slot, dead or live, has a value for each column.
+    /// The slots that are live. Each slot, dead or live, has for each column null or a value of its type.
     #[tactic(auto, using(crate::proofs::Heads::kinds_count))]
     pub fn live(&self) -> &Mask
         ensures wide { All (λ slot. length slot.row ≡ length self.now.headers) self.now.slots }
+        ensures typed { All (λ slot. IsRowOf (types_of self.now.headers) slot.row) self.now.slots }
         ensures len { len result.now ≡ length self.now.slots }
         ensures rows { (i : ℕ) → i < length self.now.slots → row_at result.now i ≡ (slot_at self.now.slots i).live }
     {
@@ -151,8 +155,9 @@ impl<N: Drop> Table<N> {
         self.slots.column(column).get(slot)
     }
 
-    /// Adds live slots with these rows, each value of its column's type, at the end. Where there are not enough slots, the dead ones are dropped first.
-    /// Refused where the live slots and the rows are more than 16,777,216, or memory is wanting; nothing changes then.
+    /// Adds live slots with these rows at the end. Their values are of their columns' types. Where there are not enough
+    /// slots, the dead ones are dropped first. Refused where the live slots and the rows are more than 16,777,216, or
+    /// memory is wanting; nothing changes then.
     pub fn insert(&mut self, alloc: Global, rows: &Rows<'_>) -> Result<(), TableFault>
         requires typed { All (IsRowOf (types_of self.old.headers)) rows.now }
         ensures headers { self.new.headers ≡ self.old.headers }
@@ -165,8 +170,8 @@ impl<N: Drop> Table<N> {
     }
 
     /// Sets columns in the found slots, all at once: a column that is set to another takes what that had before.
-    /// Refused where a value so copied is outside of the type of the column that takes it, or memory is wanting; nothing
-    /// changes then.
+    /// Refused where a value so taken is outside of the type of the column that it is copied to, or memory is wanting;
+    /// nothing changes then.
     pub fn update(
         &mut self,
         alloc: Global,
@@ -201,8 +206,8 @@ impl<N: Drop> Table<N> {
         self.slots.delete(found);
     }
 
-    /// Drops the dead slots and builds each column anew, in the layout and of the kind that are chosen for it. The layout
-    /// holds the column's type. Where memory is wanting, nothing changes.
+    /// Drops the dead slots and builds each column anew, in the layout and of the kind that are chosen for it. That
+    /// layout holds the column's type. Where memory is wanting, nothing changes.
     pub fn rebuild(&mut self, alloc: Global, choices: &[(usize, Choice)]) -> Result<(), AllocError>
         requires held { (k : ℕ) (h : Header N) → k < length self.old.headers → IsTrue (holds (chosen_layout (choice_of choices.now k) (slice_index_or self.old.headers k h).layout) (slice_index_or self.old.headers k h).column_type) }
         ensures headers { OnOk result (AreChosen choices.now self.old.headers self.new.headers) }
