@@ -7,13 +7,15 @@ use Rattle.std.proofs.lemmas.List.Elements.{All-append, All-from_get_or, All-map
 use Rattle.bw_mask.specs.Masks.{MaskRows, len, row_at}
 use Rattle.bw_column.specs.Columns.{ColumnView}
 use Rattle.bw_column.specs.Preparing.{IsEncodingFor}
-use Rattle.bw_column.specs.Values.{IsNullOrInteger, value_at}
+use Rattle.bw_column.specs.Values.{IsNullOrHeld, value_at}
 use Rattle.bw_code.specs.Lists.{made}
 use Rattle.bw_code.proofs.Lists.{made_at, made_is, made_len}
+use Rattle.bw_code.proofs.Types.{zipped_by}
+use Rattle.bw_column.proofs.Chosen.{holds_any}
 use Rattle.bw_table.specs.Changes.{AreAppended, AreEncodingsFor, slots_without}
-use Rattle.bw_table.specs.Slots.{AreColumns, Slot, SlotsView, column_of, live_slot, row_of, slot_at, slot_column, slot_of, slots_of}
+use Rattle.bw_table.specs.Slots.{AreColumns, IsHeldRow, Slot, SlotsView, column_of, live_slot, row_of, slot_at, slot_column, slot_of, slots_of}
 use Rattle.bw_table.specs.Halves.{AllKept, AllMadeFrom}
-use Rattle.bw_table.proofs.Integers.{integers_down, integers_kept}
+use Rattle.bw_table.proofs.Held.{all_down, held_kept}
 use Rattle.bw_code.specs.declared.encoding.Encoding.{Encoding}
 use Rattle.bw_code.specs.declared.encoding.Encoding.TheVariants.{Dictionary}
 use Rattle.bw_code.specs.declared.kind.Layout.TheVariants.{P}
@@ -58,7 +60,7 @@ module _ (new old : List ColumnView) (kept : AllKept new old) where
     kept_columns are = record {
       rows = λ k d l. ap length (kept.each k d).values ∙ are.rows k d (omega (arith, kept.count)) ∙ ap length (sym rows);
       few = omega (arith, are.few, ap length rows);
-      integers = integers_kept new old kept are.integers;
+      held = held_kept new old kept are.held;
     }
 
 -- each column has its column of the rows last
@@ -67,6 +69,12 @@ pub record AreLonger (new old : List ColumnView) (rows : List (List (Option ℤ)
   pub each : (k : ℕ) (d : ColumnView) → k < length old → (get_or new k d).values ≡ (get_or old k d).values ++ column_of rows k
   pub layout : (k : ℕ) (d : ColumnView) → k < length old → (get_or new k d).layout ≡ (get_or old k d).layout
   pub encoding : (k : ℕ) (d : ColumnView) → k < length old → IsEncodingFor (get_or old k d).values (get_or old k d).encoding (column_of rows k) (get_or new k d).encoding
+
+-- a column of rows that are held by the columns' layouts
+pub layout_down : (columns : List ColumnView) (rows : List (List (Option ℤ))) → All (IsHeldRow (map (λ column. column.layout) columns)) rows → (k : ℕ) (d : ColumnView) → k < length columns → All (IsNullOrHeld (get_or columns k d).layout) (column_of rows k)
+layout_down columns rows held k d low =
+    subst (λ l. All (IsNullOrHeld l) (column_of rows k)) (get_or-map (λ (c : ColumnView). c.layout) columns k d d.layout low)
+    (all_down IsNullOrHeld (map (λ column. column.layout) columns) rows held k d.layout (omega (arith, low, length-map columns (λ (c : ColumnView). c.layout))))
 
 -- THE TRANSPOSITION: where each column got its column of the rows, and the mask as many live rows, the slots got the rows
 module _ (new old : List ColumnView) (live new_live : MaskRows) (rows : List (List (Option ℤ))) (are : AreColumns old live) (longer : AreLonger new old rows) (wide : All (λ row. length row ≡ length old) rows) (more : new_live.rows ≡ live.rows ++ replicate (length rows) true) where
@@ -117,15 +125,16 @@ module _ (new old : List ColumnView) (live new_live : MaskRows) (rows : List (Li
   slots_longer =
       sym (made_is (len new_live) (slot_of new new_live) (slots_of old live ++ map live_slot rows) (live_slot []) (length-append (slots_of old live) (map live_slot rows) ∙ rw (made_len (len live) (slot_of old live), length-map rows live_slot) (sym total)) (λ i h. new_slot i (live_slot []) (omega (arith, total))))
 
-  pub columns_longer : len live + length rows ≤ 2 ^ 24 → All (λ row. All IsNullOrInteger row) rows → AreColumns new new_live
-  columns_longer few integers = record {
+  pub columns_longer : len live + length rows ≤ 2 ^ 24 → All (IsHeldRow (map (λ column. column.layout) old)) rows → AreColumns new new_live
+  columns_longer few held = record {
     rows = λ k d l.
         let low : k < length old = omega (arith, longer.count) in
         ap length (longer.each k d low) ∙ length-append (get_or old k d).values (column_of rows k) ∙ rw (are.rows k d low, length-map rows (λ row. value_at row k)) (sym total);
     few = omega (arith, total);
-    integers = λ k d l.
+    held = λ k d l.
         let low : k < length old = omega (arith, longer.count, l) in
-        rw (longer.each k d low) (All-append IsNullOrInteger (get_or old k d).values (column_of rows k) (are.integers k d low) (integers_down rows k (λ i e h. omega (arith, wide i e h, low)) integers));
+        let layout = (get_or old k d).layout in
+        rw (longer.each k d low, longer.layout k d low) (All-append (IsNullOrHeld layout) (get_or old k d).values (column_of rows k) (are.held k d low) (layout_down old rows held k d low));
   }
 
 -- what the two halves do
@@ -213,3 +222,15 @@ slots_wide columns live =
   where
     n : ℕ
     n = length (map (λ (column : ColumnView). column.encoding) columns)
+
+-- and its layout holds it
+pub slots_held : (columns : List ColumnView) (live : MaskRows) → AreColumns columns live → All (λ slot. IsHeldRow (map (λ column. column.layout) columns) slot.row) (slots_of columns live)
+slots_held columns live are i d l =
+    let low : i < len live = omega (arith, l, made_len (len live) (slot_of columns live)) in
+    let layouts = length-map columns (λ (c : ColumnView). c.layout) in
+    let across = length-map columns (λ (c : ColumnView). value_at c.values i) in
+    rw (made_at (len live) (slot_of columns live) i d low) (zipped_by IsNullOrHeld (map (λ column. column.layout) columns) (row_of columns i) (across ∙ sym layouts) (λ k a e h.
+    let inside : k < length columns = omega (arith, h, layouts) in
+    let column = get_or columns k no_column in
+    rw (get_or-map (λ (c : ColumnView). c.layout) columns k no_column a inside, get_or-map (λ (c : ColumnView). value_at c.values i) columns k no_column e inside)
+    (holds_any (IsNullOrHeld column.layout) column.values tt (are.held k no_column inside) i)))

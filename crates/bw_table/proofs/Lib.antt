@@ -1,12 +1,14 @@
 pub mod Across
+pub mod Copied
 pub mod Flat
 pub mod Heads
+pub mod Held
 pub mod Inserted
-pub mod Integers
 pub mod Opened
 pub mod Picks
 pub mod Places
 pub mod Readied
 pub mod SameKinds
+pub mod Typed
 pub mod Updated
 pub mod Written

@@ -1,5 +1,5 @@
 -- Columns that are set, or built anew from the live rows, read across as a list of slots.
-use Rattle.std.proofs.Common.{◌≡◌, ℕ, ◌<◌, true, false, List, [], length, get_or, map, replicate, count_by, refl, sym, ap, ◌∙◌, inl, inr, arith, Option, Some, None, if◌then◌else◌}
+use Rattle.std.proofs.Common.{◌≡◌, ℕ, ◌<◌, subst, true, false, List, [], length, get_or, map, replicate, count_by, refl, sym, ap, ◌∙◌, inl, inr, arith, Option, Some, None, if◌then◌else◌}
 use Rattle.std.specs.List.{All, filter, range_with_len}
 use Rattle.std.proofs.lemmas.Bool.{cases_Bool}
 use Rattle.std.proofs.lemmas.List.{get_or_default, get_or-map, get_or-replicate, length-map, length-replicate, same_lists}
@@ -8,17 +8,40 @@ use Rattle.bw_mask.specs.Masks.{MaskRows, len, row_at}
 use Rattle.bw_column.specs.Columns.{ColumnView}
 use Rattle.bw_column.specs.Places.{put_at}
 use Rattle.bw_code.proofs.Lists.{made_at, made_is, made_len}
-use Rattle.bw_column.specs.Values.{value_at}
-use Rattle.bw_table.specs.Changes.{AreEncodingsWith, AreRebuilt, AreUpdated, IsEncodingWith, IsSetTo, choice_of, chosen_kind, chosen_layout, new_value, places, row_with, set_of, slots_with, value_for}
-use Rattle.bw_table.specs.Slots.{AreColumns, Slot, live_slot, live_slots, row_of, slot_at, slot_of, slots_of}
+use Rattle.bw_column.specs.Values.{IsNullOrHeld, value_at}
+use Rattle.bw_column.proofs.Ordered.{all_chosen}
+use Rattle.bw_table.specs.Changes.{AreEncodingsWith, AreRebuilt, AreUpdated, HoldAsChosen, IsEncodingWith, choice_of, chosen_kind, chosen_layout, new_value, places, row_with, rows_found, set_of, slots_with, value_for}
+use Rattle.bw_table.specs.Slots.{AreColumns, Slot, SlotsView, live_slot, live_slots, row_of, slot_at, slot_of, slots_of}
 use Rattle.bw_table.specs.Sets.{AllBuilt, AllSet, IsSet, gathered}
 use Rattle.bw_table.specs.declared.setting.SetTo.{SetTo}
 use Rattle.bw_table.specs.declared.setting.SetTo.TheVariants.{Column}
 use Rattle.bw_table.specs.declared.choice.Choice.{Choice}
 use Rattle.bw_code.specs.Encodings.{kind_of}
-use Rattle.bw_table.proofs.Places.{count_places, filter_mapped, map_alike, map_twice, places_in, places_inside, put_gathered}
-use Rattle.bw_table.proofs.Integers.{integers_gathered, integers_set, set_is_one}
+use Rattle.bw_code.specs.declared.kind.Layout.TheVariants.{P}
+use Rattle.bw_table.proofs.Places.{count_places, gathered_column, filter_mapped, map_alike, map_twice, places_in, places_inside, put_gathered}
+use Rattle.bw_table.proofs.Held.{held_set, set_is_one}
 use Rattle.bw_table.proofs.Across.{column_back, map_same, no_column, view_of}
+
+-- what a column is set to, its layout holds
+abbrev pub AreSetHeld : List ColumnView → MaskRows → ℕ × SetTo → Type 0
+AreSetHeld columns found set = (d : ColumnView) → All (IsNullOrHeld (get_or columns set.0 d).layout) (gathered columns found set.1)
+
+-- the rows of found slots, through the columns
+found_rows : (columns : List ColumnView) (live found : MaskRows) → len found ≡ len live → rows_found found (slots_of columns live) ≡ map (row_of columns) (places found)
+found_rows columns live found as_long =
+    map_alike (λ i. (slot_at (slots_of columns live) i).row) (row_of columns) (places found) (λ k d l.
+    ap (λ (slot : Slot). slot.row) (made_at (len live) (slot_of columns live) (get_or (places found) k d) (live_slot []) (omega (arith, places_inside found k d l, as_long))))
+
+-- the same, read across
+abbrev pub AreHeldSets : MaskRows → List (ℕ × SetTo) → SlotsView → Type 0
+AreHeldSets found sets slots = All (λ set. All (IsNullOrHeld (get_or slots.layouts set.0 P)) (map (value_for set.1) (rows_found found slots.slots))) sets
+
+pub sets_held : (columns : List ColumnView) (live found : MaskRows) (sets : List (ℕ × SetTo)) → len found ≡ len live → All (λ set. set.0 < length columns) sets → AreHeldSets found sets (view_of columns live) → All (AreSetHeld columns found) sets
+sets_held columns live found sets as_long named held j s l d =
+    let set = get_or sets j s in
+    let layout = (get_or columns set.0 d).layout in
+    subst (All (IsNullOrHeld layout)) (ap (map (value_for set.1)) (found_rows columns live found as_long) ∙ map_twice (value_for set.1) (row_of columns) (places found))
+    (subst (λ x. All (IsNullOrHeld x) (map (value_for set.1) (rows_found found (slots_of columns live)))) (get_or-map (λ (c : ColumnView). c.layout) columns set.0 d P (named j s l)) (held j s l))
 
 -- one column that is set, or not
 module _ (columns : List ColumnView) (found : MaskRows) (k : ℕ) (inside : k < length columns) (d : ColumnView) where
@@ -71,22 +94,19 @@ module _ (new old : List ColumnView) (live found : MaskRows) (sets : List (ℕ �
       let low : i < len live = omega (arith, n) in
       made_at (len live) (slot_of new live) i (live_slot []) low ∙ rw (made_at (len live) (slot_of old live) i (live_slot []) low, row_is i low) refl)
 
-  pub columns_set : All (λ set. IsSetTo (length old) set.1) sets → AreColumns new live
-  columns_set sound = record {
+  pub columns_set : All (AreSetHeld old found) sets → AreColumns new live
+  columns_set held = record {
     rows = λ k d l. let inside : k < length old = omega (arith, all.count) in set_length old found k inside d (set_of sets k) (get_or new k d) (all.each k d) ∙ are.rows k d inside;
     few = are.few;
-    integers = λ k d l.
+    held = λ k d l.
         let inside : k < length old = omega (arith, l, all.count) in
-        integers_set old are.integers found (set_of sets k) (set_is_one (IsSetTo (length old)) sets sound k) (get_or new k d) (get_or old k d) (all.each k d) (are.integers k d inside);
+        held_set old found (set_of sets k) (get_or new k d) (get_or old k d) (λ t is. set_is_one (AreSetHeld old found) sets held k t is d) (all.each k d) (are.held k d inside);
   }
-
-  rows_found : map (λ i. (slot_at (slots_of old live) i).row) (places found) ≡ map (row_of old) (places found)
-  rows_found = map_alike (λ i. (slot_at (slots_of old live) i).row) (row_of old) (places found) (λ k d l. ap (λ (slot : Slot). slot.row) (made_at (len live) (slot_of old live) (get_or (places found) k d) (live_slot []) (omega (arith, places_inside found k d l, as_long))))
 
   pub encodings_set : AreEncodingsWith found sets (slots_of old live) (map (λ column. column.encoding) old) (map (λ column. column.encoding) new)
   encodings_set k d e l =
       let low : k < length old = omega (arith, length-map old (λ (c : ColumnView). c.encoding)) in
-      rw (rows_found, column_back old live k low (are.rows k no_column low), get_or-map (λ (c : ColumnView). c.encoding) old k no_column d low, get_or-map (λ (c : ColumnView). c.encoding) new k no_column e (omega (arith, all.count)))
+      rw (found_rows old live found as_long, column_back old live k low (are.rows k no_column low), get_or-map (λ (c : ColumnView). c.encoding) old k no_column d low, get_or-map (λ (c : ColumnView). c.encoding) new k no_column e (omega (arith, all.count)))
       (set_encoding old found k low no_column (set_of sets k) (get_or new k no_column) (all.each k no_column))
 
   pub are_updated : AreUpdated found sets (view_of old live) (view_of new live)
@@ -96,6 +116,14 @@ module _ (new old : List ColumnView) (live found : MaskRows) (sets : List (ℕ �
     width = length-map new (λ (c : ColumnView). c.encoding) ∙ all.count ∙ sym (length-map old (λ (c : ColumnView). c.encoding));
     encodings_are = encodings_set;
   }
+
+-- the layout that is chosen for each column holds its values, read downward
+pub chosen_held : (choices : List (ℕ × Choice)) (columns : List ColumnView) (live : MaskRows) → AreColumns columns live → HoldAsChosen choices (view_of columns live) → (k : ℕ) (d : ColumnView) → k < length columns → All (IsNullOrHeld (chosen_layout (choice_of choices k) (get_or columns k d).layout)) (get_or columns k d).values
+chosen_held choices columns live are holds k d l =
+    let e = get_or_default columns k d no_column l in
+    let layouts = length-map columns (λ (c : ColumnView). c.layout) in
+    let here = holds k no_column.layout (omega (arith, l, layouts)) in
+    rw (e, ← get_or-map (λ (c : ColumnView). c.layout) columns k no_column no_column.layout l, ← column_back columns live k l (are.rows k no_column l)) here
 
 -- where all columns are built anew from the live rows, the slots are the live ones
 module _ (choices : List (ℕ × Choice)) (new old : List ColumnView) (live new_live : MaskRows) (are : AreColumns old live) (all : AllBuilt live choices new old) (rows : new_live.rows ≡ replicate (count_by (λ row. row) live.rows) true) where
@@ -127,11 +155,14 @@ module _ (choices : List (ℕ × Choice)) (new old : List ColumnView) (live new_
   as_long_new : (k : ℕ) (d : ColumnView) → k < length old → length (get_or new k d).values ≡ len new_live
   as_long_new k d inside = ap length (all.each k d inside).values ∙ length-map (places live) (λ i. value_for (Column k) (row_of old i)) ∙ sym total
 
-  pub columns_built : AreColumns new new_live
-  columns_built = record {
+  pub columns_built : ((k : ℕ) (d : ColumnView) → k < length old → All (IsNullOrHeld (chosen_layout (choice_of choices k) (get_or old k d).layout)) (get_or old k d).values) → AreColumns new new_live
+  columns_built held = record {
     rows = λ k d l. as_long_new k d (omega (arith, all.count));
     few = omega (arith, are.few, total, count_places live, count_by-le-length (λ row. row) live.rows);
-    integers = λ k d l. let inside : k < length old = omega (arith, l, all.count) in rw (all.each k d inside).values (integers_gathered old are.integers live (Column k) inside);
+    held = λ k d l.
+        let inside : k < length old = omega (arith, l, all.count) in
+        let layout = chosen_layout (choice_of choices k) (get_or old k d).layout in
+        rw ((all.each k d inside).values, (all.each k d inside).layout, gathered_column old live k d inside) (all_chosen (IsNullOrHeld layout) live (get_or old k d).values tt (held k d inside));
   }
 
   pub are_rebuilt : AreRebuilt choices (view_of old live) (view_of new new_live)

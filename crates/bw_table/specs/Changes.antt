@@ -1,15 +1,18 @@
 -- What INSERT, UPDATE, DELETE and REBUILD make of the slots of a table, and of the encodings of its columns.
 use Rattle.std.specs.Prelude.{Bool, List, None, Option, Some, [], false, if◌then◌else◌, length, map, nat_le, not, slice_index_or, true, ℕ, ℤ, ◌&&◌, ◌++◌, ◌+◌, ◌<◌, ◌==◌, ◌≡◌}
-use Rattle.std.specs.List.{filter, range_with_len}
+use Rattle.std.specs.List.{All, filter, list_all, range_with_len}
 use Rattle.std.specs.Map.{lookup}
 use Rattle.bw_mask.specs.Masks.{MaskRows, len, row_at}
 use Rattle.bw_code.specs.Encodings.{IsFit, kind_of}
 use Rattle.bw_code.specs.declared.encoding.Encoding.{Encoding}
+use Rattle.bw_code.specs.Types.{IsNullOrOfType, is_null_or_of_type}
+use Rattle.bw_code.specs.declared.kind.ColumnType.{ColumnType}
+use Rattle.bw_code.specs.declared.kind.ColumnType.TheVariants.{Integer}
 use Rattle.bw_code.specs.declared.kind.Kind.{Kind}
 use Rattle.bw_code.specs.declared.kind.Layout.{Layout}
 use Rattle.bw_code.specs.Lists.{made}
 use Rattle.bw_column.specs.Preparing.{IsEncodingFor}
-use Rattle.bw_column.specs.Values.{IsNullOrInteger, known, value_at}
+use Rattle.bw_column.specs.Values.{IsNullOrHeld, known, value_at}
 use Rattle.bw_table.specs.Slots.{Slot, SlotsView, column_of, live_slot, live_slots, slot_at, slot_column, slot_limit}
 use Rattle.bw_table.specs.declared.choice.Choice.{Choice}
 use Rattle.bw_table.specs.declared.setting.SetTo.{SetTo}
@@ -48,6 +51,10 @@ pub record IsBuiltAnew (choice : Option Choice) (values : List (Option ℤ)) (ow
   pub kind : kind_of e ≡ chosen_kind choice (kind_of own)
   pub fits : IsFit (known values) e
 
+-- the layout that is chosen for each column holds its values
+abbrev pub HoldAsChosen : List (ℕ × Choice) → SlotsView → Type 0
+HoldAsChosen choices slots = (k : ℕ) (l : Layout) → k < length slots.layouts → All (IsNullOrHeld (chosen_layout (choice_of choices k) (slice_index_or slots.layouts k l))) (slot_column slots.slots k)
+
 -- the live slots alone, and each column built anew, as the choices say
 pub record AreRebuilt (choices : List (ℕ × Choice)) (old new : SlotsView) : Type 0 where
   pub slots_are : new.slots ≡ live_slots old.slots
@@ -84,10 +91,29 @@ abbrev pub value_for : SetTo → List (Option ℤ) → Option ℤ
 value_for (Value x) row = x
 value_for (Column k) row = value_at row k
 
--- a column may be set to a value of its type, or to a column of the table
-abbrev pub IsSetTo : ℕ → SetTo → Type 0
-IsSetTo columns (Value x) = IsNullOrInteger x
-IsSetTo columns (Column k) = k < columns
+-- the type of column k; past the last, INTEGER
+abbrev pub type_at : List ColumnType → ℕ → ColumnType
+type_at types k = slice_index_or types k Integer
+
+-- column k may be set to null or a value of its type, or to any column of the table
+abbrev pub MayTake : List ColumnType → ℕ → SetTo → Type 0
+MayTake types k (Value x) = IsNullOrOfType (type_at types k) x
+MayTake types k (Column from) = from < length types
+
+abbrev pub IsSetTo : List ColumnType → ℕ × SetTo → Type 0
+IsSetTo types set = MayTake types set.0 set.1
+
+-- whether each set gives, in a row, null or a value of its column's type
+abbrev pub sets_fit : List ColumnType → List (ℕ × SetTo) → List (Option ℤ) → Bool
+sets_fit types sets row = list_all (λ set. is_null_or_of_type (type_at types set.0) (value_for set.1 row)) sets
+
+-- the rows of the found slots, in order
+abbrev pub rows_found : MaskRows → List Slot → List (List (Option ℤ))
+rows_found found slots = map (λ i. (slot_at slots i).row) (places found)
+
+-- whether they do in each found slot; a value that is no copy does anyway
+abbrev pub copies_fit : List ColumnType → MaskRows → List (ℕ × SetTo) → List Slot → Bool
+copies_fit types found sets slots = list_all (sets_fit types sets) (rows_found found slots)
 
 -- what column k is set to, if it is
 abbrev pub set_of : List (ℕ × SetTo) → ℕ → Option SetTo
@@ -112,7 +138,7 @@ IsEncodingWith rows None old own encoding = encoding ≡ own
 IsEncodingWith rows (Some to) old own encoding = IsEncodingFor old own (map (value_for to) rows) encoding
 
 abbrev pub AreEncodingsWith : MaskRows → List (ℕ × SetTo) → List Slot → List Encoding → List Encoding → Type 0
-AreEncodingsWith found sets slots own encodings = (k : ℕ) (d e : Encoding) → k < length own → IsEncodingWith (map (λ i. (slot_at slots i).row) (places found)) (set_of sets k) (slot_column slots k) (slice_index_or own k d) (slice_index_or encodings k e)
+AreEncodingsWith found sets slots own encodings = (k : ℕ) (d e : Encoding) → k < length own → IsEncodingWith (rows_found found slots) (set_of sets k) (slot_column slots k) (slice_index_or own k d) (slice_index_or encodings k e)
 
 -- columns are set in the found slots, all at once
 pub record AreUpdated (found : MaskRows) (sets : List (ℕ × SetTo)) (old new : SlotsView) : Type 0 where

@@ -1,6 +1,6 @@
 -- Columns that are set in the rows of a mask, in two halves, and columns built anew from such rows.
 use Rattle.std.specs.Prelude.{List, None, Option, Some, [], count_by, false, length, map, replicate, slice_index_or, ⊤, ℕ, ℤ, ◌<◌, ◌≡◌}
-use Rattle.std.specs.List.{All, filter, range_with_len}
+use Rattle.std.specs.List.{filter, range_with_len}
 use Rattle.bw_mask.specs.Masks.{MaskRows, bit_of}
 use Rattle.bw_code.specs.Encodings.{IsFit, kind_of}
 use Rattle.bw_code.specs.declared.header.Header.{Header}
@@ -10,15 +10,20 @@ use Rattle.bw_code.specs.declared.kind.Kind.TheVariants as kinds
 use Rattle.bw_column.specs.Copies.{IsMasked}
 use Rattle.bw_column.specs.Places.{chosen_values, overwritten}
 use Rattle.bw_column.specs.Preparing.{IsEncodingFor, IsPreparedFor}
-use Rattle.bw_column.specs.Values.{IsNullOrInteger, known, value_at}
+use Rattle.bw_column.specs.Values.{known, value_at}
 use Rattle.bw_table.specs.Changes.{choice_of, chosen_kind, chosen_layout, places, set_of, value_for}
 use Rattle.bw_table.specs.Slots.{row_of}
 use Rattle.bw_table.specs.declared.choice.Choice.{Choice}
 use Rattle.bw_table.specs.declared.setting.SetTo.{SetTo}
-use Rattle.bw_table.specs.declared.setting.SetTo.TheVariants.{Column}
+use Rattle.bw_table.specs.declared.setting.SetTo.TheVariants.{Column, Value}
 use Rattle.bw_table.specs.declared.taking.Change.{Change}
 use Rattle.bw_table.specs.declared.taking.Taken.{Taken}
 use Rattle.bw_table.specs.declared.taking.Taken.TheVariants.{Copied, Each, Same}
+
+-- a column that another is set to is there
+abbrev pub IsThere : ℕ → SetTo → Type 0
+IsThere columns (Value x) = ⊤
+IsThere columns (Column k) = k < columns
 
 -- what a column is set to in the rows of a mask, in order
 abbrev pub gathered : List ColumnView → MaskRows → SetTo → List (Option ℤ)
@@ -38,7 +43,7 @@ taken mask (Copied column) = chosen_values mask column.values
 abbrev pub FitsCopy : Kind → MaskRows → Taken → Type 0
 FitsCopy kind mask (Each values) = ⊤
 FitsCopy kind mask (Same value) = ⊤
-FitsCopy kind mask (Copied copy) = (kind ≡ kinds.Offset) × (kind_of copy.encoding ≡ kinds.Offset) × IsMasked mask copy.values × All IsNullOrInteger copy.values
+FitsCopy kind mask (Copied copy) = (kind ≡ kinds.Offset) × (kind_of copy.encoding ≡ kinds.Offset) × IsMasked mask copy.values
 
 -- the change has the values of the set, and is prepared for its column as it stands
 pub record IsReadyFor (columns : List ColumnView) (found : MaskRows) (set : ℕ × SetTo) (change : Change) : Type 0 where

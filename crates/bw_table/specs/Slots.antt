@@ -1,12 +1,12 @@
 -- The slots of a table: each has a row, and is live or dead. The rows of the table are those of its live slots, in order.
 use Rattle.std.specs.Prelude.{Bool, List, Option, [], length, map, slice_index_or, true, ℕ, ℤ, ◌<◌, ◌^◌, ◌≡◌, ◌≤◌}
-use Rattle.std.specs.List.{All, filter}
+use Rattle.std.specs.List.{All, AllZip, filter}
 use Rattle.bw_mask.specs.Masks.{MaskRows, len, row_at}
 use Rattle.bw_code.specs.declared.encoding.Encoding.{Encoding}
 use Rattle.bw_code.specs.declared.kind.Layout.{Layout}
 use Rattle.bw_column.specs.Columns.{ColumnView}
 use Rattle.bw_code.specs.Lists.{made}
-use Rattle.bw_column.specs.Values.{IsNullOrInteger, value_at}
+use Rattle.bw_column.specs.Values.{IsNullOrHeld, value_at}
 
 pub record Slot : Type 0 where
   pub row : List (Option ℤ)
@@ -50,8 +50,12 @@ slot_of columns live i = record { row = row_of columns i; live = row_at live i }
 abbrev pub slots_of : List ColumnView → MaskRows → List Slot
 slots_of columns live = made (len live) (slot_of columns live)
 
--- columns of INTEGERs and nulls, as long as the mask of the live slots
+-- a row that has for each column null or an integer that its layout holds
+abbrev pub IsHeldRow : List Layout → List (Option ℤ) → Type 0
+IsHeldRow layouts row = AllZip IsNullOrHeld layouts row
+
+-- columns of what their layouts hold, as long as the mask of the live slots
 pub record AreColumns (columns : List ColumnView) (live : MaskRows) : Type 0 where
   pub rows : (k : ℕ) (d : ColumnView) → k < length columns → length (slice_index_or columns k d).values ≡ len live
   pub few : len live ≤ 2 ^ 24
-  pub integers : All (λ column. All IsNullOrInteger column.values) columns
+  pub held : All (λ column. All (IsNullOrHeld column.layout) column.values) columns

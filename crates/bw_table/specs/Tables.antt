@@ -1,6 +1,8 @@
 -- A table: its headers, its slots, and the encoding of each column.
-use Rattle.std.specs.Prelude.{List, Option, [], length, map, slice_index_or, ℕ, ◌<◌, ◌≡◌}
+use Rattle.std.specs.Prelude.{IsTrue, List, Option, [], length, map, slice_index_or, ℕ, ◌<◌, ◌≡◌}
+use Rattle.std.specs.List.{All}
 use Rattle.bw_code.specs.Encodings.{kind_of}
+use Rattle.bw_code.specs.Types.{IsRowOf, holds_its_type, types_of}
 use Rattle.bw_code.specs.declared.encoding.Encoding.{Encoding}
 use Rattle.bw_code.specs.declared.header.Header.{Header}
 use Rattle.bw_code.specs.declared.kind.Layout.{Layout}
@@ -21,10 +23,12 @@ layouts headers = map (λ header. header.layout) headers
 abbrev pub slots_in : {N : Type 0} → TableView N → SlotsView
 slots_in table = record { slots = table.slots; layouts = layouts table.headers; encodings = table.encodings }
 
--- the headers tell the layout and the kind of each column
+-- the headers tell the layout and the kind of each column, and its type: each slot has a value of it, which the layout holds
 pub record AreHeadersOf {N : Type 0} (headers : List (Header N)) (slots : SlotsView) : Type 0 where
   pub layouts_are : layouts headers ≡ slots.layouts
   pub kinds_are : map (λ header. header.kind) headers ≡ map kind_of slots.encodings
+  pub typed : All (λ slot. IsRowOf (types_of headers) slot.row) slots.slots
+  pub held : All (λ header. IsTrue (holds_its_type header)) headers
 
 -- as many encodings as headers, each of its header's kind and as for no values
 pub record AreFirst {N : Type 0} (headers : List (Header N)) (encodings : List Encoding) : Type 0 where

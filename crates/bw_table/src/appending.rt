@@ -4,7 +4,7 @@ ghost use Rattle.std.specs.Prelude.{All, IfOk, length, map, replicate, slice_ind
 ghost use Rattle.std.specs.List.{range_with_len};
 ghost use Rattle.bw_mask.specs.Masks.{len};
 ghost use Rattle.bw_column.specs.Columns.{ColumnView};
-ghost use Rattle.bw_column.specs.Values.{IsNullOrInteger};
+ghost use Rattle.bw_column.specs.Values.{IsNullOrHeld};
 ghost use Rattle.bw_table.specs.Halves.{AllKept, AllMadeFrom, AreReadyBelow};
 ghost use Rattle.bw_table.specs.Slots.{column_of};
 
@@ -21,7 +21,7 @@ pub(crate) fn prepare(
     rows: &Rows<'_>,
 ) -> Result<Vec<Prepared>, AllocError>
     requires widths { All (λ row. vec_len columns.old ≤ length row) rows.now }
-    requires integers { All (λ row. All IsNullOrInteger row) rows.now }
+    requires held { (k : ℕ) (d : ColumnView) → k < vec_len columns.old → All (IsNullOrHeld (slice_index_or columns.old.items k d).layout) (column_of rows.now k) }
     requires few { All (λ column. length column.values + length rows.now ≤ 2 ^ 24) columns.old.items }
     requires some { length rows.now ≤ 2 ^ 24 }
     ensures kept { AllKept columns.new.items columns.old.items }

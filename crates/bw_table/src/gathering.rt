@@ -1,9 +1,8 @@
 //! The values of a column in the rows of a mask.
 
-ghost use Rattle.std.specs.Prelude.{All, IfOk, length, take, vec_len, ◌<◌, ◌≡◌, ◌≤◌};
+ghost use Rattle.std.specs.Prelude.{IfOk, length, take, vec_len, ◌<◌, ◌≡◌, ◌≤◌};
 ghost use Rattle.bw_mask.specs.Masks.{bit_of, len};
 ghost use Rattle.bw_column.specs.Places.{chosen_values};
-ghost use Rattle.bw_column.specs.Values.{IsNullOrInteger};
 ghost use Rattle.bw_table.specs.Sets.{picked};
 
 use bw_column::Column;
@@ -37,9 +36,7 @@ pub(crate) fn gather(
     mask: &Mask,
 ) -> Result<Vec<Option<i64>>, AllocError>
     requires long { length column.now.values ≡ len mask.now }
-    requires integers { All IsNullOrInteger column.now.values }
     ensures values { IfOk result (λ values. values.items ≡ chosen_values mask.now column.now.values) }
-    ensures integers { IfOk result (λ values. All IsNullOrInteger values.items) }
     ensures few { IfOk result (λ values. vec_len values ≤ len mask.now) }
 {
     let end = column.len();

@@ -3,6 +3,7 @@
 
 mod appending;
 mod choice;
+mod copies;
 mod fault;
 mod gathering;
 mod opening;

@@ -1,11 +1,12 @@
 //! Columns built anew from the rows of a mask.
 
-ghost use Rattle.std.specs.Prelude.{All, IfOk, length, ◌^◌, ◌≡◌, ◌≤◌};
+ghost use Rattle.std.specs.Prelude.{All, IfOk, length, slice_index_or, ℕ, ◌<◌, ◌^◌, ◌≡◌, ◌≤◌};
 ghost use Rattle.bw_code.specs.Encodings.{IsFit, kind_of};
+ghost use Rattle.bw_column.specs.Columns.{ColumnView};
 ghost use Rattle.bw_column.specs.Places.{chosen_values};
-ghost use Rattle.bw_column.specs.Values.{IsNullOrInteger, known};
+ghost use Rattle.bw_column.specs.Values.{IsNullOrHeld, known};
 ghost use Rattle.bw_mask.specs.Masks.{len};
-ghost use Rattle.bw_table.specs.Changes.{chosen_kind, chosen_layout};
+ghost use Rattle.bw_table.specs.Changes.{choice_of, chosen_kind, chosen_layout};
 ghost use Rattle.bw_table.specs.Sets.{AllBuilt};
 
 use crate::choice::{Choice, choice_of, chosen_kind, chosen_layout};
@@ -16,14 +17,13 @@ use bw_mask::Mask;
 use std::alloc::{AllocError, Global};
 
 /// A column of these values, in the layout and of the kind that are chosen, or those of the column `own`.
-#[tactic(auto, using(bw_column::proofs::Held::all_held))]
 fn built_as<C: Measured>(
     alloc: Global,
     own: &Column,
     choice: Option<Choice>,
     values: &C,
 ) -> Result<Column, AllocError>
-    requires integers { All IsNullOrInteger (C.cells values.now) }
+    requires held { All (IsNullOrHeld (chosen_layout choice own.now.layout)) (C.cells values.now) }
     requires few { length (C.cells values.now) ≤ 2 ^ 24 }
     ensures values { IfOk result (λ c. c.values ≡ C.cells values.now) }
     ensures layout { IfOk result (λ c. c.layout ≡ chosen_layout choice own.now.layout) }
@@ -43,7 +43,7 @@ fn built_anew(
     choice: Option<Choice>,
 ) -> Result<Column, AllocError>
     requires long { length own.now.values ≡ len mask.now }
-    requires integers { All IsNullOrInteger own.now.values }
+    requires held { All (IsNullOrHeld (chosen_layout choice own.now.layout)) own.now.values }
     requires few { len mask.now ≤ 2 ^ 24 }
     ensures values { IfOk result (λ c. c.values ≡ chosen_values mask.now own.now.values) }
     ensures layout { IfOk result (λ c. c.layout ≡ chosen_layout choice own.now.layout) }
@@ -65,7 +65,7 @@ pub(crate) fn build_anew(
     choices: &[(usize, Choice)],
 ) -> Result<Vec<Column>, AllocError>
     requires long { All (λ column. length column.values ≡ len mask.now) columns.now.items }
-    requires integers { All (λ column. All IsNullOrInteger column.values) columns.now.items }
+    requires held { (k : ℕ) (d : ColumnView) → k < length columns.now.items → All (IsNullOrHeld (chosen_layout (choice_of choices.now k) (slice_index_or columns.now.items k d).layout)) (slice_index_or columns.now.items k d).values }
     requires few { len mask.now ≤ 2 ^ 24 }
     ensures { IfOk result (λ built. AllBuilt mask.now choices.now built.items columns.now.items) }
 {

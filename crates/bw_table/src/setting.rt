@@ -1,12 +1,12 @@
 //! Columns that are set in the rows of a mask, in two halves: first each growth, then what takes no memory.
 
-ghost use Rattle.std.specs.Prelude.{All, IfOk, length, vec_len, ℕ, ◌<◌, ◌^◌, ◌≡◌, ◌≢◌, ◌≤◌};
+ghost use Rattle.std.specs.Prelude.{All, IfOk, length, slice_index_or, vec_len, ℕ, ◌<◌, ◌^◌, ◌≡◌, ◌≢◌, ◌≤◌};
 ghost use Rattle.std.specs.List.{AllPairs};
 ghost use Rattle.bw_mask.specs.Masks.{len};
-ghost use Rattle.bw_column.specs.Values.{IsNullOrInteger};
-ghost use Rattle.bw_table.specs.Changes.{IsSetTo};
+ghost use Rattle.bw_column.specs.Columns.{ColumnView};
+ghost use Rattle.bw_column.specs.Values.{IsNullOrHeld};
 ghost use Rattle.bw_table.specs.Halves.{AllKept};
-ghost use Rattle.bw_table.specs.Sets.{AllSet, AreReadyFor};
+ghost use Rattle.bw_table.specs.Sets.{AllSet, AreReadyFor, IsThere, gathered};
 
 use crate::taking::{Change, make_ready, take, values_for};
 use bw_column::Column;
@@ -29,9 +29,9 @@ pub(crate) fn prepare_sets(
     sets: &[(usize, SetTo)],
 ) -> Result<Vec<Change>, AllocError>
     requires named { All (λ set. set.0 < vec_len columns.old) sets.now }
-    requires values { All (λ set. IsSetTo (vec_len columns.old) set.1) sets.now }
+    requires there { All (λ set. IsThere (vec_len columns.old) set.1) sets.now }
+    requires held { All (λ set. (d : ColumnView) → All (IsNullOrHeld (slice_index_or columns.old.items set.0 d).layout) (gathered columns.old.items found.now set.1)) sets.now }
     requires long { All (λ column. length column.values ≡ len found.now) columns.old.items }
-    requires integers { All (λ column. All IsNullOrInteger column.values) columns.old.items }
     requires few { len found.now ≤ 2 ^ 24 }
     ensures kept { AllKept columns.new.items columns.old.items }
     ensures count { IfOk result (λ changes. vec_len changes ≡ length sets.now) }

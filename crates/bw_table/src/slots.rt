@@ -6,9 +6,11 @@ ghost use Rattle.bw_mask.specs.Masks.{len, row_at};
 ghost use Rattle.bw_code.specs.Encodings.{kind_of};
 ghost use Rattle.bw_code.specs.declared.encoding.Encoding.{Encoding};
 ghost use Rattle.bw_code.specs.declared.kind.Layout.{Layout};
-ghost use Rattle.bw_column.specs.Values.{IsNullOrInteger};
-ghost use Rattle.bw_table.specs.Changes.{AreAppended, AreInserted, AreRebuilt, AreUpdated, IsFull, IsSetTo, slots_without};
-ghost use Rattle.bw_table.specs.Slots.{SlotsView, live_slots, slot_at, slot_column, slot_limit};
+ghost use Rattle.bw_code.specs.declared.kind.Layout.TheVariants.{P};
+ghost use Rattle.bw_column.specs.Values.{IsNullOrHeld};
+ghost use Rattle.bw_table.specs.Changes.{AreAppended, AreInserted, AreRebuilt, AreUpdated, HoldAsChosen, IsFull, rows_found, slots_without, value_for};
+ghost use Rattle.bw_table.specs.Sets.{IsThere};
+ghost use Rattle.bw_table.specs.Slots.{IsHeldRow, SlotsView, live_slots, slot_at, slot_column, slot_limit};
 ghost use Rattle.bw_table.specs.declared.fault.TableFault.TheVariants.{Full};
 
 use crate::appending::{apply, prepare, push_live};
@@ -53,11 +55,12 @@ impl Slots {
         self.live.len()
     }
 
-    /// How many columns there are: each slot has a value for each.
-    #[tactic(auto, using(crate::proofs::Across::slots_wide))]
+    /// How many columns there are: each slot has a value for each, which its layout holds.
+    #[tactic(auto, using(crate::proofs::Across::slots_wide, crate::proofs::Across::slots_held))]
     pub fn width(&self) -> usize
         ensures count { result ≡ length self.now.encodings }
         ensures wide { All (λ slot. length slot.row ≡ length self.now.encodings) self.now.slots }
+        ensures held { All (λ slot. IsHeldRow self.now.layouts slot.row) self.now.slots }
     {
         self.columns.len()
     }
@@ -73,8 +76,7 @@ impl Slots {
 
     /// Adds live slots with these rows at the end. Where memory is wanting, nothing changes.
     fn append(&mut self, alloc: Global, rows: &Rows<'_>) -> Result<(), AllocError>
-        requires widths { All (λ row. length row ≡ length self.old.encodings) rows.now }
-        requires integers { All (λ row. All IsNullOrInteger row) rows.now }
+        requires held { All (IsHeldRow self.old.layouts) rows.now }
         requires few { length self.old.slots + length rows.now ≤ 2 ^ 24 }
         ensures appended { OnOk result (AreAppended self.old rows.now self.new) }
         ensures layouts { self.new.layouts ≡ self.old.layouts }
@@ -94,6 +96,7 @@ impl Slots {
         alloc: Global,
         choices: &[(usize, Choice)],
     ) -> Result<Slots, AllocError>
+        requires { HoldAsChosen choices.now self.now }
         ensures { IfOk result (AreRebuilt choices.now self.now) }
     {
         let columns = build_anew(&self.columns, alloc, &self.live, choices)?;
@@ -104,14 +107,15 @@ impl Slots {
     /// Drops the dead slots, and adds live slots with these rows at the end. Where memory is wanting, nothing changes.
     #[tactic(auto, using(crate::proofs::SameKinds::rebuilt_kinds, crate::proofs::SameKinds::rebuilt_layouts))]
     fn append_compact(&mut self, alloc: Global, rows: &Rows<'_>) -> Result<(), AllocError>
-        requires widths { All (λ row. length row ≡ length self.old.encodings) rows.now }
-        requires integers { All (λ row. All IsNullOrInteger row) rows.now }
+        requires held { All (IsHeldRow self.old.layouts) rows.now }
         requires few { length (live_slots self.old.slots) + length rows.now ≤ 2 ^ 24 }
         ensures appended { OnOk result ((compact : SlotsView) × AreRebuilt [] self.old compact × AreAppended compact rows.now self.new) }
         ensures layouts { self.new.layouts ≡ self.old.layouts }
         ensures kinds { map kind_of self.new.encodings ≡ map kind_of self.old.encodings }
         ensures unchanged { OnErr result (self.new ≡ self.old) }
     {
+        // Each value is held where it lies.
+        let _held = self.width();
         let mut compact = self.rebuilt(alloc, &[])?;
         compact.append(alloc, rows)?;
         *self = compact;
@@ -122,8 +126,7 @@ impl Slots {
     /// Refused where the live slots and the rows are too many, or memory is wanting; nothing changes then.
     #[tactic(auto, using(crate::proofs::Inserted::fewer_live, crate::proofs::Inserted::inserted_behind, crate::proofs::Inserted::inserted_compact))]
     pub(crate) fn insert(&mut self, alloc: Global, rows: &Rows<'_>) -> Result<(), TableFault>
-        requires widths { All (λ row. length row ≡ length self.old.encodings) rows.now }
-        requires integers { All (λ row. All IsNullOrInteger row) rows.now }
+        requires held { All (IsHeldRow self.old.layouts) rows.now }
         ensures inserted { OnOk result (AreInserted self.old rows.now self.new) }
         ensures full { IsFull self.old rows.now → result ≡ Err Full }
         ensures room { (IsFull self.old rows.now → ⊥) → result ≢ Err Full }
@@ -153,7 +156,8 @@ impl Slots {
         requires found { len found.now ≡ length self.old.slots }
         requires named { All (λ set. set.0 < length self.old.encodings) sets.now }
         requires apart { AllPairs (λ set other. set.0 ≢ other.0) sets.now }
-        requires values { All (λ set. IsSetTo (length self.old.encodings) set.1) sets.now }
+        requires there { All (λ set. IsThere (length self.old.encodings) set.1) sets.now }
+        requires held { All (λ set. All (IsNullOrHeld (slice_index_or self.old.layouts set.0 P)) (map (value_for set.1) (rows_found found.now self.old.slots))) sets.now }
         ensures updated { OnOk result (AreUpdated found.now sets.now self.old self.new) }
         ensures layouts { self.new.layouts ≡ self.old.layouts }
         ensures kinds { map kind_of self.new.encodings ≡ map kind_of self.old.encodings }
@@ -190,7 +194,7 @@ impl Slots {
     pub fn column(&self, k: usize) -> &Column
         requires { k < length self.now.encodings }
         ensures values { result.now.values ≡ slot_column self.now.slots k }
-        ensures integers { All IsNullOrInteger result.now.values }
+        ensures held { All (IsNullOrHeld result.now.layout) result.now.values }
         ensures layout { (d : Layout) → result.now.layout ≡ slice_index_or self.now.layouts k d }
         ensures encoding { (d : Encoding) → result.now.encoding ≡ slice_index_or self.now.encodings k d }
     {

@@ -1,19 +1,21 @@
 //! A table of slots.
 
-ghost use Rattle.std.specs.Prelude.{All, Err, IfOk, OnErr, OnOk, [], length, map, slice_index_or, ℕ, ◌<◌, ◌^◌, ◌≡◌, ◌≢◌, ◌≤◌};
-ghost use Rattle.std.specs.List.{AllPairs};
+ghost use Rattle.std.specs.Prelude.{All, Err, IfOk, IsTrue, OnErr, OnOk, [], false, length, map, slice_index_or, true, ℕ, ◌<◌, ◌^◌, ◌≡◌, ◌≢◌, ◌≤◌};
+ghost use Rattle.std.specs.List.{AllPairs, AllZip};
 ghost use Rattle.bw_mask.specs.Masks.{len, row_at};
 ghost use Rattle.bw_code.specs.Encodings.{kind_of};
+ghost use Rattle.bw_code.specs.Types.{IsNullOrOfType, IsRowOf, IsTyped, holds, holds_its_type, types_of};
 ghost use Rattle.bw_code.specs.declared.encoding.Encoding.{Encoding};
-ghost use Rattle.bw_column.specs.Values.{IsNullOrInteger, value_at};
-ghost use Rattle.bw_table.specs.Changes.{AreInserted, AreRebuilt, AreUpdated, IsFull, IsSetTo, slots_without};
+ghost use Rattle.bw_column.specs.Values.{IsNullOrHeld, value_at};
+ghost use Rattle.bw_table.specs.Changes.{AreInserted, AreRebuilt, AreUpdated, IsFull, IsSetTo, choice_of, chosen_layout, copies_fit, slots_without};
 ghost use Rattle.bw_table.specs.Opening.{AreFitted, rows_across};
 ghost use Rattle.bw_table.specs.Sets.{AreEmpty};
 ghost use Rattle.bw_table.specs.Slots.{live_slot, live_slots, slot_at, slot_column, slot_limit};
 ghost use Rattle.bw_table.specs.Tables.{AreChosen, AreFirst, slots_in};
-ghost use Rattle.bw_table.specs.declared.fault.TableFault.TheVariants.{Full};
+ghost use Rattle.bw_table.specs.declared.fault.TableFault.TheVariants.{Full, Range};
 
 use crate::choice::{Choice, choose_all};
+use crate::copies::copies_fit;
 use crate::fault::TableFault;
 use crate::opening::columns_of;
 use crate::rows::Rows;
@@ -26,8 +28,9 @@ use bw_mask::Mask;
 use std::alloc::{AllocError, Global};
 use std::marker::Model;
 
-/// A table: its columns, and slots of which some are live. Its rows are those of the live slots, in order. A name of a
-/// column is whatever the layer above takes for one.
+/// A table: its columns, and slots of which some are live. Its rows are those of the live slots, in order. The values
+/// of a column are of the type that its header says, which its layout holds. A name of a column is whatever the layer
+/// above takes for one.
 #[derive(Drop)]
 pub struct Table<N> {
     headers: Vec<Header<N>>,
@@ -45,8 +48,9 @@ impl<N> Model for Table<N> {
 }
 
 impl<N: Drop> Table<N> {
-    /// A table of these columns, without slots.
+    /// A table of these columns, without slots. Each column's layout holds its type.
     pub fn create(alloc: Global, headers: Vec<Header<N>>) -> Result<Table<N>, AllocError>
+        requires held { All (λ header. IsTrue (holds_its_type header)) headers.items }
         ensures headers { IfOk result (λ t. t.headers ≡ headers.items) }
         ensures slots { IfOk result (λ t. t.slots ≡ []) }
         ensures encodings { IfOk result (λ t. AreFirst t.headers t.encodings) }
@@ -59,8 +63,9 @@ impl<N: Drop> Table<N> {
         Ok(Table { headers, slots })
     }
 
-    /// The table of these columns: for each header its values, in live slots. Each column is encoded as its values ask,
-    /// in the layout and of the kind that its header says. Refused only where memory is wanting.
+    /// The table of these columns: for each header its values, which are of its type, in live slots. Each column is
+    /// encoded as its values ask, in the layout and of the kind that its header says. Refused only where memory is
+    /// wanting.
     pub fn of_columns<C: Measured>(
         alloc: Global,
         headers: Vec<Header<N>>,
@@ -68,9 +73,9 @@ impl<N: Drop> Table<N> {
         columns: &[C],
     ) -> Result<Table<N>, AllocError>
         requires few { rows ≤ slot_limit }
-        requires wide { length columns.now ≡ length headers.items }
+        requires held { All (λ header. IsTrue (holds_its_type header)) headers.items }
         requires long { All (λ cells. length cells ≡ rows) (map C.cells columns.now) }
-        requires integers { All (All IsNullOrInteger) (map C.cells columns.now) }
+        requires typed { AllZip IsTyped headers.items (map C.cells columns.now) }
         ensures headers { IfOk result (λ t. t.headers ≡ headers.items) }
         ensures slots { IfOk result (λ t. t.slots ≡ map live_slot (rows_across rows (map C.cells columns.now))) }
         ensures encodings { IfOk result (λ t. AreFitted t.headers (map C.cells columns.now) t.encodings) }
@@ -83,9 +88,10 @@ impl<N: Drop> Table<N> {
         Ok(Table { headers, slots })
     }
 
-    /// The columns, in order.
+    /// The columns, in order. Each one's layout holds its type.
     pub fn headers(&self) -> &[Header<N>]
-        ensures { result.now ≡ self.now.headers }
+        ensures is { result.now ≡ self.now.headers }
+        ensures held { All (λ header. IsTrue (holds_its_type header)) self.now.headers }
     {
         self.headers.as_slice()
     }
@@ -114,10 +120,11 @@ impl<N: Drop> Table<N> {
         &self.slots
     }
 
-    /// The slots that are live. Each slot, dead or live, has a value for each column.
+    /// The slots that are live. Each slot, dead or live, has for each column null or a value of its type.
     #[tactic(auto, using(crate::proofs::Heads::kinds_count))]
     pub fn live(&self) -> &Mask
         ensures wide { All (λ slot. length slot.row ≡ length self.now.headers) self.now.slots }
+        ensures typed { All (λ slot. IsRowOf (types_of self.now.headers) slot.row) self.now.slots }
         ensures len { len result.now ≡ length self.now.slots }
         ensures rows { (i : ℕ) → i < length self.now.slots → row_at result.now i ≡ (slot_at self.now.slots i).live }
     {
@@ -129,7 +136,8 @@ impl<N: Drop> Table<N> {
     pub fn column(&self, k: usize) -> &Column
         requires { k < length self.now.headers }
         ensures values { result.now.values ≡ slot_column self.now.slots k }
-        ensures integers { All IsNullOrInteger result.now.values }
+        ensures typed { (h : Header N) → All (IsNullOrOfType (slice_index_or self.now.headers k h).column_type) result.now.values }
+        ensures held { All (IsNullOrHeld result.now.layout) result.now.values }
         ensures layout { (d : Header N) → result.now.layout ≡ (slice_index_or self.now.headers k d).layout }
         ensures kind { (d : Header N) → kind_of result.now.encoding ≡ (slice_index_or self.now.headers k d).kind }
         ensures encoding { (d : Encoding) → result.now.encoding ≡ slice_index_or self.now.encodings k d }
@@ -147,11 +155,11 @@ impl<N: Drop> Table<N> {
         self.slots.column(column).get(slot)
     }
 
-    /// Adds live slots with these rows at the end. Where there are not enough slots, the dead ones are dropped first.
-    /// Refused where the live slots and the rows are more than 16,777,216, or memory is wanting; nothing changes then.
+    /// Adds live slots with these rows at the end. Their values are of their columns' types. Where there are not enough
+    /// slots, the dead ones are dropped first. Refused where the live slots and the rows are more than 16,777,216, or
+    /// memory is wanting; nothing changes then.
     pub fn insert(&mut self, alloc: Global, rows: &Rows<'_>) -> Result<(), TableFault>
-        requires widths { All (λ row. length row ≡ length self.old.headers) rows.now }
-        requires integers { All (λ row. All IsNullOrInteger row) rows.now }
+        requires typed { All (IsRowOf (types_of self.old.headers)) rows.now }
         ensures headers { self.new.headers ≡ self.old.headers }
         ensures inserted { OnOk result (AreInserted (slots_in self.old) rows.now (slots_in self.new)) }
         ensures full { IsFull (slots_in self.old) rows.now → result ≡ Err Full }
@@ -162,22 +170,30 @@ impl<N: Drop> Table<N> {
     }
 
     /// Sets columns in the found slots, all at once: a column that is set to another takes what that had before.
-    /// Where memory is wanting, nothing changes.
+    /// Refused where a value so taken is outside of the type of the column that it is copied to, or memory is wanting;
+    /// nothing changes then.
     pub fn update(
         &mut self,
         alloc: Global,
         found: &Mask,
         sets: &[(usize, SetTo)],
-    ) -> Result<(), AllocError>
+    ) -> Result<(), TableFault>
         requires found { len found.now ≡ length self.old.slots }
         requires named { All (λ set. set.0 < length self.old.headers) sets.now }
         requires apart { AllPairs (λ set other. set.0 ≢ other.0) sets.now }
-        requires values { All (λ set. IsSetTo (length self.old.headers) set.1) sets.now }
+        requires values { All (IsSetTo (types_of self.old.headers)) sets.now }
         ensures headers { self.new.headers ≡ self.old.headers }
         ensures updated { OnOk result (AreUpdated found.now sets.now (slots_in self.old) (slots_in self.new)) }
+        ensures range { copies_fit (types_of self.old.headers) found.now sets.now self.old.slots ≡ false → result ≡ Err Range }
+        ensures fit { copies_fit (types_of self.old.headers) found.now sets.now self.old.slots ≡ true → result ≢ Err Range }
+        ensures room { result ≢ Err Full }
         ensures unchanged { OnErr result (self.new ≡ self.old) }
     {
-        self.slots.update(alloc, found, sets)
+        if !copies_fit(&self.headers, &self.slots, found, sets) {
+            return Err(TableFault::Range);
+        }
+        self.slots.update(alloc, found, sets)?;
+        Ok(())
     }
 
     /// Makes the found slots dead. Takes no memory.
@@ -190,9 +206,10 @@ impl<N: Drop> Table<N> {
         self.slots.delete(found);
     }
 
-    /// Drops the dead slots and builds each column anew, in the layout and of the kind that are chosen for it. Where
-    /// memory is wanting, nothing changes.
+    /// Drops the dead slots and builds each column anew, in the layout and of the kind that are chosen for it. That
+    /// layout holds the column's type. Where memory is wanting, nothing changes.
     pub fn rebuild(&mut self, alloc: Global, choices: &[(usize, Choice)]) -> Result<(), AllocError>
+        requires held { (k : ℕ) (h : Header N) → k < length self.old.headers → IsTrue (holds (chosen_layout (choice_of choices.now k) (slice_index_or self.old.headers k h).layout) (slice_index_or self.old.headers k h).column_type) }
         ensures headers { OnOk result (AreChosen choices.now self.old.headers self.new.headers) }
         ensures rebuilt { OnOk result (AreRebuilt choices.now (slots_in self.old) (slots_in self.new)) }
         ensures unchanged { OnErr result (self.new ≡ self.old) }

@@ -6,9 +6,8 @@ ghost use Rattle.bw_code.specs.Encodings.{kind_of};
 ghost use Rattle.bw_column.specs.Columns.{ColumnView, Keeps};
 ghost use Rattle.bw_column.specs.Places.{chosen_values, overwritten};
 ghost use Rattle.bw_column.specs.Preparing.{IsEncodingFor, IsPreparedFor};
-ghost use Rattle.bw_column.specs.Values.{IsNullOrInteger};
-ghost use Rattle.bw_table.specs.Changes.{IsSetTo};
-ghost use Rattle.bw_table.specs.Sets.{FitsCopy, gathered, taken};
+ghost use Rattle.bw_column.specs.Values.{IsNullOrHeld};
+ghost use Rattle.bw_table.specs.Sets.{FitsCopy, IsThere, gathered, taken};
 
 use crate::gathering::gather;
 use crate::setting::SetTo;
@@ -43,7 +42,6 @@ fn are_many(mask: &Mask) -> bool {
 /// The values of a column in the rows of a mask, for a column of this kind to take.
 fn values_from(kind: Kind, column: &Column, alloc: Global, mask: &Mask) -> Result<Taken, AllocError>
     requires long { length column.now.values ≡ len mask.now }
-    requires integers { All IsNullOrInteger column.now.values }
     ensures values { IfOk result (λ values. taken mask.now values ≡ chosen_values mask.now column.now.values) }
     ensures fits { IfOk result (FitsCopy kind mask.now) }
 {
@@ -64,9 +62,8 @@ pub(crate) fn values_for(
     to: SetTo,
 ) -> Result<Taken, AllocError>
     requires named { k < vec_len columns.now }
-    requires to { IsSetTo (vec_len columns.now) to }
+    requires to { IsThere (vec_len columns.now) to }
     requires long { All (λ column. length column.values ≡ len mask.now) columns.now.items }
-    requires integers { All (λ column. All IsNullOrInteger column.values) columns.now.items }
     ensures values { IfOk result (λ values. taken mask.now values ≡ gathered columns.now.items mask.now to) }
     ensures fits { (d : ColumnView) → IfOk result (FitsCopy (kind_of (slice_index_or columns.now.items k d).encoding) mask.now) }
 {
@@ -77,14 +74,13 @@ pub(crate) fn values_for(
 }
 
 /// A column makes ready for values. It keeps its own, also where memory is wanting.
-#[tactic(auto, using(bw_column::proofs::Held::all_held))]
 pub(crate) fn make_ready(
     column: &mut Column,
     alloc: Global,
     mask: &Mask,
     values: &Taken,
 ) -> Result<Prepared, AllocError>
-    requires integers { All IsNullOrInteger (taken mask.now values.now) }
+    requires held { All (IsNullOrHeld column.old.layout) (taken mask.now values.now) }
     requires count { length (taken mask.now values.now) ≤ 2 ^ 24 }
     requires few { length column.old.values ≤ 2 ^ 24 }
     requires fits { FitsCopy (kind_of column.old.encoding) mask.now values.now }

@@ -1,15 +1,16 @@
-use Rattle.std.proofs.Common.{arith, get_or, length, ◌<◌, ◌≡◌}
+use Rattle.std.proofs.Common.{All, arith, get_or, length, ◌<◌, ◌≡◌}
 use Rattle.std.proofs.lemmas.List.{get_or_default}
 use Rattle.bw_column.specs.Columns.{ColumnView, Keeps}
-use Rattle.bw_column.proofs.Held.{all_held}
+use Rattle.bw_column.specs.Values.{IsNullOrHeld}
 use Rattle.bw_table.specs.Slots.{column_of}
-use Rattle.bw_table.proofs.Integers.{integers_down}
 use Rattle.bw_table.proofs.Readied.{kept_set, ready_more}
 use Rattle.bw_table.proofs.appending.prepare.Goals as goal
 
 pub room_for-requires-clause-held : goal.room_for-requires-clause-held
 room_for-requires-clause-held c =
-    rw (c.new-values.ensures.rows, c.new-values.ensures.column) (all_held c.index_mut.result.now.layout (column_of c.args.rows.now c.loop-k.k) (integers_down c.args.rows.now c.loop-k.k (λ i d l. omega (arith, c.requires.widths i d l)) c.requires.integers))
+    let x = c.index_mut.result.now in
+    let held : All (IsNullOrHeld (get_or c.args.columns.now.items c.loop-k.k x).layout) (column_of c.args.rows.now c.loop-k.k) = c.requires.held c.loop-k.k x (omega arith) in
+    rw (c.new-values.ensures.rows, c.new-values.ensures.column, c.index_mut.ensures.value, (c.loop-k.invariant.kept.each c.loop-k.k x).layout) held
 
 pub loop-k-preserved : goal.loop-k-preserved
 loop-k-preserved c =

@@ -1,15 +1,14 @@
-use Rattle.std.proofs.Common.{None, Option, [], ap, arith, drop, get_or, length, map, refl, sym, take, ℕ, ℤ, ◌++◌, ◌+◌, ◌<◌, ◌≡◌, ◌≤◌, ◌∙◌, ◌∷◌}
+use Rattle.std.proofs.Common.{Option, [], ap, arith, drop, length, map, refl, sym, take, ℕ, ℤ, ◌++◌, ◌+◌, ◌<◌, ◌≡◌, ◌≤◌, ◌∙◌, ◌∷◌}
 use Rattle.std.specs.List.{filter, range_with_len}
 use Rattle.std.proofs.lemmas.Bool.{lt-ltb}
 use Rattle.std.proofs.lemmas.List.{length-map}
-use Rattle.std.proofs.lemmas.List.Elements.{All-map}
 use Rattle.bw_mask.specs.Masks.{bit_of, row_at}
 use Rattle.bw_code.proofs.Lists.{front_is}
-use Rattle.bw_column.specs.Values.{IsNullOrInteger, value_at}
+use Rattle.bw_column.specs.Values.{value_at}
 use Rattle.bw_column.proofs.Overwriting.{below_len}
 use Rattle.bw_table.specs.Changes.{places, places_below}
 use Rattle.bw_table.proofs.Picks.{gathered_run, picked_run}
-use Rattle.bw_table.proofs.Places.{count_places, gathered_all, gathered_next, places_between, places_inside}
+use Rattle.bw_table.proofs.Places.{count_places, gathered_all, gathered_next, places_between}
 use Rattle.bw_table.proofs.gathering.gather.Goals as goal
 
 pub loop-row-preserved-then-rows-lt-FEW : goal.loop-row-preserved-then-rows-lt-FEW
@@ -54,13 +53,6 @@ loop-row-preserved c =
 
 pub returns-clause-values : goal.returns-clause-values
 returns-clause-values c = c.loop-row.invariant.values ∙ gathered_all c.args.mask.now (value_at c.args.column.now.values) c.loop-row.at c.loop-row.invariant.at c.in_default.ensures
-
-pub returns-clause-integers : goal.returns-clause-integers
-returns-clause-integers c =
-    let mask = c.args.mask.now in
-    let vs = c.args.column.now.values in
-    rw (c.loop-row.invariant.values ∙ gathered_all mask (value_at vs) c.loop-row.at c.loop-row.invariant.at c.in_default.ensures)
-    (All-map IsNullOrInteger (value_at vs) (places mask) (λ k d l. c.requires.integers (get_or (places mask) k d) None (omega (arith, c.requires.long, places_inside mask k d l))))
 
 pub returns-clause-few : goal.returns-clause-few
 returns-clause-few c =

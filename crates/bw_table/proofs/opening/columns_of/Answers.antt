@@ -10,12 +10,14 @@ column_of-requires-clause-few g c =
     let at = get_or-map g.C.Cells.cells columns c.loop-k.k c.index-columns-k.result [] inside ∙ ap g.C.Cells.cells (sym c.index-columns-k.is) in
     rw (← at) (c.requires.few c.loop-k.k [] (omega (arith, inside, length-map columns g.C.Cells.cells)))
 
-pub column_of-requires-clause-integers : goal.column_of-requires-clause-integers
-column_of-requires-clause-integers g c =
+pub column_of-requires-clause-held : goal.column_of-requires-clause-held
+column_of-requires-clause-held g c =
     let columns = c.args.columns.now in
+    let headers = c.args.headers.now.items in
+    let h = c.index.result.now in
     let inside : c.loop-k.k < length columns = omega (arith, c.requires.wide) in
     let at = get_or-map g.C.Cells.cells columns c.loop-k.k c.index-columns-k.result [] inside ∙ ap g.C.Cells.cells (sym c.index-columns-k.is) in
-    rw (← at) (c.requires.integers c.loop-k.k [] (omega (arith, inside, length-map columns g.C.Cells.cells)))
+    rw (← at, c.index.ensures) (c.requires.held c.loop-k.k h (omega (arith, inside, c.requires.wide)))
 
 pub loop-k-preserved : goal.loop-k-preserved
 loop-k-preserved g c =

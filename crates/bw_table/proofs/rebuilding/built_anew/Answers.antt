@@ -1,5 +1,8 @@
 use Rattle.std.proofs.Common.{arith, count_by, length, ◌≡◌}
 use Rattle.bw_column.specs.Places.{chosen_values}
+use Rattle.bw_column.specs.Values.{IsNullOrHeld}
+use Rattle.bw_column.proofs.Ordered.{all_chosen}
+use Rattle.bw_table.specs.Changes.{chosen_layout}
 use Rattle.bw_table.proofs.Places.{all_chosen_values}
 use Rattle.bw_table.proofs.rebuilding.built_anew.Goals as goal
 
@@ -14,3 +17,8 @@ returns-then-count-len-clause-values c = rw (all c) c.built_as.ensures.values
 
 pub returns-then-count-len-clause-fits : goal.returns-then-count-len-clause-fits
 returns-then-count-len-clause-fits c = rw (all c) c.built_as.ensures.fits
+
+pub built_as-requires-2-clause-held : goal.built_as-requires-2-clause-held
+built_as-requires-2-clause-held c =
+    let held = all_chosen (IsNullOrHeld (chosen_layout c.args.choice c.args.own.now.layout)) c.args.mask.now c.args.own.now.values tt c.requires.held in
+    rw (c.as_slice.ensures.value, c.in_ok-values.ensures.values) held

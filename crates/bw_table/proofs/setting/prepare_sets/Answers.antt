@@ -1,12 +1,11 @@
-use Rattle.std.proofs.Common.{◌≡◌, ◌<◌, arith, length, get_or, set, sym, ◌∙◌, None}
+use Rattle.std.proofs.Common.{◌≡◌, ◌<◌, All, arith, length, get_or, set, sym, ◌∙◌, None}
 use Rattle.std.proofs.lemmas.List.{get_or_default, get_or-set_same}
 use Rattle.std.proofs.lemmas.List.Sums.{count_by-le-length}
 use Rattle.bw_column.specs.Columns.{ColumnView, Keeps}
-use Rattle.bw_table.specs.Changes.{IsSetTo}
-use Rattle.bw_table.specs.Sets.{taken}
+use Rattle.bw_column.specs.Values.{IsNullOrHeld}
+use Rattle.bw_table.specs.Sets.{gathered, taken}
 use Rattle.bw_table.specs.declared.setting.SetTo.TheVariants.{Value}
 use Rattle.bw_table.proofs.Readied.{kept_set}
-use Rattle.bw_table.proofs.Integers.{integers_gathered, integers_kept}
 use Rattle.bw_table.proofs.Written.{counted, fits_kept, gathered_kept, kept_as_is, more_ready}
 use Rattle.bw_table.proofs.setting.prepare_sets.Goals as goal
 
@@ -33,14 +32,18 @@ loop-set-preserved c =
           }));
     }
 
-pub make_ready-requires-clause-integers : goal.make_ready-requires-clause-integers
-make_ready-requires-clause-integers c =
+pub make_ready-requires-clause-held : goal.make_ready-requires-clause-held
+make_ready-requires-clause-held c =
     let n = c.loop-set.set-index in
     let columns = c.loop-set.columns.items in
+    let old = c.args.columns.now.items in
+    let found = c.args.found.now in
     let here = get_or c.args.sets.now n (0, Value None) in
     let inside : n < length c.args.sets.now = omega arith in
-    let to : IsSetTo (length columns) here.1 = rw (c.loop-set.invariant.kept.count, ← c.args.columns.now.ok.0) (c.requires.values n (0, Value None) inside) in
-    rw c.in_ok-values.ensures.values (integers_gathered columns (integers_kept columns c.args.columns.now.items c.loop-set.invariant.kept c.requires.integers) c.args.found.now here.1 to)
+    let x = c.index_mut.result.now in
+    let kept = c.loop-set.invariant.kept in
+    let held : All (IsNullOrHeld (get_or old here.0 x).layout) (gathered old found here.1) = c.requires.held n (0, Value None) inside x in
+    rw (c.in_ok-values.ensures.values, gathered_kept columns old kept found here.1, c.index_mut.ensures.value, (kept.each here.0 x).layout) held
 
 pub make_ready-requires-clause-count : goal.make_ready-requires-clause-count
 make_ready-requires-clause-count c =

@@ -1,10 +1,8 @@
 use Rattle.std.proofs.Common.{ap, rules, ◌∙◌, ◌≡◌}
-use Rattle.std.specs.List.{All}
 use Rattle.bw_code.specs.declared.kind.Kind.TheVariants.{Offset}
 use Rattle.bw_column.specs.Copies.{IsMasked}
 use Rattle.bw_column.specs.Places.{chosen_values}
-use Rattle.bw_column.specs.Values.{IsNullOrInteger}
-use Rattle.bw_column.proofs.Masked.{all_masked, masked_is}
+use Rattle.bw_column.proofs.Masked.{masked_is}
 use Rattle.bw_table.proofs.Places.{masked_chosen}
 use Rattle.bw_table.proofs.taking.values_from.Goals as goal
 
@@ -20,6 +18,5 @@ returns-in-Some-clause-fits c =
     let is = rw c.in-Some.is at c.in_ok-copy.ensures.values in
     let kind = rw c.in-Some.is at c.in_ok-copy.ensures.kind in
     let here : IsMasked mask c.in-Some.copy.values = rw is (masked_is mask values c.requires.long) in
-    let integers : All IsNullOrInteger c.in-Some.copy.values = rw is (all_masked IsNullOrInteger mask values tt c.requires.integers) in
     let own : c.args.kind ≡ Offset = search rules in
-    (own, kind, here, integers)
+    (own, kind, here)

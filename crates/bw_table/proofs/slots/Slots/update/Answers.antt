@@ -1,14 +1,14 @@
-use Rattle.std.proofs.Common.{All, length, refl, subst, ◌≡◌, ap, arith, map, sym, ◌∙◌}
+use Rattle.std.proofs.Common.{All, length, refl, subst, ◌<◌, ◌≡◌, ap, arith, map, sym, ◌∙◌}
 use Rattle.std.proofs.lemmas.List.{length-map}
 use Rattle.bw_column.specs.Columns.{ColumnView}
 use Rattle.bw_mask.specs.Masks.{len}
 use Rattle.bw_code.proofs.Lists.{made_len}
 use Rattle.bw_code.specs.Encodings.{kind_of}
-use Rattle.bw_table.specs.Changes.{AreUpdated, IsSetTo}
+use Rattle.bw_table.specs.Changes.{AreUpdated}
 use Rattle.bw_table.specs.Slots.{AreColumns, SlotsView}
 use Rattle.bw_table.proofs.SameKinds.{updated_kinds}
 use Rattle.bw_table.proofs.Across.{kept_columns, kept_view, on_err, view_of}
-use Rattle.bw_table.proofs.Updated.{are_updated, columns_set}
+use Rattle.bw_table.proofs.Updated.{AreHeldSets, AreSetHeld, are_updated, columns_set, sets_held}
 use Rattle.bw_table.proofs.slots.Slots.update.Goals as goal
 
 pub prepare_sets-requires-clause-long : goal.prepare_sets-requires-clause-long
@@ -45,15 +45,19 @@ are_kept c = kept_columns c.prepare_sets.new.columns.items c.self.inside.columns
 as_long : (c : goal.After-apply_sets) → len c.args.found.now ≡ len c.self.inside.live
 as_long c = grind (arith, made_len)
 
-sound : (c : goal.After-apply_sets) → All (λ set. IsSetTo (length c.prepare_sets.new.columns.items) set.1) c.args.sets.now
-sound c =
-    let many : length (map (λ (x : ColumnView). x.encoding) c.self.inside.columns.items) ≡ length c.prepare_sets.new.columns.items = length-map c.self.inside.columns.items (λ (x : ColumnView). x.encoding) ∙ sym c.prepare_sets.ensures.kept.count in
-    let values : All (λ set. IsSetTo (length (map (λ (x : ColumnView). x.encoding) c.self.inside.columns.items)) set.1) c.args.sets.now = rw (← c.self.view_is) at c.requires.values in
-    subst (λ n. All (λ set. IsSetTo n set.1) c.args.sets.now) many values
+held : (c : goal.After-apply_sets) → All (AreSetHeld c.prepare_sets.new.columns.items c.args.found.now) c.args.sets.now
+held c =
+    let new = c.prepare_sets.new.columns.items in
+    let old = c.self.inside.columns.items in
+    let live = c.self.inside.live in
+    let kept = c.prepare_sets.ensures.kept in
+    let same = kept_view new old kept live live refl ∙ c.self.view_is in
+    let named : All (λ set. set.0 < length new) c.args.sets.now = λ j s l. omega (arith, c.requires.named j s l, ap (λ (v : SlotsView). length v.encodings) same, length-map new (λ (x : ColumnView). x.encoding)) in
+    sets_held new live c.args.found.now c.args.sets.now (as_long c) named (subst (AreHeldSets c.args.found.now c.args.sets.now) (sym same) c.requires.held)
 
 pub invariant_of-self-2 : goal.invariant_of-self-2
 invariant_of-self-2 c =
-    columns_set c.apply_sets.new.columns.items c.prepare_sets.new.columns.items c.self.inside.live c.args.found.now c.args.sets.now (are_kept c) (as_long c) c.apply_sets.ensures.set (sound c)
+    columns_set c.apply_sets.new.columns.items c.prepare_sets.new.columns.items c.self.inside.live c.args.found.now c.args.sets.now (are_kept c) (as_long c) c.apply_sets.ensures.set (held c)
 
 updated : (c : goal.After-apply_sets) → AreUpdated c.args.found.now c.args.sets.now (view_of c.self.inside.columns.items c.self.inside.live) (view_of c.apply_sets.new.columns.items c.self.inside.live)
 updated c =
@@ -68,3 +72,10 @@ returns-clause-layouts c = rw (← c.self.view_is) (updated c).layouts_are
 
 pub returns-clause-kinds : goal.returns-clause-kinds
 returns-clause-kinds c = rw (← c.self.view_is) (updated_kinds _ _ c.args.found.now c.args.sets.now (updated c))
+
+pub prepare_sets-requires-clause-held : goal.prepare_sets-requires-clause-held
+prepare_sets-requires-clause-held c =
+    let columns = c.self.inside.columns.items in
+    let same : len c.args.found.now ≡ len c.self.inside.live = grind (arith, made_len) in
+    let named : All (λ set. set.0 < length columns) c.args.sets.now = λ j s l. omega (arith, c.requires.named j s l, ap (λ (v : SlotsView). length v.encodings) c.self.view_is, length-map columns (λ (x : ColumnView). x.encoding)) in
+    sets_held columns c.self.inside.live c.args.found.now c.args.sets.now same named (subst (AreHeldSets c.args.found.now c.args.sets.now) (sym c.self.view_is) c.requires.held)
