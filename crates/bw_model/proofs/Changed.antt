@@ -1,10 +1,10 @@
 -- What UPDATE, DELETE and REBUILD make of a table is a table.
-use Rattle.std.proofs.Common.{◌≡◌, ◌∙◌, ℕ, ◌≤◌, Bool, true, false, ◌||◌, not, IsTrue, List, [], ◌∷◌, ap, get_or, length, map, Option, None, Some, if◌then◌else◌, zero, suc, refl, sym, subst, arith}
+use Rattle.std.proofs.Common.{◌≡◌, ◌∙◌, ℕ, ◌≤◌, Bool, true, false, ◌||◌, not, IsTrue, List, [], ◌∷◌, ap, get_or, length, map, Option, None, if◌then◌else◌, refl, sym, subst, arith}
 use Rattle.std.specs.List.{All, filter, list_all, list_any}
 use Rattle.std.specs.Str.{bytes_eq}
 use Rattle.std.proofs.lemmas.Bool.{not-false}
 use Rattle.std.proofs.lemmas.List.{length-map}
-use Rattle.std.proofs.lemmas.List.Elements.{All-cons, All-filter, All-head, All-map, All-nil, All-tail}
+use Rattle.std.proofs.lemmas.List.Elements.{All-cons, All-filter, All-head, All-nil, All-tail}
 use Rattle.std.proofs.lemmas.List.Filters.{length-filter_both}
 use Rattle.bw_sql.specs.Tree.{ConditionTree}
 use Rattle.bw_sql.specs.declared.tree.LayoutChoice.{LayoutChoice}
@@ -102,7 +102,7 @@ module _ (choices : List LayoutChoice) where
   chosen_types [] = refl
   chosen_types (header ∷ headers) = λ j. chosen_type header choices j ∷ chosen_types headers j
 
-  any_chosen : (headers : List Header) → list_any (λ header. is_too_narrow (chosen_header choices header)) headers ≡ list_any is_too_narrow (map (chosen_header choices) headers)
+  pub any_chosen : (headers : List Header) → list_any (λ header. is_too_narrow (chosen_header choices header)) headers ≡ list_any is_too_narrow (map (chosen_header choices) headers)
   any_chosen [] = refl
   any_chosen (header ∷ headers) = ap (λ b. is_too_narrow (chosen_header choices header) || b) (any_chosen headers)
 

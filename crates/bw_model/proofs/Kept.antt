@@ -1,15 +1,14 @@
 -- A step keeps a store well formed.
-use Rattle.std.proofs.Common.{◌≡◌, inl, inr, ℕ, ◌+◌, ◌<◌, ◌^◌, Bool, true, false, ◌&&◌, ◌||◌, not, is_some, IsTrue, List, [], ◌∷◌, ◌++◌, get_or, length, map, position, Option, None, Some, if◌then◌else◌, zero, suc, refl, sym, ap, subst, ◌∙◌, arith, length-append}
+use Rattle.std.proofs.Common.{◌≡◌, inl, inr, ℕ, ◌+◌, ◌<◌, ◌^◌, Bool, true, false, ◌&&◌, ◌||◌, not, is_some, IsTrue, List, [], ◌∷◌, ◌++◌, get_or, length, map, position, Option, None, Some, if◌then◌else◌, refl, sym, ap, subst, ◌∙◌, arith, length-append}
 use Rattle.std.specs.List.{All, list_all, list_any}
 use Rattle.std.specs.Str.{bytes_eq}
 use Rattle.std.proofs.lemmas.Bool.{leb-false, ltb-false, not-false, true≢false}
 use Rattle.std.proofs.lemmas.List.{length-map}
-use Rattle.std.proofs.lemmas.List.Elements.{All-append, All-cons, All-head, All-map, All-nil, All-push, All-tail}
+use Rattle.std.proofs.lemmas.List.Elements.{All-append, All-cons, All-head, All-nil, All-push, All-tail}
 use Rattle.bw_sql.specs.Tree.{StatementTree, ConditionTree, create_table, delete, drop_table, insert, list_tables, load, open_table, rebuild, save, select, update}
 use Rattle.bw_sql.specs.declared.tree.LayoutChoice.{LayoutChoice}
 use Rattle.bw_sql.specs.declared.tree.FirstRecord.{FirstRecord}
 use Rattle.bw_sql.specs.declared.tree.SetClause.{SetClause}
-use Rattle.bw_sql.specs.declared.tree.ColumnDefinition.{ColumnDefinition}
 use Rattle.bw_model.specs.Changes.{with_choices, with_updates, without_found}
 use Rattle.bw_model.specs.Contents.{MayBeSaid, lines_in, table_held, types_in}
 use Rattle.bw_model.specs.Insert.{row_for, target_columns, with_rows}

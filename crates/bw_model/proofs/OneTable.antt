@@ -59,7 +59,7 @@ one_held bytes table other holds held =
     (same_columns table.rows other.rows (length table.headers) (length other.headers) (ap length headers) (ap (λ t. t.columns) same)))
 
 pub one_file : (version : Version) (bytes others : List ℕ) (table : Table) → HoldsBy version bytes table → HoldsBy version others table → bytes ≡ others
-one_file version bytes others table holds held = one-spelling version bytes others (filed table) holds.spells held.spells
+one_file version bytes others table holds held = holds.spells.bytes_are ∙ sym held.spells.bytes_are
 
 -- what a file says
 

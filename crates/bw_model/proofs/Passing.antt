@@ -1,5 +1,5 @@
 -- What the tests of a statement let pass.
-use Rattle.std.proofs.Common.{◌≡◌, ℕ, ◌<◌, ◌≤◌, ◌==◌, Bool, true, false, ◌&&◌, ◌||◌, is_some, List, [], ◌∷◌, length, nat_le, nat_lt, Option, None, Some, if◌then◌else◌, zero, suc, refl, sym, arith}
+use Rattle.std.proofs.Common.{◌≡◌, ◌∙◌, ℕ, ◌<◌, ◌≤◌, ◌==◌, Bool, true, false, ◌&&◌, ◌||◌, is_some, List, [], ◌∷◌, ◌++◌, length, nat_le, nat_lt, Option, None, Some, MatchOption, if◌then◌else◌, zero, suc, refl, sym, ap, subst, arith}
 use Rattle.std.specs.List.{All, list_all, list_any}
 use Rattle.std.proofs.lemmas.Bool.{eqb-true, leb-false, ltb-false, not-false, true≢false}
 use Rattle.std.proofs.lemmas.List.Elements.{All-cons, All-nil}
@@ -14,6 +14,10 @@ two false c e = absurd (true≢false (sym e))
 more : (n : ℕ) → (n == 0) ≡ false → 0 < n
 more zero e = absurd (true≢false e)
 more (suc n) e = omega arith
+
+if_some : (b : Bool) (x y : Refusal) (r s : Option Refusal) → (r ≡ Some y → s ≡ Some y) → (if b then Some x else r) ≡ Some y → (if b then Some x else s) ≡ Some y
+if_some true x y r s h e = e
+if_some false x y r s h e = h e
 
 pub if_none : (b : Bool) (x : Refusal) (r : Option Refusal) → (if b then Some x else r) ≡ None → (b ≡ false) × (r ≡ None)
 if_none true x r e = cc
@@ -60,3 +64,25 @@ passes columns name store none =
       room = leb-false table_limit (length store) within.1;
       wide = p.1.1.1.0;
     }
+
+-- tests behind others of which none holds
+pub first-append_none : (a b : Tests) → first_that_holds a ≡ None → first_that_holds (a ++ b) ≡ first_that_holds b
+first-append_none [] b e = refl
+first-append_none (t ∷ a) b e =
+    let p = if_none t.1 t.0 (first_that_holds a) e in
+    ap (λ c. if c then Some t.0 else first_that_holds (a ++ b)) p.0 ∙ first-append_none a b p.1
+
+pub first-append_some : (a b : Tests) (e : Refusal) → first_that_holds a ≡ Some e → first_that_holds (a ++ b) ≡ Some e
+first-append_some [] b e h = cc
+first-append_some (t ∷ a) b e h = if_some t.1 t.0 e (first_that_holds a) (first_that_holds (a ++ b)) (first-append_some a b e) h
+
+-- what follows from the first test that holds, of some tests and one more
+module _ (A : Type 0) (B : Refusal → Type 0) (early : Tests) (last : Refusal × Bool) where
+  pub by_early : (x : Refusal) → first_that_holds early ≡ Some x → B x → MatchOption (first_that_holds (early ++ last ∷ [])) A B
+  by_early x first here = subst (λ o. MatchOption o A B) (sym (first-append_some early (last ∷ []) x first)) here
+
+  pub by_last : (x : Refusal) → first_that_holds early ≡ None → first_that_holds (last ∷ []) ≡ Some x → B x → MatchOption (first_that_holds (early ++ last ∷ [])) A B
+  by_last x none first here = subst (λ o. MatchOption o A B) (sym (first-append_none early (last ∷ []) none ∙ first)) here
+
+  pub by_none : first_that_holds early ≡ None → first_that_holds (last ∷ []) ≡ None → A → MatchOption (first_that_holds (early ++ last ∷ [])) A B
+  by_none none also here = subst (λ o. MatchOption o A B) (sym (first-append_none early (last ∷ []) none ∙ also)) here

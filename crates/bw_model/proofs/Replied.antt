@@ -1,9 +1,9 @@
 -- Each reply of a step is one that its text tells.
-use Rattle.std.proofs.Common.{◌≡◌, inl, inr, ℕ, ℤ, pos, negsuc, ◌+◌, ◌<◌, ◌≤◌, ◌^◌, Bool, true, false, not, is_some, FitsSigned, List, [], ◌∷◌, get_or, length, map, Option, None, Some, if◌then◌else◌, refl, sym, ap, subst, arith}
+use Rattle.std.proofs.Common.{◌≡◌, inl, inr, ℕ, pos, ◌+◌, ◌<◌, ◌≤◌, ◌^◌, Bool, true, false, not, is_some, FitsSigned, List, [], ◌∷◌, get_or, length, map, Option, None, Some, if◌then◌else◌, refl, sym, ap, subst, arith}
 use Rattle.std.specs.Int.{w128}
 use Rattle.std.specs.List.{All, list_any}
 use Rattle.std.specs.Str.{bytes_eq}
-use Rattle.std.proofs.lemmas.Bool.{leb-true, ltb-false, true≢false}
+use Rattle.std.proofs.lemmas.Bool.{ltb-false, true≢false}
 use Rattle.std.proofs.lemmas.List.Elements.{All-cons, All-filter, All-get_or, All-head, All-map, All-nil, All-tail}
 use Rattle.std.proofs.lemmas.List.{length-map}
 use Rattle.std.proofs.lemmas.List.Quantifiers.{position-Some}
@@ -43,7 +43,7 @@ use Rattle.bw_model.proofs.Changed.{everywhere, few_found}
 use Rattle.bw_model.proofs.Typed.{typed_from}
 use Rattle.bw_model.proofs.Kept.{fits_loaded, table_in}
 use Rattle.bw_model.proofs.Naming.{named_in}
-use Rattle.bw_model.proofs.Passing.{neither, none_holds, two}
+use Rattle.bw_model.proofs.Passing.{neither, none_holds}
 use Rattle.bw_model.proofs.Said.{FitsTable, fault_is, said_to_open}
 
 -- the refusals of a statement: those that tell a record of a file have numbers that fit

@@ -1,11 +1,11 @@
 -- What a file may say to a statement: rows that fit the table, faults whose numbers fit, and tables that are well formed.
-use Rattle.std.proofs.Common.{◌≡◌, ◌∙◌, inl, inr, ℕ, pos, negsuc, ◌<◌, ◌≤◌, ◌^◌, Bool, true, false, ◌&&◌, nat_lt, List, [], ◌∷◌, get_or, length, map, Option, None, Some, Result, Ok, Err, refl, suc, sym, ap, subst, zero, arith}
+use Rattle.std.proofs.Common.{◌≡◌, ◌∙◌, inl, inr, ℕ, ◌<◌, ◌≤◌, ◌^◌, Bool, true, false, nat_lt, List, [], ◌∷◌, get_or, length, map, Option, None, Some, Result, Ok, Err, refl, suc, sym, subst, zero, arith}
 use Rattle.std.specs.Bool.{MatchBool}
 use Rattle.std.specs.List.{All, AllZip, range_with_len}
-use Rattle.std.proofs.lemmas.Bool.{le-leb, ltb-false, true≢false}
+use Rattle.std.proofs.lemmas.Bool.{ltb-false, true≢false}
 use Rattle.std.proofs.lemmas.List.{get_or-map, length-map}
 use Rattle.std.proofs.lemmas.List.Elements.{All-nil}
-use Rattle.std.proofs.lemmas.List.FromFn.{get_or-map-range_with_len, length-map-range_with_len}
+use Rattle.std.proofs.lemmas.List.FromFn.{get_or-map-range_with_len}
 use Rattle.bw_code.specs.Types.{IsNullOrOfType, IsRowOf, IsTyped, types_of}
 use Rattle.bw_code.specs.declared.kind.ColumnType.{ColumnType}
 use Rattle.bw_code.specs.declared.kind.Kind.TheVariants.{Offset}

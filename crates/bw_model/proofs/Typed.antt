@@ -1,5 +1,5 @@
 -- Values are of the types of their columns.
-use Rattle.std.proofs.Common.{◌≡◌, ◌∙◌, ℕ, ℤ, ◌<◌, IsTrue, List, [], ◌∷◌, get_or, length, map, position, Option, None, Some, zero, suc, refl, sym, true, ap, subst, arith}
+use Rattle.std.proofs.Common.{◌≡◌, ◌∙◌, ℕ, ◌<◌, IsTrue, List, [], ◌∷◌, get_or, length, map, position, Option, None, Some, zero, suc, sym, true, ap, subst, arith}
 use Rattle.std.specs.Str.{bytes_eq}
 use Rattle.std.proofs.lemmas.List.{length-map}
 use Rattle.std.proofs.lemmas.List.Quantifiers.{position-Some}
@@ -7,10 +7,10 @@ use Rattle.std.proofs.lemmas.Slice.Eq.{bytes_eq-Decides}
 use Rattle.std.proofs.lemmas.Slice.Zip.{AllZip-long}
 use Rattle.bw_code.specs.Types.{IsNullOrOfType, are_of_types, is_null_or_of_type, types_of}
 use Rattle.bw_code.specs.declared.kind.ColumnType.{ColumnType}
-use Rattle.bw_code.specs.declared.kind.ColumnType.TheVariants.{BigInt, Integer}
+use Rattle.bw_code.specs.declared.kind.ColumnType.TheVariants.{Integer}
 use Rattle.bw_code.proofs.Types.{null_or_of_type}
 use Rattle.bw_model.specs.Refusals.{types_named}
-use Rattle.bw_model.specs.Store.{Header, Row, Value, are_distinct, names, place_of, type_at, type_named, value_at, value_from}
+use Rattle.bw_model.specs.Store.{Header, Row, Value, are_distinct, names, type_at, type_named, value_at, value_from}
 use Rattle.bw_model.specs.WellFormed.{IsRow}
 use Rattle.bw_model.proofs.OwnPlaces.{get_or-mapped, place_at, place_of-names}
 use Rattle.bw_model.proofs.Passing.{two}
@@ -56,6 +56,6 @@ pub listed_typed : (headers : List Header) (list : List (List ℕ)) (values : Ro
 listed_typed headers list values name None e at = tt
 listed_typed headers list values name (Some p) e at =
     let found = position-Some (bytes_eq name) list p [] at in
-    let same = (bytes_eq-Decides name (get_or list p [])).0 found.1.0 in
+    let same = (bytes_eq-Decides name (get_or list p [])).0 found.1 in
     let type_is = get_or-mapped (type_named headers) list p [] Integer found.0 ∙ ap (type_named headers) (sym same) in
     subst (λ t. IsNullOrOfType t (value_at values p)) type_is (value_passes (types_named headers list) values p e (omega (arith, found.0, length-map list (type_named headers))))

@@ -1,8 +1,8 @@
 -- A refusal changes nothing, and comes first where the tests that need no file have one.
-use Rattle.std.proofs.Common.{◌≡◌, ◌∙◌, inl, inr, ap, Bool, true, false, is_some, nat_le, length, List, [], ◌∷◌, ◌++◌, Option, None, Some, if◌then◌else◌}
+use Rattle.std.proofs.Common.{◌≡◌, ◌∙◌, inl, inr, ap, Bool, true, false, is_some, nat_le, length, List, [], ◌∷◌, Option, None, Some, if◌then◌else◌}
 use Rattle.bw_sql.specs.declared.tree.SetClause.{SetClause}
 use Rattle.bw_sql.specs.Tree.{ConditionTree, StatementTree, create_table, delete, drop_table, insert, list_tables, load, open_table, rebuild, save, select, update}
-use Rattle.bw_model.specs.Refusals.{Tests, copy_test, first_that_holds, load_tests, over, refused_early, set_tests, tests_of, update_tests}
+use Rattle.bw_model.specs.Refusals.{copy_test, first_that_holds, load_tests, over, refused_early, set_tests, tests_of, update_tests}
 use Rattle.bw_model.specs.Step.{Step, carried_out, refused_or}
 use Rattle.bw_model.specs.Store.{Store, Table, table_limit, table_of}
 use Rattle.bw_model.specs.declared.content.Content.{Content}
@@ -10,6 +10,7 @@ use Rattle.bw_model.specs.declared.refusal.Refusal.{Refusal}
 use Rattle.bw_model.specs.declared.refusal.Refusal.TheVariants.{OverLimit, TableExists}
 use Rattle.bw_model.specs.declared.reply.Reply.{Reply}
 use Rattle.bw_model.specs.declared.reply.Reply.TheVariants.{Refused}
+use Rattle.bw_model.proofs.Passing.{first-append_some}
 
 pub never_refuses : (store : Store) (said : Content) (statement : StatementTree) (refusal : Refusal) → Refused refusal ≡ (carried_out store said statement).0 → ⊥
 never_refuses store said (create_table name columns) refusal e = cc
@@ -38,19 +39,10 @@ early_load : (there : Option Table) (said : Content) (refusal : Refusal) → fir
 early_load None said refusal e = e
 early_load (Some table) said refusal e = absurd (cc)
 
-early_front : (tests later : Tests) (refusal : Refusal) → first_that_holds tests ≡ Some refusal → first_that_holds (tests ++ later) ≡ Some refusal
-early_front [] later refusal e = absurd (cc)
-early_front (test ∷ tests) later refusal e = by test.1 e (early_front tests later refusal)
-  where
-    by : (b : Bool) → (if b then Some test.0 else first_that_holds tests) ≡ Some refusal → (first_that_holds tests ≡ Some refusal → first_that_holds (tests ++ later) ≡ Some refusal)
-        → (if b then Some test.0 else first_that_holds (tests ++ later)) ≡ Some refusal
-    by true here deeper = here
-    by false there deeper = deeper there
-
 early_update : (there : Option Table) (sets : List SetClause) (condition : Option ConditionTree) (refusal : Refusal)
     → first_that_holds (over there (λ table. set_tests table.headers sets condition)) ≡ Some refusal → first_that_holds (over there (update_tests sets condition)) ≡ Some refusal
 early_update None sets condition refusal e = e
-early_update (Some table) sets condition refusal e = early_front (set_tests table.headers sets condition) (copy_test sets condition table ∷ []) refusal e
+early_update (Some table) sets condition refusal e = first-append_some (set_tests table.headers sets condition) (copy_test sets condition table ∷ []) refusal e
 
 early_open : (taken full : Bool) (later : Option Refusal) (refusal : Refusal) → (if taken then Some TableExists else if full then Some OverLimit else None) ≡ Some refusal
     → (if taken then Some TableExists else if full then Some OverLimit else later) ≡ Some refusal

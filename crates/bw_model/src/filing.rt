@@ -1,6 +1,6 @@
 //! How long the file of a table is.
 
-ghost use Rattle.std.specs.Prelude.{◌≡◌, ◌≤◌, ◌<◌, ◌*◌, ◌^◌, IfOk, length, nat_lt};
+ghost use Rattle.std.specs.Prelude.{◌≡◌, ◌≤◌, ◌+◌, ◌*◌, ◌^◌, IfOk, length, nat_lt};
 ghost use Rattle.std.specs.List.{sum_by};
 ghost use Rattle.bw_file.specs.Format.{column_size};
 ghost use Rattle.bw_file.specs.Headers.{header_size};

@@ -8,22 +8,9 @@ use Rattle.bw_sql.specs.Rows.{joined}
 use Rattle.bw_model.specs.Refusals.{Tests, first_that_holds}
 use Rattle.bw_model.specs.Store.{Header, Row}
 use Rattle.bw_model.specs.declared.refusal.Refusal.{Refusal}
+pub use Rattle.bw_model.proofs.Passing.{first-append_none, first-append_some}
 use Rattle.bw_model.proofs.Passing.{if_none, widths}
 use Rattle.bw_plan.specs.Checks.{Answers, Decides, MayRefuse, value_tests}
-
-if_some : (b : Bool) (x y : Refusal) (r s : Option Refusal) → (r ≡ Some y → s ≡ Some y) → (if b then Some x else r) ≡ Some y → (if b then Some x else s) ≡ Some y
-if_some true x y r s h e = e
-if_some false x y r s h e = h e
-
-pub first-append_none : (a b : Tests) → first_that_holds a ≡ None → first_that_holds (a ++ b) ≡ first_that_holds b
-first-append_none [] b e = refl
-first-append_none (t ∷ a) b e =
-    let p = if_none t.1 t.0 (first_that_holds a) e in
-    ap (λ c. if c then Some t.0 else first_that_holds (a ++ b)) p.0 ∙ first-append_none a b p.1
-
-pub first-append_some : (a b : Tests) (e : Refusal) → first_that_holds a ≡ Some e → first_that_holds (a ++ b) ≡ Some e
-first-append_some [] b e h = cc
-first-append_some (t ∷ a) b e h = if_some t.1 t.0 e (first_that_holds a) (first_that_holds (a ++ b)) (first-append_some a b e) h
 
 pub first-append_both : (a b : Tests) → first_that_holds a ≡ None → first_that_holds b ≡ None → first_that_holds (a ++ b) ≡ None
 first-append_both a b none also = first-append_none a b none ∙ also

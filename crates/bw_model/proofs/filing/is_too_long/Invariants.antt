@@ -9,6 +9,6 @@ use Rattle.bw_model.proofs.filing.is_too_long.Given as goal
 -- the columns so far are counted
 abbrev pub invariant-loop-k : goal.invariant-loop-k
 invariant-loop-k l = record {
-  size : l.length ≡ 14 + sum_by (header_size Second) l.headers + sum_by (column_size Second) (map (column_of l.rows) (range_with_len 0 l.k));
-  bound : l.length ≤ 14 + length l.headers * (2 ^ 64 + 4) + l.k * 2 ^ 36;
+  size : l.length ≡ 14 + sum_by (header_size Second) l.table.headers + sum_by (column_size Second) (map (column_of l.rows) (range_with_len 0 l.k));
+  bound : l.length ≤ 14 + length l.table.headers * (2 ^ 64 + 4) + l.k * 2 ^ 36;
 }

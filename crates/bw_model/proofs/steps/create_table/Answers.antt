@@ -11,7 +11,7 @@ returns-in-Some-clause-outcome c =
     let columns = c.args.create.now.columns.items in
     sym (outcome_is store Nothing (create_table name columns) (Some c.in-Some.refusal)
     (create_first store name columns c.in_ok-headers.headers.items c.create_tests.result (Some c.in-Some.refusal)
-    (rw c.deref.ensures.value at c.in_ok-headers.ensures) (rw c.deref-4.ensures.value at c.create_tests.ensures) c.in-Some.ensures))
+    (rw c.deref.ensures.value at c.in_ok-headers.ensures) (rw (c.deref-4.ensures.value, c.deref-5.ensures.value) at c.create_tests.ensures) c.in-Some.ensures))
 
 pub returns-clause-outcome : goal.returns-clause-outcome
 returns-clause-outcome c =
@@ -19,6 +19,6 @@ returns-clause-outcome c =
     let name = c.args.create.now.table in
     let columns = c.args.create.now.columns.items in
     let none = create_first store name columns c.in_ok-headers.headers.items c.create_tests.result None
-    (rw c.deref.ensures.value at c.in_ok-headers.ensures) (rw c.deref-4.ensures.value at c.create_tests.ensures) c.in_default.ensures in
+    (rw c.deref.ensures.value at c.in_ok-headers.ensures) (rw (c.deref-4.ensures.value, c.deref-5.ensures.value) at c.create_tests.ensures) c.in_default.ensures in
     created store c.push.new.self.items name c.in_ok-name.name columns c.in_ok-headers.headers.items c.new.result none c.in_ok-name.ensures
     (rw c.deref.ensures.value at c.in_ok-headers.ensures) c.new.ensures c.in_ok-push.ensures.items
