@@ -1,5 +1,5 @@
 -- The rows of a file are of the columns' types, and its fault's numbers fit 64 bits.
-use Rattle.std.proofs.Common.{Bool, Err, List, None, Ok, Option, Result, Some, [], arith, drop, false, if◌then◌else◌, length, length-drop, neg_ℤ, pos, refl, suc, true, zero, ℕ, ℤ, ◌<◌, ◌+◌, ◌^◌, ◌≡◌, ◌∷◌, ◌≤◌}
+use Rattle.std.proofs.Common.{Bool, Err, List, None, Ok, Option, Result, Some, [], arith, drop, false, if◌then◌else◌, length, length-drop, refl, true, ℕ, ℤ, ◌<◌, ◌+◌, ◌^◌, ◌≡◌, ◌∷◌, ◌≤◌}
 use Rattle.std.specs.Prelude.{◌==◌}
 use Rattle.std.specs.List.{All, zip}
 use Rattle.std.specs.Str.Parse.{digits_value}
@@ -33,7 +33,7 @@ integer_fits t x = by (is_of_type t x) refl
     by true e = of_type t x e
     by false e = tt
 
-pub field_fits : (t : ColumnType) (text : List ℕ) → IsFieldCell t (cell_of t text)
+field_fits : (t : ColumnType) (text : List ℕ) → IsFieldCell t (cell_of t text)
 field_fits t text = let x = signed (is_minus text) (digits_value 10 (without_sign text)) in by (is_null text) (are_digits (without_sign text)) (within_type t x) (integer_fits t x)
   where
     by : (null digits : Bool) (integer : Result (Option ℤ) FieldFault) → IsFieldCell t integer → IsFieldCell t (if null then Ok None else if digits then integer else Err field.NotInteger)
@@ -41,7 +41,7 @@ field_fits t text = let x = signed (is_minus text) (digits_value 10 (without_sig
     by false true integer fits = fits
     by false false integer fits = tt
 
-pub cell_fits : (record' place : ℕ) (t : ColumnType) (text : List ℕ) → record' < 2 ^ 64 → place < 2 ^ 64 → IsOrFault (IsNullOrOfType t) (cell_at record' place (t, text))
+cell_fits : (record' place : ℕ) (t : ColumnType) (text : List ℕ) → record' < 2 ^ 64 → place < 2 ^ 64 → IsOrFault (IsNullOrOfType t) (cell_at record' place (t, text))
 cell_fits record' place t text few near = by (cell_of t text) (field_fits t text)
   where
     by : (said : Result (Option ℤ) FieldFault) → IsFieldCell t said → IsOrFault (IsNullOrOfType t) (located record' place said)

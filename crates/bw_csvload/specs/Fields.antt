@@ -1,5 +1,5 @@
 -- What a field of a CSV file says: NULL, or an integer of its column's type by an optional sign and digits.
-use Rattle.std.specs.Prelude.{Bool, Err, List, Ok, None, Option, Result, Some, [], codes, if◌then◌else◌, neg_ℤ, not, pos, ℕ, ℤ, ◌&&◌, ◌==◌, ◌||◌, ◌∷◌, false, true, length}
+use Rattle.std.specs.Prelude.{Bool, Err, List, Ok, None, Option, Result, Some, [], codes, if◌then◌else◌, neg_ℤ, not, pos, ℕ, ℤ, ◌&&◌, ◌==◌, ◌||◌, ◌∷◌, false, length}
 use Rattle.std.specs.Char.{is_ascii_digit}
 use Rattle.std.specs.List.{list_all}
 use Rattle.std.specs.Str.{str_eq_ignore_ascii_case}

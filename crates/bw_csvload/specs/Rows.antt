@@ -30,13 +30,13 @@ abbrev pub all_or_first : {A : Type 0} → List (Result A CsvFault) → Result (
 all_or_first [] = Ok []
 all_or_first (x ∷ xs) = before x (all_or_first xs)
 
--- what a field says, or its fault
-abbrev pub located : ℕ → ℕ → Result (Option ℤ) FieldFault → Result (Option ℤ) CsvFault
-located record' n (Ok cell) = Ok cell
+-- what field n says, or its fault
+abbrev pub located : {A : Type 0} → ℕ → ℕ → Result A FieldFault → Result A CsvFault
+located record' n (Ok x) = Ok x
 located record' n (Err field.NotInteger) = Err (fault.NotInteger record' n)
 located record' n (Err field.Range) = Err fault.Range
 
--- the same of field n, beside its column's type
+-- what a field says, beside its column's type
 abbrev pub cell_at : ℕ → ℕ → ColumnType × List ℕ → Result (Option ℤ) CsvFault
 cell_at record' n field = located record' n (cell_of field.0 field.1)
 

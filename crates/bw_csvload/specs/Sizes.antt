@@ -3,11 +3,12 @@ use Rattle.std.specs.Prelude.{List, Option, min, ℕ}
 use Rattle.std.specs.Bool.{then_some}
 use Rattle.std.specs.Char.{is_ascii_digit}
 use Rattle.std.specs.List.{list_all}
-use Rattle.std.specs.Str.Parse.{digits_value_after}
+use Rattle.std.specs.Str.Parse.{digits_value, digits_value_after}
+use Rattle.bw_csvload.specs.Fields.{are_digits, without_sign}
 
--- the first size that no BIGINT has, with either sign
+-- the least number of 20 digits, and so outside each type with either sign
 abbrev pub too_large : ℕ
-too_large = 9223372036854775809
+too_large = 10000000000000000000
 
 -- the number that digits write after those of n, if there are digits alone
 abbrev pub size_after : ℕ → List ℕ → Option ℕ
@@ -16,3 +17,7 @@ size_after n text = then_some (list_all is_ascii_digit text) (min (digits_value_
 -- the number that a text writes, if it is digits alone
 abbrev pub size_of : List ℕ → Option ℕ
 size_of text = size_after 0 text
+
+-- the number that a text writes behind its sign, if that is one or more digits
+abbrev pub size_written : List ℕ → Option ℕ
+size_written text = then_some (are_digits (without_sign text)) (min (digits_value 10 (without_sign text)) too_large)

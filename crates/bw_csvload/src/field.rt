@@ -1,9 +1,10 @@
 //! What a field of a file says.
 
-ghost use Rattle.std.specs.Prelude.{◌<◌, ◌^◌, ◌≡◌};
+ghost use Rattle.std.specs.Prelude.{◌<◌, ◌≡◌};
 ghost use Rattle.std.specs.Char.{is_ascii_digit};
 ghost use Rattle.std.specs.List.{list_all};
-ghost use Rattle.bw_csvload.specs.Sizes.{size_after, size_of};
+ghost use Rattle.bw_code.specs.declared.kind.ColumnType.TheVariants.{Integer};
+ghost use Rattle.bw_csvload.specs.Sizes.{size_after, size_of, size_written};
 ghost use Rattle.bw_csvload.specs.Fields.{cell_of, is_minus, is_null, within_type, without_sign};
 
 use crate::fault::FieldFault;
@@ -11,11 +12,31 @@ use crate::lanes::{LANES, number_written};
 use bw_code::ColumnType;
 use std::simd::prelude::*;
 
-/// The first size that no BIGINT has, with either sign.
-const TOO_LARGE: u64 = 9_223_372_036_854_775_809;
+/// The least number of 20 digits, and so outside each type with either sign.
+const TOO_LARGE: u64 = 10_000_000_000_000_000_000;
 
-/// From this size on one digit more makes a number too large for each type. Below it 64 bits hold ten times as much.
-const FULL: u64 = 1_000_000_000_000_000_000;
+/// From this size on one digit more makes 20.
+const FULL: u64 = TOO_LARGE / 10;
+
+/// What a field of a column of INTEGER says: NULL, or an integer of the type.
+pub(crate) fn integer_cell(text: &[u8]) -> Result<Option<i32>, FieldFault>
+    ensures { result ≡ cell_of Integer text.now }
+{
+    if is_null(text) {
+        return Ok(None);
+    }
+    let Some(size) = size_written(text) else {
+        return Err(FieldFault::NotInteger);
+    };
+    let Ok(size) = i64::try_from(size) else {
+        return Err(FieldFault::Range);
+    };
+    let number = if is_minus(text) { -size } else { size };
+    match i32::try_from(number) {
+        Ok(number) => Ok(Some(number)),
+        Err(_) => Err(FieldFault::Range),
+    }
+}
 
 /// What a field of a column of this type says: NULL, or an integer of the type.
 pub(crate) fn cell(text: &[u8], column_type: ColumnType) -> Result<Option<i64>, FieldFault>
@@ -24,16 +45,11 @@ pub(crate) fn cell(text: &[u8], column_type: ColumnType) -> Result<Option<i64>, 
     if is_null(text) {
         return Ok(None);
     }
-    let digits = without_sign(text);
-    if digits.is_empty() {
-        return Err(FieldFault::NotInteger);
-    }
-    let Some(size) = size_of(digits) else {
+    let Some(size) = size_written(text) else {
         return Err(FieldFault::NotInteger);
     };
     let size = i128::from(size);
-    let number = if is_minus(text) { -size } else { size };
-    within_type(column_type, number)
+    within_type(column_type, if is_minus(text) { -size } else { size })
 }
 
 /// The integer, where the type has it.
@@ -73,6 +89,18 @@ fn without_sign(text: &[u8]) -> &[u8]
     }
 }
 
+/// The number that the text writes behind its sign, or `TOO_LARGE` where it is greater; `None` where that is
+/// not one or more digits.
+fn size_written(text: &[u8]) -> Option<u64>
+    ensures { result ≡ size_written text.now }
+{
+    let digits = without_sign(text);
+    if digits.is_empty() {
+        return None;
+    }
+    size_of(digits)
+}
+
 /// The number that the text writes, or `TOO_LARGE` where it is greater; `None` where not each byte is
 /// a digit.
 fn size_of(text: &[u8]) -> Option<u64>
@@ -88,7 +116,7 @@ fn size_of(text: &[u8]) -> Option<u64>
 /// The number that the text writes after the digits of `front`, or `TOO_LARGE` where it is greater;
 /// `None` where not each byte is a digit.
 fn size_after(front: u64, text: &[u8]) -> Option<u64>
-    requires { front < 10 ^ 19 }
+    requires { front < TOO_LARGE }
     ensures { result ≡ size_after front text.now }
 {
     let mut size = front;
@@ -96,13 +124,13 @@ fn size_after(front: u64, text: &[u8]) -> Option<u64>
         if !text[i].is_ascii_digit() {
             return None;
         }
-        // Further digits would only make it greater, so that they need no number that holds them.
+        // More digits would only make it greater, so that they need no number that holds them.
         if size >= FULL {
             return all_digits(&text[i + 1..]).then_some(TOO_LARGE);
         }
         size = size * 10 + u64::from(text[i] - b'0');
     }
-    Some(size.min(TOO_LARGE))
+    Some(size)
 }
 
 /// Whether there is nothing but digits.

@@ -4,16 +4,15 @@ ghost use Rattle.std.specs.Prelude.{◌≡◌, ◌≤◌, ◌<◌, ◌+◌, ◌^
 ghost use Rattle.std.specs.List.{zip};
 ghost use Rattle.csv.specs.Records.{fields_of};
 ghost use Rattle.csv.specs.Reading.{strip_bom};
-ghost use Rattle.bw_code.specs.Types.{IsNullOrOfType};
 ghost use Rattle.bw_code.specs.declared.kind.ColumnType.TheVariants.{Integer};
 ghost use Rattle.bw_csvload.specs.Forms.{cells_in, TakesCells};
 ghost use Rattle.bw_csvload.specs.Records.{records_left, IsReading};
-ghost use Rattle.bw_csvload.specs.Rows.{all_or_first, cell_at, numbered, row_of, rows_of_file, Answers, Appends};
+ghost use Rattle.bw_csvload.specs.Rows.{all_or_first, cell_at, located, numbered, row_of, rows_of_file, Answers, Appends};
 
 use crate::cells::CellList;
 use crate::csv_rows::CsvRows;
 use crate::fault::{CsvFault, FieldFault};
-use crate::field::cell;
+use crate::field::{cell, integer_cell};
 use crate::records::{read_next, records_of};
 use bw_code::ColumnType;
 use csv::{ByteRecord, Reader};
@@ -117,21 +116,9 @@ fn push_integers(
         let Some(text) = fields.get(i) else {
             unreachable!();
         };
-        let cell = cell_at(number, i as u64 + 1, ColumnType::Integer, text)?;
-        cells.push(narrow(cell))?;
+        cells.push(located(number, i as u64 + 1, integer_cell(text))?)?;
     }
     Ok(())
-}
-
-/// The same cell in 32 bits.
-fn narrow(cell: Option<i64>) -> Option<i32>
-    requires { IsNullOrOfType Integer cell }
-    ensures { result ≡ cell }
-{
-    match cell {
-        Some(number) => Some(number as i32),
-        None => None,
-    }
 }
 
 /// Puts the cells of a record last that has a field for each of these types.
@@ -149,21 +136,16 @@ fn push_values(
         let Some(text) = fields.get(i) else {
             unreachable!();
         };
-        cells.push(cell_at(number, i as u64 + 1, types[i], text)?)?;
+        cells.push(located(number, i as u64 + 1, cell(text, types[i]))?)?;
     }
     Ok(())
 }
 
-/// What this field of a record says, in a column of this type.
-fn cell_at(
-    number: u64,
-    place: u64,
-    column_type: ColumnType,
-    text: &[u8],
-) -> Result<Option<i64>, CsvFault>
-    ensures { result ≡ cell_at number place (column_type, text.now) }
+/// What this field of a record says, where that is no fault.
+fn located<T: Drop>(number: u64, place: u64, said: Result<T, FieldFault>) -> Result<T, CsvFault>
+    ensures { result ≡ located number place said }
 {
-    match cell(text, column_type) {
+    match said {
         Ok(cell) => Ok(cell),
         Err(FieldFault::NotInteger) => Err(CsvFault::NotInteger(number, place)),
         Err(FieldFault::Range) => Err(CsvFault::Range),

@@ -1,24 +1,36 @@
 //! Files of comma-separated values, and the rows that they spell or their first fault.
 
 use crate::seen::{see, see_at};
+use bw_code::ColumnType;
+use bw_code::ColumnType::{BigInt, Integer};
+use bw_csvload::Cells::{Integers, Values};
 use bw_csvload::FirstRecord::{Header, Row};
-use bw_csvload::{CsvFault, FirstRecord, rows};
+use bw_csvload::{Cells, CsvFault, FirstRecord, rows};
 use std::process::Abort;
 
 /// A byte order mark, and three records of two fields: a number in quotes and nothing, NULL in small letters and a minus, a
 /// plus and a leading zero.
 const THREE_RECORDS: &[u8] = b"\xEF\xBB\xBF\"7\",\r\nnull,-2\r\n+5,08\r\n";
 
+/// The types of tables of one column and of two.
+const ONE_INTEGER: [ColumnType; 1] = [Integer];
+
+const ONE_BIGINT: [ColumnType; 1] = [BigInt];
+
+const TWO_INTEGERS: [ColumnType; 2] = [Integer, Integer];
+
+const BIGINT_AND_INTEGER: [ColumnType; 2] = [BigInt, Integer];
+
 /// Sees that the file spells this many rows, with these cells, row after row.
 fn see_rows<R: Abort + AllocGlobal>(
     rt: &R,
     file: &[u8],
-    columns: usize,
+    types: &[ColumnType],
     first: FirstRecord,
     count: usize,
-    cells: &[Option<i32>],
+    cells: Cells<'_>,
 ) {
-    let found = rows(rt.alloc(), file, columns, first).expect(rt, "rows");
+    let found = rows(rt.alloc(), file, types, first).expect(rt, "rows");
     see(rt, found.len(), count);
     see(rt, found.cells(), cells);
 }
@@ -27,28 +39,28 @@ fn see_rows<R: Abort + AllocGlobal>(
 fn see_fault<R: Abort + AllocGlobal>(
     rt: &R,
     file: &[u8],
-    columns: usize,
+    types: &[ColumnType],
     first: FirstRecord,
     wanted: CsvFault,
 ) {
-    let found = rows(rt.alloc(), file, columns, first).err();
+    let found = rows(rt.alloc(), file, types, first).err();
     see_at(rt, file, found, Some(wanted));
 }
 
 #[test]
 fn three_records(rt: HostRuntime) {
-    let found = rows(rt.alloc(), THREE_RECORDS, 2, Row).expect(&rt, "rows");
+    let found = rows(rt.alloc(), THREE_RECORDS, &TWO_INTEGERS, Row).expect(&rt, "rows");
     assert!(rt; found.len() == 3);
-    see(&rt, found.row(0), &[Some(7), None]);
-    see(&rt, found.row(1), &[None, Some(-2)]);
-    see(&rt, found.row(2), &[Some(5), Some(8)]);
+    see(&rt, found.row(0), Integers(&[Some(7), None]));
+    see(&rt, found.row(1), Integers(&[None, Some(-2)]));
+    see(&rt, found.row(2), Integers(&[Some(5), Some(8)]));
     see_rows(
         &rt,
         THREE_RECORDS,
-        2,
+        &TWO_INTEGERS,
         Row,
         3,
-        &[Some(7), None, None, Some(-2), Some(5), Some(8)],
+        Integers(&[Some(7), None, None, Some(-2), Some(5), Some(8)]),
     );
 }
 
@@ -58,18 +70,45 @@ const TWO_RECORDS: &[u8] = b"name\nnull,-2\n+5,08";
 #[test]
 fn a_header_is_left_out(rt: HostRuntime) {
     let last_two = [None, Some(-2), Some(5), Some(8)];
-    see_rows(&rt, THREE_RECORDS, 2, Header, 2, &last_two);
+    see_rows(
+        &rt,
+        THREE_RECORDS,
+        &TWO_INTEGERS,
+        Header,
+        2,
+        Integers(&last_two),
+    );
     // Neither its fields nor their number are looked at.
-    see_rows(&rt, TWO_RECORDS, 2, Header, 2, &last_two);
-    see_rows(&rt, b"a,b,\"c\nd\"\n", 2, Header, 0, &[]);
+    see_rows(
+        &rt,
+        TWO_RECORDS,
+        &TWO_INTEGERS,
+        Header,
+        2,
+        Integers(&last_two),
+    );
+    let no_row = b"a,b,\"c\nd\"\n";
+    see_rows(&rt, no_row, &TWO_INTEGERS, Header, 0, Integers(&[]));
 }
 
 #[test]
 fn a_header_is_a_record(rt: HostRuntime) {
-    see_fault(&rt, TWO_RECORDS, 2, Row, CsvFault::Fields(1));
+    see_fault(&rt, TWO_RECORDS, &TWO_INTEGERS, Row, CsvFault::Fields(1));
     // It is record 1 all the same.
-    see_fault(&rt, b"a,b\n1,x\n", 2, Header, CsvFault::NotInteger(2, 2));
-    see_fault(&rt, b"a,b\n1,2\n3\n", 2, Header, CsvFault::Fields(3));
+    see_fault(
+        &rt,
+        b"a,b\n1,x\n",
+        &TWO_INTEGERS,
+        Header,
+        CsvFault::NotInteger(2, 2),
+    );
+    see_fault(
+        &rt,
+        b"a,b\n1,2\n3\n",
+        &TWO_INTEGERS,
+        Header,
+        CsvFault::Fields(3),
+    );
 }
 
 /// Files of two columns, and their faults.
@@ -92,7 +131,7 @@ const FAULTS: [(&[u8], CsvFault); 8] = [
 #[test]
 fn the_first_fault(rt: HostRuntime) {
     for (file, wanted) in &FAULTS {
-        see_fault(&rt, file, 2, Row, *wanted);
+        see_fault(&rt, file, &TWO_INTEGERS, Row, *wanted);
     }
 }
 
@@ -103,7 +142,8 @@ const NO_ROWS: [&[u8]; 3] = [b"", b"\xEF\xBB\xBF", b"\n\r\n\n"];
 fn files_without_rows(rt: HostRuntime) {
     for file in &NO_ROWS {
         for first in [Row, Header] {
-            see_rows(&rt, file, 2, first, 0, &[]);
+            see_rows(&rt, file, &TWO_INTEGERS, first, 0, Integers(&[]));
+            see_rows(&rt, file, &BIGINT_AND_INTEGER, first, 0, Values(&[]));
         }
     }
 }
@@ -111,15 +151,28 @@ fn files_without_rows(rt: HostRuntime) {
 #[test]
 fn marks(rt: HostRuntime) {
     // A second mark goes with the first, and a third is text.
-    see_rows(&rt, b"\xEF\xBB\xBF\xEF\xBB\xBF4", 1, Row, 1, &[Some(4)]);
+    let two_marks = b"\xEF\xBB\xBF\xEF\xBB\xBF4";
+    see_rows(&rt, two_marks, &ONE_INTEGER, Row, 1, Integers(&[Some(4)]));
     let third_mark = b"\xEF\xBB\xBF\xEF\xBB\xBF\xEF\xBB\xBF4";
-    see_fault(&rt, third_mark, 1, Row, CsvFault::NotInteger(1, 1));
+    see_fault(
+        &rt,
+        third_mark,
+        &ONE_INTEGER,
+        Row,
+        CsvFault::NotInteger(1, 1),
+    );
     let later_mark = b"4\n\xEF\xBB\xBF4";
-    see_fault(&rt, later_mark, 1, Row, CsvFault::NotInteger(2, 1));
+    see_fault(
+        &rt,
+        later_mark,
+        &ONE_INTEGER,
+        Row,
+        CsvFault::NotInteger(2, 1),
+    );
 }
 
-/// Files of one cell.
-const CELLS: [(&[u8], Option<i32>); 9] = [
+/// Files of one cell of a column of INTEGER.
+const INTEGER_CELLS: [(&[u8], Option<i32>); 9] = [
     (b"nUlL", None),
     (b"\"nUlL\"", None),
     (b"\"NULL\"\n", None),
@@ -135,10 +188,46 @@ const CELLS: [(&[u8], Option<i32>); 9] = [
 ];
 
 #[test]
-fn cells_of_one_column(rt: HostRuntime) {
-    see_rows(&rt, b"\"\"\n4\n", 1, Row, 2, &[None, Some(4)]);
-    for (file, cell) in &CELLS {
-        see_rows(&rt, file, 1, Row, 1, &[*cell]);
+fn cells_of_one_integer_column(rt: HostRuntime) {
+    see_rows(
+        &rt,
+        b"\"\"\n4\n",
+        &ONE_INTEGER,
+        Row,
+        2,
+        Integers(&[None, Some(4)]),
+    );
+    for (file, cell) in &INTEGER_CELLS {
+        see_rows(&rt, file, &ONE_INTEGER, Row, 1, Integers(&[*cell]));
+    }
+}
+
+/// Files of one cell of a column of BIGINT.
+const BIGINT_CELLS: [(&[u8], Option<i64>); 9] = [
+    (b"null", None),
+    (b"2147483648", Some(2_147_483_648)),
+    (b"-2147483649", Some(-2_147_483_649)),
+    (b"-9223372036854775808", Some(i64::MIN)),
+    (b"9223372036854775807", Some(i64::MAX)),
+    (b"\"+9223372036854775807\"\r\n", Some(i64::MAX)),
+    // Forty digits, of which the first are zeros.
+    (b"-0000000000000000000009223372036854775808", Some(i64::MIN)),
+    (b"0000000000000000000000000000000000000000", Some(0)),
+    (b"-7", Some(-7)),
+];
+
+#[test]
+fn cells_of_one_bigint_column(rt: HostRuntime) {
+    see_rows(
+        &rt,
+        b"\"\"\n4\n",
+        &ONE_BIGINT,
+        Row,
+        2,
+        Values(&[None, Some(4)]),
+    );
+    for (file, cell) in &BIGINT_CELLS {
+        see_rows(&rt, file, &ONE_BIGINT, Row, 1, Values(&[*cell]));
     }
 }
 
@@ -150,31 +239,80 @@ const NO_INTEGERS: [&[u8]; 12] = [
 #[test]
 fn fields_that_are_no_integer(rt: HostRuntime) {
     for file in &NO_INTEGERS {
-        see_fault(&rt, file, 1, Row, CsvFault::NotInteger(1, 1));
+        see_fault(&rt, file, &ONE_INTEGER, Row, CsvFault::NotInteger(1, 1));
+        see_fault(&rt, file, &ONE_BIGINT, Row, CsvFault::NotInteger(1, 1));
     }
 }
 
 #[test]
 fn digits_before_a_letter(rt: HostRuntime) {
-    // The digits before the last are outside INTEGER by themselves.
+    // The digits before the last are outside both types by themselves.
     let mut long = [b'9'; 100];
     long[99] = b'x';
-    see_fault(&rt, &long, 1, Row, CsvFault::NotInteger(1, 1));
+    see_fault(&rt, &long, &ONE_INTEGER, Row, CsvFault::NotInteger(1, 1));
+    see_fault(&rt, &long, &ONE_BIGINT, Row, CsvFault::NotInteger(1, 1));
 }
 
-/// Files of one number outside INTEGER.
-const OUTSIDE: [&[u8]; 5] = [
+/// Files of one number outside INTEGER, though BIGINT has it.
+const OUTSIDE_INTEGER: [&[u8]; 4] = [
     b"2147483648",
     b"-2147483649",
+    b"9223372036854775807",
+    b"-9223372036854775808",
+];
+
+/// Files of one number outside both types.
+const OUTSIDE_BIGINT: [&[u8]; 9] = [
+    b"9223372036854775808",
+    b"-9223372036854775809",
+    b"9999999999999999999",
+    b"10000000000000000000",
     b"99999999999999999999",
     // One more than 2 ^ 64, and so 1 where digits wrap around.
     b"18446744073709551617",
     b"-340282366920938463463374607431768211457",
+    // Forty digits.
+    b"1234567890123456789012345678901234567890",
+    b"-0000000000000000000009223372036854775809",
 ];
 
 #[test]
 fn numbers_outside_integer(rt: HostRuntime) {
-    for file in &OUTSIDE {
-        see_fault(&rt, file, 1, Row, CsvFault::Range);
+    for file in &OUTSIDE_INTEGER {
+        see_fault(&rt, file, &ONE_INTEGER, Row, CsvFault::Range);
     }
+}
+
+#[test]
+fn numbers_outside_both_types(rt: HostRuntime) {
+    for file in &OUTSIDE_BIGINT {
+        see_fault(&rt, file, &ONE_INTEGER, Row, CsvFault::Range);
+        see_fault(&rt, file, &ONE_BIGINT, Row, CsvFault::Range);
+    }
+}
+
+#[test]
+fn columns_of_both_types(rt: HostRuntime) {
+    let file = b"9223372036854775807,-2147483648\n,2147483647\n-1,null\n";
+    let found = rows(rt.alloc(), file, &BIGINT_AND_INTEGER, Row).expect(&rt, "rows");
+    assert!(rt; found.len() == 3);
+    see(
+        &rt,
+        found.row(0),
+        Values(&[Some(i64::MAX), Some(-2_147_483_648)]),
+    );
+    see(&rt, found.row(1), Values(&[None, Some(2_147_483_647)]));
+    see(&rt, found.row(2), Values(&[Some(-1), None]));
+}
+
+#[test]
+fn each_field_by_its_own_column(rt: HostRuntime) {
+    let first = b"2147483648,1\n";
+    let cells = [Some(2_147_483_648), Some(1)];
+    see_rows(&rt, first, &BIGINT_AND_INTEGER, Row, 1, Values(&cells));
+    see_fault(&rt, first, &[Integer, BigInt], Row, CsvFault::Range);
+    let second = b"1,2147483648\n";
+    let cells = [Some(1), Some(2_147_483_648)];
+    see_rows(&rt, second, &[Integer, BigInt], Row, 1, Values(&cells));
+    see_fault(&rt, second, &BIGINT_AND_INTEGER, Row, CsvFault::Range);
 }

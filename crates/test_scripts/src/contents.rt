@@ -1,7 +1,7 @@
 //! What a statement's file says to it, for the plain program.
 
 use bw_cells::Cells;
-use bw_csvload::{CsvRows, FirstRecord as CsvFirst, rows};
+use bw_csvload::{Cells as CsvCells, CsvRows, FirstRecord as CsvFirst, rows};
 use bw_engine::FILE_LIMIT;
 use bw_file::{FileColumn, FileFault, TableFile, decode};
 use bw_model::{Content, Row, RowList, Store, Table};
@@ -19,7 +19,7 @@ pub(crate) fn content_for<R: Abort + AllocGlobal>(
 ) -> Content {
     match statement {
         Statement::Load(request) => match store.table(&request.table) {
-            Some(table) => lines_for(rt, folder, request, table.headers().len()),
+            Some(table) => lines_for(rt, folder, request, table),
             None => Content::Nothing,
         },
         Statement::Open(request) => match bytes_of(rt, folder, request.file.as_str()) {
@@ -40,19 +40,23 @@ fn bytes_of<R: Abort>(rt: &R, folder: &mut MemoryFolder, name: &str) -> Result<V
     }
 }
 
-/// What a CSV file says to a LOAD into a table of this many columns.
+/// What a CSV file says to a LOAD into this table.
 fn lines_for<R: Abort + AllocGlobal>(
     rt: &R,
     folder: &mut MemoryFolder,
     request: &Load,
-    columns: usize,
+    table: &Table,
 ) -> Content {
+    let mut types = Vec::new(rt.alloc());
+    for header in table.headers() {
+        types.push(header.column_type).expect(rt, "memory");
+    }
     let first = match request.first {
         FirstRecord::Row => CsvFirst::Row,
         FirstRecord::Header => CsvFirst::Header,
     };
     match bytes_of(rt, folder, request.file.as_str()) {
-        Ok(bytes) => match rows(rt.alloc(), &bytes, columns, first) {
+        Ok(bytes) => match rows(rt.alloc(), &bytes, &types, first) {
             Ok(rows) => Content::Lines(row_list(rt, &rows)),
             Err(fault) => Content::Fault(fault),
         },
@@ -68,10 +72,19 @@ fn row_list<R: Abort + AllocGlobal>(rt: &R, rows: &CsvRows) -> RowList {
     RowList::new(list)
 }
 
-fn row_of<R: Abort + AllocGlobal>(rt: &R, cells: &[Option<i32>]) -> Row {
+fn row_of<R: Abort + AllocGlobal>(rt: &R, cells: CsvCells<'_>) -> Row {
     let mut values = Vec::new(rt.alloc());
-    for cell in cells {
-        values.push(cell.map(i64::from)).expect(rt, "memory");
+    match cells {
+        CsvCells::Integers(cells) => {
+            for cell in cells {
+                values.push(cell.map(i64::from)).expect(rt, "memory");
+            }
+        }
+        CsvCells::Values(cells) => {
+            for cell in cells {
+                values.push(*cell).expect(rt, "memory");
+            }
+        }
     }
     Row::new(values)
 }

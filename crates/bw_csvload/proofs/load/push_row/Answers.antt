@@ -1,4 +1,4 @@
-use Rattle.std.proofs.Common.{arith, length, sym, ◌≡◌, ◌∙◌}
+use Rattle.std.proofs.Common.{length, sym, ◌≡◌, ◌∙◌}
 use Rattle.csv.specs.Records.{fields_of}
 use Rattle.bw_csvload.proofs.Firsts.{integer_fields, row_of-fits}
 use Rattle.bw_csvload.proofs.load.push_row.Goals as goal
