@@ -345,8 +345,8 @@ pub(crate) fn many_rows_present(k: u32) -> u8
 
 // Eight of the bits b of many rows' codes.
 fn many_rows_plane(b: u32, k: u32) -> u8
-    requires { k < 257 }
-    requires { b < 32 }
+    requires eight { k < 257 }
+    requires bit { b < 32 }
 {
     let mut byte = 0;
     for j in 0..8_u32 {
