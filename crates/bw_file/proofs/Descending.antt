@@ -6,8 +6,8 @@ use Rattle.std.proofs.lemmas.Bool.{cases_lt, lt-ltb}
 use Rattle.std.proofs.lemmas.Nat.Bits.{bit_at-suc, bit_at_lowest}
 use Rattle.bw_mask.specs.Masks.{bit_of}
 use Rattle.bw_mask.proofs.Bits.{and_true, bit_above, bit_of_and, bit_of_andnot, bit_of_zero}
-use Rattle.bw_file.specs.Descents.{IsGreatestSoFar, IsLeastSoFar}
-use Rattle.bw_file.specs.Planes.{AreCodeEnds, code_in, plane_bit}
+use Rattle.bw_file.specs.Descents.{AreCodeEnds, IsGreatestSoFar, IsLeastSoFar}
+use Rattle.bw_file.specs.Planes.{code_in, plane_bit}
 use Rattle.bw_file.specs.declared.descent.Reached.{Reached}
 use Rattle.bw_vertical.proofs.Numbers.{number_more}
 

@@ -1,7 +1,7 @@
 -- What is known of some codes, and of those of the rows behind theirs.
 use Rattle.std.proofs.Common.{Bool, ap, arith, false, inl, inr, max, min, refl, sym, true, ℕ, ◌+◌, ◌-◌, ◌<◌, ◌≡◌, ◌≤◌, ◌∙◌}
 use Rattle.std.proofs.lemmas.Bool.{cases_lt}
-use Rattle.bw_file.specs.Planes.{AreCodeEnds}
+use Rattle.bw_file.specs.Descents.{AreCodeEnds}
 use Rattle.bw_file.specs.declared.code_ends.CodeEnds.{CodeEnds}
 
 module _ (has f : ℕ → Bool) (code g : ℕ → ℕ) (n m : ℕ) (bits : (r : ℕ) → r < m → has (n + r) ≡ f r) (codes : (r : ℕ) → r < m → code (n + r) ≡ g r)

@@ -14,7 +14,8 @@ use Rattle.bw_code.specs.Types.{IsNullOrOfType, IsOfType}
 use Rattle.bw_code.specs.declared.kind.ColumnType.{ColumnType}
 use Rattle.bw_code.specs.declared.kind.ColumnType.TheVariants.{BigInt, Integer}
 use Rattle.bw_file.specs.Cells.{presence_size}
-use Rattle.bw_file.specs.Planes.{AreCodeEnds, cells_in, code_in, has_in, read_cell}
+use Rattle.bw_file.specs.Descents.{AreCodeEnds}
+use Rattle.bw_file.specs.Planes.{cells_in, code_in, has_in, read_cell}
 use Rattle.bw_code.specs.declared.ends.Ends.{Ends}
 use Rattle.bw_file.specs.declared.code_ends.CodeEnds.{CodeEnds}
 use Rattle.bw_file.specs.declared.code_ends.Values.TheVariants as found

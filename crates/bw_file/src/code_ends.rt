@@ -7,7 +7,8 @@ ghost use Rattle.bw_code.specs.Types.{IsNullOrOfType, IsOfType};
 ghost use Rattle.bw_code.specs.declared.ends.Ends.{Ends as AnyEnds};
 ghost use Rattle.bw_code.specs.Headers.{row_limit};
 ghost use Rattle.bw_file.specs.Cells.{presence_size};
-ghost use Rattle.bw_file.specs.Planes.{cells_in, code_in, has_in, AreCodeEnds};
+ghost use Rattle.bw_file.specs.Descents.{AreCodeEnds};
+ghost use Rattle.bw_file.specs.Planes.{cells_in, code_in, has_in};
 ghost use Rattle.bw_file.specs.declared.code_ends.Values.TheVariants as found;
 
 use crate::descent::run_ends;

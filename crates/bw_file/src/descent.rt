@@ -2,8 +2,8 @@
 
 ghost use Rattle.std.specs.Prelude.{cond, false, length, true, ℕ, ◌%◌, ◌*◌, ◌+◌, ◌<◌, ◌^◌, ◌≡◌, ◌≤◌, Bool};
 ghost use Rattle.bw_mask.specs.Masks.{bit_of};
-ghost use Rattle.bw_file.specs.Descents.{IsGreatestSoFar, IsLeastSoFar};
-ghost use Rattle.bw_file.specs.Planes.{code_in, AreCodeEnds};
+ghost use Rattle.bw_file.specs.Descents.{AreCodeEnds, IsGreatestSoFar, IsLeastSoFar};
+ghost use Rattle.bw_file.specs.Planes.{code_in};
 
 use crate::code_ends::CodeEnds;
 use crate::row_bits::bits_of_rows;

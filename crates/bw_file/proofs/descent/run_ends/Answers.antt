@@ -1,6 +1,7 @@
 use Rattle.std.proofs.Common.{arith, rules, subst, true, ◌+◌, ◌≡◌}
 use Rattle.bw_mask.specs.Masks.{bit_of}
-use Rattle.bw_file.specs.Planes.{AreCodeEnds, code_in}
+use Rattle.bw_file.specs.Descents.{AreCodeEnds}
+use Rattle.bw_file.specs.Planes.{code_in}
 use Rattle.bw_file.proofs.Descending.{one_bit_more, plane_grows, run_are}
 use Rattle.bw_file.proofs.StrayBits.{plane_word}
 use Rattle.bw_file.proofs.descent.run_ends.Goals as goal

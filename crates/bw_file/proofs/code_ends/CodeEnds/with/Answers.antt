@@ -1,5 +1,5 @@
 use Rattle.std.proofs.Common.{min, subst, sym, true, ◌+◌}
-use Rattle.bw_file.specs.Planes.{AreCodeEnds}
+use Rattle.bw_file.specs.Descents.{AreCodeEnds}
 use Rattle.bw_file.proofs.JoinedEnds.{both_ends, only_first, only_second}
 use Rattle.bw_file.proofs.PlaneEnds.{on, turned}
 use Rattle.bw_file.proofs.code_ends.CodeEnds.with.Goals as goal
