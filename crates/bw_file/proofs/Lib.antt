@@ -4,6 +4,7 @@ pub mod Blocks
 pub mod Bytes
 pub mod ColumnEnds
 pub mod Complete
+pub mod Descending
 pub mod Distinct
 pub mod EndLanes
 pub mod Filled
@@ -11,6 +12,7 @@ pub mod FirstColumn
 pub mod Frames
 pub mod Fronts
 pub mod Joined
+pub mod JoinedEnds
 pub mod Least
 pub mod Lengths
 pub mod Lent

@@ -1,5 +1,5 @@
 -- The least and the greatest of the cells of a column of planes, by its codes.
-use Rattle.std.proofs.Common.{All, Bool, FitsSigned, List, None, Option, Some, [], ap, arith, false, get_or, inl, inr, is_some, length, max, min, not, of_z, pos, refl, subst, sym, to_z, true, w64, ℕ, ℤ, ◌+ℤ◌, ◌+◌, ◌<◌, ◌≡◌, ◌≤ℤ◌, ◌∙◌, ◌⊎◌}
+use Rattle.std.proofs.Common.{All, Bool, FitsSigned, List, None, Option, Some, [], ap, arith, false, get_or, inl, inr, is_some, length, not, of_z, pos, refl, subst, sym, to_z, true, w64, ℕ, ℤ, ◌+ℤ◌, ◌<◌, ◌≡◌, ◌≤ℤ◌, ◌∙◌, ◌⊎◌}
 use Rattle.std.specs.Prelude.{if◌then◌else◌}
 use Rattle.std.specs.List.{Contains}
 use Rattle.std.proofs.Math.ListN.{get_or-eq_default}
@@ -14,60 +14,11 @@ use Rattle.bw_code.specs.Types.{IsNullOrOfType, IsOfType}
 use Rattle.bw_code.specs.declared.kind.ColumnType.{ColumnType}
 use Rattle.bw_code.specs.declared.kind.ColumnType.TheVariants.{BigInt, Integer}
 use Rattle.bw_file.specs.Cells.{presence_size}
-use Rattle.bw_file.specs.Planes.{AreCodeEnds, cells_in, code_in, has_in, read_cell}
+use Rattle.bw_file.specs.Descents.{AreCodeEnds}
+use Rattle.bw_file.specs.Planes.{cells_in, code_in, has_in, read_cell}
 use Rattle.bw_code.specs.declared.ends.Ends.{Ends}
 use Rattle.bw_file.specs.declared.code_ends.CodeEnds.{CodeEnds}
 use Rattle.bw_file.specs.declared.code_ends.Values.TheVariants as found
-
--- one row more without a code
-pub row_without : (has : ℕ → Bool) (code : ℕ → ℕ) (n : ℕ) (ends : CodeEnds) → AreCodeEnds has code n ends → has n ≡ false → AreCodeEnds has code (n + 1) ends
-row_without has code n ends are off = record {
-  bounds = λ i h there.
-      elim (cases_lt i n) [
-        | inl low ↦ are.bounds i low there
-        | inr past ↦ (let is : i ≡ n = omega (arith, h, past) in let no : false ≡ true = sym off ∙ ap has (sym is) ∙ there in absurd cc)
-      ];
-  least = λ any. let at = are.least any in (at.0, omega (arith, at.1), at.2, at.3);
-  greatest = λ any. let at = are.greatest any in (at.0, omega (arith, at.1), at.2, at.3);
-}
-
--- one row more with a code
-module _ (has : ℕ → Bool) (code : ℕ → ℕ) (n c : ℕ) (ends : CodeEnds) (are : AreCodeEnds has code n ends) (on : has n ≡ true) (is : code n ≡ c) where
-  abbrev both : CodeEnds
-  both = record { any = true; least = min ends.least c; greatest = max ends.greatest c }
-
-  abbrev one : CodeEnds
-  one = record { any = true; least = c; greatest = c }
-
-  pub row_with : ends.any ≡ true → AreCodeEnds has code (n + 1) both
-  row_with any = record {
-    bounds = λ i h there.
-        elim (cases_lt i n) [
-          | inl low ↦ (let b = are.bounds i low there in (refl, omega (arith, b.1), omega (arith, b.2)))
-          | inr past ↦ (let same : code i ≡ c = ap code (omega (arith, h, past)) ∙ is in (refl, omega (arith, same), omega (arith, same)))
-        ];
-    least = λ all.
-        elim (cases_lt c ends.least) [
-          | inl less ↦ (n, omega arith, on, omega (arith, is, less))
-          | inr more ↦ (let at = are.least any in (at.0, omega (arith, at.1), at.2, omega (arith, at.3, more)))
-        ];
-    greatest = λ all.
-        elim (cases_lt ends.greatest c) [
-          | inl more ↦ (n, omega arith, on, omega (arith, is, more))
-          | inr less ↦ (let at = are.greatest any in (at.0, omega (arith, at.1), at.2, omega (arith, at.3, less)))
-        ];
-  }
-
-  pub row_first : ends.any ≡ false → AreCodeEnds has code (n + 1) one
-  row_first none = record {
-    bounds = λ i h there.
-        elim (cases_lt i n) [
-          | inl low ↦ (let no : false ≡ true = sym none ∙ (are.bounds i low there).0 in absurd cc)
-          | inr past ↦ (let same : code i ≡ c = ap code (omega (arith, h, past)) ∙ is in (refl, omega (arith, same), omega (arith, same)))
-        ];
-    least = λ all. (n, omega arith, on, is);
-    greatest = λ all. (n, omega arith, on, is);
-  }
 
 bool_cases : (b : Bool) → (b ≡ true) ⊎ (b ≡ false)
 bool_cases true = inl refl

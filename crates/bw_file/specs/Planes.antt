@@ -1,6 +1,6 @@
 -- A column of a table file as bytes, version 2: a bit for each row, which says whether its cell is not null; the base, 8 bytes in two's complement; the
 -- width; and as many planes of bits, that of the highest bit first, each laid out as the bits of the rows. Numbers stand lowest byte first.
-use Rattle.std.specs.Prelude.{All, Bool, FitsSigned, List, None, Option, Some, [], drop, fold, if◌then◌else◌, length, map, pos, slice_index, suc, take, true, zero, ℕ, ℤ, ⊤, ◌%◌, ◌*◌, ◌+ℤ◌, ◌+◌, ◌++◌, ◌-◌, ◌/◌, ◌<◌, ◌==◌, ◌^◌, ◌≡◌, ◌≤ℤ◌, ◌≤◌, ◌∷◌}
+use Rattle.std.specs.Prelude.{All, Bool, FitsSigned, List, None, Option, Some, [], drop, fold, if◌then◌else◌, length, map, pos, slice_index, suc, take, zero, ℕ, ℤ, ⊤, ◌%◌, ◌*◌, ◌+ℤ◌, ◌+◌, ◌++◌, ◌-◌, ◌/◌, ◌<◌, ◌==◌, ◌^◌, ◌≡◌, ◌≤ℤ◌, ◌≤◌, ◌∷◌}
 use Rattle.std.specs.Int.{bit_at, cast_unsigned, int_max, int_min, w64}
 use Rattle.std.specs.List.{range_with_len}
 use Rattle.std.specs.Simd.Lanes.{mask_l}
@@ -12,7 +12,6 @@ use Rattle.bw_code.specs.Fittings.{AreEnds}
 use Rattle.bw_code.specs.declared.ends.Ends.{Ends}
 use Rattle.bw_code.specs.Headers.{row_limit}
 use Rattle.bw_file.specs.Cells.{presence_bytes, presence_size}
-use Rattle.bw_file.specs.declared.code_ends.CodeEnds.{CodeEnds}
 use Rattle.bw_file.specs.Reading.{HasNoSpareBit}
 
 -- NULL or a BIGINT
@@ -96,12 +95,6 @@ IsNear base k (Some z) = FitsSigned w64 z × (base ≤ℤ z) × (distance z base
 -- whether row i is not null
 abbrev pub has_in : List ℕ → ℕ → Bool
 has_in present i = bit_at (slice_index present (i / 8)) (i % 8) == 1
-
--- of the codes of those of the first n rows that have one: whether there is any, the least and the greatest
-pub record AreCodeEnds (has : ℕ → Bool) (code : ℕ → ℕ) (n : ℕ) (ends : CodeEnds) : Type 0 where
-  pub bounds : (i : ℕ) → i < n → has i ≡ true → (ends.any ≡ true) × (ends.least ≤ code i) × (code i ≤ ends.greatest)
-  pub least : ends.any ≡ true → (i : ℕ) × (i < n) × (has i ≡ true) × (code i ≡ ends.least)
-  pub greatest : ends.any ≡ true → (i : ℕ) × (i < n) × (has i ≡ true) × (code i ≡ ends.greatest)
 
 -- bits and planes of so many rows, whose cells are read from the base on, and the ends of these
 pub record IsPlaneColumn (rows : ℕ) (base : ℤ) (k : ℕ) (present planes : List ℕ) (ends : Option Ends) : Type 0 where

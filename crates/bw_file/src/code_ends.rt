@@ -1,21 +1,21 @@
 //! The least and the greatest code of a column of planes, and the values that they stand for.
 
-ghost use Rattle.std.specs.Prelude.{All, Bool, IfSome, List, None, Option, length, pos, slice_index, true, ℕ, ℤ, ◌*◌, ◌+ℤ◌, ◌+◌, ◌<◌, ◌≡◌, ◌≤◌};
+ghost use Rattle.std.specs.Prelude.{All, Bool, IfSome, List, None, Option, false, length, pos, ℕ, ℤ, ◌*◌, ◌+ℤ◌, ◌+◌, ◌<◌, ◌≡◌, ◌≤◌};
 ghost use Rattle.bw_cells.specs.Known.{known};
 ghost use Rattle.bw_code.specs.Fittings.{AreEnds};
 ghost use Rattle.bw_code.specs.Types.{IsNullOrOfType, IsOfType};
 ghost use Rattle.bw_code.specs.declared.ends.Ends.{Ends as AnyEnds};
-ghost use Rattle.bw_mask.specs.Masks.{bit_of};
 ghost use Rattle.bw_code.specs.Headers.{row_limit};
 ghost use Rattle.bw_file.specs.Cells.{presence_size};
-ghost use Rattle.bw_file.specs.Planes.{cells_in, code_in, has_in, AreCodeEnds};
+ghost use Rattle.bw_file.specs.Descents.{AreCodeEnds};
+ghost use Rattle.bw_file.specs.Planes.{cells_in, code_in, has_in};
 ghost use Rattle.bw_file.specs.declared.code_ends.Values.TheVariants as found;
 
-use crate::codes::read_codes;
-use crate::row_bits::{bits_of_rows, has_bit};
+use crate::descent::run_ends;
+use crate::row_bits::bits_of_rows;
 use bw_code::{ColumnType, Ends};
 
-// How many codes are read at a time: as many as one word has bits for.
+// How many codes are looked at together: as many as one word has bits for.
 const RUN: usize = 64;
 
 /// What is known of some codes.
@@ -29,8 +29,8 @@ pub(crate) struct CodeEnds {
 
 impl CodeEnds {
     /// Of no codes.
-    fn none() -> CodeEnds
-        ensures { (has : ℕ → Bool) (code : ℕ → ℕ) → AreCodeEnds has code 0 result }
+    pub(crate) fn none() -> CodeEnds
+        ensures { (has : ℕ → Bool) (code : ℕ → ℕ) (n : ℕ) → ((i : ℕ) → i < n → has i ≡ false) → AreCodeEnds has code n result }
     {
         CodeEnds {
             any: false,
@@ -39,38 +39,22 @@ impl CodeEnds {
         }
     }
 
-    /// Of one code more.
-    fn with(self, more: u64) -> CodeEnds
-        ensures { (has : ℕ → Bool) (code : ℕ → ℕ) (n : ℕ) → AreCodeEnds has code n self → has n ≡ true → code n ≡ more → AreCodeEnds has code (n + 1) result }
+    /// Of these codes, and of those of the rows behind theirs.
+    fn with(self, more: CodeEnds) -> CodeEnds
+        ensures { (has f : ℕ → Bool) (code g : ℕ → ℕ) (n m : ℕ) → ((r : ℕ) → r < m → has (n + r) ≡ f r) → ((r : ℕ) → r < m → code (n + r) ≡ g r)
+            → AreCodeEnds has code n self → AreCodeEnds f g m more → AreCodeEnds has code (n + m) result }
     {
-        if self.any {
-            CodeEnds {
-                any: true,
-                least: self.least.min(more),
-                greatest: self.greatest.max(more),
-            }
-        } else {
-            CodeEnds {
-                any: true,
-                least: more,
-                greatest: more,
-            }
+        if !self.any {
+            return more;
         }
-    }
-
-    /// Of the codes that have a bit, after those of the rows before them.
-    fn with_run(self, codes: &[u64], there: u64) -> CodeEnds
-        requires { length codes.now ≤ 64 }
-        ensures { (has : ℕ → Bool) (code : ℕ → ℕ) (n : ℕ) → ((r : ℕ) → r < length codes.now → has (n + r) ≡ bit_of there r) → ((r : ℕ) → r < length codes.now → code (n + r) ≡ slice_index codes.now r)
-            → AreCodeEnds has code n self → AreCodeEnds has code (n + length codes.now) result }
-    {
-        let mut ends = self;
-        for r in 0..codes.len() {
-            if has_bit(there, r) {
-                ends = ends.with(codes[r]);
-            }
+        if !more.any {
+            return self;
         }
-        ends
+        CodeEnds {
+            any: true,
+            least: self.least.min(more.least),
+            greatest: self.greatest.max(more.greatest),
+        }
     }
 }
 
@@ -83,14 +67,12 @@ pub(crate) fn code_ends(present: &[u8], planes: &[u8], rows: usize, k: usize) ->
     ensures { AreCodeEnds (has_in present.now) (code_in k (presence_size rows) planes.now) rows result }
 {
     let size = rows.div_ceil(8);
-    let mut run = [0; RUN];
     let mut ends = CodeEnds::none();
     'runs: for r in 0..rows.div_ceil(RUN) {
         let at = r * RUN;
-        let end = rows.min(at + RUN);
-        let codes = &mut run[..end - at];
-        read_codes(planes, size, k, at, codes);
-        ends = ends.with_run(codes, bits_of_rows(present, at, end - at));
+        let count = (rows - at).min(RUN);
+        let there = bits_of_rows(present, at, count);
+        ends = ends.with(run_ends(planes, size, k, at, count, there));
     }
     ends
 }

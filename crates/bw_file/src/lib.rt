@@ -9,6 +9,7 @@ mod codes;
 mod column;
 mod columns;
 mod decoding;
+mod descent;
 mod distances;
 mod encoding;
 mod ends;

@@ -1,7 +1,8 @@
 //! Tables as the bytes of table files, version 2: examples byte by byte, and bytes that spell no table.
 
-ghost use Rattle.std.specs.Prelude.{All, IsTrue, length, ◌<◌, ◌≡◌};
-ghost use Rattle.bw_code.specs.Types.{holds};
+ghost use Rattle.std.specs.Prelude.{All, IsTrue, List, Option, [], length, ℤ, ◌<◌, ◌≡◌, ◌∷◌};
+ghost use Rattle.std.specs.List.{AllZip};
+ghost use Rattle.bw_code.specs.Types.{holds, IsNullOrOfType, IsTyped};
 ghost use Rattle.bw_file.specs.Table.{AreHeaders};
 
 use crate::files_seen::{Column, check_no_table, check_table, check_written, ends_of, table_of};
@@ -105,7 +106,7 @@ fn headers_of_one<R: Abort + AllocGlobal>(
     requires held { IsTrue (holds layout column_type) }
     ensures headers { AreHeaders result.items }
     ensures one { length result.items ≡ 1 }
-    ensures typed { All (λ header. header.column_type ≡ column_type) result.items }
+    ensures typed { (cells : List (Option ℤ)) → All (IsNullOrOfType column_type) cells → AllZip IsTyped result.items (cells ∷ []) }
 {
     let word = b"A";
     assert!(rt; is_name(word));
@@ -345,8 +346,8 @@ pub(crate) fn many_rows_present(k: u32) -> u8
 
 // Eight of the bits b of many rows' codes.
 fn many_rows_plane(b: u32, k: u32) -> u8
-    requires { k < 257 }
-    requires { b < 32 }
+    requires eight { k < 257 }
+    requires bit { b < 32 }
 {
     let mut byte = 0;
     for j in 0..8_u32 {
