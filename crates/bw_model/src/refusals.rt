@@ -230,8 +230,7 @@ fn misses_source(headers: &[Header<Name>], sets: &[SetClause]) -> bool
 fn may_all_be_set(headers: &[Header<Name>], sets: &[SetClause]) -> bool
     ensures { result ≡ list_all (λ set. may_be_set (type_named headers.now set.column) set.source) sets.now }
 {
-    sets.iter()
-        .all(|set| may_be_set(type_named(headers, &set.column), &set.source))
+    sets.iter().all(|set| may_be_set(type_named(headers, &set.column), &set.source))
 }
 
 /// Whether a column of a type may be set to this, as far as no row is looked at: a literal has to be of the type.

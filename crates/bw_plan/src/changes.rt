@@ -166,8 +166,7 @@ fn is_set(sets: &[SetClause], name: &Name) -> bool
 fn may_all_be_set(headers: &Headers<'_>, sets: &[SetClause]) -> bool
     ensures { result ≡ list_all (λ set. may_be_set (type_named headers.now set.column) set.source) sets.now }
 {
-    sets.iter()
-        .all(|set| may_be_set(headers.type_named(&set.column), &set.source))
+    sets.iter().all(|set| may_be_set(headers.type_named(&set.column), &set.source))
 }
 
 fn may_be_set(column_type: ColumnType, source: &Operand) -> bool

@@ -16,7 +16,7 @@ use Rattle.bw_column.specs.Values.{IsNullOrHeld}
 use Rattle.bw_table.specs.Changes.{AreRebuilt, HoldAsChosen, choice_of, chosen_kind, chosen_layout, copies_fit, rows_found, type_at, value_for}
 use Rattle.bw_table.specs.Sets.{AreEmpty}
 use Rattle.bw_table.specs.Slots.{AreColumns, IsHeldRow, SlotsView, slot_column}
-use Rattle.bw_table.specs.Tables.{AreChosen, AreFirst, AreHeadersOf, layouts, slots_in}
+use Rattle.bw_table.specs.Tables.{AreChosen, AreFirst, AreHeadersOf, HoldTypes, layouts, slots_in}
 use Rattle.bw_table.specs.declared.choice.Choice.{Choice}
 use Rattle.bw_table.specs.declared.setting.SetTo.{SetTo}
 use Rattle.bw_table.proofs.Across.{no_column, slots_count, view_of}
@@ -68,10 +68,6 @@ module _ {N : Type 0} where
   typed_column headers slots are k h l =
       subst (λ t. All (IsNullOrOfType t) (slot_column slots.slots k)) (type_of headers k h l)
       (slots_down IsNullOrOfType (types_of headers) slots.slots are.typed k h.column_type (omega (arith, l, types_count headers)))
-
-  -- the layout that is chosen for each column holds its type
-  abbrev pub HoldTypes : List (ℕ × Choice) → List (Header N) → Type 0
-  HoldTypes choices headers = (k : ℕ) (h : Header N) → k < length headers → IsTrue (holds (chosen_layout (choice_of choices k) (get_or headers k h).layout) (get_or headers k h).column_type)
 
   pub hold_as_chosen : (choices : List (ℕ × Choice)) (headers : List (Header N)) (slots : SlotsView) → AreHeadersOf headers slots → HoldTypes choices headers → HoldAsChosen choices slots
   hold_as_chosen choices headers slots are held k l low =

@@ -2,7 +2,7 @@
 use Rattle.std.specs.Prelude.{IsTrue, List, Option, [], length, map, slice_index_or, ℕ, ◌<◌, ◌≡◌}
 use Rattle.std.specs.List.{All}
 use Rattle.bw_code.specs.Encodings.{kind_of}
-use Rattle.bw_code.specs.Types.{IsRowOf, holds_its_type, types_of}
+use Rattle.bw_code.specs.Types.{IsRowOf, holds, holds_its_type, types_of}
 use Rattle.bw_code.specs.declared.encoding.Encoding.{Encoding}
 use Rattle.bw_code.specs.declared.header.Header.{Header}
 use Rattle.bw_code.specs.declared.kind.Layout.{Layout}
@@ -42,3 +42,7 @@ header_by choice header = record header { layout = chosen_layout choice header.l
 pub record AreChosen {N : Type 0} (choices : List (ℕ × Choice)) (old new : List (Header N)) : Type 0 where
   pub count : length new ≡ length old
   pub each : (k : ℕ) (d : Header N) → k < length old → slice_index_or new k d ≡ header_by (choice_of choices k) (slice_index_or old k d)
+
+-- the layout that is chosen for each column holds its type
+abbrev pub HoldTypes : {N : Type 0} → List (ℕ × Choice) → List (Header N) → Type 0
+HoldTypes {N} choices headers = (k : ℕ) (h : Header N) → k < length headers → IsTrue (holds (chosen_layout (choice_of choices k) (slice_index_or headers k h).layout) (slice_index_or headers k h).column_type)

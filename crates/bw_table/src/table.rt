@@ -11,7 +11,7 @@ ghost use Rattle.bw_table.specs.Changes.{AreInserted, AreRebuilt, AreUpdated, Is
 ghost use Rattle.bw_table.specs.Opening.{AreFitted, rows_across};
 ghost use Rattle.bw_table.specs.Sets.{AreEmpty};
 ghost use Rattle.bw_table.specs.Slots.{live_slot, live_slots, slot_at, slot_column, slot_limit};
-ghost use Rattle.bw_table.specs.Tables.{AreChosen, AreFirst, slots_in};
+ghost use Rattle.bw_table.specs.Tables.{AreChosen, AreFirst, HoldTypes, slots_in};
 ghost use Rattle.bw_table.specs.declared.fault.TableFault.TheVariants.{Full, Range};
 
 use crate::choice::{Choice, choose_all};
@@ -209,7 +209,7 @@ impl<N: Drop> Table<N> {
     /// Drops the dead slots and builds each column anew, in the layout and of the kind that are chosen for it. That
     /// layout holds the column's type. Where memory is wanting, nothing changes.
     pub fn rebuild(&mut self, alloc: Global, choices: &[(usize, Choice)]) -> Result<(), AllocError>
-        requires held { (k : ℕ) (h : Header N) → k < length self.old.headers → IsTrue (holds (chosen_layout (choice_of choices.now k) (slice_index_or self.old.headers k h).layout) (slice_index_or self.old.headers k h).column_type) }
+        requires held { HoldTypes choices.now self.old.headers }
         ensures headers { OnOk result (AreChosen choices.now self.old.headers self.new.headers) }
         ensures rebuilt { OnOk result (AreRebuilt choices.now (slots_in self.old) (slots_in self.new)) }
         ensures unchanged { OnErr result (self.new ≡ self.old) }

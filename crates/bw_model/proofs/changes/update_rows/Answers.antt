@@ -38,8 +38,7 @@ returns-clause-outcome c =
     let copied = c.copy_test.ensures table condition c.headers-2.ensures.value found in
     let second : first_that_holds (copy_test sets condition table ∷ []) ≡ None =
     ap (λ test. first_that_holds (test ∷ [])) (sym copied) ∙ sym c.first_that_holds-2.ensures ∙ c.in_default-first_that_holds.is in
-    by_none _ _ (set_tests table.headers sets condition) (copy_test sets condition table) none second
-    (
+    by_none _ _ (set_tests table.headers sets condition) (copy_test sets condition table) none second (
       ap (λ n. Count n) (omega (arith, c.len-count.ensures, length-map c.in_ok-found.found.items (λ row. row.now), ap length c.in_ok-found.ensures)),
       c.replace_rows.ensures ∙ ap (λ (rows : List Row). record { headers = table.headers; rows = rows }) c.in_ok-rows.ensures,
     )
