@@ -100,7 +100,7 @@ fn check_rows(
     room: usize,
 ) -> Result<(), Refusal>
     requires { 0 < length (names_of headers.now targets) }
-    ensures { Decides (value_tests headers.now (names_of headers.now targets) room rows.now) result (λ _. Unit {0}) }
+    ensures { Decides (value_tests headers.now (names_of headers.now targets.entry) room rows.now) result (λ _. Unit {0}) }
 {
     if !rows.are_all_of_width(targets.len(headers)) {
         return Err(Refusal::WrongNumberOfValues);

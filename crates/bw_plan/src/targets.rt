@@ -22,7 +22,7 @@ pub(crate) enum Targets<'a> {
 impl<'a> Targets<'a> {
     /// How many columns they are.
     pub(crate) fn len(self, headers: &Headers<'_>) -> usize
-        ensures { result ≡ length (names_of headers.now self) }
+        ensures { result ≡ length (names_of headers.now self.entry) }
     {
         match self {
             Targets::All => headers.len(),
@@ -33,7 +33,7 @@ impl<'a> Targets<'a> {
     /// The type of the k-th of them.
     fn column_type(self, headers: &Headers<'_>, k: usize) -> ColumnType
         requires { k < length (names_of headers.now self) }
-        ensures { (d : AnyType) → result ≡ get_or (types_named headers.now (names_of headers.now self)) k d }
+        ensures { (d : AnyType) → result ≡ get_or (types_named headers.now (names_of headers.now self.entry)) k d }
     {
         match self {
             Targets::All => headers.column_type(k),
@@ -56,7 +56,7 @@ pub(crate) fn is_null_or_of_type(column_type: ColumnType, value: Value) -> bool
 pub(crate) fn rows_fit(headers: &Headers<'_>, targets: Targets<'_>, rows: &ValueRows) -> bool
     requires some { 0 < length (names_of headers.now targets) }
     requires widths { Every (λ row. length row ≡ length (names_of headers.now targets)) rows.now }
-    ensures { result ≡ list_all (are_of_types (types_named headers.now (names_of headers.now targets))) rows.now }
+    ensures { result ≡ list_all (are_of_types (types_named headers.now (names_of headers.now targets.entry))) rows.now }
 {
     // Where all columns are INTEGER, no value's column is looked for.
     if headers.are_integer() {
@@ -85,7 +85,7 @@ fn are_integers(values: &[Value]) -> bool
 /// Whether each value of a row is of its column's type.
 fn row_fits(headers: &Headers<'_>, targets: Targets<'_>, row: &[Value]) -> bool
     requires { length row.now ≡ length (names_of headers.now targets) }
-    ensures { result ≡ are_of_types (types_named headers.now (names_of headers.now targets)) row.now }
+    ensures { result ≡ are_of_types (types_named headers.now (names_of headers.now targets.entry)) row.now }
 {
     for k in 0..row.len() {
         if !is_null_or_of_type(targets.column_type(headers, k), row[k]) {
