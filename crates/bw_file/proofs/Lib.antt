@@ -7,6 +7,7 @@ pub mod Complete
 pub mod Descending
 pub mod Distinct
 pub mod EndLanes
+pub mod EndSizes
 pub mod Filled
 pub mod FirstColumn
 pub mod Frames

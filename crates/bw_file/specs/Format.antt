@@ -4,6 +4,8 @@ use Rattle.std.specs.Prelude.{All, List, Option, codes, length, ℕ, ℤ, ⊤, �
 use Rattle.std.specs.List.{flat_map, sum_by}
 use Rattle.byteorder.specs.Endian.{little_bytes}
 use Rattle.bw_cells.specs.Known.{known}
+use Rattle.bw_code.specs.Fittings.{AreEnds}
+use Rattle.bw_code.specs.declared.ends.Ends.{Ends}
 use Rattle.bw_code.specs.declared.kind.ColumnType.TheVariants.{Integer}
 use Rattle.bw_file.specs.Cells as cells
 use Rattle.bw_file.specs.Headers.{header_bytes, header_size}
@@ -62,3 +64,7 @@ Spells bytes t = SpelledBy First bytes t ⊎ SpelledBy Second bytes t
 -- how long the spelling of a table is
 abbrev pub spelled_length : Version → Table → ℕ
 spelled_length version t = 14 + sum_by (header_size version) t.headers + sum_by (column_size version) t.columns
+
+-- the ends of those cells of a column that are integers
+abbrev pub AreEndsOf : Option Ends → List (Option ℤ) → Type 0
+AreEndsOf ends cells = AreEnds (known cells) ends

@@ -56,7 +56,7 @@ fn frame<C: Measured>(column: &C) -> Offset
 }
 
 /// How many bytes planes of so many bits and of so many rows have, with what stands before them in a column.
-fn planes_size(width: u32, rows: usize) -> u64
+pub(crate) fn planes_size(width: u32, rows: usize) -> u64
     requires narrow { width ≤ 64 }
     requires few { rows ≤ row_limit }
     ensures value { result ≡ plane_column_size width rows }
