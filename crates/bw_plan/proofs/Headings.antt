@@ -3,6 +3,7 @@ use Rattle.std.proofs.Common.{◌≡◌, ◌∙◌, ℕ, ◌+◌, ◌<◌, ◌�
 use Rattle.std.specs.Str.{bytes_eq}
 use Rattle.std.proofs.lemmas.List.{get_or-map, length-map, take_all, take_more}
 use Rattle.bw_code.specs.declared.kind.Kind.TheVariants.{Offset}
+use Rattle.bw_code.specs.declared.kind.ColumnType.TheVariants.{Integer}
 use Rattle.bw_code.specs.declared.kind.Layout.TheVariants.{V}
 use Rattle.bw_model.specs.Store as store
 
@@ -18,7 +19,7 @@ module _ (headers : List store.Header) (names : List (List ℕ)) (i : ℕ) (sour
       ∙ sym (take_more (map place headers) i None inside)
     where
       some : store.Header
-      some = get_or headers i (record { name = []; layout = V; kind = Offset })
+      some = get_or headers i (record { name = []; column_type = Integer; layout = V; kind = Offset })
 
   pub all_sources : length headers ≤ i → sources ≡ take i (map (λ h. position (bytes_eq h.name) names) headers) → sources ≡ map (λ h. position (bytes_eq h.name) names) headers
   all_sources upto so_far = so_far ∙ take_all i (map (λ h. position (bytes_eq h.name) names) headers) (omega (arith, upto, length-map headers (λ h. position (bytes_eq h.name) names)))

@@ -77,10 +77,8 @@ pub all_listed : (headers : List Header) → AreHeaders headers → first_that_h
 all_listed headers valid = no_test _ _ _ (none_missing headers valid) ∙ no_test _ _ _ (ap not valid.distinct)
 
 -- the tests of rows that name all columns in order
-pub whole_first : (headers : List Header) (room : ℕ) (rows : List Row) → AreHeaders headers → first_that_holds (listed_tests headers (names headers) ++ value_tests (length (names headers)) room rows) ≡ first_that_holds (value_tests (length headers) room rows)
-whole_first headers room rows valid =
-    first-append_none (listed_tests headers (names headers)) (value_tests (length (names headers)) room rows) (all_listed headers valid)
-    ∙ ap (λ w. first_that_holds (value_tests w room rows)) (length-map headers (λ h. h.name))
+pub whole_first : (headers : List Header) (room : ℕ) (rows : List Row) → AreHeaders headers → first_that_holds (listed_tests headers (names headers) ++ value_tests headers (names headers) room rows) ≡ first_that_holds (value_tests headers (names headers) room rows)
+whole_first headers room rows valid = first-append_none (listed_tests headers (names headers)) (value_tests headers (names headers) room rows) (all_listed headers valid)
 
 -- the places so far, and the next
 pub next_place : (headers : List Header) (places : List ℕ) (i : ℕ) → AreHeaders headers → i < length headers → map (λ place. Some place) places ≡ take i (map (place_of headers) (names headers)) → map (λ place. Some place) (places ++ i ∷ []) ≡ take (i + 1) (map (place_of headers) (names headers))

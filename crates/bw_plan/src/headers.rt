@@ -86,7 +86,7 @@ impl<'a> Headers<'a> {
         ensures { IsTrue result → All (λ header. header.column_type ≡ Integer) self.now }
     {
         for header in self.headers {
-            if header.column_type != ColumnType::Integer {
+            if !is_integer(header.column_type) {
                 return false;
             }
         }
@@ -98,5 +98,14 @@ impl<'a> Headers<'a> {
         ensures { result ≡ place_of self.now name.now }
     {
         self.headers.iter().position(|header| name == &header.name)
+    }
+}
+
+fn is_integer(column_type: ColumnType) -> bool
+    ensures { IsTrue result → column_type ≡ Integer }
+{
+    match column_type {
+        ColumnType::Integer => true,
+        ColumnType::BigInt => false,
     }
 }

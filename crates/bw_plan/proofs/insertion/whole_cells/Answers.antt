@@ -1,4 +1,5 @@
 use Rattle.std.proofs.Common.{◌≡◌, ◌∙◌, ◌++◌, ap, inr, length, map, sym}
+use Rattle.std.proofs.lemmas.List.{length-map}
 use Rattle.bw_sql.specs.Rows.{joined}
 use Rattle.bw_model.specs.Insert.{row_for}
 use Rattle.bw_model.specs.Store.{names}
@@ -11,14 +12,14 @@ pub returns-in_err-check_rows : goal.returns-in_err-check_rows
 returns-in_err-check_rows c =
     let headers = c.args.headers.now in
     let rows = c.args.rows in
-    passed_on (listed_tests headers (names headers) ++ value_tests (length (names headers)) c.args.room rows) c.from_residual.result (λ cells. cells.items ≡ joined (map (row_for headers (names headers)) rows)) _
-    (inr (whole_first headers c.args.room rows c.len.ensures.valid ∙ (rw c.len.ensures.count at c.in_err-check_rows.ensures))) c.from_residual.ensures.1
+    passed_on (listed_tests headers (names headers) ++ value_tests headers (names headers) c.args.room rows) c.from_residual.result (λ cells. cells.items ≡ joined (map (row_for headers (names headers)) rows)) _
+    (inr (whole_first headers c.args.room rows c.len-valid.ensures.valid ∙ c.in_err-check_rows.ensures)) c.from_residual.ensures.1
 
 pub returns : goal.returns
 returns c =
     let headers = c.args.headers.now in
     let rows = c.args.rows in
-    let none = rw c.len.ensures.count at c.in_ok-check_rows.ensures.0 in (
-      whole_first headers c.args.room rows c.len.ensures.valid ∙ none,
-      c.into_values.ensures ∙ ap joined (sym (rows_for-all headers rows c.len.ensures.valid (all_of_width (length headers) c.args.room rows none))),
+    let none = c.in_ok-check_rows.ensures.0 in (
+      whole_first headers c.args.room rows c.len-valid.ensures.valid ∙ none,
+      c.into_values.ensures ∙ ap joined (sym (rows_for-all headers rows c.len-valid.ensures.valid (rw (length-map headers (λ h. h.name)) at (all_of_width headers (names headers) c.args.room rows none)))),
     )

@@ -1,4 +1,4 @@
-use Rattle.std.proofs.Common.{ap, arith, length, sym, ◌≡◌, ◌∙◌}
+use Rattle.std.proofs.Common.{ap, arith, length}
 use Rattle.bw_file.proofs.Fronts.{wide}
 use Rattle.test_formats.proofs.files_seen.check_written.Goals as goal
 

@@ -1,7 +1,0 @@
-use Rattle.std.proofs.Common.{get_or, ℕ, ◌%◌, ◌+◌, ◌/◌, ◌<◌, ◌≡◌, ◌≤◌}
-use Rattle.std.specs.Int.{bit_at}
-use Rattle.bw_file.specs.Planes.{plane_bit}
-use Rattle.bw_file.proofs.stray.has_stray_in.Given as goal
-
-abbrev pub invariant-loop-p : goal.invariant-loop-p
-invariant-loop-p l = (q i : ℕ) → q < l.p → l.at ≤ i → i < l.at + l.count → bit_at (get_or l.present (i / 8) 0) (i % 8) ≡ 0 → plane_bit l.size l.planes q i ≡ 0
