@@ -1,12 +1,10 @@
 -- Columns by their places.
-use Rattle.std.proofs.Common.{◌≡◌, ℕ, ◌+◌, ◌<◌, ◌≤◌, Bool, true, false, ◌&&◌, ◌||◌, not, List, [], ◌∷◌, ◌++◌, length, map, take, drop, drop-cons, take-append-drop, nat_lt, get_or, position, Option, None, Some, is_some, if◌then◌else◌, zero, suc, refl, sym, ap, ◌∙◌, arith, append_assoc, length-append, length-take}
-use Rattle.std.specs.List.{All, list_any, position_or_len}
+use Rattle.std.proofs.Common.{◌≡◌, ℕ, ◌+◌, ◌<◌, ◌≤◌, true, false, ◌||◌, not, List, [], ◌∷◌, ◌++◌, length, map, take, get_or, position, Option, None, Some, is_some, refl, sym, ap, ◌∙◌, arith, append_assoc, length-append}
+use Rattle.std.specs.List.{All, list_any}
 use Rattle.std.specs.Str.{bytes_eq}
-use Rattle.std.proofs.lemmas.Bool.{lt-ltb, true≢false}
 use Rattle.std.proofs.lemmas.List.{length-map, take_all, take_more}
 use Rattle.std.proofs.lemmas.List.Elements.{All-head, All-tail}
 use Rattle.std.proofs.lemmas.Simd.{map-map}
-use Rattle.std.proofs.lemmas.Slice.Eq.{bytes_eq-Decides}
 use Rattle.bw_model.specs.Insert.{row_for}
 use Rattle.bw_model.specs.Refusals.{first_that_holds, is_missing}
 use Rattle.bw_model.specs.Select.{columns_in, line_of, shown}
@@ -14,9 +12,8 @@ use Rattle.bw_sql.specs.declared.tree.SelectItem.TheVariants.{Column}
 use Rattle.bw_model.proofs.Items.{columns_of_names}
 use Rattle.bw_model.specs.Store.{AreHeaders, Header, Row, Value, are_distinct, names, place_of, value_at, value_from}
 use Rattle.bw_plan.specs.Checks.{listed_tests, value_tests}
-use Rattle.bw_model.proofs.Names.{are_distinct-push, bytes_eq-comm, map-push}
-use Rattle.bw_model.proofs.OwnPlaces.{are_distinct_front, at_behind, get_or-mapped, new_behind, one_plus, place_at, place_of-names, position-behind, position-map, same_name}
-use Rattle.bw_model.proofs.Passing.{neither}
+use Rattle.bw_model.proofs.Names.{map-push}
+use Rattle.bw_model.proofs.OwnPlaces.{at_behind, get_or-mapped, place_at, place_of-names}
 use Rattle.bw_plan.proofs.Tests.{first-append_none, no_test}
 
 value_behind : (front : Row) (v : Value) (rest : Row) → value_at (front ++ v ∷ rest) (length front) ≡ v

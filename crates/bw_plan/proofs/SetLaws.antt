@@ -1,5 +1,5 @@
 -- Columns by their names and by their places, and the sets of an UPDATE.
-use Rattle.std.proofs.Common.{◌≡◌, ◌≢◌, ◌∙◌, ℕ, ℤ, ◌<◌, ◌==◌, Bool, true, false, List, [], ◌∷◌, get_or, length, map, not, Option, None, Some, zero, suc, refl, sym, ap, subst, arith}
+use Rattle.std.proofs.Common.{◌≡◌, ◌≢◌, ◌∙◌, ℕ, ◌<◌, ◌==◌, Bool, true, false, List, [], ◌∷◌, get_or, length, map, not, Option, None, Some, zero, suc, refl, sym, ap, subst, arith}
 use Rattle.std.specs.List.{All, AllPairs, list_all, list_any}
 use Rattle.std.specs.Str.{bytes_eq}
 use Rattle.std.proofs.lemmas.Bool.{eq-eqb, eqb-true, true≢false}

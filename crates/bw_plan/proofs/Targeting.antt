@@ -1,10 +1,9 @@
 -- The types of the columns that the rows of an INSERT are for.
-use Rattle.std.proofs.Common.{◌≡◌, ◌∙◌, ℕ, ◌<◌, Bool, true, false, ◌&&◌, List, [], ◌∷◌, drop, get_or, length, map, take, Option, None, Some, zero, suc, refl, sym, ap, subst, arith}
+use Rattle.std.proofs.Common.{◌≡◌, ◌∙◌, ℕ, ◌<◌, Bool, true, false, ◌&&◌, List, [], ◌∷◌, drop, get_or, length, take, Option, None, Some, zero, suc, refl, sym, ap, arith}
 use Rattle.std.specs.List.{All, list_all}
-use Rattle.std.proofs.lemmas.Bool.{true≢false}
 use Rattle.std.proofs.lemmas.List.{length-map}
 use Rattle.std.proofs.lemmas.List.Elements.{All-head, All-tail}
-use Rattle.bw_code.specs.Types.{are_of_types, is_null_or_of_type, types_of}
+use Rattle.bw_code.specs.Types.{are_of_types, is_null_or_of_type}
 use Rattle.bw_code.specs.declared.kind.ColumnType.{ColumnType}
 use Rattle.bw_code.specs.declared.kind.ColumnType.TheVariants.{Integer}
 use Rattle.bw_sql.specs.Rows.{joined}

@@ -63,7 +63,8 @@ impl<'a> Headers<'a> {
     /// The type of column i.
     pub fn column_type(&self, i: usize) -> ColumnType
         requires { i < length self.now }
-        ensures { (d : AnyHeader) → result ≡ (get_or self.now i d).column_type }
+        ensures value { (d : AnyHeader) → result ≡ (get_or self.now i d).column_type }
+        ensures valid { AreHeaders self.now }
     {
         match self.headers.get(i) {
             Some(header) => header.column_type,

@@ -1,4 +1,4 @@
-use Rattle.std.proofs.Common.{◌≡◌, ◌∙◌, ◌++◌, ap, inr, length, map, sym}
+use Rattle.std.proofs.Common.{◌≡◌, ◌∙◌, ◌++◌, ap, inr, map, sym}
 use Rattle.std.proofs.lemmas.List.{length-map}
 use Rattle.bw_sql.specs.Rows.{joined}
 use Rattle.bw_model.specs.Insert.{row_for}

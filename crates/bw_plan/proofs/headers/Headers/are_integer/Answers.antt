@@ -12,7 +12,7 @@ loop-header-preserved c =
     let i = c.loop-header.header-index in
     let item = c.header-item.result in
     let more : take (i + 1) headers ≡ take i headers ++ item ∷ [] = take_more headers i item c.loop-header-test.true ∙ ap (λ (h : Header). take i headers ++ h ∷ []) (sym c.header-item.is) in
-    subst (All (λ (h : Header). h.column_type ≡ Integer)) (sym more) (All-push (λ (h : Header). h.column_type ≡ Integer) (take i headers) item c.loop-header.invariant ?)
+    subst (All (λ (h : Header). h.column_type ≡ Integer)) (sym more) (All-push (λ (h : Header). h.column_type ≡ Integer) (take i headers) item c.loop-header.invariant (c.is_integer.ensures c.if-not-is_integer.false))
 
 pub returns : goal.returns
 returns c =

@@ -1,4 +1,4 @@
-use Rattle.std.proofs.Common.{All, get_or, take, ◌≡◌}
+use Rattle.std.proofs.Common.{All, take, ◌≡◌}
 use Rattle.bw_code.specs.declared.kind.ColumnType.TheVariants.{Integer}
 use Rattle.bw_model.specs.Store.{Header}
 use Rattle.bw_plan.proofs.headers.Headers.are_integer.Given as goal

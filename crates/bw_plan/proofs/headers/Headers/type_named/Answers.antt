@@ -15,4 +15,4 @@ returns-in-Some c =
     let some : Header = record { name = []; column_type = Integer; layout = V; kind = Offset } in
     let at : place_of headers name ≡ Some c.in-Some.place = sym c.place.ensures ∙ c.in-Some.is in
     let low : c.in-Some.place < length headers = (position-Some (λ (h : Header). bytes_eq name h.name) headers c.in-Some.place some at).0 in
-    c.column_type.ensures some ∙ sym (get_or-mapped (λ (h : Header). h.column_type) headers c.in-Some.place some Integer low) ∙ sym (ap (type_at headers) at)
+    c.column_type.ensures.value some ∙ sym (get_or-mapped (λ (h : Header). h.column_type) headers c.in-Some.place some Integer low) ∙ sym (ap (type_at headers) at)
