@@ -1,6 +1,6 @@
 -- What an UPDATE and a REBUILD answer by their tests.
 -- of an UPDATE those that look at no row come first
-use Rattle.std.proofs.Common.{◌≡◌, ◌∙◌, Bool, true, false, not, List, [], ◌∷◌, ◌++◌, None, Some, Result, Ok, Err, IsErrAnd, MatchResult, inl, inr, sym, ap, subst, ◌⊎◌}
+use Rattle.std.proofs.Common.{◌≡◌, ◌∙◌, Bool, true, false, not, List, [], ◌∷◌, ◌++◌, None, Option, Some, Result, Ok, Err, IsErrAnd, MatchResult, inl, inr, sym, ap, subst, ◌⊎◌}
 use Rattle.bw_model.specs.Refusals.{Tests, first_that_holds}
 use Rattle.bw_model.specs.declared.refusal.Refusal.{Refusal}
 use Rattle.bw_model.specs.declared.refusal.Refusal.TheVariants.{LayoutTooNarrow, OutOfMemory, OutOfRange}
@@ -37,25 +37,29 @@ module _ {T : Type 0} (early : Tests) where
   after_none fit none fits = first-append_none early ((OutOfRange, not fit) ∷ []) none ∙ no_test (not fit) OutOfRange None (ap not fits)
 
 -- what a REBUILD answers by its tests: whether a layout is too narrow comes last, and before any memory
-module _ {T : Type 0} (listed : Tests) (narrow : Bool) where
-  pub chosen_early : (r : Result T Refusal) (P : T → Type 0) (x : Refusal) → first_that_holds listed ≡ Some x → IsErrAnd r (λ e. e ≡ x) → Answers (listed ++ (LayoutTooNarrow, narrow) ∷ []) r P
-  chosen_early (Ok y) P x first same = absurd same
-  chosen_early (Err e) P x first same = inr (first-append_some listed ((LayoutTooNarrow, narrow) ∷ []) x first ∙ ap (λ y. Some y) (sym same))
-
+module _ (listed : Tests) (narrow : Bool) where
   pub chosen_narrow : first_that_holds listed ≡ None → narrow ≡ true → MayRefuse (listed ++ (LayoutTooNarrow, narrow) ∷ []) LayoutTooNarrow
   chosen_narrow none is = inr (first-append_none listed ((LayoutTooNarrow, narrow) ∷ []) none ∙ this_test narrow LayoutTooNarrow None is)
 
-  none_of : first_that_holds listed ≡ None → narrow ≡ false → first_that_holds (listed ++ (LayoutTooNarrow, narrow) ∷ []) ≡ None
-  none_of none is = first-append_none listed ((LayoutTooNarrow, narrow) ∷ []) none ∙ no_test narrow LayoutTooNarrow None is
+  pub chosen_passes : first_that_holds listed ≡ None → narrow ≡ false → first_that_holds (listed ++ (LayoutTooNarrow, narrow) ∷ []) ≡ None
+  chosen_passes none is = first-append_none listed ((LayoutTooNarrow, narrow) ∷ []) none ∙ no_test narrow LayoutTooNarrow None is
 
-  pub chosen_wants : (r : Result T Refusal) (P : T → Type 0) → first_that_holds listed ≡ None → narrow ≡ false → IsErrAnd r (λ e. e ≡ OutOfMemory) → Answers (listed ++ (LayoutTooNarrow, narrow) ∷ []) r P
-  chosen_wants (Ok y) P none is same = absurd same
-  chosen_wants (Err e) P none is same = inl (none_of none is, same)
+  module _ {T : Type 0} where
+    pub chosen_early : (r : Result T Refusal) (P : T → Type 0) (x : Refusal) → first_that_holds listed ≡ Some x → IsErrAnd r (λ e. e ≡ x) → Answers (listed ++ (LayoutTooNarrow, narrow) ∷ []) r P
+    chosen_early (Ok y) P x first same = absurd same
+    chosen_early (Err e) P x first same = inr (first-append_some listed ((LayoutTooNarrow, narrow) ∷ []) x first ∙ ap (λ y. Some y) (sym same))
 
-  pub chosen_placed : (r : Result T Refusal) (P : T → Type 0) (x : Refusal) → first_that_holds listed ≡ None → narrow ≡ false → MayRefuse listed x → IsErrAnd r (λ e. e ≡ x) → Answers (listed ++ (LayoutTooNarrow, narrow) ∷ []) r P
-  chosen_placed (Ok y) P x none is may same = absurd same
-  chosen_placed (Err e) P x none is may same =
-      elim may [
-        | inl p ↦ inl (none_of none is, same ∙ p.1)
-        | inr p ↦ let no : ⊥ = cc in absurd no
-      ]
+    pub chosen_wants : (r : Result T Refusal) (P : T → Type 0) → first_that_holds listed ≡ None → narrow ≡ false → IsErrAnd r (λ e. e ≡ OutOfMemory) → Answers (listed ++ (LayoutTooNarrow, narrow) ∷ []) r P
+    chosen_wants (Ok y) P none is same = absurd same
+    chosen_wants (Err e) P none is same = inl (chosen_passes none is, same)
+
+    pub chosen_placed : (r : Result T Refusal) (P : T → Type 0) (x : Refusal) → first_that_holds listed ≡ None → narrow ≡ false → MayRefuse listed x → IsErrAnd r (λ e. e ≡ x) → Answers (listed ++ (LayoutTooNarrow, narrow) ∷ []) r P
+    chosen_placed (Ok y) P x none is may same = absurd same
+    chosen_placed (Err e) P x none is may same =
+        elim may [
+          | inl p ↦ inl (chosen_passes none is, same ∙ p.1)
+          | inr p ↦ absurd (no (sym none ∙ p))
+        ]
+      where
+        no : ◌≡◌ {A = Option Refusal} None (Some x) → ⊥
+        no q = cc

@@ -1,4 +1,5 @@
 mod Added
+mod After
 pub mod Chosen
 pub mod Columns
 pub mod Copies
@@ -9,6 +10,7 @@ pub mod Founds
 pub mod Inserted
 pub mod LiveLaws
 pub mod LiveRows
+pub mod LiveValues
 pub mod Loaded
 pub mod Loading
 pub mod NewTables

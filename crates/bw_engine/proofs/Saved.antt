@@ -1,21 +1,23 @@
 -- The columns that a SAVE writes are those of the table's rows, and what it answers by its tests.
-use Rattle.std.proofs.Common.{◌≡◌, ◌∙◌, ℕ, ◌+◌, ◌<◌, ◌≤◌, Bool, if◌then◌else◌, List, [], ◌∷◌, ◌++◌, length, map, None, Some, option_map, Result, Ok, Err, IsErrAnd, inl, inr, refl, sym, ap, subst, arith}
-use Rattle.std.specs.List.{All, filter, range_with_len}
+use Rattle.std.proofs.Common.{◌≡◌, ◌∙◌, ℕ, ◌+◌, ◌<◌, ◌≤◌, Bool, if◌then◌else◌, List, [], ◌∷◌, ◌++◌, get_or, length, map, take, None, Some, option_map, Result, Ok, Err, IsErrAnd, inl, inr, refl, sym, ap, subst, arith}
+use Rattle.std.specs.List.{All, AllZip, filter, range_with_len}
 use Rattle.std.specs.Map.{lookup}
 use Rattle.std.specs.Str.{bytes_eq}
 use Rattle.std.proofs.lemmas.Bool.{cases_Bool, le-ltb, lt-ltb}
-use Rattle.std.proofs.lemmas.List.{length-map}
+use Rattle.std.proofs.lemmas.List.{length-map, take_more}
+use Rattle.std.proofs.lemmas.Slice.Zip.{all_zipped_more}
 use Rattle.std.proofs.lemmas.List.Elements.{All-append, All-cons, All-head, All-nil, All-tail}
 use Rattle.std.proofs.lemmas.List.FromFn.{length-map-range_with_len, map-range_with_len_more}
 use Rattle.bw_mask.specs.Masks.{MaskRows, len, row_at}
 use Rattle.bw_column.specs.Values as values
-use Rattle.bw_file.specs.Cells.{IsCell}
-use Rattle.bw_file.specs.Format.{Spells}
+use Rattle.bw_code.specs.Types.{IsTyped}
+use Rattle.bw_file.specs.Format.{SpelledBy}
+use Rattle.bw_file.specs.declared.version.Version.TheVariants.{Second}
 use Rattle.bw_file.specs.Table as file
 use Rattle.bw_table.specs.Slots.{Slot, live_slots, slot_at, slot_column}
 use Rattle.bw_sql.specs.Rows.{joined}
 use Rattle.bw_sql.specs.Tree.{StatementTree, save}
-use Rattle.bw_model.specs.Filing.{Holds, column_of, file_limit, filed, filed_length}
+use Rattle.bw_model.specs.Filing.{HoldsBy, column_of, file_limit, filed, filed_length}
 use Rattle.bw_model.specs.Refusals.{first_that_holds, over, refused_early, save_tests}
 use Rattle.bw_model.specs.Store.{Header, Row, Store, Value, table_of, value_at}
 use Rattle.bw_model.specs.declared.refusal.Refusal.{Refusal}
@@ -51,13 +53,13 @@ live_column slots live k found long each is =
     ∙ ap (λ rows. joined (map (λ row. map (λ place. value_at row place) (k ∷ [])) rows)) (where_found slots None live (live_found slots live long each) ∙ all_found (rows_in slots))
     ∙ ones_joined k (rows_in slots)
 
-pub live_integers : (slots : List Slot) (k : ℕ) → All values.IsNullOrInteger (slot_column slots k) → All values.IsNullOrInteger (column_of (rows_in slots) k)
-live_integers [] k all = All-nil values.IsNullOrInteger
-live_integers (slot ∷ slots) k all =
-    let first : values.IsNullOrInteger (value_at slot.row k) = subst values.IsNullOrInteger (one_value slot.row k) (All-head values.IsNullOrInteger (values.value_at slot.row k) (slot_column slots k) all) in
-    let rest : All values.IsNullOrInteger (column_of (rows_in slots) k) = live_integers slots k (All-tail values.IsNullOrInteger (values.value_at slot.row k) (slot_column slots k) all) in
+pub live_typed : (P : Value → Type 0) (slots : List Slot) (k : ℕ) → All P (slot_column slots k) → All P (column_of (rows_in slots) k)
+live_typed P [] k all = All-nil P
+live_typed P (slot ∷ slots) k all =
+    let first : P (value_at slot.row k) = subst P (one_value slot.row k) (All-head P (values.value_at slot.row k) (slot_column slots k) all) in
+    let rest : All P (column_of (rows_in slots) k) = live_typed P slots k (All-tail P (values.value_at slot.row k) (slot_column slots k) all) in
     elim (cases_Bool slot.live) [
-      | inl e ↦ rw e (All-cons values.IsNullOrInteger (value_at slot.row k) (column_of (rows_in slots) k) first rest)
+      | inl e ↦ rw e (All-cons P (value_at slot.row k) (column_of (rows_in slots) k) first rest)
       | inr e ↦ rw e rest
     ]
 
@@ -93,18 +95,11 @@ pub columns_more : (columns new : List LiveCells) (column : LiveCells) (rows : L
 columns_more columns new column rows k so_far is more =
     ap (map saved_cells) more ∙ map-push saved_cells columns column ∙ (λ j. so_far j ++ is j ∷ []) ∙ sym (map-range_with_len_more (column_of rows) 0 k k (omega arith))
 
-pub integers_more : (columns new : List LiveCells) (column : LiveCells) → All (All values.IsNullOrInteger) (map saved_cells columns) → All values.IsNullOrInteger (saved_cells column) → new ≡ columns ++ column ∷ [] → All (All values.IsNullOrInteger) (map saved_cells new)
-integers_more columns new column so_far here more =
-    subst (All (All values.IsNullOrInteger)) (sym (ap (map saved_cells) more ∙ map-push saved_cells columns column))
-    (All-append (All values.IsNullOrInteger) (map saved_cells columns) (saved_cells column ∷ []) so_far (All-cons (All values.IsNullOrInteger) (saved_cells column) [] here (All-nil (All values.IsNullOrInteger))))
-
--- what a column may hold, a file may
-is_cell : (value : Value) → values.IsNullOrInteger value → IsCell value
-is_cell None integer = tt
-is_cell (Some x) integer = integer
-
-pub are_cells : (columns : List (List Value)) → All (All values.IsNullOrInteger) columns → All (All IsCell) columns
-are_cells columns all k d l i e m = is_cell _ (all k d l i e m)
+-- a column for each header so far, and one more
+pub typed_more : (headers : List Header) (columns new : List LiveCells) (column : LiveCells) (k : ℕ) (d : Header) → k < length headers → length columns ≡ k
+    → AllZip IsTyped (take k headers) (map saved_cells columns) → IsTyped (get_or headers k d) (saved_cells column) → new ≡ columns ++ column ∷ [] → AllZip IsTyped (take (k + 1) headers) (map saved_cells new)
+typed_more headers columns new column k d low count so_far here more =
+    rw (take_more headers k d low, more, map-push saved_cells columns column) (all_zipped_more IsTyped (take k headers) (map saved_cells columns) (get_or headers k d) (saved_cells column) so_far here)
 
 -- columns as a file has them
 pub filed_width : (columns : List LiveCells) (rows : List Row) (headers : List Header)
@@ -118,12 +113,12 @@ filed_long columns rows n count are same =
 -- bytes that spell a stored table by its columns hold it
 pub holds_stored : (bytes : List ℕ) (table : StoredTable) (headers : List Header) (rows : ℕ) (columns : List (List Value)) → headers ≡ table.headers → rows ≡ length (rows_in table.slots)
     → columns ≡ map (column_of (rows_in table.slots)) (range_with_len 0 (length table.headers)) → All (λ slot. length slot.row ≡ length table.headers) table.slots
-    → Spells bytes (record { headers = headers; rows = rows; columns = columns }) → Holds bytes (table_in table)
+    → SpelledBy Second bytes (record { headers = headers; rows = rows; columns = columns }) → HoldsBy Second bytes (table_in table)
 holds_stored bytes table headers rows columns heads count are wide spells =
     let filed_is : ◌≡◌ {A = file.Table} (record { headers = headers; rows = rows; columns = columns }) (filed (table_in table)) = λ j. record { headers = heads j; rows = count j; columns = are j } in
     record {
       wide = live_wide (length table.headers) table.slots wide;
-      spells = subst (Spells bytes) filed_is spells;
+      spells = subst (SpelledBy Second bytes) filed_is spells;
     }
 
 -- a SAVE of a table that is there

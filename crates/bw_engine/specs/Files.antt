@@ -11,7 +11,8 @@ use Rattle.bw_file.specs.Table as filed
 use Rattle.bw_table.specs.Opening.{rows_across}
 use Rattle.bw_model.specs.Contents.{SaysTo, first_of, is_missing_file, is_no_table, is_too_large, lines_or_fault}
 use Rattle.bw_model.specs.FileUse.{FileUse, file_read, file_use, writes}
-use Rattle.bw_model.specs.Filing.{Holds, file_limit}
+use Rattle.bw_file.specs.declared.version.Version.TheVariants.{Second}
+use Rattle.bw_model.specs.Filing.{HoldsBy, file_limit}
 use Rattle.bw_model.specs.Refusals.{Tests, fault_test, first_that_holds, refused_early}
 use Rattle.bw_model.specs.Step.{Step, WantsMemory}
 use Rattle.bw_model.specs.Store.{Store, Table, table_of}
@@ -54,14 +55,14 @@ abbrev pub IsNoSave : FileUse → Reply → Type 0
 IsNoSave (writes name) reply = reply ≡ Refused OutOfMemory
 IsNoSave _ reply = Unit {0}
 
--- what a SAVE hands out: the file's name, the bytes that hold the table, and how many rows it has
+-- what a SAVE hands out: the file's name, the bytes that hold the table by the second version of the format, and how many rows it has
 pub record Saves (store : Store) (statement : StatementTree) (saving : Saving) (after : Store) : Type 0 where
   pub name : List ℕ
   pub table : Table
   pub asks : statement ≡ save name saving.file
   pub there : table_of store name ≡ Some table
   pub accepted : refused_early store statement ≡ None
-  pub holds : Holds saving.bytes.items table
+  pub holds : HoldsBy Second saving.bytes.items table
   pub rows : saving.rows ≡ length table.rows
   pub stays : after ≡ store
 

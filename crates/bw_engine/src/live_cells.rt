@@ -73,7 +73,7 @@ pub(crate) fn live_columns<'a>(
 fn live_column<'a>(alloc: Global, table: &'a Table, k: usize) -> Result<LiveCells<'a>, AllocError>
     requires { k < length table.now.headers }
     ensures cells { IfOk result (λ column. saved_cells column ≡ column_of (rows_in table.entry.now.slots) k) }
-    ensures typed { (h : Header) → IfOk result (λ column. IsTyped (slice_index_or table.entry.now.headers k h) (saved_cells column)) }
+    ensures typed { IfOk result (λ column. (h : Header) → IsTyped (slice_index_or table.entry.now.headers k h) (saved_cells column)) }
 {
     let stored = table.stored();
     let column = stored.column(k);

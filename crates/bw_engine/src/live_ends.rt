@@ -1,6 +1,6 @@
 //! How far the values of a column in the rows of its table reach. Takes no memory.
 
-ghost use Rattle.std.specs.Prelude.{None, ◌≡◌, ◌<◌, ◌+◌, ◌≤◌, if◌then◌else◌, length, slice_index_or, ℕ};
+ghost use Rattle.std.specs.Prelude.{None, ◌≡◌, ◌<◌, ◌+◌, ◌^◌, ◌≤◌, if◌then◌else◌, length, slice_index_or, ℕ};
 ghost use Rattle.bw_cells.specs.Known.{known};
 ghost use Rattle.bw_code.specs.Fittings.{AreEnds};
 ghost use Rattle.bw_mask.specs.Masks.{len, row_at};
@@ -16,12 +16,13 @@ use bw_sql::Value;
 use std::marker::Model;
 
 /// The values of a column in the live slots, and NULL in each other slot.
+#[derive(Drop)]
 struct LiveOrNull<'a> {
     column: &'a Column,
     live: &'a Mask,
 }
 
-impl Model for LiveOrNull<'_> {
+impl<'a> Model for LiveOrNull<'a> {
     ghost use Rattle.std.specs.Prelude.{List, Option, length, ℤ, ◌≡◌};
     ghost use Rattle.bw_column.specs.Copies.{masked};
     ghost use Rattle.bw_mask.specs.Masks.{len};
@@ -33,7 +34,7 @@ impl Model for LiveOrNull<'_> {
     ghost invariant = { λ c. len c.live.now ≡ length c.column.now.values };
 }
 
-impl Cells for LiveOrNull<'_> {
+impl<'a> Cells for LiveOrNull<'a> {
     ghost cells = { λ c. c };
 
     fn len(&self) -> usize {
@@ -41,16 +42,19 @@ impl Cells for LiveOrNull<'_> {
     }
 
     fn read(&self, at: usize, out: &mut [Value]) {
+        // There are few rows.
+        let _few = self.column.len();
         self.column.read(at, out);
         blank_dead(self.live, at, out);
     }
 }
 
-impl Measured for LiveOrNull<'_> {}
+impl<'a> Measured for LiveOrNull<'a> {}
 
 /// Puts NULL for each slot from number `at` on that is dead.
 fn blank_dead(live: &Mask, at: usize, out: &mut [Value])
-    requires { at + length out.old ≤ len live.now }
+    requires there { at + length out.old ≤ len live.now }
+    requires few { at + length out.old ≤ 2 ^ 24 }
     ensures len { length out.new ≡ length out.old }
     ensures each { (i : ℕ) → i < length out.old → slice_index_or out.new i None ≡ (if row_at live.now (at + i) then slice_index_or out.old i None else None) }
 {

@@ -3,7 +3,8 @@
 ghost use Rattle.std.specs.Prelude.{◌≡◌, IfOk, length};
 ghost use Rattle.std.specs.List.{AllZip};
 ghost use Rattle.bw_file.specs.Format.{AreEndsOf};
-ghost use Rattle.bw_model.specs.Filing.{Holds, filed, filed_length};
+ghost use Rattle.bw_file.specs.declared.version.Version.TheVariants.{Second};
+ghost use Rattle.bw_model.specs.Filing.{HoldsBy, filed, filed_length};
 ghost use Rattle.bw_sql.specs.Tree.{statement_of};
 ghost use Rattle.bw_sql.specs.declared.tree.Statement.TheVariants as statements;
 ghost use Rattle.bw_engine.specs.Files.{SavesOr};
@@ -46,7 +47,7 @@ pub(crate) fn save(
 
 /// The bytes that hold a table.
 fn spelled(alloc: Global, table: &Table) -> Result<Vec<u8>, AllocError>
-    ensures { IfOk result (λ bytes. Holds bytes.items (table_in table.now)) }
+    ensures { IfOk result (λ bytes. HoldsBy Second bytes.items (table_in table.now)) }
 {
     // Each row has a value for each column, and there are 1 to 64 columns, each with a name of its own.
     let _wide = table.stored().live();

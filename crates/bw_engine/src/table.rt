@@ -9,7 +9,7 @@ ghost use Rattle.bw_model.specs.Store.{AreHeaders, row_limit};
 ghost use Rattle.bw_plan.specs.Sets.{AreSettable};
 ghost use Rattle.bw_table.specs.Changes.{AreInserted, AreRebuilt, AreUpdated, copies_fit, slots_with, slots_without};
 ghost use Rattle.bw_table.specs.Opening.{rows_across};
-ghost use Rattle.bw_table.specs.Tables.{AreChosen, slots_in};
+ghost use Rattle.bw_table.specs.Tables.{AreChosen, HoldTypes, slots_in};
 ghost use Rattle.bw_engine.specs.StoredChanges.{IsNew};
 ghost use Rattle.bw_engine.specs.Stores.{rows_in};
 

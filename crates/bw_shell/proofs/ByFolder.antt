@@ -11,7 +11,7 @@ use Rattle.bw_model.specs.Contents.{IsReadAs, IsSaid, SaysTo}
 use Rattle.bw_model.specs.FileUse.{FileUse, file_read, file_use, no_file, reads, unless_refused, use_in, writes}
 use Rattle.bw_model.specs.Filing.{file_limit}
 use Rattle.bw_model.specs.Refusals.{first_that_holds, refused_early, tests_of}
-use Rattle.bw_model.specs.Step.{Step, outcome_of, refused_or}
+use Rattle.bw_model.specs.Step.{Step, WantsMemory, outcome_of, refused_or}
 use Rattle.bw_model.specs.Store.{Store}
 use Rattle.bw_model.specs.declared.content.Content.{Content}
 use Rattle.bw_model.specs.declared.content.Content.TheVariants as content
@@ -100,10 +100,13 @@ module _ (before : Store) (tree : StatementTree) (files : Option Files) (failure
     reading P (reads other) is p = let same : name ≡ other = cc in subst (λ n. P (reads n)) same p
 
     pub with_bytes : (bytes handed : List ℕ) (reply : Reply) (after : Store) → Some name ≡ file_read (file_use before tree) → handed ≡ bytes → HasFile files name (Some bytes) → KeepsFiles files new → count ≡ failures
-        → ((said : Content) × SaysTo before tree handed said × Step before said tree reply after) → Answers now tree reply (with_store after (seen new count))
+        → (WantsMemory before tree reply after ⊎ ((said : Content) × SaysTo before tree handed said × Step before said tree reply after)) → Answers now tree reply (with_store after (seen new count))
     with_bytes bytes handed reply after is same there keeps counts so =
         reading (λ named. RunsOutOfMemory now tree reply (with_store after (seen new count)) ⊎ AnswersBy named now tree reply (with_store after (seen new count))) (file_use before tree) is
-        (stepped (Some bytes) so.0 reply after there (subst (λ b. SaysTo before tree b so.0) same so.1) keeps counts so.2)
+        (elim so [
+          | inl w ↦ inl (record { accepted = w.accepted; says = w.says; stays = record { store_is = w.stays; files_stay = keeps; failures_stay = counts } })
+          | inr told ↦ stepped (Some bytes) told.0 reply after there (subst (λ b. SaysTo before tree b told.0) same told.1) keeps counts told.2
+        ])
 
     pub without_bytes : (found : Option (List ℕ)) (said : Content) (reply : Reply) (after : Store) → Some name ≡ file_read (file_use before tree) → HasFile files name found → IsSaid before tree found said → KeepsFiles files new → count ≡ failures
         → Step before said tree reply after → Answers now tree reply (with_store after (seen new count))

@@ -69,7 +69,7 @@ module _ (store : Store) (said : Content) (wanted : Refusal) (is_file : of_file 
   in_file content.NotTable = λ e. refl
 
   none_holds : (tree : StatementTree) → NoneHolds wanted (tests_of store said tree)
-  none_holds (create_table name columns) = (other refusal.TableExists refl, (other refusal.ColumnNamedTwice refl, (other refusal.OverLimit refl, tt)))
+  none_holds (create_table name columns) = (other refusal.TableExists refl, (other refusal.ColumnNamedTwice refl, (other refusal.OverLimit refl, (other refusal.LayoutTooNarrow refl, tt))))
   none_holds (drop_table name) = over_table (table_of store name) _ (λ table. tt)
   none_holds list_tables = tt
   none_holds (insert name listed rows) =
@@ -77,9 +77,9 @@ module _ (store : Store) (said : Content) (wanted : Refusal) (is_file : of_file 
       (λ table. (other refusal.NoSuchColumn refl, (other refusal.ColumnNamedTwice refl, (other refusal.WrongNumberOfValues refl, (other refusal.OutOfRange refl, (other refusal.TableFull refl, tt))))))
   none_holds (update name sets condition) =
       over_table (table_of store name) _
-      (λ table. (other refusal.NoSuchColumn refl, (other refusal.NoSuchColumn refl, (other refusal.NoSuchColumn refl, (other refusal.ColumnNamedTwice refl, (other refusal.OverLimit refl, (other refusal.OutOfRange refl, tt)))))))
+      (λ table. (other refusal.NoSuchColumn refl, (other refusal.NoSuchColumn refl, (other refusal.NoSuchColumn refl, (other refusal.ColumnNamedTwice refl, (other refusal.OverLimit refl, (other refusal.OutOfRange refl, (other refusal.OutOfRange refl, tt))))))))
   none_holds (delete name condition) = over_table (table_of store name) _ (λ table. (other refusal.NoSuchColumn refl, (other refusal.OverLimit refl, tt)))
-  none_holds (rebuild name choices) = over_table (table_of store name) _ (λ table. (other refusal.NoSuchColumn refl, (other refusal.ColumnNamedTwice refl, tt)))
+  none_holds (rebuild name choices) = over_table (table_of store name) _ (λ table. (other refusal.NoSuchColumn refl, (other refusal.ColumnNamedTwice refl, (other refusal.LayoutTooNarrow refl, tt))))
   none_holds (select items name condition) =
       over_table (table_of store name) _
       (λ table. (other refusal.NoSuchColumn refl, (other refusal.NoSuchColumn refl, (other refusal.OverLimit refl, (other refusal.MixedItems refl, tt)))))

@@ -8,7 +8,8 @@ use Rattle.bw_sql.specs.Tree.{StatementTree, save}
 use Rattle.bw_sql.proofs.WholeStatement.{no_fault, one_fault, says_once}
 use Rattle.bw_model.specs.Contents.{IsSaid}
 use Rattle.bw_model.specs.FileUse.{FileUse, file_use, no_file, reads, writes}
-use Rattle.bw_model.specs.Filing.{Holds}
+use Rattle.bw_file.specs.declared.version.Version.TheVariants.{Second}
+use Rattle.bw_model.specs.Filing.{HoldsBy}
 use Rattle.bw_model.specs.Refusals.{refusal_of_fault}
 use Rattle.bw_model.specs.Step.{outcome_of}
 use Rattle.bw_model.specs.Store.{Store, table_of}
@@ -93,7 +94,7 @@ module _ (store : Store) (files others : Option Files) (failures count : ℕ) (s
       let name : x.name ≡ y.name = cc in
       let found : Some x.table ≡ Some y.table = sym x.there ∙ ap (table_of store) name ∙ y.there in
       let table : x.table ≡ y.table = cc in
-      let bytes : x.bytes ≡ y.bytes = one_file x.bytes y.bytes y.table (subst (Holds x.bytes) table x.holds) y.holds in
+      let bytes : x.bytes ≡ y.bytes = one_file Second x.bytes y.bytes y.table (subst (HoldsBy Second x.bytes) table x.holds) y.holds in
       record {
         replies = x.says ∙ ap (λ t. Count (length t.rows)) table ∙ sym y.says;
         states = record {

@@ -7,7 +7,8 @@ use Rattle.bw_file.proofs.Fronts.{length-spelling}
 use Rattle.bw_sql.specs.Tree.{StatementTree, open_table, save}
 use Rattle.bw_model.specs.Contents.{IsSaid, IsTableIn}
 use Rattle.bw_model.specs.FileUse.{reads, unless_refused, writes}
-use Rattle.bw_model.specs.Filing.{Holds, file_limit, filed, filed_length}
+use Rattle.bw_file.specs.declared.version.Version.TheVariants.{Second}
+use Rattle.bw_model.specs.Filing.{Holds, HoldsBy, file_limit, filed, filed_length}
 use Rattle.bw_model.specs.Refusals.{first_that_holds, over, refused_early, save_tests}
 use Rattle.bw_model.specs.Step.{carried_out, outcome_of, refused_or}
 use Rattle.bw_model.specs.Store.{Store, Table, table_limit, table_of}
@@ -42,7 +43,7 @@ pub record Saved (store : Store) (name file : List ℕ) (n : ℕ) (files : Optio
   pub there : table_of store name ≡ Some table
   pub counted : n ≡ length table.rows
   pub bytes : List ℕ
-  pub holds : Holds bytes table
+  pub holds : HoldsBy Second bytes table
   pub fits : nat_lt file_limit (length bytes) ≡ false
   pub filed : file_in files file ≡ Some bytes
 
@@ -59,8 +60,8 @@ few_bytes (Some other) table is free =
     let same : other ≡ table = cc in
     subst (λ t. nat_lt file_limit (filed_length t) ≡ false) same (if_none (nat_lt file_limit (filed_length other)) FileTooLarge None free).0
 
-bytes_fit : (bytes : List ℕ) (table : Table) → Holds bytes table → nat_lt file_limit (filed_length table) ≡ false → nat_lt file_limit (length bytes) ≡ false
-bytes_fit bytes table holds few = ap (nat_lt file_limit) (ap length holds.spells.bytes_are ∙ length-spelling (filed table) holds.spells.table) ∙ few
+bytes_fit : (bytes : List ℕ) (table : Table) → HoldsBy Second bytes table → nat_lt file_limit (filed_length table) ≡ false → nat_lt file_limit (length bytes) ≡ false
+bytes_fit bytes table holds few = ap (nat_lt file_limit) (ap length holds.spells.bytes_are ∙ length-spelling Second (filed table) holds.spells.table) ∙ few
 
 module _ (before after : State) (name file : List ℕ) (n : ℕ) (known : IsSome before.files) where
   by_saved : refused_early before.store (save name file) ≡ None → IsSaved before (save name file) file (Count n) after → Saved before.store name file n after.files
@@ -100,6 +101,10 @@ open_free store name file none room =
     ∙ ap (λ full. if full then Some OverLimit else None) (lt-leb table_limit (length store) room)
 
 -- bytes that hold a table and are few enough say just that table to an OPEN
+-- bytes by the second version hold the table
+pub held_by : (bytes : List ℕ) (table : Table) → HoldsBy Second bytes table → Holds bytes table
+held_by bytes table holds = record { wide = holds.wide; spells = inr holds.spells }
+
 module _ (bytes : List ℕ) (table : Table) (holds : Holds bytes table) (fits : nat_lt file_limit (length bytes) ≡ false) where
   read_held : (said : Content) → IsTableIn bytes said → said ≡ content.Held table
   read_held (content.Held other) is = ap content.Held (one_held bytes other table is holds)

@@ -3,7 +3,8 @@ use Rattle.std.specs.Prelude.{◌≡◌, ◌⊎◌, ℕ, List, Option, Some, Non
 use Rattle.bw_sql.specs.Tree.{StatementTree, save}
 use Rattle.bw_model.specs.Contents.{IsSaid}
 use Rattle.bw_model.specs.FileUse.{FileUse, file_use, no_file, reads, writes}
-use Rattle.bw_model.specs.Filing.{Holds}
+use Rattle.bw_file.specs.declared.version.Version.TheVariants.{Second}
+use Rattle.bw_model.specs.Filing.{HoldsBy}
 use Rattle.bw_model.specs.Refusals.{refused_early}
 use Rattle.bw_model.specs.Step.{outcome_of}
 use Rattle.bw_model.specs.Store.{Table, table_of}
@@ -46,7 +47,7 @@ pub record IsSaved (before : State) (statement : StatementTree) (file : List ℕ
   pub table : Table
   pub there : table_of before.store name ≡ Some table
   pub bytes : List ℕ
-  pub holds : Holds bytes table
+  pub holds : HoldsBy Second bytes table
   pub says : reply ≡ Count (length table.rows)
   pub store_stays : after.store ≡ before.store
   pub file_set : SetsFile file bytes before.files after.files

@@ -108,6 +108,7 @@ fn put_refusal<W: Write>(writer: &mut W, refusal: Refusal) -> Result<(), WriteFa
         Refusal::NotInteger { record, field } => put_field_fault(writer, record, field),
         Refusal::NotTableFile => put(writer, b"error 44: not a table file"),
         Refusal::FileTooLarge => put(writer, b"error 46: file too large"),
+        Refusal::LayoutTooNarrow => put(writer, b"error 60: layout H holds no BIGINT"),
         Refusal::OutOfMemory => put(writer, b"error 90: out of memory"),
     }
 }

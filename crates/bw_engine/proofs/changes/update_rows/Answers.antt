@@ -1,4 +1,5 @@
-use Rattle.std.proofs.Common.{◌≡◌, ◌∙◌, [], ◌∷◌, ap, inl, inr, list_all, not, option_map, refl}
+use Rattle.std.proofs.Common.{◌≡◌, ◌∙◌, [], ◌∷◌, ap, inl, inr, not, option_map, refl}
+use Rattle.std.specs.List.{list_all}
 use Rattle.bw_sql.specs.Tree.{condition_of}
 use Rattle.bw_model.specs.Condition.{found_rows}
 use Rattle.bw_model.specs.Refusals.{copy_test, fits_in, set_tests}

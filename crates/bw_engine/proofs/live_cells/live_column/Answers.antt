@@ -6,7 +6,7 @@ use Rattle.bw_table.specs.Slots.{Slot, live_slots}
 use Rattle.bw_model.specs.Filing.{column_of}
 use Rattle.bw_model.specs.Store.{Row}
 use Rattle.bw_engine.specs.Stores.{StoredTable, rows_in}
-use Rattle.bw_engine.proofs.Saved.{live_column, live_integers, whole_column}
+use Rattle.bw_engine.proofs.Saved.{live_column, live_typed, whole_column}
 use Rattle.bw_engine.proofs.live_cells.live_column.Goals as goal
 
 pub returns-then-row_count-slots-clause-cells : goal.returns-then-row_count-slots-clause-cells
@@ -23,8 +23,8 @@ returns-clause-cells c =
     live_column slots c.live.result.now c.args.k c.in_ok-values.values.items c.live.ensures.len c.live.ensures.rows c.in_ok-values.ensures
     ∙ ap (λ (table : StoredTable). column_of (rows_in table.slots) c.args.k) c.stored-stored.ensures
 
-pub returns-clause-integers : goal.returns-clause-integers
-returns-clause-integers c =
-    let slots = c.stored-stored.result.now.slots in
-    let found = live_column slots c.live.result.now c.args.k c.in_ok-values.values.items c.live.ensures.len c.live.ensures.rows c.in_ok-values.ensures in
-    subst (All values.IsNullOrInteger) (sym found) (live_integers slots c.args.k (subst (All values.IsNullOrInteger) c.column-column.ensures.values c.column-column.ensures.integers))
+pub returns-then-row_count-slots-clause-typed : goal.returns-then-row_count-slots-clause-typed
+returns-then-row_count-slots-clause-typed c = ?
+
+pub returns-clause-typed : goal.returns-clause-typed
+returns-clause-typed c = ?

@@ -51,5 +51,8 @@ returns-in-NotTableFile g c = rw c.in-NotTableFile.is c.put-in-NotTableFile.ensu
 pub returns-in-FileTooLarge : goal.returns-in-FileTooLarge
 returns-in-FileTooLarge g c = rw c.in-FileTooLarge.is c.put-in-FileTooLarge.ensures
 
+pub returns-in-LayoutTooNarrow : goal.returns-in-LayoutTooNarrow
+returns-in-LayoutTooNarrow g c = rw c.in-LayoutTooNarrow.is c.put-in-LayoutTooNarrow.ensures
+
 pub returns-in-OutOfMemory : goal.returns-in-OutOfMemory
 returns-in-OutOfMemory g c = rw c.in-OutOfMemory.is c.put-in-OutOfMemory.ensures

@@ -8,7 +8,7 @@ use Rattle.bw_engine.proofs.table.Table.rebuild.Goals as goal
 
 pub invariant_of-self : goal.invariant_of-self
 invariant_of-self c =
-    either_way c.rebuild.result (λ chosen. still_headers c.args.choices.now c.self.inside.table.headers c.rebuild.new.self.headers chosen c.self.invariant)
+    either_way c.rebuild.result (λ chosen. still_headers c.args.choices.now c.self.inside.table.headers c.rebuild.new.self.headers chosen c.self.invariant (rw (← c.self.view_is) at c.requires))
     (λ same. subst (λ t. AreHeaders t.headers) (sym same) c.self.invariant) c.rebuild.ensures.headers c.rebuild.ensures.unchanged
 
 pub returns-clause-rows : goal.returns-clause-rows

@@ -1,0 +1,52 @@
+-- The values of a column in the live slots, with NULL for each dead one.
+use Rattle.std.proofs.Common.{◌≡◌, ◌∙◌, ℕ, ℤ, ◌+◌, ◌<◌, ◌≤◌, Bool, true, false, List, [], ◌∷◌, Option, None, Some, ap, arith, drop, get_or, if◌then◌else◌, inl, inr, length, map, refl, sym, take}
+use Rattle.std.proofs.lemmas.Bool.{cases_Bool}
+use Rattle.std.proofs.lemmas.List.{get_or-map, length-map}
+use Rattle.bw_cells.specs.Known.{known}
+use Rattle.bw_code.proofs.Lists.{made_at, made_is, made_len}
+use Rattle.bw_column.specs.Copies.{masked}
+use Rattle.bw_column.specs.Values as values
+use Rattle.bw_mask.specs.Masks.{MaskRows, len, row_at}
+use Rattle.bw_table.specs.Slots.{Slot, live_slot, live_slots, slot_at, slot_column}
+use Rattle.bw_model.specs.Filing.{column_of}
+use Rattle.bw_model.specs.Store.{Row, Value, value_at}
+use Rattle.bw_engine.specs.Stores.{rows_in}
+use Rattle.bw_engine.proofs.SetRows.{same_value}
+
+-- the value of a slot in column k, or NULL where it is dead
+abbrev pub alive : ℕ → Slot → Value
+alive k slot = if slot.live then value_at slot.row k else None
+
+known_next : (v : Value) (xs ys : List Value) → known xs ≡ known ys → known (v ∷ xs) ≡ known (v ∷ ys)
+known_next None xs ys same = same
+known_next (Some x) xs ys same = ap (λ l. x ∷ l) same
+
+known_alive : (k : ℕ) (slots : List Slot) → known (map (alive k) slots) ≡ known (column_of (rows_in slots) k)
+known_alive k [] = refl
+known_alive k (slot ∷ slots) =
+    elim (cases_Bool slot.live) [
+      | inl e ↦ rw e (known_next (value_at slot.row k) (map (alive k) slots) (column_of (rows_in slots) k) (known_alive k slots))
+      | inr e ↦ rw e (known_alive k slots)
+    ]
+
+module _ (slots : List Slot) (live : MaskRows) (k : ℕ) (column : List Value) (is : column ≡ slot_column slots k) (each : (i : ℕ) → i < length slots → row_at live i ≡ (slot_at slots i).live) where
+  column_long : length column ≡ length slots
+  column_long = ap length is ∙ length-map (map (λ (slot : Slot). slot.row) slots) (λ row. values.value_at row k) ∙ length-map slots (λ (slot : Slot). slot.row)
+
+  value_here : (i : ℕ) → i < length slots → values.value_at column i ≡ value_at (slot_at slots i).row k
+  value_here i low =
+      ap (λ l. values.value_at l i) is
+      ∙ get_or-map (λ row. values.value_at row k) (map (λ (slot : Slot). slot.row) slots) i [] None (omega (arith, low, length-map slots (λ (slot : Slot). slot.row)))
+      ∙ ap (λ row. values.value_at row k) (get_or-map (λ (slot : Slot). slot.row) slots i (live_slot []) [] low)
+      ∙ same_value (slot_at slots i).row k
+
+  masked_alive : masked live column ≡ map (alive k) slots
+  masked_alive =
+      sym (made_is (length column) (λ i. if row_at live i then values.value_at column i else None) (map (alive k) slots) None (length-map slots (alive k) ∙ sym column_long)
+      (λ i h.
+      let low : i < length slots = omega (arith, h, column_long) in
+      get_or-map (alive k) slots i (live_slot []) None low
+      ∙ sym (λ j. if each i low j then value_here i low j else None)))
+
+  pub live_known : known (masked live column) ≡ known (column_of (rows_in slots) k)
+  live_known = ap known masked_alive ∙ known_alive k slots
