@@ -49,14 +49,14 @@ as_type (Some x) of = of
 pub integer_taken : (types : List ColumnType) (k : ℕ) (value : Option ℤ) → IsNullOrInteger value → IsNullOrOfType (type_at types k) value
 integer_taken types k value of = of_any (type_at types k) value (as_type value of)
 
-pub integers_typed : (types : List ColumnType) (width : ℕ) (cells : List (Option ℤ)) → length types ≡ width → All IsNullOrInteger cells → All (IsRowOf types) (rows_from width cells)
-integers_typed types width cells count all i d l =
+by_integers : (types : List ColumnType) (width : ℕ) (cells : List (Option ℤ)) → length types ≡ width → All IsNullOrInteger cells → All (IsRowOf types) (rows_from width cells)
+by_integers types width cells count all i d l =
     let row = get_or (rows_from width cells) i d in
     let wide : length row ≡ width = are_wide width cells i d l in
     zipped_by IsNullOrOfType types row (wide ∙ sym count) (λ k t e low. of_any (get_or types k t) (get_or row k e) (as_type (get_or row k e) (are_integers width cells all i d l k e (omega (arith, low, wide, count)))))
 
-pub checked_typed : (types : List ColumnType) (width : ℕ) (cells : List (Option ℤ)) → length types ≡ width → ((i : ℕ) → i < length cells → IsNullOrOfType (type_at types (i % width)) (value_at cells i)) → All (IsRowOf types) (rows_from width cells)
-checked_typed types width cells count each i d l =
+by_checks : (types : List ColumnType) (width : ℕ) (cells : List (Option ℤ)) → length types ≡ width → ((i : ℕ) → i < length cells → IsNullOrOfType (type_at types (i % width)) (value_at cells i)) → All (IsRowOf types) (rows_from width cells)
+by_checks types width cells count each i d l =
     let row = get_or (rows_from width cells) i d in
     let wide : length row ≡ width = are_wide width cells i d l in
     let inside : i < length cells / width = omega (arith, l, made_len (length cells / width) (row_from width cells)) in
@@ -73,6 +73,12 @@ checked_typed types width cells count each i d l =
 module _ {N : Type 0} where
   pub types_count : (headers : List (Header N)) → length (types_of headers) ≡ length headers
   types_count headers = length-map headers (λ (header : Header N). header.column_type)
+
+  pub integers_typed : (headers : List (Header N)) (width : ℕ) (cells : List (Option ℤ)) → width ≡ length headers → All IsNullOrInteger cells → All (IsRowOf (types_of headers)) (rows_from width cells)
+  integers_typed headers width cells count all = by_integers (types_of headers) width cells (types_count headers ∙ sym count) all
+
+  pub checked_typed : (headers : List (Header N)) (width : ℕ) (cells : List (Option ℤ)) → width ≡ length headers → ((i : ℕ) → i < length cells → IsNullOrOfType (type_at (types_of headers) (i % length headers)) (value_at cells i)) → All (IsRowOf (types_of headers)) (rows_from width cells)
+  checked_typed headers width cells count each = by_checks (types_of headers) width cells (types_count headers ∙ sym count) (λ i l. rw count (each i l))
 
   pub one_header_more : (headers : List (Header N)) (header : Header N) → All (λ h. IsTrue (holds_its_type h)) headers → IsTrue (holds_its_type header) → All (λ h. IsTrue (holds_its_type h)) (headers ++ header ∷ [])
   one_header_more headers header all one = All-push (λ h. IsTrue (holds_its_type h)) headers header all one

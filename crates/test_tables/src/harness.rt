@@ -123,7 +123,7 @@ fn wide_cells<R: Abort + AllocGlobal>(rt: &R, cells: &[Cell]) -> Vec<Option<i64>
 }
 
 /// Inserts the rows that lie one after the other in the cells.
-#[tactic(auto, using(crate::proofs::Flat::are_whole, crate::proofs::Flat::integers_typed))]
+#[tactic(auto, using(crate::proofs::Flat::are_whole))]
 pub(crate) fn insert<R: Abort + AllocGlobal>(rt: &R, table: &mut Table<usize>, cells: &[Cell]) {
     let width = table.headers().len();
     let cells = wide_cells(rt, cells);
@@ -154,7 +154,7 @@ fn check_types<R: Abort>(rt: &R, table: &Table<usize>, cells: &[Option<i64>])
 }
 
 /// Inserts the rows that lie one after the other in the cells, which have to be of their columns' types.
-#[tactic(auto, using(crate::proofs::Flat::are_whole, crate::proofs::Flat::checked_typed))]
+#[tactic(auto, using(crate::proofs::Flat::are_whole))]
 pub(crate) fn insert_wide<R: Abort + AllocGlobal>(
     rt: &R,
     table: &mut Table<usize>,
@@ -187,7 +187,7 @@ fn see_integers(cells: &[Cell])
 }
 
 /// Inserts the rows that lie one after the other in the cells, in the form that the rows of a file have.
-#[tactic(auto, using(crate::proofs::Flat::are_whole, crate::proofs::Flat::integers_typed))]
+#[tactic(auto, using(crate::proofs::Flat::are_whole))]
 pub(crate) fn load<R: Abort + AllocGlobal>(rt: &R, table: &mut Table<usize>, cells: &[Cell]) {
     let width = table.headers().len();
     see_integers(cells);
