@@ -1,5 +1,5 @@
 -- Cells of rows that lie flat.
-use Rattle.std.proofs.Common.{IsTrue, List, None, Option, Some, [], arith, ap, drop, get_or, length, length-drop, inl, inr, length-take, subst, sym, true, ℕ, ℤ, ◌%◌, ◌==◌, ◌*◌, ◌+◌, ◌/◌, ◌<◌, ◌≤◌, ◌∙◌, ◌≡◌, ◌++◌, ◌∷◌, All, mul-le-mul_right, div-mul-le_self}
+use Rattle.std.proofs.Common.{IsTrue, List, None, Option, Some, [], arith, ap, drop, get_or, length, length-drop, inl, inr, length-take, subst, sym, ℕ, ℤ, ◌%◌, ◌==◌, ◌*◌, ◌+◌, ◌/◌, ◌<◌, ◌≤◌, ◌∙◌, ◌≡◌, ◌++◌, ◌∷◌, All, mul-le-mul_right, div-mul-le_self}
 use Rattle.std.proofs.lemmas.List.Elements.{All-push}
 use Rattle.std.specs.List.{AllZip}
 use Rattle.std.proofs.lemmas.Bool.{cases_Bool, eqb-true}
