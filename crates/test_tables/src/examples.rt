@@ -1,8 +1,8 @@
 //! Worked examples of tables: what each change makes of the rows, of the slots and of the encodings.
 
 use crate::harness::{
-    Cell, To, check_last, check_rows, delete, header_of, insert, opened, picked, rows_of, set_one,
-    set_two, span_of, table_of,
+    Cell, To, check_last, check_rows, delete, header_of, insert, opened, picked, rebuild,
+    rebuild_as_is, rows_of, set_one, set_two, span_of, table_of,
 };
 use crate::random::LAYOUTS;
 use crate::seen::{see, see_at};
@@ -61,9 +61,7 @@ fn a_rebuild_drops_dead_slots(rt: HostRuntime) {
         layout: Layout::H,
         kind: None,
     };
-    table
-        .rebuild(rt.alloc(), &[(0, choice)])
-        .expect(&rt, "memory");
+    rebuild(&rt, &mut table, 0, choice);
     see(&rt, span_of(&table, 1), Some((1, 1)));
     check_odd_rows(&rt, table, 150, (Layout::H, Kind::Dictionary));
 }
@@ -136,7 +134,7 @@ fn check_three<R: Abort + AllocGlobal>(
 #[test]
 fn a_rebuild_without_choices_keeps_the_kind(rt: HostRuntime) {
     let mut table = three_rows(&rt);
-    table.rebuild(rt.alloc(), &[]).expect(&rt, "memory");
+    rebuild_as_is(&rt, &mut table);
     check_three(&rt, table, DICTIONARY, None);
 }
 
@@ -147,9 +145,7 @@ fn a_rebuild_may_change_the_kind(rt: HostRuntime) {
         layout: Layout::S,
         kind: Some(Kind::Offset),
     };
-    table
-        .rebuild(rt.alloc(), &[(0, choice)])
-        .expect(&rt, "memory");
+    rebuild(&rt, &mut table, 0, choice);
     check_three(&rt, table, (Layout::S, Kind::Offset), Some((7, 2)));
 }
 
@@ -228,7 +224,7 @@ fn changes_of_nothing(rt: HostRuntime) {
     let mut table = two_columns(&rt, &cells);
     set_one(&rt, &mut table, 0, (0, To::Value(Some(8))));
     delete(&rt, &mut table, 0);
-    table.rebuild(rt.alloc(), &[]).expect(&rt, "memory");
+    rebuild_as_is(&rt, &mut table);
     set_nothing(&rt, &mut table);
     see(&rt, table.row_count(), 2);
     check_last(&rt, table, &cells, 2);

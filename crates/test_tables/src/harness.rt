@@ -1,13 +1,15 @@
 //! Tables of columns called 0, 1, 2 and so on, changed and read. Where memory runs out, a test fails.
 
-ghost use Rattle.std.specs.Prelude.{All, length, ◌<◌, ◌≡◌};
-ghost use Rattle.bw_column.specs.Values.{IsNullOrInteger};
+ghost use Rattle.std.specs.Prelude.{All, IsTrue, length, slice_index_or, vec_len, ℕ, ◌%◌, ◌<◌, ◌≡◌};
+ghost use Rattle.bw_code.specs.Types.{IsNullOrOfType, holds_its_type, types_of};
+ghost use Rattle.bw_column.specs.Values.{IsNullOrInteger, value_at};
 ghost use Rattle.bw_mask.specs.Masks.{len};
-ghost use Rattle.bw_table.specs.Changes.{IsSetTo};
+ghost use Rattle.bw_table.specs.Changes.{MayTake, type_at};
 
-use bw_code::{Encoding, Header, Kind, Layout};
+use crate::seen::see;
+use bw_code::{ColumnType, Encoding, Header, Kind, Layout};
 use bw_mask::Mask;
-use bw_table::{Rows, SetTo, Table};
+use bw_table::{Choice, Rows, SetTo, Table, TableFault};
 use std::process::Abort;
 
 /// A value or null.
@@ -20,33 +22,78 @@ pub(crate) enum To {
     Column(usize),
 }
 
-/// Headers of columns in these layouts and of these kinds.
-fn headers_of<R: Abort + AllocGlobal>(rt: &R, columns: &[(Layout, Kind)]) -> Vec<Header<usize>> {
+/// Adds the header of a column, which is called by its number. Its layout has to hold its type.
+#[tactic(auto, using(crate::proofs::Flat::one_header_more))]
+fn add_header<R: Abort>(
+    rt: &R,
+    headers: &mut Vec<Header<usize>>,
+    column_type: ColumnType,
+    column: (Layout, Kind),
+)
+    requires { All (λ header. IsTrue (holds_its_type header)) headers.old.items }
+    ensures { All (λ header. IsTrue (holds_its_type header)) headers.new.items }
+{
+    let (layout, kind) = column;
+    assert!(rt; layout.holds(column_type));
+    let header = Header {
+        name: headers.len(),
+        column_type,
+        layout,
+        kind,
+    };
+    headers.push(header).expect(rt, "memory");
+}
+
+/// Headers of columns of one type, in these layouts and of these kinds.
+fn headers_of<R: Abort + AllocGlobal>(
+    rt: &R,
+    column_type: ColumnType,
+    columns: &[(Layout, Kind)],
+) -> Vec<Header<usize>>
+    ensures { All (λ header. IsTrue (holds_its_type header)) result.items }
+{
     let mut headers = Vec::new(rt.alloc());
-    for (layout, kind) in columns {
-        let header = Header {
-            name: headers.len(),
-            layout: *layout,
-            kind: *kind,
-        };
-        headers.push(header).expect(rt, "memory");
+    for column in columns {
+        add_header(rt, &mut headers, column_type, *column);
     }
     headers
 }
 
-/// A table without slots, of columns in these layouts and of these kinds.
+/// A table without slots, of columns of INTEGERs in these layouts and of these kinds.
 pub(crate) fn table_of<R: Abort + AllocGlobal>(rt: &R, columns: &[(Layout, Kind)]) -> Table<usize> {
-    Table::create(rt.alloc(), headers_of(rt, columns)).expect(rt, "memory")
+    let headers = headers_of(rt, ColumnType::Integer, columns);
+    Table::create(rt.alloc(), headers).expect(rt, "memory")
+}
+
+/// A table without slots, of columns of BIGINTs.
+pub(crate) fn wide_table_of<R: Abort + AllocGlobal>(
+    rt: &R,
+    columns: &[(Layout, Kind)],
+) -> Table<usize> {
+    let headers = headers_of(rt, ColumnType::BigInt, columns);
+    Table::create(rt.alloc(), headers).expect(rt, "memory")
+}
+
+/// A table without slots, of a column of BIGINTs and one of INTEGERs.
+pub(crate) fn mixed_table<R: Abort + AllocGlobal>(
+    rt: &R,
+    first: (Layout, Kind),
+    second: (Layout, Kind),
+) -> Table<usize> {
+    let mut headers = headers_of(rt, ColumnType::BigInt, &[first]);
+    add_header(rt, &mut headers, ColumnType::Integer, second);
+    Table::create(rt.alloc(), headers).expect(rt, "memory")
 }
 
 /// A table made of two columns of three cells.
+#[tactic(auto, using(crate::proofs::Flat::two_typed))]
 pub(crate) fn opened<R: Abort + AllocGlobal>(
     rt: &R,
     columns: &[(Layout, Kind)],
     first: [Cell; 3],
     second: [Cell; 3],
 ) -> Table<usize> {
-    let headers = headers_of(rt, columns);
+    let headers = headers_of(rt, ColumnType::Integer, columns);
     assert!(rt; headers.len() == 2);
     let (first, second) = (wide_cells(rt, &first), wide_cells(rt, &second));
     assert!(rt; first.len() == 3 && second.len() == 3);
@@ -76,13 +123,48 @@ fn wide_cells<R: Abort + AllocGlobal>(rt: &R, cells: &[Cell]) -> Vec<Option<i64>
 }
 
 /// Inserts the rows that lie one after the other in the cells.
-#[tactic(auto, using(crate::proofs::Flat::are_whole, crate::proofs::Flat::are_wide, crate::proofs::Flat::are_integers))]
+#[tactic(auto, using(crate::proofs::Flat::are_whole))]
 pub(crate) fn insert<R: Abort + AllocGlobal>(rt: &R, table: &mut Table<usize>, cells: &[Cell]) {
     let width = table.headers().len();
     let cells = wide_cells(rt, cells);
     assert!(rt; width > 0);
     assert!(rt; cells.len() / width * width == cells.len());
     let rows = Rows::new(width, &cells);
+    assert!(rt; rows.len() == cells.len() / width);
+    table.insert(rt.alloc(), &rows).expect(rt, "inserted");
+}
+
+fn check_type<R: Abort>(rt: &R, column_type: ColumnType, cell: Option<i64>)
+    ensures { IsNullOrOfType column_type cell }
+{
+    if let Some(x) = cell {
+        assert!(rt; column_type.contains(x));
+    }
+}
+
+/// Checks that the cells of rows are of their columns' types.
+fn check_types<R: Abort>(rt: &R, table: &Table<usize>, cells: &[Option<i64>])
+    requires { 0 < length table.now.headers }
+    ensures { (i : ℕ) → i < length cells.now → IsNullOrOfType (type_at (types_of table.now.headers) (i % length table.now.headers)) (value_at cells.now i) }
+{
+    let headers = table.headers();
+    for i in 0..cells.len() {
+        check_type(rt, headers[i % headers.len()].column_type, cells[i]);
+    }
+}
+
+/// Inserts the rows that lie one after the other in the cells, which have to be of their columns' types.
+#[tactic(auto, using(crate::proofs::Flat::are_whole))]
+pub(crate) fn insert_wide<R: Abort + AllocGlobal>(
+    rt: &R,
+    table: &mut Table<usize>,
+    cells: &[Option<i64>],
+) {
+    let width = table.headers().len();
+    assert!(rt; width > 0);
+    check_types(rt, table, cells);
+    assert!(rt; cells.len() / width * width == cells.len());
+    let rows = Rows::new(width, cells);
     assert!(rt; rows.len() == cells.len() / width);
     table.insert(rt.alloc(), &rows).expect(rt, "inserted");
 }
@@ -105,7 +187,7 @@ fn see_integers(cells: &[Cell])
 }
 
 /// Inserts the rows that lie one after the other in the cells, in the form that the rows of a file have.
-#[tactic(auto, using(crate::proofs::Flat::are_whole, crate::proofs::Flat::are_wide, crate::proofs::Flat::are_integers))]
+#[tactic(auto, using(crate::proofs::Flat::are_whole))]
 pub(crate) fn load<R: Abort + AllocGlobal>(rt: &R, table: &mut Table<usize>, cells: &[Cell]) {
     let width = table.headers().len();
     see_integers(cells);
@@ -131,14 +213,15 @@ pub(crate) fn picked<R: Abort + AllocGlobal>(rt: &R, table: &Table<usize>, word:
     found
 }
 
-/// What a column is set to, as a table of this many columns takes it.
-fn set_to(columns: usize, to: To) -> SetTo
-    requires { 0 < columns }
-    ensures { IsSetTo columns result }
+/// What column k is set to, as a table takes it.
+#[tactic(auto, using(crate::proofs::Flat::integer_taken, crate::proofs::Flat::types_count))]
+fn set_to(table: &Table<usize>, k: usize, to: To) -> SetTo
+    requires { 0 < length table.now.headers }
+    ensures { MayTake (types_of table.now.headers) k result }
 {
     match to {
         To::Value(cell) => SetTo::Value(wide(cell)),
-        To::Column(k) => SetTo::Column(k % columns),
+        To::Column(from) => SetTo::Column(from % table.headers().len()),
     }
 }
 
@@ -152,7 +235,39 @@ pub(crate) fn set_one<R: Abort + AllocGlobal>(
     let columns = table.headers().len();
     assert!(rt; set.0 < columns);
     let found = picked(rt, table, word);
-    let sets = [(set.0, set_to(columns, set.1))];
+    let sets = [(set.0, set_to(table, set.0, set.1))];
+    table
+        .update(rt.alloc(), &found, &sets)
+        .expect(rt, "updated");
+}
+
+/// Sees that a column's values are not copied to another one in the picked rows.
+pub(crate) fn see_refused<R: Abort + AllocGlobal>(
+    rt: &R,
+    table: &mut Table<usize>,
+    word: u64,
+    column: usize,
+    from: usize,
+) {
+    assert!(rt; column < table.headers().len());
+    let found = picked(rt, table, word);
+    let sets = [(column, set_to(table, column, To::Column(from)))];
+    let answer = table.update(rt.alloc(), &found, &sets);
+    see(rt, answer, Err(TableFault::Range));
+}
+
+/// Sets a column to a value of its type in the picked rows.
+pub(crate) fn fill<R: Abort + AllocGlobal>(
+    rt: &R,
+    table: &mut Table<usize>,
+    word: u64,
+    column: usize,
+    value: Option<i64>,
+) {
+    assert!(rt; column < table.headers().len());
+    check_type(rt, table.headers()[column].column_type, value);
+    let found = picked(rt, table, word);
+    let sets = [(column, SetTo::Value(value))];
     table
         .update(rt.alloc(), &found, &sets)
         .expect(rt, "updated");
@@ -172,12 +287,34 @@ pub(crate) fn set_two<R: Abort + AllocGlobal>(
     assert!(rt; set.0 != other.0);
     let found = picked(rt, table, word);
     let sets = [
-        (set.0, set_to(columns, set.1)),
-        (other.0, set_to(columns, other.1)),
+        (set.0, set_to(table, set.0, set.1)),
+        (other.0, set_to(table, other.0, other.1)),
     ];
     table
         .update(rt.alloc(), &found, &sets)
         .expect(rt, "updated");
+}
+
+/// Builds a table anew, one column as is chosen, whose type the layout has to hold.
+#[tactic(auto, using(crate::proofs::Flat::one_chosen))]
+pub(crate) fn rebuild<R: Abort + AllocGlobal>(
+    rt: &R,
+    table: &mut Table<usize>,
+    column: usize,
+    choice: Choice,
+) {
+    assert!(rt; column < table.headers().len());
+    assert!(rt; choice.layout.holds(table.headers()[column].column_type));
+    table
+        .rebuild(rt.alloc(), &[(column, choice)])
+        .expect(rt, "memory");
+}
+
+/// Builds a table anew as it is.
+#[tactic(auto, using(crate::proofs::Flat::none_chosen))]
+pub(crate) fn rebuild_as_is<R: Abort + AllocGlobal>(rt: &R, table: &mut Table<usize>) {
+    let _held = table.headers();
+    table.rebuild(rt.alloc(), &[]).expect(rt, "memory");
 }
 
 /// Deletes the picked rows.

@@ -1,6 +1,6 @@
 //! Random changes of a table, compared with the same changes of a plain list of rows.
 
-use crate::harness::{Cell, To, check_rows, delete, insert, set_one, set_two, table_of};
+use crate::harness::{Cell, To, check_rows, delete, insert, rebuild, set_one, set_two, table_of};
 use crate::seen::see;
 use bw_code::{Kind, Layout};
 use bw_table::{Choice, Table};
@@ -143,10 +143,12 @@ fn rebuild_some<R: Abort + AllocGlobal>(rt: &R, pair: &mut Pair, random: &mut Ra
     let layout = random.layout();
     let kind = random.kind();
     let kind = (random.next() >> 8 & 1 == 0).then_some(kind);
-    let choices = [(random.column(), Choice { layout, kind })];
-    pair.table
-        .rebuild(rt.alloc(), &choices)
-        .expect(rt, "memory");
+    rebuild(
+        rt,
+        &mut pair.table,
+        random.column(),
+        Choice { layout, kind },
+    );
     see(rt, pair.table.slot_count(), pair.rows.len());
 }
 
