@@ -98,10 +98,14 @@ CASES = {
 }
 
 
-# Mark and version of a table file, and its claim of 64 columns and 16,777,216 rows.
-CLAIM = "BITCOL\x01\x00" + "\x40\x00" + "\x00\x00\x00\x01"
-ONE_HEADER = "\x01A\x01\x00"
-CLAIMS = {"nothing after it": "", "64 headers": 64 * ONE_HEADER, "64 headers and a column": 64 * ONE_HEADER + "\x00" * MEGABYTE}
+def claims(version, header):
+    """Table files of this version that claim 64 columns and 16,777,216 rows, and little after it, by what follows the claim."""
+    front = f"BITCOL{chr(version)}\0" + "\x40\0" + "\0\0\0\x01"
+    headers = front + "".join(header.replace("A", f"A{number:02}") for number in range(64))
+    return {"nothing": front, "64 headers": headers, "64 headers and a column": headers + "\0" * MEGABYTE}
+
+
+CLAIMS = {1: claims(1, "\x03A\x01\0"), 2: claims(2, "\x03A\0\x01\0")}
 
 
 def small_stack():
@@ -133,9 +137,10 @@ def seconds(program, script, files, replies, limits=small_stack):
 
 def main():
     program = built("bitcol")
-    for after, bytes_after in CLAIMS.items():
-        seconds(program, "OPEN t FROM 'f';\n", {"f": CLAIM + bytes_after}, [NOT_TABLE], little_memory)
-        print(f"a claim with {after}: refused in {LITTLE_MEMORY // MEGABYTE} MB", flush=True)
+    for version, files in CLAIMS.items():
+        for after, file in files.items():
+            seconds(program, "OPEN t FROM 'f';\n", {"f": file}, [NOT_TABLE], little_memory)
+            print(f"a claim of version {version}, with {after} behind it: refused in {LITTLE_MEMORY // MEGABYTE} MB", flush=True)
     for name, case in CASES.items():
         figures = []
         for size in SIZES:

@@ -104,6 +104,20 @@ SCRIPTS = {
         "LOAD u FROM 'faulty.csv';",
         "TABLES;",
     ],
+    "columns of BIGINT": [
+        "CREATE TABLE t (a INTEGER, b BIGINT, c BIGINT USING S DICTIONARY);",
+        "INSERT INTO t VALUES (1, 4294967296, -9223372036854775808), (2, 3, NULL), (NULL, NULL, 9223372036854775807);",
+        "UPDATE t SET a = b;",
+        "UPDATE t SET a = b, c = a WHERE a = 2;",
+        "SAVE t TO 'wide';",
+        "OPEN u FROM 'wide';",
+        "LOAD u FROM 'wide.csv';",
+        "SELECT SUM(b), MEDIAN(c) FROM u WHERE c < a OR b IS NULL;",
+        "REBUILD t (b USING H);",
+        "REBUILD t (b USING P);",
+        "CREATE TABLE v (a BIGINT USING H);",
+        "SELECT * FROM t;",
+    ],
     "refusals": [
         *FILLED,
         "SELECT x FROM t;",
@@ -160,11 +174,22 @@ WORKED = {
     ],
     "a cut in a name": ["CREATE TABLE t (a INTEGER);", "-- one; two\nSAVE t TO 'x;y';", "SELECT a FROM t;", "TABLES" + " " * 65_530 + ";", "TABLES" + " " * 65_531 + ";"],
     "no such table": ["DROP TABLE t;", "TABLES;"],
+    "the ends of both types": [
+        "CREATE TABLE t (a BIGINT, b INTEGER);",
+        "INSERT INTO t VALUES (-9223372036854775808, 1), (9223372036854775807, 2);",
+        "SELECT SUM(a), MEDIAN(a), MAX(a) FROM t;",
+        "SELECT b FROM t WHERE a > b;",
+        "UPDATE t SET b = a WHERE b = 2;",
+        "UPDATE t SET b = a WHERE b = 3;",
+        "REBUILD t (a USING H);",
+        "CREATE TABLE u (a BIGINT USING H);",
+    ],
 }
 
 FILES = {
     "rows.csv": b"a,b\r\n1,2\r\n,-3\r\n\"2\",\r\n",
     "faulty.csv": b"1,2\n3,x\n",
+    "wide.csv": b"1,9223372036854775807,-1\n,,\n",
     "marked.csv": b"\xef\xbb\xbf\"7\",\r\nnull,-2\r\n+5,08\r\n",
 }
 

@@ -50,6 +50,12 @@ static const char *const statements[] = {
     "REBUILD u (a USING H);",
     "LOAD u FROM 'y.csv' WITH HEADER;",
     "DELETE FROM u WHERE a = 9;",
+    "CREATE TABLE w (a BIGINT, b INT);",
+    "INSERT INTO w VALUES (9223372036854775807, 1), (-9223372036854775808, NULL);",
+    "UPDATE w SET b = a WHERE b = 1;",
+    "SAVE w TO 'z';",
+    "OPEN v FROM 'z';",
+    "SELECT SUM(a), MEDIAN(a) FROM v WHERE a > b OR b IS NULL;",
     "TABLES;",
     "DROP TABLE t;",
 };

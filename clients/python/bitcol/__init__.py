@@ -10,6 +10,7 @@
 Session has the calls of its own, connect those of DB-API 2.0 (PEP 249). Nothing but the standard library is needed.
 """
 
+from .column_type import ColumnType
 from .dbapi import (
     BINARY,
     DATETIME,
@@ -64,6 +65,7 @@ __all__ = [
     "ROWID",
     "STRING",
     "Binary",
+    "ColumnType",
     "Connection",
     "Cursor",
     "DataError",

@@ -1,4 +1,4 @@
-"""The cells of a column as table files store them: a bit and a word for each row, and how they come from Python."""
+"""The cells of a column, a bit and a word for each row, and how they come from Python."""
 
 from __future__ import annotations
 
@@ -11,15 +11,16 @@ from itertools import compress, repeat
 from operator import is_not
 from typing import Any
 
+from .column_type import ColumnType
 from .door import Bytes
 from .errors import DataError, ProgrammingError
 from .optional import imported, is_numpy_array, is_pandas_series, numpy_module
 from .script import integer
 
-LEAST_INTEGER, GREATEST_INTEGER = -(2**31), 2**31 - 1
-WORD_BYTES = 4
-
-_TYPECODE = next(code for code in "il" if array.array(code).itemsize == WORD_BYTES)
+_TYPECODES = {
+    ColumnType.INTEGER: next(code for code in "il" if array.array(code).itemsize == 4),
+    ColumnType.BIGINT: "q",
+}
 _EIGHT_BITS = [bytes(byte >> bit & 1 for bit in range(8)) for byte in range(256)]
 _INVERTED = bytes.maketrans(b"\0\1", b"\1\0")
 _AS_DIGITS = bytes.maketrans(b"\0\1", b"01")
@@ -27,22 +28,29 @@ _AS_DIGITS = bytes.maketrans(b"\0\1", b"01")
 
 @dataclass(frozen=True)
 class Cells:
-    """Bit i mod 8 of byte i // 8 of `presence` is 1 where row i isn't NULL, and 0 past the last row. `words` has 4
-    bytes for each row, the lowest first: the value in two's complement, and 0 where the row is NULL."""
+    """Bit i mod 8 of byte i // 8 of `presence` is 1 where row i isn't NULL, and 0 past the last row. `words` has as
+    many bits for each row as the type says, the lowest byte first: the value in two's complement, and 0 where the row
+    is NULL."""
 
     rows: int
     presence: Bytes
     words: Bytes
+    column_type: ColumnType = ColumnType.INTEGER
 
     def presence_bytes(self) -> bytes:
         """A byte for each row: 1 where it isn't NULL, else 0."""
         return b"".join(map(_EIGHT_BITS.__getitem__, bytes(self.presence)))[: self.rows]
 
     def numbers(self) -> array.array[int]:
-        """The words as an array of 32-bit integers."""
-        words = array.array(_TYPECODE)
+        """The words as an array of integers of so many bits as the type says."""
+        words = array.array(_TYPECODES[self.column_type])
         words.frombytes(self.words)
         return _with_lowest_first(words)
+
+    def known_numbers(self) -> Sequence[int]:
+        """The values that aren't NULL, in the order of the rows."""
+        numbers = self.numbers()
+        return list(compress(numbers, self.presence_bytes())) if self.null_rows else numbers
 
     @cached_property
     def null_rows(self) -> list[int]:
@@ -59,9 +67,9 @@ class Cells:
         return cells
 
     def to_numpy(self) -> Any:
-        """A masked array of 32-bit integers, masked where a row is NULL."""
+        """A masked array of integers of so many bits as the type says, masked where a row is NULL."""
         numpy = numpy_module()
-        values = numpy.frombuffer(self.words, "<i4").astype(numpy.int32)
+        values = numpy.frombuffer(self.words, self._numpy_type).astype(self._numpy_type[1:])
         return numpy.ma.array(values, mask=_numpy_mask(numpy, self))
 
     def fault(self) -> str | None:
@@ -70,10 +78,14 @@ class Cells:
             return "a bit past the last row"
         numpy = imported("numpy")
         if numpy is not None:
-            has_number = numpy.frombuffer(self.words, "<i4")[_numpy_mask(numpy, self)].any()
+            has_number = numpy.frombuffer(self.words, self._numpy_type)[_numpy_mask(numpy, self)].any()
         else:
             has_number = any(map(self.numbers().__getitem__, self.null_rows))
         return "a number at a NULL" if has_number else None
+
+    @property
+    def _numpy_type(self) -> str:
+        return f"<i{self.column_type.bits // 8}"
 
 
 def presence_size(rows: int) -> int:
@@ -81,24 +93,26 @@ def presence_size(rows: int) -> int:
     return (rows + 7) // 8
 
 
-def cells_of(column: Iterable[Any]) -> Cells:
+def cells_of(column: Iterable[Any], column_type: ColumnType | None = None) -> Cells:
     """The cells of a column: a list, tuple, range or array of integers and None, or another iterable of these, an
-    array of numpy, masked or not, or a series of pandas.
+    array of numpy, masked or not, or a series of pandas. Where no type is given it is INTEGER, or BIGINT where a value
+    has more than 32 bits.
 
     Raises ProgrammingError where a cell is neither an integer nor None, and DataError where an integer is outside of
-    INTEGER.
+    the type.
     """
+    types = tuple(ColumnType) if column_type is None else (ColumnType(column_type),)
     if is_pandas_series(column):
         column = _array_of_series(column)
     if is_numpy_array(column) and column.dtype.kind != "O":  # type: ignore[attr-defined]
-        return _cells_of_numpy(column)
+        return _cells_of_numpy(column, types)
     if isinstance(column, (list, tuple, range, array.array)):
-        return _cells_of_sequence(column)
+        return _cells_of_sequence(column, types)
     try:
         listed = list(column)
     except TypeError:
         raise ProgrammingError(f"a column has integers and None; this one is of type {type(column).__name__}") from None
-    return _cells_of_sequence(listed)
+    return _cells_of_sequence(listed, types)
 
 
 def check_widths(rows: Sequence[Sequence[Any]], width: int, before: int) -> None:
@@ -112,34 +126,49 @@ def check_widths(rows: Sequence[Sequence[Any]], width: int, before: int) -> None
         raise ProgrammingError(f"row {before + row}: {widths[row]} values, and {width} are wanted")
 
 
-def _cells_of_sequence(column: Sequence[Any]) -> Cells:
-    """The cells of a sequence. The array's own constructor looks at each, and refuses a None."""
-    presence = _all_present(len(column))
-    try:
-        words = array.array(_TYPECODE, column)
-    except (TypeError, OverflowError):
+def _cells_of_sequence(column: Sequence[Any], types: Sequence[ColumnType]) -> Cells:
+    """The cells of a sequence, of the first type that holds them. The array's own constructor looks at each, and
+    refuses a None."""
+    presence, found = _all_present(len(column)), _typed_array(column, types)
+    if found is None:
         presence = _packed(bytes(map(is_not, column, repeat(None))))
+        found = _typed_array([0 if cell is None else cell for cell in column], types)
+    if found is None:
+        raise _first_fault(column, types[-1])
+    column_type, words = found
+    return Cells(len(column), presence, memoryview(_with_lowest_first(words)).cast("B"), column_type)
+
+
+def _typed_array(column: Sequence[Any], types: Sequence[ColumnType]) -> tuple[ColumnType, array.array[int]] | None:
+    """The first type that holds all cells, with an array of them, or None where one is no integer of any."""
+    for column_type in types:
         try:
-            words = array.array(_TYPECODE, [0 if cell is None else cell for cell in column])
-        except (TypeError, OverflowError):
-            raise _first_fault(column) from None
-    return Cells(len(column), presence, memoryview(_with_lowest_first(words)).cast("B"))
+            return column_type, array.array(_TYPECODES[column_type], column)
+        except OverflowError:
+            pass
+        except TypeError:
+            return None
+    return None
 
 
-def _first_fault(column: Sequence[Any]) -> DataError | ProgrammingError:
-    """What is wrong with the first cell that no column can hold."""
+def _first_fault(column: Sequence[Any], column_type: ColumnType) -> DataError | ProgrammingError:
+    """What is wrong with the first cell that no column of this type can hold."""
     for row, cell in enumerate(column):
         if cell is not None:
             try:
                 number = integer(cell)
             except ProgrammingError as fault:
                 return ProgrammingError(f"row {row}: {fault}")
-            if not LEAST_INTEGER <= number <= GREATEST_INTEGER:
-                return DataError(f"row {row}: a value outside {LEAST_INTEGER} to {GREATEST_INTEGER}")
+            if not column_type.least <= number <= column_type.greatest:
+                return _outside(row, column_type)
     return ProgrammingError("a column that changes while it is read")
 
 
-def _cells_of_numpy(column: Any) -> Cells:
+def _outside(row: int, column_type: ColumnType) -> DataError:
+    return DataError(f"row {row}: a value outside {column_type.least} to {column_type.greatest}")
+
+
+def _cells_of_numpy(column: Any, types: Sequence[ColumnType]) -> Cells:
     numpy = numpy_module()
     if column.ndim != 1:
         raise ProgrammingError(f"a column has one dimension, not {column.ndim}")
@@ -147,11 +176,17 @@ def _cells_of_numpy(column: Any) -> Cells:
         raise ProgrammingError(f"an array of {column.dtype}: a column has integers")
     mask = numpy.ma.getmaskarray(column)
     values = numpy.where(mask, 0, numpy.ma.getdata(column)) if mask.any() else numpy.ma.getdata(column)
-    outside = (values < LEAST_INTEGER) | (values > GREATEST_INTEGER)
-    if outside.any():
-        raise DataError(f"row {outside.argmax()}: a value outside {LEAST_INTEGER} to {GREATEST_INTEGER}")
-    presence = numpy.packbits(~mask, bitorder="little").tobytes()
-    return Cells(len(column), presence, values.astype("<i4").tobytes())
+    least, greatest = (int(values.min()), int(values.max())) if len(values) else (0, 0)
+    for column_type in types:
+        if column_type.least <= least and greatest <= column_type.greatest:
+            presence = numpy.packbits(~mask, bitorder="little").tobytes()
+            return Cells(len(column), presence, values.astype(f"<i{column_type.bits // 8}").tobytes(), column_type)
+    raise _outside(_first_outside(values.tolist(), types[-1]), types[-1])
+
+
+def _first_outside(values: Sequence[int], column_type: ColumnType) -> int:
+    """The first row with a value outside of the type. There is one."""
+    return next(row for row, value in enumerate(values) if not column_type.least <= value <= column_type.greatest)
 
 
 def _array_of_series(series: Any) -> Any:

@@ -87,6 +87,7 @@ class ErrorNumber(IntEnum):
     FIELD_IS_NOT_AN_INTEGER = 43
     NOT_A_TABLE_FILE = 44
     FILE_TOO_LARGE = 46
+    LAYOUT_HOLDS_NO_BIGINT = 60
     OUT_OF_MEMORY = 90
 
 

@@ -11,7 +11,8 @@ from dataclasses import dataclass
 from itertools import chain, islice
 from typing import Any
 
-from .cells import GREATEST_INTEGER, LEAST_INTEGER, check_widths
+from .cells import check_widths
+from .column_type import ColumnType, column_types
 from .door import Door
 from .errors import DataError, DataRefused, ErrorNumber, ProgrammingError
 from .reply import Reply
@@ -95,7 +96,8 @@ class Inserter:
         except DataRefused as refusal:
             if refusal.number != ErrorNumber.VALUE_OUT_OF_RANGE:
                 raise
-            raise DataRefused(refusal.number, f"{refusal.text}: {_first_outside(lines, before)}") from None
+            types = list(column_types(self._execute, self._insertion.table).values())
+            raise DataRefused(refusal.number, f"{refusal.text}: {_first_outside(lines, types, before)}") from None
 
     def _order(self) -> list[int | None]:
         """For each column of the table the place of its value in a row, or None where the statement lists it not."""
@@ -177,11 +179,12 @@ def _files(lines: Iterable[bytes]) -> Iterator[list[bytes]]:
         yield part
 
 
-def _first_outside(lines: Sequence[bytes], before: int) -> str:
-    """Which value no column can hold: the first, and its row from 0. So many rows came before these lines."""
+def _first_outside(lines: Sequence[bytes], types: Sequence[ColumnType], before: int) -> str:
+    """Which value is outside of its column's type: the first, and its row from 0. So many rows came before these
+    lines, and their fields are of these types."""
     rows = chain.from_iterable(piece.decode().splitlines() for piece in lines)
     for row, line in enumerate(rows, before):
-        for value in line.split(","):
-            if value != "NULL" and not LEAST_INTEGER <= int(value) <= GREATEST_INTEGER:
+        for value, column_type in zip(line.split(","), types):
+            if value != "NULL" and not column_type.least <= int(value) <= column_type.greatest:
                 return f"row {row} has {value}"
     return "no row is known"

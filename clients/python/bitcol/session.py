@@ -3,12 +3,14 @@
 from __future__ import annotations
 
 from collections.abc import Iterable, Mapping, Sequence
+from contextlib import AbstractContextManager
 from dataclasses import dataclass
 from types import TracebackType
 from typing import Any
 
+from .column_type import ColumnType, column_types
 from .coprocess import Coprocess
-from .door import Bytes, Door
+from .door import Bytes, Door, File
 from .insertion import Inserter, insertion_of
 from .program import find_program
 from .reply import Reply, reply_of
@@ -74,10 +76,12 @@ class Session:
         columns: Table | Mapping[str, Iterable[Any]] | Any,
         layout: Layout = Layout.V,
         kind: Kind = Kind.OFFSET,
+        column_type: ColumnType | None = None,
     ) -> int:
         """Makes a new table of whole columns: a mapping of names to lists, arrays of integers or numpy's, or a data
-        frame of pandas. Gives the number of rows. Refused where the table is there (TABLE_EXISTS)."""
-        made = columns if isinstance(columns, Table) else Table.of(columns, layout, kind)
+        frame of pandas. Where no type is given a column is BIGINT if one of its values has more than 32 bits, else
+        INTEGER. Gives the number of rows. Refused where the table is there (TABLE_EXISTS)."""
+        made = columns if isinstance(columns, Table) else Table.of(columns, layout, kind, column_type)
         pieces = made.file_pieces()
         with self._door.scratch() as file:
             file.write(pieces)
@@ -110,6 +114,14 @@ class Session:
     def tables(self) -> list[TableSize]:
         """The tables that are there, in the order in which they were made."""
         return [TableSize(*row) for row in self.execute("TABLES").rows()]
+
+    def column_types(self, table: str) -> dict[str, ColumnType]:
+        """The type of each column of a table, by its name, in order."""
+        return column_types(self.execute, checked_name(table))
+
+    def scratch(self) -> AbstractContextManager[File]:
+        """A file that statements and this process can both reach. It is gone when the context ends."""
+        return self._door.scratch()
 
     def close(self) -> None:
         """Ends the store and its tables. A closed session may be closed again."""

@@ -8,6 +8,7 @@ from itertools import chain
 from typing import Any
 
 from .cells import cells_of, check_widths
+from .column_type import ColumnType
 from .door import Bytes
 from .errors import DataError, ProgrammingError
 from .optional import pandas_module
@@ -26,12 +27,14 @@ class Table:
         columns: Mapping[str, Iterable[Any]] | Any,
         layout: Layout = Layout.V,
         kind: Kind = Kind.OFFSET,
+        column_type: ColumnType | None = None,
     ) -> Table:
-        """A table of named columns: a mapping of names to columns, or a data frame of pandas. All get this layout and
-        kind. Raises what cells_of raises, with the name of the column."""
+        """A table of named columns: a mapping of names to columns, or a data frame of pandas. All get this layout, kind
+        and type; where no type is given a column is BIGINT if one of its values has more than 32 bits, else INTEGER.
+        Raises what cells_of raises, with the name of the column."""
         if not hasattr(columns, "items"):
             raise ProgrammingError(f"the columns are to be a mapping of names, not a {type(columns).__name__}")
-        return cls([_column(name, cells, layout, kind) for name, cells in columns.items()])
+        return cls([_column(name, cells, layout, kind, column_type) for name, cells in columns.items()])
 
     @classmethod
     def of_rows(
@@ -40,13 +43,15 @@ class Table:
         rows: Iterable[Sequence[Any]],
         layout: Layout = Layout.V,
         kind: Kind = Kind.OFFSET,
+        column_type: ColumnType | None = None,
     ) -> Table:
-        """A table of rows, each with a value for each name. Raises ProgrammingError where a row has another number of
-        values, and what `of` raises."""
+        """A table of rows, each with a value for each name, as `of` makes one of columns. Raises ProgrammingError where
+        a row has another number of values, and what `of` raises."""
         listed = rows if isinstance(rows, (list, tuple)) else list(rows)
         check_widths(listed, len(names), 0)
         cells = list(chain.from_iterable(listed))
-        return cls([_column(name, cells[place :: len(names)], layout, kind) for place, name in enumerate(names)])
+        columns = ((name, cells[place :: len(names)]) for place, name in enumerate(names))
+        return cls([_column(name, column, layout, kind, column_type) for name, column in columns])
 
     @classmethod
     def of_file(cls, data: bytes) -> Table:
@@ -62,6 +67,10 @@ class Table:
         """The names of the columns, in upper case where a store gave them."""
         return [column.name for column in self.stored]
 
+    def types(self) -> dict[str, ColumnType]:
+        """The type of each column, by its name."""
+        return {column.name: column.cells.column_type for column in self.stored}
+
     def columns(self) -> dict[str, list[int | None]]:
         """A list for each column, by its name, with None where a row is NULL."""
         return {column.name: column.cells.to_list() for column in self.stored}
@@ -71,16 +80,16 @@ class Table:
         return zip(*(column.cells.to_list() for column in self.stored))
 
     def arrays(self) -> dict[str, tuple[array.array[int], bytes]]:
-        """For each column, by its name, an array of 32-bit integers, 0 where a row is NULL, and a byte for each row:
-        1 where it isn't NULL, else 0."""
+        """For each column, by its name, an array of integers of 32 bits, or of 64 where it is BIGINT, 0 where a row is
+        NULL, and a byte for each row: 1 where it isn't NULL, else 0."""
         return {column.name: (column.cells.numbers(), column.cells.presence_bytes()) for column in self.stored}
 
     def to_numpy(self) -> dict[str, Any]:
-        """A masked array of 32-bit integers for each column, by its name."""
+        """A masked array of integers of 32 bits for each column, by its name, or of 64 where it is BIGINT."""
         return {column.name: column.cells.to_numpy() for column in self.stored}
 
     def to_pandas(self) -> Any:
-        """A data frame of pandas' Int32, whose NULL is NA."""
+        """A data frame of pandas' Int32, or Int64 where a column is BIGINT. NULL is NA."""
         pandas = pandas_module()
         arrays = self.to_numpy()
         columns = {name: pandas.arrays.IntegerArray(cells.data, cells.mask) for name, cells in arrays.items()}
@@ -97,8 +106,10 @@ class Table:
         return f"<Table {', '.join(self.names)}: {len(self)} rows>"
 
 
-def _column(name: str, cells: Iterable[Any], layout: Layout, kind: Kind) -> Column:
+def _column(
+    name: str, cells: Iterable[Any], layout: Layout, kind: Kind, column_type: ColumnType | None
+) -> Column:
     try:
-        return Column(name, cells_of(cells), Layout(layout), Kind(kind))
+        return Column(name, cells_of(cells, column_type), Layout(layout), Kind(kind))
     except (DataError, ProgrammingError) as fault:
         raise type(fault)(f"column {name}: {fault}") from None

@@ -1,30 +1,34 @@
-"""The table file, version 1: the one place that knows its bytes. docs/TABLE_FILE.md describes them.
+"""The table file, versions 1 and 2: the one place that knows its bytes. docs/TABLE_FILE.md describes them.
 
     pieces = encode([Column("A", cells_of([3, None, -1]))])     # the pieces of a file, in order
     columns = decode(b"".join(pieces))                          # and back
 
-A table has one spelling, so encode gives for decode's columns the bytes that decode was given.
+A table has one spelling in each version, so encode gives for decode's columns and the version of its bytes these bytes.
 """
 
 from __future__ import annotations
 
 import struct
-from collections.abc import Sequence
+from collections.abc import Iterator, Mapping, Sequence
 from dataclasses import dataclass
 from enum import IntEnum
 
-from .cells import WORD_BYTES, Cells, presence_size
+from .cells import Cells, presence_size
+from .column_type import ColumnType
 from .door import Bytes
 from .errors import DataError, ProgrammingError
+from .planes import FRAME, WIDEST, cells_in_planes, fault_in, plane_pieces
 from .script import NAME, RESERVED, checked_name
 
-MARK, VERSION = b"BITCOL", 1
+MARK = b"BITCOL"
 COLUMN_LIMIT, ROW_LIMIT = 64, 16_777_216
 FILE_BYTES = 268_435_456
 
 _FRONT = struct.Struct("<6sHHI")  # mark, version, columns, rows
-# The front, and for each column a name of at most 128 bytes with its length, a layout and a kind.
-HEADERS_BYTES = _FRONT.size + COLUMN_LIMIT * (1 + 128 + 2)
+# A cell of version 1.
+_WORD_BYTES = 4
+# The front, and for each column a name of at most 128 bytes with its length, a type, a layout and a kind.
+HEADERS_BYTES = _FRONT.size + COLUMN_LIMIT * (1 + 128 + 3)
 
 
 class Layout(IntEnum):
@@ -52,13 +56,35 @@ class Column:
     layout: Layout = Layout.V
     kind: Kind = Kind.OFFSET
 
+    @property
+    def header(self) -> ColumnHeader:
+        """What a file tells of the column before its cells."""
+        return ColumnHeader(self.name, self.layout, self.kind, self.cells.column_type)
 
-def encode(columns: Sequence[Column]) -> list[Bytes]:
-    """The bytes of the file that holds these columns, in pieces.
 
-    Raises ProgrammingError where no file holds them: there are none or more than 64, their lengths differ, or a name
-    is no name or stands twice; and DataError where they have more rows or bytes than a file.
+def encode(columns: Sequence[Column], version: int | None = None) -> list[Bytes]:
+    """The bytes of the file that holds these columns, in pieces, by this version of the file. Where none is given it is
+    1, whose cells need no change, if it holds them: all are INTEGER, and the file isn't too large.
+
+    Raises ProgrammingError where no file holds them: there are none or more than 64, their lengths differ, a name is no
+    name or stands twice, or a BIGINT has layout H; and DataError where they have more rows or bytes than a file.
     """
+    rows = _checked(columns)
+    if version is None:
+        is_first = all(column.cells.column_type is ColumnType.INTEGER for column in columns)
+        version = 1 if is_first and _words_file_size(columns, rows) <= FILE_BYTES else 2
+    pieces: list[Bytes] = [_FRONT.pack(MARK, version, len(columns), rows)]
+    pieces += [_header_bytes(version, column.header) for column in columns]
+    for column in columns:
+        pieces.append(column.cells.presence)
+        pieces += [column.cells.words] if version == 1 else plane_pieces(column.cells)
+    if (size := sum(map(len, pieces))) > FILE_BYTES:
+        raise DataError(f"a table file has at most {FILE_BYTES} bytes, not {size}")
+    return pieces
+
+
+def _checked(columns: Sequence[Column]) -> int:
+    """The number of rows. Raises what encode raises where no file has these columns."""
     if not 1 <= len(columns) <= COLUMN_LIMIT:
         raise ProgrammingError(f"a table has 1 to {COLUMN_LIMIT} columns, not {len(columns)}")
     names = [checked_name(column.name) for column in columns]
@@ -67,17 +93,25 @@ def encode(columns: Sequence[Column]) -> list[Bytes]:
     lengths = {column.name: column.cells.rows for column in columns}
     if len(set(lengths.values())) > 1:
         raise ProgrammingError(f"columns of different lengths: {lengths}")
+    for column in columns:
+        if not column.header.holds_its_type:
+            raise ProgrammingError(f"column {column.name}: layout H holds no BIGINT")
     rows = columns[0].cells.rows
     if rows > ROW_LIMIT:
         raise DataError(f"a table has at most {ROW_LIMIT} rows, not {rows}")
-    pieces: list[Bytes] = [_FRONT.pack(MARK, VERSION, len(columns), rows)]
-    for name, column in zip(names, columns):
-        pieces.append(bytes([len(name)]) + name.encode("ascii") + bytes([column.layout, column.kind]))
-    for column in columns:
-        pieces += (column.cells.presence, column.cells.words)
-    if (size := sum(map(len, pieces))) > FILE_BYTES:
-        raise DataError(f"a table file has at most {FILE_BYTES} bytes, not {size}")
-    return pieces
+    return rows
+
+
+def _words_file_size(columns: Sequence[Column], rows: int) -> int:
+    """How many bytes the file of version 1 has."""
+    headers = sum(3 + len(column.name) for column in columns)
+    return _FRONT.size + headers + len(columns) * (presence_size(rows) + _WORD_BYTES * rows)
+
+
+def _header_bytes(version: int, header: ColumnHeader) -> bytes:
+    name = checked_name(header.name).encode("ascii")
+    numbers = [header.layout, header.kind] if version == 1 else [header.column_type, header.layout, header.kind]
+    return bytes([len(name)]) + name + bytes(numbers)
 
 
 @dataclass(frozen=True)
@@ -87,66 +121,123 @@ class ColumnHeader:
     name: str
     layout: Layout
     kind: Kind
+    column_type: ColumnType = ColumnType.INTEGER
+
+    @property
+    def holds_its_type(self) -> bool:
+        """Whether a column of the type may have the layout."""
+        return (self.layout, self.column_type) != (Layout.H, ColumnType.BIGINT)
+
+
+@dataclass(frozen=True)
+class _Front:
+    """A file up to its cells: version, headers, rows, where each header ends, and so where the cells begin."""
+
+    version: int
+    headers: list[ColumnHeader]
+    rows: int
+    ends: list[int]
 
 
 def headers_of(data: bytes) -> list[ColumnHeader]:
     """The headers of a table file's columns. No more than its first HEADERS_BYTES are needed. DataError, with the
     reason, where the bytes are none."""
-    headers, _, _ = _front(data)
-    return headers
+    return _front(data).headers
+
+
+def with_types(data: bytes, types: Mapping[str, ColumnType]) -> bytes:
+    """A table file of version 2 with other types for some of its columns, by their names. The cells stay as they are,
+    and have to be of these types."""
+    changed, front = bytearray(data), _front(data)
+    for header, end in zip(front.headers, front.ends):
+        changed[end - 3] = types.get(header.name, header.column_type)
+    return bytes(changed)
 
 
 def decode(data: bytes) -> list[Column]:
     """The columns of a table file. DataError, with the reason, where the bytes are none."""
-    headers, rows, at = _front(data)
-    size = presence_size(rows) + WORD_BYTES * rows
-    if len(data) != at + len(headers) * size:
-        raise _no_table_file("another length than its headers tell")
-    found = [_cells(data, at + place * size, rows) for place in range(len(headers))]
-    return [Column(header.name, cells, header.layout, header.kind) for header, cells in zip(headers, found)]
+    front = _front(data)
+    found = list((_cells_in_words if front.version == 1 else _cells_in_planes)(data, front))
+    return [Column(header.name, cells, header.layout, header.kind) for header, cells in zip(front.headers, found)]
 
 
-def _front(data: bytes) -> tuple[list[ColumnHeader], int, int]:
-    """The headers, the number of rows, and where the cells begin."""
+def _front(data: bytes) -> _Front:
     if len(data) < _FRONT.size:
         raise _no_table_file("it is cut off")
     mark, version, width, rows = _FRONT.unpack_from(data)
     if mark != MARK:
         raise _no_table_file("another mark")
-    if version != VERSION:
+    if version not in (1, 2):
         raise _no_table_file(f"version {version}, which this client doesn't know")
     if not 1 <= width <= COLUMN_LIMIT or rows > ROW_LIMIT:
         raise _no_table_file("columns or rows out of range")
-    at, headers = _FRONT.size, []
+    at, headers, ends = _FRONT.size, [], []
     for _ in range(width):
-        header, at = _header(data, at)
+        header, at = _header(version, data, at)
         headers.append(header)
+        ends.append(at)
     if len({header.name for header in headers}) < width:
         raise _no_table_file("a name twice")
-    return headers, rows, at
+    return _Front(version, headers, rows, ends)
 
 
-def _header(data: bytes, at: int) -> tuple[ColumnHeader, int]:
+def _header(version: int, data: bytes, at: int) -> tuple[ColumnHeader, int]:
     """The header at this byte, and where the next part begins."""
-    end = at + 1 + data[at] if at < len(data) else at
-    if end + 2 > len(data):
+    name_end = at + 1 + data[at] if at < len(data) else at
+    end = name_end + version + 1
+    if end > len(data):
         raise _no_table_file("a header is cut off")
-    name = data[at + 1 : end].decode("latin-1")
+    name = data[at + 1 : name_end].decode("latin-1")
     if not NAME.fullmatch(name) or name != name.upper() or name in RESERVED:
         raise _no_table_file(f"no name: {name!r}")
     try:
-        return ColumnHeader(name, Layout(data[end]), Kind(data[end + 1])), end + 2
+        column_type = ColumnType.INTEGER if version == 1 else ColumnType(data[name_end])
+        header = ColumnHeader(name, Layout(data[end - 2]), Kind(data[end - 1]), column_type)
     except ValueError as fault:
         raise _no_table_file(str(fault)) from None
+    if not header.holds_its_type:
+        raise _no_table_file("a BIGINT in layout H")
+    return header, end
 
 
-def _cells(data: bytes, at: int, rows: int) -> Cells:
-    """The cells of a column that begins at this byte, not copied."""
-    view, words = memoryview(data), at + presence_size(rows)
-    cells = Cells(rows, view[at:words], view[words : words + WORD_BYTES * rows])
-    if reason := cells.fault():
-        raise _no_table_file(reason)
-    return cells
+def _cells_in_words(data: bytes, front: _Front) -> Iterator[Cells]:
+    """The cells of the columns of version 1, not copied."""
+    view, rows, at = memoryview(data), front.rows, front.ends[-1]
+    size = presence_size(rows)
+    if len(data) != at + len(front.headers) * (size + _WORD_BYTES * rows):
+        raise _no_table_file("another length than its headers tell")
+    for _ in front.headers:
+        words = at + size
+        end = words + _WORD_BYTES * rows
+        cells = Cells(rows, view[at:words], view[words:end])
+        if reason := cells.fault():
+            raise _no_table_file(reason)
+        yield cells
+        at = end
+
+
+def _cells_in_planes(data: bytes, front: _Front) -> Iterator[Cells]:
+    """The cells of the columns of version 2. No cell is made before the bytes are as many as all columns have."""
+    view, at = memoryview(data), front.ends[-1]
+    size = presence_size(front.rows)
+    frames: list[tuple[int, int, int]] = []
+    for _ in front.headers:
+        planes = at + size + FRAME.size
+        if planes > len(data):
+            raise _no_table_file("a column is cut off")
+        base, width = FRAME.unpack_from(data, at + size)
+        if not 1 <= width <= WIDEST:
+            raise _no_table_file(f"a width of {width} bits")
+        frames.append((at, base, width))
+        at = planes + width * size
+    if at != len(data):
+        raise _no_table_file("another length than its columns tell")
+    for header, (start, base, width) in zip(front.headers, frames):
+        presence, first = view[start : start + size], start + size + FRAME.size
+        bits = [view[first + place * size : first + (place + 1) * size] for place in range(width)]
+        if reason := fault_in(presence, base, bits, front.rows, header.column_type):
+            raise _no_table_file(reason)
+        yield cells_in_planes(presence, base, bits, front.rows, header.column_type)
 
 
 def _no_table_file(reason: str) -> DataError:

@@ -10,6 +10,7 @@ from typing import Any, Optional
 import bitcol
 
 LEAST, GREATEST = -(2**31), 2**31 - 1
+LEAST_BIGINT, GREATEST_BIGINT = -(2**63), 2**63 - 1
 Value = Optional[int]
 
 
@@ -33,9 +34,10 @@ class SessionTestCase(unittest.TestCase):
         return caught.exception
 
 
-def random_column(generator: random.Random, rows: int, null_share: float) -> list[Value]:
-    """Values of 32 bits, of which this share is None."""
-    return [None if generator.random() < null_share else generator.randint(LEAST, GREATEST) for _ in range(rows)]
+def random_column(generator: random.Random, rows: int, null_share: float, bits: int = 32) -> list[Value]:
+    """Values of so many bits in two's complement, of which this share is None."""
+    least, greatest = -(2 ** (bits - 1)), 2 ** (bits - 1) - 1
+    return [None if generator.random() < null_share else generator.randint(least, greatest) for _ in range(rows)]
 
 
 def lower_median(values: Iterable[Value]) -> Value:

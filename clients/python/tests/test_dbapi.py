@@ -81,6 +81,8 @@ class Cursors(unittest.TestCase):
         with self.assertRaises(self.connection.DataError):
             self.cursor.execute("INSERT INTO t VALUES (?, ?)", (1, 2**31))
         with self.assertRaises(self.connection.ProgrammingError):
+            self.cursor.execute("CREATE TABLE u (a BIGINT USING H)")
+        with self.assertRaises(self.connection.ProgrammingError):
             self.cursor.execute("INSERT INTO t VALUES (?, ?)", (1, bitcol.Date(2026, 1, 1)))
 
     def test_the_last_answer_is_forgotten(self) -> None:

@@ -44,12 +44,29 @@ class Numpy(SessionTestCase):
             (numpy.array([1.0]), bitcol.ProgrammingError, "column a: an array of float64"),
             (numpy.array(["1"]), bitcol.ProgrammingError, "column a: an array of <U1"),
             (numpy.array([[1]]), bitcol.ProgrammingError, "column a: a column has one dimension"),
-            (numpy.array([1, 2**31]), bitcol.DataError, "column a: row 1: a value outside"),
-            (numpy.array([LEAST - 1]), bitcol.DataError, "column a: row 0: a value outside"),
+            (numpy.array([1, 2**63], "uint64"), bitcol.DataError, "column a: row 1: a value outside"),
             (numpy.array([2**64 - 1], "uint64"), bitcol.DataError, "column a: row 0: a value outside"),
         ):
             with self.assertRaisesRegex(kind, reason):
                 Table.of({"a": values})
+
+    def test_the_type_of_an_array(self) -> None:
+        for values, column_type in (
+            (numpy.array([LEAST, GREATEST]), bitcol.ColumnType.INTEGER),
+            (numpy.array([1, 2**31]), bitcol.ColumnType.BIGINT),
+            (numpy.array([LEAST - 1]), bitcol.ColumnType.BIGINT),
+            (numpy.array([2**63 - 1], "uint64"), bitcol.ColumnType.BIGINT),
+            (numpy.array([], "int64"), bitcol.ColumnType.INTEGER),
+        ):
+            table = Table.of({"a": values})
+            self.assertEqual((table.types(), table.columns()), ({"a": column_type}, {"a": values.tolist()}))
+        with self.assertRaisesRegex(bitcol.DataError, "column a: row 1: a value outside"):
+            Table.of({"a": numpy.array([1, 2**31])}, column_type=bitcol.ColumnType.INTEGER)
+
+    def test_a_bigint_out(self) -> None:
+        self.session.write_table("t", {"a": [3, None, 2**40]})
+        cells = self.session.read_table("t").to_numpy()["A"]
+        self.assertEqual((cells.tolist(), cells.dtype), ([3, None, 2**40], numpy.dtype("int64")))
 
     def test_a_table_out(self) -> None:
         self.session.write_table("t", {"a": [3, None, GREATEST], "b": [LEAST, 0, 1]})
@@ -99,7 +116,7 @@ class Pandas(SessionTestCase):
             self.session.write_table("t", pandas.DataFrame({"a": [1, None]}))
 
     def test_values_that_no_column_holds(self) -> None:
-        for kind, value in (("uint64", 2**64 - 1), ("UInt64", 2**64 - 1), ("int64", -(2**31) - 1), ("Int64", 2**31)):
+        for kind, value in (("uint64", 2**64 - 1), ("UInt64", 2**64 - 1), ("UInt64", 2**63)):
             with self.assertRaisesRegex(bitcol.DataError, "column a: row 1: a value outside"):
                 values = numpy.array([5, value], kind.lower())
                 self.session.write_table("t", pandas.DataFrame({"a": pandas.Series(values, dtype=kind)}))

@@ -93,7 +93,7 @@ class Parts(unittest.TestCase):
 class Refusals(unittest.TestCase):
     def test_the_class_of_each_number(self) -> None:
         classes = {
-            bitcol.StatementRefused: (10, 11, 12, 20, 21, 22, 23, 24, 25, 27),
+            bitcol.StatementRefused: (10, 11, 12, 20, 21, 22, 23, 24, 25, 27, 60),
             bitcol.DataRefused: (13, 26, 42, 43, 44),
             bitcol.StoreRefused: (28, 40, 41, 46, 90),
         }

@@ -10,13 +10,14 @@ from typing import Any
 from unittest import mock
 
 import bitcol
+from bitcol import ColumnType
 from bitcol.shell import csv_import, exporting
 from bitcol.shell.csv_import import PART_BYTES, Header, Part, header_of, parts_of
 from bitcol.shell.fault import Fault
 from bitcol.shell.importing import Import, Imported, imports_of, split_word
 from bitcol.shell.names import column_names, name_of
 from bitcol.shell.store import Store
-from bitcol.shell.types import INTEGER
+from bitcol.shell.types import value_of
 from tests.support import GREATEST, LEAST, random_column
 from tests.terminal import ShellTestCase
 
@@ -70,6 +71,14 @@ class Csv(ImportTestCase):
         self.check("a", {"A": []})
         self.check('a\n1\n""\n3', {"A": [1, None, 3]})
 
+    def test_columns_with_values_of_more_than_32_bits(self) -> None:
+        expected = {"A": [1, 2**31], "B": [None, -7], "C": [-(2**63), 2**63 - 1]}
+        self.check("a;b;c\n1;;-9223372036854775808\n2147483648;-7;+09223372036854775807\n", expected)
+        self.write("t.csv", "a,b,c\n1,2,3\n,2147483648,\n")
+        self.imported("t.csv")
+        types = self.store.call(lambda session: session.column_types("t"))
+        self.assertEqual(types, {"A": ColumnType.INTEGER, "B": ColumnType.BIGINT, "C": ColumnType.INTEGER})
+
     def test_ends_of_lines(self) -> None:
         for end in ("\n", "\r\n", "\r", "\n\n"):
             self.check(end.join(["a,b", "1,2", ",3", ""]), {"A": [1, None], "B": [2, 3]})
@@ -103,13 +112,14 @@ class Csv(ImportTestCase):
         self.check('\n\n"a\nb",c\n1,2\n', {"A_B": [1], "C": [2]}, ("column 1 'a\\nb' is called A_B",))
 
     def test_faults_name_line_and_column(self) -> None:
-        wide = "has more than 32 bits, and a column holds -2147483648 to 2147483647"
+        wide = "has more than 64 bits, and a column holds -9223372036854775808 to 9223372036854775807"
         for lines, text in (
             ("1,30\n2,half\n", ": line 3, column 'seconds': 'half' is no integer"),
             ("1,30\n\n\n2,1.5\n", ": line 5, column 'seconds': '1.5' is no integer"),
             ("1, 30\n", ": line 2, column 'seconds': ' 30' is no integer"),
-            ("1,2147483648\n", f": line 2, column 'seconds': 2147483648 {wide}"),
-            ("-2147483649,1\n", f": line 2, column 'day': -2147483649 {wide}"),
+            ("1,9223372036854775808\n", f": line 2, column 'seconds': 9223372036854775808 {wide}"),
+            ("-9223372036854775809,1\n", f": line 2, column 'day': -9223372036854775809 {wide}"),
+            ("2147483648,1\n9223372036854775808,1\n", f": line 3, column 'day': 9223372036854775808 {wide}"),
             (f"{'0' * 5000}7,-{'0' * 5000}\nx,1\n", ": line 3, column 'day': 'x' is no integer"),
             (f"{'9' * 5000},1\n", f": line 2, column 'day': {'9' * 40}.. {wide}"),
             ("1,2\n1,2,3\n", ": line 3 has 3 fields, and the header has 2"),
@@ -161,12 +171,16 @@ class Csv(ImportTestCase):
         self.assertEqual(self.imported("t.csv").rows, len(values))
         self.assertEqual(self.columns("t"), {"A": values, "B": [7] * len(values)})
         self.assertEqual((self.told[0][-1], self.told[-1]), ("%", "100 %"))
+        path.write_text(f"{lines}8,{2**40}\n")
+        self.assertEqual(self.imported("t.csv", "wide").rows, len(values) + 1)
+        self.assertEqual(self.columns("wide"), {"A": [*values, 8], "B": [7] * len(values) + [2**40]})
         path.write_text(lines + "8,x\n")
         self.assert_fault(f": line {len(values) + 2}, column 'b': 'x' is no integer", "t.csv", "u")
 
 
 class RandomCsv(ImportTestCase):
     PIECES = ["1", "-2", ",", ",", "\n", "\r\n", "\r", '"', '"4"', '""', "NULL", "x", " ", "-", "\ufeff", "2147483648"]
+    PIECES += ["9223372036854775808"]
 
     def test_parts_are_read_as_the_whole(self) -> None:
         """Random files, cut into short parts, against one LOAD of each."""
@@ -181,11 +195,11 @@ class RandomCsv(ImportTestCase):
             with mock.patch.object(csv_import, "PART_BYTES", generator.randint(8, 40)):
                 self.assertEqual(self.made(path), expected, path.read_bytes())
             taken += expected is not None
-        self.assertTrue(50 < taken < 150, taken)
+        self.assertTrue(40 < taken < 150, taken)
 
     def loaded(self, path: Path) -> list[Any] | None:
         """The rows of one LOAD, or None where it is refused."""
-        script = f"CREATE TABLE t (a INT, b INT); LOAD t FROM '{path}' WITH HEADER; SELECT * FROM t; DROP TABLE t"
+        script = f"CREATE TABLE t (a BIGINT, b BIGINT); LOAD t FROM '{path}' WITH HEADER; SELECT * FROM t; DROP TABLE t"
         _, load, rows, _ = self.store.call(lambda session: session.run(script))
         return None if load.refusal else rows.rows()
 
@@ -234,18 +248,21 @@ class _Pieces(io.BytesIO):
 class Fields(ImportTestCase):
     def test_a_field_is_read_as_the_program_reads_it(self) -> None:
         """Each text of up to 4 of some characters, alone on a line."""
-        self.store.call(lambda session: session.execute("CREATE TABLE t (a INT)"))
         fields = [""]
         for _ in range(4):
             fields += [field + letter for field in fields for letter in "+-09"]
         fields += ["NULL", "null", "nUlL", "NUL", "null ", "1_0"]
-        fields += ["2147483647", "2147483648", "-2147483648", "-2147483649"]
-        for field in set(fields):
-            try:
-                value: int | None | str = INTEGER.value_of(field)
-            except ValueError:
-                value = "refused"
-            self.assertEqual(value, self.loaded(f'"{field}"\n'.encode()), field)
+        for column_type in ColumnType:
+            create = f"CREATE TABLE t (a {column_type.name})"
+            self.store.call(lambda session: session.execute(create))
+            bounds = [column_type.least - 1, column_type.least, column_type.greatest, column_type.greatest + 1]
+            for field in {*fields, *map(str, bounds)}:
+                try:
+                    value: int | None | str = value_of(field, column_type)
+                except ValueError:
+                    value = "refused"
+                self.assertEqual(value, self.loaded(f'"{field}"\n'.encode()), field)
+            self.store.call(lambda session: session.execute("DROP TABLE t"))
 
     def loaded(self, line: bytes) -> int | None | str:
         """What the program makes of a line of CSV."""
@@ -322,13 +339,13 @@ class Sqlite(ImportTestCase):
             "CREATE TABLE items (id INTEGER PRIMARY KEY, price INT)",
             "INSERT INTO items VALUES (7, 100), (8, NULL)",
             'CREATE TABLE "order lines" ("item id" INT, "count" INT)',
-            'INSERT INTO "order lines" VALUES (7, -2147483648)',
+            'INSERT INTO "order lines" VALUES (7, -9223372036854775808)',
             "CREATE VIEW cheap AS SELECT id FROM items",
         )
         found = [job.run(self.told.append) for job in self.jobs("shop.db")]
         self.assertEqual([(made.table, made.rows) for made in found], [("ITEMS", 2), ("ORDER_LINES", 1)])
         self.assertEqual(self.columns("items"), {"ID": [7, 8], "PRICE": [100, None]})
-        self.assertEqual(self.columns("order_lines"), {"ITEM_ID": [7], "C_COUNT": [LEAST]})
+        self.assertEqual(self.columns("order_lines"), {"ITEM_ID": [7], "C_COUNT": [-(2**63)]})
         self.assertEqual(found[0].notes, [])
         self.assertEqual(
             found[1].notes,
@@ -351,14 +368,12 @@ class Sqlite(ImportTestCase):
         self.assertEqual(self.columns("t"), {"A": [12, -12, 0], "B": [None, None, 3]})
 
     def test_values_that_no_column_holds(self) -> None:
-        wide = "has more than 32 bits, and a column holds -2147483648 to 2147483647"
+        wide = "has more than 64 bits, and a column holds -9223372036854775808 to 9223372036854775807"
         for value, reason in (
             ("'abc'", "'abc' is no integer"),
             ("1.5", "1.5 is no integer"),
             ("x'00'", "a blob is no integer"),
-            ("2147483648", f"2147483648 {wide}"),
-            ("-9223372036854775808", f"-9223372036854775808 {wide}"),
-            ("'2147483648'", f"2147483648 {wide}"),
+            ("'9223372036854775808'", f"9223372036854775808 {wide}"),
             ("CAST(x'ff' AS TEXT)", "'\ufffd' is no integer"),
         ):
             self.make("DROP TABLE IF EXISTS t", "CREATE TABLE t (a, b)")

@@ -181,6 +181,8 @@ class StandardInput(ShellTestCase):
     def test_commands_that_are_shortened(self) -> None:
         self.write("t.csv", "a\n1\n")
         self.assert_answers(("t.csv",), "CREATE TABLE T (A INTEGER);\noff\n", ".sch\n.ti\n.q\nTABLES;")
+        self.write("t.csv", "a,b\n1,2147483648\n")
+        self.assert_answers(("t.csv",), "CREATE TABLE T (A INTEGER, B BIGINT);\n", ".sch")
         self.assert_fails((), "line 1: error: no command .t: .help lists them\n", typed=".t")
         self.assert_fails((), "line 1: error: no command .: .help lists them\n", typed=".")
 

@@ -145,7 +145,8 @@ class Completions(unittest.TestCase):
         self.check("", "SE", "SECONDS", "SELECT", "SET")
         self.check("", "sel", "select")
         self.check("DROP ", "TA", "TABLE", "TABLES")
-        self.assertNotIn("BIGINT", WORDS)
+        self.check("CREATE TABLE t (a ", "bi", "bigint")
+        self.assertNotIn("GROUP", WORDS)
 
     def test_tables_and_columns(self) -> None:
         self.check("SELECT * FROM ", "", "SITES", "VISITS")

@@ -236,7 +236,7 @@ class Statements(WebTestCase):
 
     def test_tables_and_layouts(self) -> None:
         server = self.start()
-        server.run("CREATE TABLE t (a INT USING H DICTIONARY, b INT USING P); CREATE TABLE u (c INT)")
+        server.run("CREATE TABLE t (a INT USING H DICTIONARY, b INT USING P); CREATE TABLE u (c BIGINT)")
         server.run("INSERT INTO t VALUES (1, 2)")
         self.assertEqual(
             server.state()["tables"],
@@ -246,7 +246,7 @@ class Statements(WebTestCase):
                     "rows": 1,
                     "columns": [{"name": "A", "type": "INTEGER"}, {"name": "B", "type": "INTEGER"}],
                 },
-                {"name": "U", "rows": 0, "columns": [{"name": "C", "type": "INTEGER"}]},
+                {"name": "U", "rows": 0, "columns": [{"name": "C", "type": "BIGINT"}]},
             ],
         )
         first = [{"layout": "H", "kind": "DICTIONARY"}, {"layout": "P", "kind": "OFFSET"}]
@@ -322,12 +322,12 @@ class Files(WebTestCase):
         self.assertEqual(made, ([("T_2024_VISITS", 1, notes)], []))
 
     def test_what_is_no_csv(self) -> None:
-        wide = "99999999999 has more than 32 bits, and a column holds -2147483648 to 2147483647"
+        wide = f"{'9' * 20} has more than 64 bits, and a column holds -9223372036854775808 to 9223372036854775807"
         for name, content, reason in (
             ("a.png", b"\x89PNG\r\n\0\0", "no CSV file: line 2 has a zero byte"),
             ("a.csv", b"", "the file is empty, and a CSV file begins with a header"),
             ("a.csv", "day,seconds\n1,30\n2,half\n", "line 3, column 'seconds': 'half' is no integer"),
-            ("a.csv", "day,bytes\n1,99999999999\n", f"line 2, column 'bytes': {wide}"),
+            ("a.csv", f"day,bytes\n1,{'9' * 20}\n", f"line 2, column 'bytes': {wide}"),
             ("a.csv", "1,2\n3,4\n", "line 1 has integers alone, and a CSV file begins with a header"),
             ("a.csv", "a,b\n1\n", "line 2 has 1 fields, and the header has 2"),
             ("a.table", b"BITCOL\1", "error 44: not a table file"),

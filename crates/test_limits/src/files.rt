@@ -52,7 +52,7 @@ fn a_table_filled_from_a_file(rt: HostRuntime) {
     );
 }
 
-// Four columns of 32 bits: 4 * 4 * 16,777,216 bytes of cells alone are as many as a file may have.
+// Four columns of 32 bits: 4 * 33 planes of 2,097,152 bytes, those of the non-nulls among them, are more than a file may have.
 #[test]
 fn a_table_too_large_for_a_file(rt: HostRuntime) {
     let first = "-2147483648,-2147483648,-2147483648,-2147483648\n";
@@ -73,6 +73,37 @@ fn a_table_too_large_for_a_file(rt: HostRuntime) {
                 "error 46: file too large\nerror 40: file cannot be read\n",
                 1,
             ),
+        ],
+    );
+}
+
+// Columns of 32, 32, 32 and 28 bits: 128 planes of 2,097,152 bytes are as many as a file may have, and the front, the headers
+// and the bases and widths are 70 bytes too many. Without the least values each column has one bit.
+#[test]
+fn a_file_of_seventy_bytes_too_many(rt: HostRuntime) {
+    let first = "-2147483648,-2147483648,-2147483648,0\n";
+    let other = "2147483647,2147483647,2147483647,268435455\n";
+    let lines = repeated(&rt, first, other, LOADED_ROWS - 1, "");
+    check_over_file(
+        &rt,
+        lines.as_bytes(),
+        &[
+            ("CREATE TABLE t (a INT, b INT, c INT, d INT);", 1),
+            ("LOAD t FROM 'f';", 16),
+            (
+                "SAVE t TO 'g';DELETE FROM t WHERE d = 0;SAVE t TO 'g';OPEN u FROM 'g';",
+                1,
+            ),
+            ("SELECT COUNT(*) FROM u WHERE a = b;", 1),
+        ],
+        &[
+            ("ok\n", 1),
+            ("ok 1048576\n", 16),
+            (
+                "error 46: file too large\nok 16\nok 16777200\nok 16777200\n",
+                1,
+            ),
+            ("COUNT(*)\n16777200\nrows 1\n", 1),
         ],
     );
 }

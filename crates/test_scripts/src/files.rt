@@ -137,8 +137,14 @@ fn a_header_of_a_file_without_rows(rt: HostRuntime) {
     }
 }
 
-// The table of one column A of three rows: 3, NULL, -1, in layout V and of kind OFFSET.
-const SAVED: [u8; 31] = [
+// The table of one column A, an INTEGER, of three rows: 3, NULL, -1, in layout V and of kind OFFSET.
+const SAVED: [u8; 32] = [
+    0x42, 0x49, 0x54, 0x43, 0x4f, 0x4c, 0x02, 0x00, 0x01, 0x00, 0x03, 0x00, 0x00, 0x00, 0x01, 0x41,
+    0x00, 0x01, 0x00, 0x05, 0xff, 0xff, 0xff, 0xff, 0xff, 0xff, 0xff, 0xff, 0x03, 0x01, 0x00, 0x00,
+];
+
+// The same table in the first version of the file.
+const SAVED_FIRST: [u8; 31] = [
     0x42, 0x49, 0x54, 0x43, 0x4f, 0x4c, 0x01, 0x00, 0x01, 0x00, 0x03, 0x00, 0x00, 0x00, 0x01, 0x41,
     0x01, 0x00, 0x05, 0x03, 0x00, 0x00, 0x00, 0x00, 0x00, 0x00, 0x00, 0xff, 0xff, 0xff, 0xff,
 ];
@@ -155,6 +161,20 @@ fn a_table_saved_and_opened(rt: HostRuntime) {
     check_file(&rt, &mut folder, ("f", SAVED.as_slice()));
 }
 
+// Its column is an INTEGER, and it is saved in the second version.
+#[test]
+fn a_table_of_the_first_version(rt: HostRuntime) {
+    let mut folder = check_files(
+        &rt,
+        &[("f", SAVED_FIRST.as_slice())],
+        "OPEN t FROM 'f'; SELECT a FROM t; SAVE t TO 'g'; OPEN u FROM 'g'; SELECT a FROM u; \
+         INSERT INTO u VALUES (2147483648); REBUILD u (a USING H); INSERT INTO u VALUES (2147483647); SELECT a FROM u WHERE a > 3;",
+        "ok 3\nA\n3\nNULL\n-1\nrows 3\nok 3\nok 3\nA\n3\nNULL\n-1\nrows 3\n\
+         error 26: value out of range\nok\nok 1\nA\n2147483647\nrows 1\n",
+    );
+    check_file(&rt, &mut folder, ("g", SAVED.as_slice()));
+}
+
 // Rows that were deleted are not saved, and an opened table is filled and changed like any other.
 #[test]
 fn in_every_layout_and_kind(rt: HostRuntime) {
@@ -169,8 +189,17 @@ fn in_every_layout_and_kind(rt: HostRuntime) {
 }
 
 // The saved table with another byte in one place.
-fn saved_but(at: usize, byte: u8) -> [u8; 31] {
+fn saved_but(at: usize, byte: u8) -> [u8; 32] {
     let mut bytes = SAVED;
+    if at < bytes.len() {
+        bytes[at] = byte;
+    }
+    bytes
+}
+
+// The same in the first version.
+fn first_but(at: usize, byte: u8) -> [u8; 31] {
+    let mut bytes = SAVED_FIRST;
     if at < bytes.len() {
         bytes[at] = byte;
     }
@@ -183,18 +212,53 @@ fn check_no_table<R: Abort + AllocGlobal>(rt: &R, bytes: &[u8]) {
     check_files(rt, &[("f", bytes)], "OPEN v FROM 'f'; TABLES;", replies);
 }
 
+// Checks that a front of a file is no table, nor the file with one byte more.
+fn check_no_other_length<R: Abort + AllocGlobal>(rt: &R, bytes: &[u8]) {
+    for length in 0..bytes.len() {
+        check_no_table(rt, &bytes[..length]);
+    }
+    let mut longer = Vec::from_slice(rt.alloc(), bytes).expect(rt, "memory");
+    longer.push(0).expect(rt, "memory");
+    check_no_table(rt, &longer);
+}
+
+/// A byte in place of another in the saved table, so that it is none.
+const NO_TABLE: [(usize, u8); 10] = [
+    (15, 0x61), // a small letter
+    (16, 0x02), // no type
+    (17, 0x04), // no layout
+    (18, 0x02), // no kind
+    (19, 0x0d), // a row more
+    (27, 0x00), // a value that is no INTEGER
+    (28, 0x04), // a plane more than there is
+    (29, 0x00), // no bit in the highest plane
+    (29, 0x03), // a bit at a NULL
+    (31, 0x04), // no code of 0
+];
+
 #[test]
 fn bytes_that_are_no_table(rt: HostRuntime) {
-    for length in 0..31 {
-        check_no_table(&rt, &SAVED[..length]);
-    }
-    let mut longer = Vec::from_slice(rt.alloc(), &SAVED).expect(&rt, "memory");
-    longer.push(0).expect(&rt, "memory");
-    check_no_table(&rt, &longer);
-    for (at, byte) in [(18, 0x0d), (23, 0x01), (16, 0x04), (15, 0x61)] {
+    check_no_other_length(&rt, &SAVED);
+    for (at, byte) in NO_TABLE {
         check_no_table(&rt, &saved_but(at, byte));
     }
-    // 64 columns and 16,777,216 rows, of which nothing is there.
+    let mut bigint_in_h = SAVED;
+    bigint_in_h[16] = 0x01;
+    bigint_in_h[17] = 0x02;
+    check_no_table(&rt, &bigint_in_h);
+    // 64 columns and 16,777,216 rows, of which nothing is there
+    check_no_table(
+        &rt,
+        b"\x42\x49\x54\x43\x4f\x4c\x02\x00\x40\x00\x00\x00\x00\x01",
+    );
+}
+
+#[test]
+fn bytes_that_are_no_table_of_the_first_version(rt: HostRuntime) {
+    check_no_other_length(&rt, &SAVED_FIRST);
+    for (at, byte) in [(18, 0x0d), (23, 0x01), (16, 0x04), (15, 0x61), (6, 0x02)] {
+        check_no_table(&rt, &first_but(at, byte));
+    }
     check_no_table(
         &rt,
         b"\x42\x49\x54\x43\x4f\x4c\x01\x00\x40\x00\x00\x00\x00\x01",
@@ -204,7 +268,7 @@ fn bytes_that_are_no_table(rt: HostRuntime) {
 // With any byte in any place a file is no table, or is saved again as it was.
 #[test]
 fn each_byte_of_a_table_file(rt: HostRuntime) {
-    for at in 0..31 {
+    for at in 0..32 {
         for byte in 0..=255 {
             check_opened_or_refused(&rt, &saved_but(at, byte));
         }
@@ -223,11 +287,12 @@ fn check_opened_or_refused<R: Abort + AllocGlobal>(rt: &R, bytes: &[u8]) {
         OnError::Continue,
     );
     see(rt, end, RunEnd::Done);
-    if output.as_slice() == b"ok 3\nok 3\n".as_slice() {
-        check_file(rt, &mut folder, ("g", bytes));
-    } else {
-        let refused = b"error 44: not a table file\nerror 20: no such table\n";
-        see_bytes(rt, &output, refused);
+    match folder.read("g", 1000) {
+        Ok(saved) => see_bytes(rt, &saved, bytes),
+        Err(_) => {
+            let refused = b"error 44: not a table file\nerror 20: no such table\n";
+            see_bytes(rt, &output, refused);
+        }
     }
 }
 
@@ -239,8 +304,9 @@ fn a_cut_in_the_name_of_a_file(rt: HostRuntime) {
         "CREATE TABLE t (a INTEGER); -- one; two\nSAVE t TO 'x;y';;SELECT a FROM t",
         "ok\nok 0\nerror 10: syntax error\n",
     );
-    let file = folder.read("x;y", 18).expect(&rt, "a file");
-    see(&rt, file.len(), 18);
+    // The front, a header of a name of one byte, and a column without rows: its base and its width.
+    let file = folder.read("x;y", 28).expect(&rt, "a file");
+    see(&rt, file.len(), 28);
 }
 
 #[test]

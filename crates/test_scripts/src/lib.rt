@@ -3,6 +3,8 @@
 #![tactic(auto)]
 
 #[cfg(test)]
+mod bigints;
+#[cfg(test)]
 mod calls;
 #[cfg(test)]
 mod changes;

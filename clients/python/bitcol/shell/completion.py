@@ -13,7 +13,7 @@ from ..script import RESERVED
 from .commands import Argument, Command, chosen_words, command_of, command_words, words_of
 
 # Reserved words that no statement has yet, and words of statements that aren't reserved.
-_NOT_YET = {"BIGINT", "BY", "GROUP"}
+_NOT_YET = {"BY", "GROUP"}
 WORDS = sorted(RESERVED - _NOT_YET | {"DICTIONARY", "HEADER", "LOAD", "OFFSET", "REBUILD", "SAVE", "TABLES"})
 # After these a table's name stands.
 _BEFORE_TABLES = {"FROM", "INTO", "LOAD", "REBUILD", "SAVE", "TABLE", "UPDATE"}

@@ -1,7 +1,8 @@
 """Tables of CSV files with a header.
 
-The file is read in parts, and the program LOADs each: that is quick, and tells how far it is. Where a part is refused,
-the line and the column are looked for here, and the table is dropped.
+The file is read in parts, and the program LOADs each: that is quick, and tells how far it is. A column is INTEGER until
+a part has a value of more than 32 bits: then it becomes BIGINT, and the part is LOADed again. Where a part is refused
+for another reason the line and the column are looked for here, and the table is dropped.
 """
 
 from __future__ import annotations
@@ -14,12 +15,14 @@ from functools import partial
 from itertools import chain
 from typing import BinaryIO, Protocol
 
-from ..errors import DataRefused
-from ..table_file import COLUMN_LIMIT
+from ..column_type import ColumnType
+from ..errors import DataRefused, ErrorNumber
+from ..session import Session
+from ..table_file import COLUMN_LIMIT, with_types
 from .fault import Fault
 from .names import column_names
 from .store import Store
-from .types import INTEGER, NUMBER
+from .types import NUMBER, value_of
 
 # A part: long enough that the statement for it costs nothing, short enough for the memory and for a progress line.
 PART_BYTES = 2**23
@@ -66,28 +69,48 @@ class CsvTable:
         block = file.read(PART_BYTES)
         header = header_of(block)
         names, notes = column_names(header.fields)
-        columns = ", ".join(f"{name} {INTEGER.word}" for name in names)
+        columns = ", ".join(f"{name} {ColumnType.INTEGER.name}" for name in names)
         create = f"CREATE TABLE {self.table} ({columns})"
         with self.store.making(self.table, lambda session: session.execute(create)):
-            return self._load(parts_of(file, block, header), header, size, tell), notes
+            return self._load(parts_of(file, block, header), names, header, size, tell), notes
 
-    def _load(self, parts: Iterator[Part], header: Header, size: int, tell: Tell) -> int:
+    def _load(self, parts: Iterator[Part], names: Sequence[str], header: Header, size: int, tell: Tell) -> int:
         rows, done = 0, header.size
         for part in parts:
-            rows += self._load_part(part, header)
+            rows += self._load_part(part, names, header)
             done += len(part.data)
             tell(f"{min(100 * done // size, 100)} %" if size else f"{done / 1e6:.0f} MB")
         return rows
 
-    def _load_part(self, part: Part, header: Header) -> int:
+    def _load_part(self, part: Part, names: Sequence[str], header: Header) -> int:
         data = part.data
         if header.delimiter != ",":
             # To exchange the two keeps a comma inside of a field from becoming a delimiter.
             data = data.translate(bytes.maketrans(f"{header.delimiter},".encode(), f",{header.delimiter}".encode()))
+        load = partial(_loaded, self.table, [_LEFT_OUT, data])
         try:
-            return self.store.call(lambda session: session.load_bytes(self.table, [_LEFT_OUT, data], header=True))
+            return self.store.call(load)
         except DataRefused as refusal:
-            raise Fault(first_fault(part, header) or f"a record from line {part.line} on is refused") from refusal
+            fault = first_fault(part, header)
+            if fault or refusal.number != ErrorNumber.VALUE_OUT_OF_RANGE:
+                raise Fault(fault or f"a record from line {part.line} on is refused") from refusal
+        wide = {names[place]: ColumnType.BIGINT for place in wide_columns(part, header)}
+        self.store.call(partial(_retyped, self.table, wide))
+        return self.store.call(load)
+
+
+def _loaded(table: str, pieces: list[bytes], session: Session) -> int:
+    return session.load_bytes(table, pieces, header=True)
+
+
+def _retyped(table: str, types: dict[str, ColumnType], session: Session) -> int:
+    """Makes a table anew with other types for some of its columns, which hold its values. No statement does that, but
+    the file of a table has the same cells for both types."""
+    with session.scratch() as file:
+        session.save(table, file.name)
+        file.write([with_types(file.read(), types)])
+        session.execute(f"DROP TABLE {table}")
+        return session.open(table, file.name)
 
 
 def header_of(block: bytes) -> Header:
@@ -139,6 +162,22 @@ def first_fault(part: Part, header: Header) -> str | None:
     return None
 
 
+def wide_columns(part: Part, header: Header) -> list[int]:
+    """The places of the columns that have a value of more than 32 bits in this part, of which each line is a row."""
+    text = part.data.decode("utf-8", "backslashreplace")
+    rows = [record for _, record in _records(csv.reader(io.StringIO(text, newline=""), delimiter=header.delimiter), 1)]
+    return [place for place, fields in enumerate(zip(*rows)) if not all(map(_is_integer, fields))]
+
+
+def _is_integer(field: str) -> bool:
+    """Whether a field spells an INTEGER or NULL."""
+    try:
+        value_of(field, ColumnType.INTEGER)
+    except ValueError:
+        return False
+    return True
+
+
 class _Reader(Protocol):
     """A reader of Python's module csv."""
 
@@ -169,7 +208,7 @@ def _fault_of(record: Sequence[str], columns: Sequence[str]) -> str | None:
         return f" has {len(record)} fields, and the header has {len(columns)}"
     for field, column in zip(record, columns):
         try:
-            INTEGER.value_of(field)
+            value_of(field, ColumnType.BIGINT)
         except ValueError as fault:
             return f", column {column!r}: {fault}"
     return None

@@ -8,6 +8,7 @@ from collections.abc import Callable, Iterable, Iterator
 from dataclasses import dataclass
 from functools import partial
 
+from ..column_type import ColumnType
 from ..errors import Error, OperationalError, ProgramEnded, Refused
 from ..reply import Reply
 from ..script import checked_name
@@ -22,7 +23,6 @@ from .plot import Canvas, Chart, drawn
 from .render import Mode, counted, rendered
 from .statements import Pending, StatementBuffer
 from .store import Store
-from .types import INTEGER
 
 # Rows that a terminal shows if nothing else is said.
 ROW_LIMIT = 40
@@ -120,8 +120,8 @@ class Shell:
     def show_schema(self, table: str | None = None) -> None:
         """Shows the statement that makes a table like this one, or one for each."""
         name = None if table is None else checked_name(table)
-        for made, columns in self.store.call(lambda session: columns_by_table(session, name)).items():
-            typed = ", ".join(f"{column} {INTEGER.word}" for column in columns)
+        for made, types in self.store.call(lambda session: types_by_table(session, name)).items():
+            typed = ", ".join(f"{column} {column_type.name}" for column, column_type in types.items())
             self.console.line(f"CREATE TABLE {made} ({typed});")
 
     def plot(self, chart: Chart | None, column: str | None) -> None:
@@ -230,3 +230,9 @@ def columns_by_table(session: Session, table: str | None = None) -> dict[str, tu
     """The names of the columns of a table, or of each. Refused where there is no such table."""
     names = [made.name for made in session.tables()] if table is None else [table]
     return {name: session.execute(f"SELECT * FROM {name} WHERE 1 = 0").headings for name in names}
+
+
+def types_by_table(session: Session, table: str | None = None) -> dict[str, dict[str, ColumnType]]:
+    """The types of the columns of a table, or of each, by their names. Refused where there is no such table."""
+    names = [made.name for made in session.tables()] if table is None else [table]
+    return {name: session.column_types(name) for name in names}

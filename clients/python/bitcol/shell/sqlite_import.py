@@ -8,10 +8,11 @@ from collections.abc import Iterator, Sequence
 from pathlib import Path
 from typing import Any
 
+from ..column_type import ColumnType
 from ..table_file import COLUMN_LIMIT, ROW_LIMIT
 from .csv_import import Tell
 from .fault import Fault
-from .types import INTEGER
+from .types import checked, value_of
 
 MARK = b"SQLite format 3\0"
 ROWS_AT_ONCE = 10_000
@@ -26,7 +27,7 @@ def table_names(path: str) -> list[str]:
 
 def read_table(path: str, table: str, tell: Tell) -> tuple[list[str], list[list[int | None]]]:
     """The names of a table's columns, as they are spelled there, and the columns. A Fault, without the file's name,
-    where it has a value that is no integer of 32 bits, or can't be read."""
+    where it has a value that is no integer, or can't be read."""
     with _connected(path) as connection:
         quoted = '"' + table.replace('"', '""') + '"'
         (rows,) = connection.execute(f"SELECT COUNT(*) FROM {quoted}").fetchone()
@@ -46,9 +47,8 @@ def read_table(path: str, table: str, tell: Tell) -> tuple[list[str], list[list[
 def _values(cells: Sequence[Any], column: str, before: int) -> Sequence[int | None]:
     """The cells of a column as integers and None. So many rows came before them."""
     if set(map(type, cells)) <= {int, type(None)}:
-        known = [cell for cell in cells if cell is not None]
-        if not known or INTEGER.least <= min(known) and max(known) <= INTEGER.greatest:
-            return cells
+        # An integer of SQLite has at most 64 bits.
+        return cells
     return [_value(cell, column, row) for row, cell in enumerate(cells, before + 1)]
 
 
@@ -56,9 +56,9 @@ def _value(cell: Any, column: str, row: int) -> int | None:
     """A cell as an integer or None. A text is read as a field of CSV, since many files keep their integers so."""
     try:
         if cell is None or isinstance(cell, str):
-            return INTEGER.value_of(cell or "")
+            return value_of(cell or "", ColumnType.BIGINT)
         if isinstance(cell, int):
-            return INTEGER.checked(cell)
+            return checked(cell, ColumnType.BIGINT)
         raise ValueError("a blob is no integer" if isinstance(cell, bytes) else f"{cell!r} is no integer")
     except ValueError as fault:
         raise Fault(f"row {row}, column {column!r}: {fault}") from None

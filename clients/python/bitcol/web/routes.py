@@ -12,7 +12,6 @@ from typing import Any, BinaryIO
 from ..errors import ProgramEnded
 from ..shell.fault import Fault, reason_of
 from ..shell.render import Mode, rendered
-from ..shell.types import INTEGER
 from .requests import BadRequest, Body, Query
 from .workspace import FileOutcome, Outcome, TableShape, Workspace
 
@@ -95,7 +94,7 @@ def _state(workspace: Workspace, query: Query, _: Body) -> Response:
 
 
 def _table(shape: TableShape) -> dict[str, Any]:
-    columns = [{"name": column, "type": INTEGER.word} for column in shape.columns]
+    columns = [{"name": column, "type": column_type.name} for column, column_type in shape.columns.items()]
     return {"name": shape.name, "rows": shape.rows, "columns": columns}
 
 

@@ -15,6 +15,7 @@ from collections.abc import Iterator
 from dataclasses import dataclass, field
 from pathlib import Path
 
+from ..column_type import ColumnType
 from ..errors import Error, OperationalError, ProgramEnded, Refused
 from ..reply import Reply
 from ..script import checked_name
@@ -25,7 +26,7 @@ from ..shell.exporting import export_table
 from ..shell.fault import Fault
 from ..shell.importing import Imported, imports_of
 from ..shell.lengths import cells_that_fit, check_length
-from ..shell.shell import columns_by_table
+from ..shell.shell import types_by_table
 from ..shell.statements import Statement, StatementBuffer
 from ..shell.store import Store
 from ..table_file import HEADERS_BYTES, ColumnHeader, headers_of
@@ -50,10 +51,10 @@ class Outcome:
 
 @dataclass(frozen=True)
 class TableShape:
-    """A table as it stands: its name, its columns, and its number of rows."""
+    """A table as it stands: its name, its columns with their types, and its number of rows."""
 
     name: str
-    columns: tuple[str, ...]
+    columns: dict[str, ColumnType]
     rows: int
 
 
@@ -133,7 +134,7 @@ class Workspace:
         """The tables, in the order in which they were made. ProgramEnded, and OperationalError as of run."""
         with self._taking_turns() as store:
             shapes = store.call(_shapes)
-        self._catalog = Catalog({shape.name: shape.columns for shape in shapes})
+        self._catalog = Catalog({shape.name: list(shape.columns) for shape in shapes})
         return shapes
 
     def headers(self, table: str) -> list[ColumnHeader]:
@@ -234,7 +235,7 @@ def statements_in(script: str) -> list[Statement]:
 
 
 def _shapes(session: Session) -> list[TableShape]:
-    columns = columns_by_table(session)
+    columns = types_by_table(session)
     return [TableShape(table.name, columns[table.name], table.rows) for table in session.tables()]
 
 
