@@ -33,8 +33,8 @@ module _ {T : Type 0} (early : Tests) where
         | inr p ↦ inr (first-append_none early ((OutOfRange, not fit) ∷ []) none ∙ this_test (not fit) OutOfRange None (ap not p.1) ∙ ap (λ y. Some y) (sym (same ∙ p.0)))
       ]
 
-  pub after_none : (fit : Bool) → first_that_holds early ≡ None → fit ≡ true → first_that_holds (early ++ (OutOfRange, not fit) ∷ []) ≡ None
-  after_none fit none fits = first-append_none early ((OutOfRange, not fit) ∷ []) none ∙ no_test (not fit) OutOfRange None (ap not fits)
+pub after_none : (early : Tests) (fit : Bool) → first_that_holds early ≡ None → fit ≡ true → first_that_holds (early ++ (OutOfRange, not fit) ∷ []) ≡ None
+after_none early fit none fits = first-append_none early ((OutOfRange, not fit) ∷ []) none ∙ no_test (not fit) OutOfRange None (ap not fits)
 
 -- what a REBUILD answers by its tests: whether a layout is too narrow comes last, and before any memory
 module _ (listed : Tests) (narrow : Bool) where

@@ -29,7 +29,7 @@ places_where : (f : ℕ → Row) (test : ℕ → Bool) (a : ℕ) (rows : List Ro
     → map f (filter test (range_with_len a (length rows))) ≡ rows_where (λ i. test (a + i)) rows
 places_where f test a [] same = refl
 places_where f test a (row ∷ rows) same =
-    by (test a) first rest ∙ ap (λ b. if b then row ∷ rows_where (λ i. test (a + suc i)) rows else rows_where (λ i. test (a + suc i)) rows) (ap test (plain a))
+    by (test a) first (rest (places_where f test (a + 1) rows (λ i h. ap f (next a i) ∙ same (suc i) (omega (arith, h))))) ∙ ap (λ b. if b then row ∷ rows_where (λ i. test (a + suc i)) rows else rows_where (λ i. test (a + suc i)) rows) (ap test (plain a))
   where
     plain : (n : ℕ) → n ≡ n + 0
     plain n = omega arith
@@ -40,10 +40,9 @@ places_where f test a (row ∷ rows) same =
     first : f a ≡ row
     first = ap f (plain a) ∙ same 0 (omega arith)
 
-    rest : map f (filter test (range_with_len (a + 1) (length rows))) ≡ rows_where (λ i. test (a + suc i)) rows
-    rest =
-        places_where f test (a + 1) rows (λ i h. ap f (next a i) ∙ same (suc i) (omega (arith, h)))
-        ∙ (λ j. rows_where (λ i. test (next a i j)) rows)
+    rest : map f (filter test (range_with_len (a + 1) (length rows))) ≡ rows_where (λ i. test ((a + 1) + i)) rows
+        → map f (filter test (range_with_len (a + 1) (length rows))) ≡ rows_where (λ i. test (a + suc i)) rows
+    rest others = others ∙ (λ j. rows_where (λ i. test (next a i j)) rows)
 
     by : (b : Bool) → f a ≡ row → map f (filter test (range_with_len (a + 1) (length rows))) ≡ rows_where (λ i. test (a + suc i)) rows
         → map f (if b then a ∷ filter test (range_with_len (a + 1) (length rows)) else filter test (range_with_len (a + 1) (length rows)))

@@ -1,7 +1,7 @@
 -- The values of a column in the live slots, with NULL for each dead one.
 use Rattle.std.proofs.Common.{◌≡◌, ◌∙◌, ℕ, ℤ, ◌+◌, ◌<◌, ◌≤◌, Bool, true, false, List, [], ◌∷◌, Option, None, Some, ap, arith, drop, get_or, if◌then◌else◌, inl, inr, length, map, refl, sym, take}
 use Rattle.std.proofs.lemmas.Bool.{cases_Bool}
-use Rattle.std.proofs.lemmas.List.{get_or-map, length-map}
+use Rattle.std.proofs.lemmas.List.{ext_get_or, get_or-drop, get_or-map, get_or-take, length-drop, length-map, length-take-le}
 use Rattle.bw_cells.specs.Known.{known}
 use Rattle.bw_code.proofs.Lists.{made_at, made_is, made_len}
 use Rattle.bw_column.specs.Copies.{masked}
@@ -50,3 +50,22 @@ module _ (slots : List Slot) (live : MaskRows) (k : ℕ) (column : List Value) (
 
   pub live_known : known (masked live column) ≡ known (column_of (rows_in slots) k)
   live_known = ap known masked_alive ∙ known_alive k slots
+
+pub masked_long : (live : MaskRows) (cells : List Value) → length (masked live cells) ≡ length cells
+masked_long live cells = made_len (length cells) (λ i. if row_at live i then values.value_at cells i else None)
+
+pub run_long : (n at : ℕ) (xs : List Value) → at + n ≤ length xs → length (take n (drop at xs)) ≡ n
+run_long n at xs low = length-take-le n (drop at xs) (omega (arith, low, length-drop at xs))
+
+-- a run of them, with NULL put in a run of the cells for each dead slot
+pub masked_run : (live : MaskRows) (cells out old : List Value) (at n : ℕ) → at + n ≤ length cells → old ≡ take n (drop at cells) → length out ≡ length old
+    → ((i : ℕ) → i < length old → get_or out i None ≡ (if row_at live (at + i) then get_or old i None else None)) → out ≡ take n (drop at (masked live cells))
+masked_run live cells out old at n low is same each =
+    let all = masked_long live cells in
+    let long : length old ≡ n = ap length is ∙ run_long n at cells low in
+    let other = run_long n at (masked live cells) (omega (arith, low, all)) in
+    ext_get_or None out (take n (drop at (masked live cells))) (same ∙ long ∙ sym other) (λ i h.
+    let here : i < n = omega (arith, h, same, long) in
+    each i (omega (arith, h, same))
+    ∙ (λ j. if row_at live (at + i) then (ap (λ l. get_or l i None) is ∙ get_or-take n (drop at cells) i None here ∙ get_or-drop at cells i None) j else None)
+    ∙ sym (get_or-take n (drop at (masked live cells)) i None here ∙ get_or-drop at (masked live cells) i None ∙ made_at (length cells) (λ i. if row_at live i then values.value_at cells i else None) (at + i) None (omega (arith, low, here))))

@@ -31,7 +31,7 @@ same_value [] k = refl
 same_value (v ∷ row) zero = refl
 same_value (v ∷ row) (suc k) = same_value row k
 
-no_header : Header
+pub no_header : Header
 no_header = record { name = []; column_type = Integer; layout = V; kind = Offset }
 
 -- where a value comes from; a place that isn't set keeps its own

@@ -122,7 +122,8 @@ impl Table {
         match self.table.insert(alloc, rows) {
             Ok(()) => Ok(()),
             Err(TableFault::Memory) => Err(AllocError),
-            Err(TableFault::Full | TableFault::Range) => unreachable!(),
+            Err(TableFault::Full) => unreachable!(),
+            Err(TableFault::Range) => unreachable!(),
         }
     }
 

@@ -11,7 +11,7 @@ ghost use Rattle.bw_column.specs.Values.{IsNullOrHeld};
 ghost use Rattle.bw_table.specs.Changes.{AreAppended, AreInserted, AreRebuilt, AreUpdated, HoldAsChosen, IsFull, rows_found, slots_without, value_for};
 ghost use Rattle.bw_table.specs.Sets.{IsThere};
 ghost use Rattle.bw_table.specs.Slots.{IsHeldRow, SlotsView, live_slots, slot_at, slot_column, slot_limit};
-ghost use Rattle.bw_table.specs.declared.fault.TableFault.TheVariants.{Full};
+ghost use Rattle.bw_table.specs.declared.fault.TableFault.TheVariants.{Full, Range};
 
 use crate::appending::{apply, prepare, push_live};
 use crate::choice::Choice;
@@ -130,6 +130,7 @@ impl Slots {
         ensures inserted { OnOk result (AreInserted self.old rows.now self.new) }
         ensures full { IsFull self.old rows.now → result ≡ Err Full }
         ensures room { (IsFull self.old rows.now → ⊥) → result ≢ Err Full }
+        ensures fault { result ≢ Err Range }
         ensures layouts { self.new.layouts ≡ self.old.layouts }
         ensures kinds { map kind_of self.new.encodings ≡ map kind_of self.old.encodings }
         ensures unchanged { OnErr result (self.new ≡ self.old) }

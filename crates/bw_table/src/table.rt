@@ -164,6 +164,7 @@ impl<N: Drop> Table<N> {
         ensures inserted { OnOk result (AreInserted (slots_in self.old) rows.now (slots_in self.new)) }
         ensures full { IsFull (slots_in self.old) rows.now → result ≡ Err Full }
         ensures room { (IsFull (slots_in self.old) rows.now → ⊥) → result ≢ Err Full }
+        ensures fault { result ≢ Err Range }
         ensures unchanged { OnErr result (self.new ≡ self.old) }
     {
         self.slots.insert(alloc, rows)

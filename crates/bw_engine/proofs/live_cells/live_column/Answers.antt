@@ -1,8 +1,9 @@
-use Rattle.std.proofs.Common.{◌≡◌, ◌∙◌, ap, arith, length, map, subst, sym}
+use Rattle.std.proofs.Common.{◌≡◌, ◌∙◌, ap, arith, get_or, length, map, subst, sym}
 use Rattle.std.specs.List.{All}
 use Rattle.std.proofs.lemmas.List.{length-map}
 use Rattle.bw_column.specs.Values as values
-use Rattle.bw_table.specs.Slots.{Slot, live_slots}
+use Rattle.bw_code.specs.Types.{IsNullOrOfType}
+use Rattle.bw_table.specs.Slots.{Slot, live_slots, slot_column}
 use Rattle.bw_model.specs.Filing.{column_of}
 use Rattle.bw_model.specs.Store.{Row}
 use Rattle.bw_engine.specs.Stores.{StoredTable, rows_in}
@@ -24,7 +25,10 @@ returns-clause-cells c =
     ∙ ap (λ (table : StoredTable). column_of (rows_in table.slots) c.args.k) c.stored-stored.ensures
 
 pub returns-then-row_count-slots-clause-typed : goal.returns-then-row_count-slots-clause-typed
-returns-then-row_count-slots-clause-typed c = ?
+returns-then-row_count-slots-clause-typed c = rw c.stored-stored.ensures at c.column-column.ensures.typed
 
 pub returns-clause-typed : goal.returns-clause-typed
-returns-clause-typed c = ?
+returns-clause-typed c = λ h.
+    let P = IsNullOrOfType (get_or c.args.table.now.headers c.args.k h).column_type in
+    let typed : All P (slot_column c.args.table.now.slots c.args.k) = rw (c.column-column.ensures.values, c.stored-stored.ensures) at (c.column-column.ensures.typed h) in
+    subst (All P) (sym (returns-clause-cells c)) (live_typed P c.args.table.now.slots c.args.k typed)

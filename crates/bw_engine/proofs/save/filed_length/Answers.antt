@@ -1,4 +1,23 @@
+use Rattle.std.proofs.Common.{ap, length, sym, ◌∙◌, ◌≡◌}
+use Rattle.std.specs.Prelude.{map}
+use Rattle.std.specs.List.{All, range_with_len}
+use Rattle.std.proofs.lemmas.List.{length-map}
+use Rattle.bw_file.specs.Format.{spelled_length}
+use Rattle.bw_file.specs.Table as file
+use Rattle.bw_file.specs.declared.version.Version.TheVariants.{Second}
+use Rattle.bw_model.specs.Filing.{column_of}
+use Rattle.bw_model.specs.Store.{Row, value_at}
+use Rattle.bw_model.proofs.Lines.{All-map}
+use Rattle.bw_engine.specs.Stores.{rows_in}
 use Rattle.bw_engine.proofs.save.filed_length.Goals as goal
 
 pub returns : goal.returns
-returns c = ?
+returns c =
+    let table = c.args.table.now in
+    let rows = rows_in table.slots in
+    let columns = map (column_of rows) (range_with_len 0 (length table.headers)) in
+    let heads : c.headers-2.result.now ≡ table.headers = c.headers-2.ensures.is ∙ ap (λ t. t.headers) c.stored.ensures in
+    let long : All (λ cells. length cells ≡ c.row_count.result) columns =
+    All-map (column_of rows) c.row_count.result (range_with_len 0 (length table.headers)) (λ k. length-map rows (λ (row : Row). value_at row k) ∙ sym c.row_count.ensures.value) in
+    c.length_by_ends.ensures columns long c.take_ends.ensures
+    ∙ (λ j. spelled_length Second (record { headers = heads j; rows = c.row_count.ensures.value j; columns = columns }))
