@@ -82,6 +82,24 @@ class Refusals(SessionTestCase):
         self.assert_refused(10, "LOAD t FROM 'a\0b'")
         self.assertEqual(self.session.tables(), [TableSize("T", 1, 0)])
 
+    def test_types_of_columns(self) -> None:
+        self.session.run("CREATE TABLE u (a INT, b BIGINT, c INTEGER); INSERT INTO u VALUES (1, 4294967296, NULL)")
+        types = {"A": bitcol.ColumnType.INTEGER, "B": bitcol.ColumnType.BIGINT, "C": bitcol.ColumnType.INTEGER}
+        self.assertEqual(self.session.column_types("u"), types)
+        self.assertEqual(self.session.execute("SELECT * FROM u").rows(), [(1, 4294967296, None)])
+        with self.assertRaisesRegex(bitcol.StatementRefused, "error 20"):
+            self.session.column_types("nowhere")
+
+    def test_integers_of_64_bits(self) -> None:
+        self.session.execute("CREATE TABLE u (a BIGINT, b INT)")
+        rows = [(-(2**63), 1), (2**63 - 1, None), (None, 2)]
+        for _ in range(2):
+            self.session.executemany("INSERT INTO u VALUES (?, ?)", rows * 10_000)
+        self.assertEqual(self.session.execute("SELECT * FROM u WHERE a IS NOT NULL OR b = ?", [2]).rows(), rows * 20_000)
+        with self.assertRaisesRegex(bitcol.DataRefused, "value out of range: row 29999 has 2147483648"):
+            self.session.executemany("INSERT INTO u VALUES (?, ?)", [*(rows * 10_000)[:-1], (2**31, 2**31)])
+        self.assert_refused(60, "REBUILD u (a USING H)")
+
     def test_a_bound_value_may_be_outside_of_integer_in_a_condition(self) -> None:
         self.session.write_table("t", {"a": [GREATEST, None, LEAST]})
         found = self.session.execute("SELECT a FROM t WHERE a < ? AND a > ?", [2**63 - 1, -(2**63)])

@@ -107,3 +107,27 @@ fn a_file_of_seventy_bytes_too_many(rt: HostRuntime) {
         ],
     );
 }
+
+// The greatest sum that there is.
+#[test]
+fn a_full_table_of_the_greatest_bigint(rt: HostRuntime) {
+    let lines = repeated(&rt, "", "9223372036854775807\n", LOADED_ROWS, "");
+    check_over_file(
+        &rt,
+        lines.as_bytes(),
+        &[
+            ("CREATE TABLE t (a BIGINT);", 1),
+            ("LOAD t FROM 'f';", 16),
+            ("SELECT SUM(a), MIN(a), MEDIAN(a) FROM t;", 1),
+        ],
+        &[
+            ("ok\n", 1),
+            ("ok 1048576\n", 16),
+            (
+                "SUM(A),MIN(A),MEDIAN(A)\n\
+                 154742504910672534345613312,9223372036854775807,9223372036854775807\nrows 1\n",
+                1,
+            ),
+        ],
+    );
+}

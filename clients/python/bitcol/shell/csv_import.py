@@ -29,6 +29,9 @@ PART_BYTES = 2**23
 # A header may go on over lines, and lines without a byte may stand before it: no more bytes than these are looked at.
 HEADER_BYTES = 2**20
 
+# Fewer digits are an integer of 32 bits.
+SHORTEST_WIDE = 10
+
 _BYTE_ORDER_MARK = b"\xef\xbb\xbf"
 _DELIMITERS = ",;\t|"
 # LOAD leaves out the first record of each part, which is this one, so a mark in the middle of a file is a fault.
@@ -162,20 +165,22 @@ def first_fault(part: Part, header: Header) -> str | None:
     return None
 
 
-def wide_columns(part: Part, header: Header) -> list[int]:
+def wide_columns(part: Part, header: Header) -> set[int]:
     """The places of the columns that have a value of more than 32 bits in this part, of which each line is a row."""
     text = part.data.decode("utf-8", "backslashreplace")
-    rows = [record for _, record in _records(csv.reader(io.StringIO(text, newline=""), delimiter=header.delimiter), 1)]
-    return [place for place, fields in enumerate(zip(*rows)) if not all(map(_is_integer, fields))]
+    reader = csv.reader(io.StringIO(text, newline=""), delimiter=header.delimiter)
+    return {place for _, fields in _records(reader, part.line) for place, field in enumerate(fields) if _is_wide(field)}
 
 
-def _is_integer(field: str) -> bool:
-    """Whether a field spells an INTEGER or NULL."""
+def _is_wide(field: str) -> bool:
+    """Whether a field spells an integer of more than 32 bits, and not NULL. It spells one of the two."""
+    if len(field) < SHORTEST_WIDE:
+        return False
     try:
         value_of(field, ColumnType.INTEGER)
     except ValueError:
-        return False
-    return True
+        return True
+    return False
 
 
 class _Reader(Protocol):
