@@ -1,5 +1,5 @@
 -- The rows of a CSV file, as they are answered and as the table takes them.
-use Rattle.std.proofs.Common.{◌≡◌, ◌∙◌, inl, inr, ℕ, ◌<◌, Bool, true, false, List, [], ◌∷◌, Bor, nat_lt, length, ◌++◌, ◌^◌, None, Some, get_or, Result, Ok, Err, IsErrAnd, refl, sym, ap, subst, arith}
+use Rattle.std.proofs.Common.{◌≡◌, ◌∙◌, inl, inr, ℕ, ◌<◌, Bool, true, false, List, [], ◌∷◌, Bor, nat_lt, length, ◌+◌, ◌++◌, ◌^◌, None, Some, get_or, Result, Ok, Err, IsErrAnd, refl, sym, ap, subst, arith}
 use Rattle.std.specs.Bool.{MatchBool}
 use Rattle.std.specs.List.{All, flat_map}
 use Rattle.std.proofs.lemmas.Bool.{ltb-false}
@@ -14,15 +14,17 @@ use Rattle.bw_csvload.proofs.Fits.{rows_in_file}
 use Rattle.bw_table.specs.Rows.{AreWholeRows, rows_from}
 use Rattle.bw_sql.specs.Rows.{joined}
 use Rattle.bw_sql.specs.declared.tree.FirstRecord.{FirstRecord}
-use Rattle.bw_model.specs.Contents.{first_of, lines_or_fault}
+use Rattle.bw_model.specs.Contents.{first_of, lines_in, lines_or_fault}
 use Rattle.bw_model.specs.Filing.{file_limit}
-use Rattle.bw_model.specs.Refusals.{refusal_of_csv}
-use Rattle.bw_model.specs.Store.{AreHeaders, Header, Row, Value}
+use Rattle.bw_model.specs.Refusals.{load_tests, refusal_of_csv}
+use Rattle.bw_model.specs.Store.{AreHeaders, Header, Row, Table, Value, row_limit}
 use Rattle.bw_model.specs.declared.content.Content.{Content}
-use Rattle.bw_model.specs.declared.content.Content.TheVariants.{Lines, TooLarge}
+use Rattle.bw_model.specs.declared.content.Content.TheVariants.{Lines, Missing, TooLarge}
 use Rattle.bw_model.specs.declared.refusal.Refusal.{Refusal}
-use Rattle.bw_model.specs.declared.refusal.Refusal.TheVariants.{FileTooLarge, OutOfMemory, UnreadableFile}
+use Rattle.bw_model.specs.declared.refusal.Refusal.TheVariants.{FileTooLarge, OutOfMemory, TableFull, UnreadableFile}
+use Rattle.bw_model.specs.declared.reply.Reply.{Reply}
 use Rattle.bw_model.proofs.Lines.{length-joined}
+use Rattle.bw_plan.proofs.Tests.{first-append_some}
 use Rattle.bw_engine.specs.Files.{AnswersFile, IsAnswered, IsBytesOf, SaysLines, Within, lines_tests}
 use Rattle.bw_engine.specs.declared.file_answer.FileAnswer.{FileAnswer}
 use Rattle.bw_engine.specs.declared.file_answer.FileAnswer.TheVariants as file
@@ -119,3 +121,25 @@ module _ (types : List ColumnType) (few : length types < 2 ^ 64) (first : FirstR
       by : (said : Content) (b : Bool) → nat_lt file_limit (length bytes.now) ≡ b → MatchBool b (said ≡ TooLarge) (SaysLines types first bytes.now said) → said ≡ Lines rows → All (IsRowOf types) rows
       by said true long is lines = absurd (cc)
       by said false short is lines = among_lines (rows_of_file types (first_of first) bytes.now) (rows_in_file types few (first_of first) bytes.now (omega (arith, ltb-false file_limit (length bytes.now) short))) (sym is ∙ lines)
+
+-- what a file's lines are refused for, a table refuses them for
+module _ (types : List ColumnType) (first : FirstRecord) (table : Table) (P : Content → Reply → Type 0) (x : Refusal) where
+  refuses : (said : Content) → AnswersLines (Err x) said → AnswersFile (load_tests said table) (Err x) (P said)
+  refuses said h = elim h [ inl memory ↦ inl memory | inr one ↦ inr (first-append_some (lines_tests said) ((TableFull, nat_lt row_limit (length table.rows + length (lines_in said))) ∷ []) x one) ]
+
+  wants : ◌≡◌ {A = Result (List Row) Refusal} (Err x) (Err OutOfMemory) → ◌≡◌ {A = Result Reply Refusal} (Err x) (Err OutOfMemory)
+  wants e = let same : x ≡ OutOfMemory = cc in ap Err same
+
+  pub lines_refused : (answer : FileAnswer) (r : Result Reply Refusal) → IsErrAnd r (λ e. e ≡ x) → IsAnswered answer (Within (SaysLines types first)) (AnswersLines (Err x)) (◌≡◌ {A = Result (List Row) Refusal} (Err x) (Err OutOfMemory))
+      → IsAnswered answer (Within (SaysLines types first)) (λ said. AnswersFile (load_tests said table) r (P said)) (r ≡ Err OutOfMemory)
+  lines_refused answer (Ok y) is h = absurd is
+  lines_refused answer (Err e) is h =
+      subst (λ z. IsAnswered answer (Within (SaysLines types first)) (λ said. AnswersFile (load_tests said table) (Err z) (P said)) (◌≡◌ {A = Result Reply Refusal} (Err z) (Err OutOfMemory))) (sym is) (by answer h)
+    where
+      by : (answer : FileAnswer) → IsAnswered answer (Within (SaysLines types first)) (AnswersLines (Err x)) (◌≡◌ {A = Result (List Row) Refusal} (Err x) (Err OutOfMemory))
+          → IsAnswered answer (Within (SaysLines types first)) (λ said. AnswersFile (load_tests said table) (Err x) (P said)) (◌≡◌ {A = Result Reply Refusal} (Err x) (Err OutOfMemory))
+      by file.NotAsked h = refuses Missing h
+      by file.Unreadable h = refuses Missing h
+      by file.TooLarge h = refuses TooLarge h
+      by file.NoMemory h = wants h
+      by (file.Bytes bytes) h = elim h [ inl w ↦ inl (wants w) | inr p ↦ inr (p.0, p.1, refuses p.0 p.2) ]

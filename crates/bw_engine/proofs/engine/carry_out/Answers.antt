@@ -2,7 +2,7 @@ use Rattle.std.proofs.Common.{refl}
 use Rattle.bw_sql.specs.Tree.{statement_of}
 use Rattle.bw_sql.specs.declared.tree.Statement.TheVariants as statements
 use Rattle.bw_model.specs.declared.content.Content.TheVariants.{Nothing}
-use Rattle.bw_engine.proofs.Executed.{leaves, leaves_all, leaves_reading, leaves_saving, reading, saving}
+use Rattle.bw_engine.proofs.Executed.{leaves, leaves_all, leaves_reading, leaves_saving, plain, reading, saving}
 use Rattle.bw_engine.proofs.engine.carry_out.Goals as goal
 
 pub returns-in-Load-clause-outcome : goal.returns-in-Load-clause-outcome
@@ -19,6 +19,11 @@ pub returns-in-Save-clause-outcome : goal.returns-in-Save-clause-outcome
 returns-in-Save-clause-outcome c =
     rw (c.in-Save.is, c.saved.ensures)
     (saving c.args.tables.now.entries c.in-Save.request.table c.in-Save.request.file c.args.file c.save.result c.save.ensures)
+
+pub returns-in-Update-clause-outcome : goal.returns-in-Update-clause-outcome
+returns-in-Update-clause-outcome c =
+    rw (c.in-Update.is, c.replied-in-Update.ensures)
+    (plain c.args.tables.now.entries c.update.new.tables.entries (statement_of (statements.Update c.in-Update.change)) c.args.file c.update.result refl c.update.ensures.reply c.update.ensures.refused)
 
 pub returns-in-CreateTable-clause-stored : goal.returns-in-CreateTable-clause-stored
 returns-in-CreateTable-clause-stored c =

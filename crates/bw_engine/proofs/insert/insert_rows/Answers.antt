@@ -1,4 +1,4 @@
-use Rattle.std.proofs.Common.{◌≡◌, ◌∙◌, ◌<◌, ◌++◌, None, ap, arith, length, map, refl, subst}
+use Rattle.std.proofs.Common.{◌≡◌, ◌∙◌, ◌<◌, ◌++◌, None, ap, arith, inl, length, map, refl, subst}
 use Rattle.std.specs.List.{list_all}
 use Rattle.std.proofs.lemmas.Bool.{not-false}
 use Rattle.std.proofs.lemmas.List.{length-map}
@@ -63,6 +63,15 @@ insert-requires-clause-room c =
     c.new.ensures ∙ ap (rows_from c.len-width.result) c.as_slice.ensures.value ∙ cells_rows headers targets c.len-width.result rows c.in_ok-cells.cells.items same some fits.1 in
     let none = subst (λ tests. first_that_holds tests ≡ None) (added_tests targets rows (table_in table) c.room.result c.room.ensures) fits.0 in
     omega (arith, room_left targets rows (table_in table) none, ap length is, length-map rows (row_for headers targets))
+
+pub returns-in_err-insert-clause-reply : goal.returns-in_err-insert-clause-reply
+returns-in_err-insert-clause-reply c =
+    let table = c.args.table.now in
+    let targets = target_columns table.headers c.args.columns.now in
+    let rows = c.args.rows in
+    let fits = rw c.headers.ensures.value at c.in_ok-cells.ensures in
+    let none = subst (λ tests. first_that_holds tests ≡ None) (added_tests targets rows (table_in table) c.room.result c.room.ensures) fits.0 in
+    passed_on (insert_tests targets rows (table_in table)) c.from_residual-in_err-insert.result _ _ (inl (none, refl)) c.from_residual-in_err-insert.ensures.1
 
 pub returns-clause-reply : goal.returns-clause-reply
 returns-clause-reply c =
