@@ -163,7 +163,7 @@ says_too_large store tree bytes long = subst (λ b. MatchBool b (content.TooLarg
 
 -- what was answered, where a file was asked for
 pub reading_bytes : (store : Store) (tree : StatementTree) (name : List ℕ) (bytes : Bor (List ℕ)) (reply : Reply) (after : Store) → Some name ≡ file_read (file_use store tree) → Replies store tree (file.Bytes bytes) reply after
-    → (said : Content) × SaysTo store tree bytes.now said × Step store said tree reply after
+    → WantsMemory store tree reply after ⊎ ((said : Content) × SaysTo store tree bytes.now said × Step store said tree reply after)
 reading_bytes store tree name bytes reply after is replies = subst (λ read. RepliesBy read store tree (file.Bytes bytes) reply after) (sym is) replies
 
 pub reading_missing : (store : Store) (tree : StatementTree) (name : List ℕ) (reply : Reply) (after : Store) → Some name ≡ file_read (file_use store tree) → Replies store tree file.Unreadable reply after → Step store content.Missing tree reply after

@@ -61,7 +61,7 @@ few_bytes (Some other) table is free =
     subst (λ t. nat_lt file_limit (filed_length t) ≡ false) same (if_none (nat_lt file_limit (filed_length other)) FileTooLarge None free).0
 
 bytes_fit : (bytes : List ℕ) (table : Table) → HoldsBy Second bytes table → nat_lt file_limit (filed_length table) ≡ false → nat_lt file_limit (length bytes) ≡ false
-bytes_fit bytes table holds few = ap (nat_lt file_limit) (ap length holds.spells.bytes_are ∙ length-spelling Second (filed table) holds.spells.table) ∙ few
+bytes_fit bytes table holds few = ap (nat_lt file_limit) (ap length holds.spells.bytes_are ∙ length-spelling Second (filed table)) ∙ few
 
 module _ (before after : State) (name file : List ℕ) (n : ℕ) (known : IsSome before.files) where
   by_saved : refused_early before.store (save name file) ≡ None → IsSaved before (save name file) file (Count n) after → Saved before.store name file n after.files
@@ -100,11 +100,11 @@ open_free store name file none room =
     ap (λ there. if is_some there then Some TableExists else if nat_le table_limit (length store) then Some OverLimit else None) none
     ∙ ap (λ full. if full then Some OverLimit else None) (lt-leb table_limit (length store) room)
 
--- bytes that hold a table and are few enough say just that table to an OPEN
--- bytes by the second version hold the table
+-- bytes that hold a table by the second version hold it
 pub held_by : (bytes : List ℕ) (table : Table) → HoldsBy Second bytes table → Holds bytes table
 held_by bytes table holds = record { wide = holds.wide; spells = inr holds.spells }
 
+-- bytes that hold a table and are few enough say just that table to an OPEN
 module _ (bytes : List ℕ) (table : Table) (holds : Holds bytes table) (fits : nat_lt file_limit (length bytes) ≡ false) where
   read_held : (said : Content) → IsTableIn bytes said → said ≡ content.Held table
   read_held (content.Held other) is = ap content.Held (one_held bytes other table is holds)

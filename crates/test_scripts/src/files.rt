@@ -265,12 +265,13 @@ fn bytes_that_are_no_table_of_the_first_version(rt: HostRuntime) {
     );
 }
 
-// With any byte in any place a file is no table, or is saved again as it was.
+// With another byte in any place a file is no table, or is saved again as it was: each fifth value of a byte, 0 and 255
+// among them.
 #[test]
 fn each_byte_of_a_table_file(rt: HostRuntime) {
     for at in 0..32 {
-        for byte in 0..=255 {
-            check_opened_or_refused(&rt, &saved_but(at, byte));
+        for fifth in 0..=51 {
+            check_opened_or_refused(&rt, &saved_but(at, 5 * fifth));
         }
     }
 }
