@@ -5,7 +5,7 @@ use Rattle.std.specs.List.{All}
 use Rattle.std.proofs.lemmas.List.Elements.{All-head, All-nil, All-tail}
 use Rattle.bw_mask.specs.Masks.{MaskRows}
 use Rattle.bw_code.specs.Encodings.{kind_of}
-use Rattle.bw_code.specs.Types.{IsNullOrOfType, IsRowOf, holds, holds_its_type, types_of}
+use Rattle.bw_code.specs.Types.{IsNullOrOfType, IsRowOf, holds_its_type, types_of}
 use Rattle.bw_code.specs.declared.encoding.Encoding.{Encoding}
 use Rattle.bw_code.specs.declared.header.Header.{Header}
 use Rattle.bw_code.specs.declared.kind.ColumnType.TheVariants.{Integer}

@@ -24,12 +24,12 @@ loop-k-preserved c =
     let this : is_null_or_of_type (get_or types k Integer) (get_or c.args.row.now k None) ≡ true =
     ap (λ t. is_null_or_of_type t (get_or c.args.row.now k None)) (sym (c.column_type.ensures Integer)) ∙ sym c.is_null_or_of_type.ensures ∙ c.if-not-is_null_or_of_type.false in
     λ i h.
-        elim (cases_lt i k) [
-          | inl before ↦ c.loop-k.invariant i before
-          | inr past ↦
-              let same : k ≡ i = omega (arith, h, past) in
-              subst (λ n. is_null_or_of_type (get_or types n Integer) (get_or c.args.row.now n None) ≡ true) same this
-        ]
+    elim (cases_lt i k) [
+      | inl before ↦ c.loop-k.invariant i before
+      | inr past ↦
+          let same : k ≡ i = omega (arith, h, past) in
+          subst (λ n. is_null_or_of_type (get_or types n Integer) (get_or c.args.row.now n None) ≡ true) same this
+    ]
 
 pub returns : goal.returns
 returns c =

@@ -24,5 +24,5 @@ returns-in-Listed c =
     let list = c.in-Listed.names.now in
     let there : c.args.k < length list = rw c.in-Listed.is at c.requires in
     λ d.
-        c.type_named.ensures ∙ ap (type_named headers) c.index-names-k.is ∙ sym (get_or-mapped (type_named headers) list c.args.k c.index-names-k.result d there)
-        ∙ ap (λ t. get_or (types_named headers (names_of headers t)) c.args.k d) (sym c.in-Listed.is)
+    c.type_named.ensures ∙ ap (type_named headers) c.index-names-k.is ∙ sym (get_or-mapped (type_named headers) list c.args.k c.index-names-k.result d there)
+    ∙ ap (λ t. get_or (types_named headers (names_of headers t)) c.args.k d) (sym c.in-Listed.is)
