@@ -1,6 +1,6 @@
 -- What an UPDATE and a REBUILD answer by their tests.
 -- of an UPDATE those that look at no row come first
-use Rattle.std.proofs.Common.{◌≡◌, ◌∙◌, Bool, true, false, not, List, [], ◌∷◌, ◌++◌, None, Option, Some, Result, Ok, Err, IsErrAnd, MatchResult, inl, inr, sym, ap, subst, ◌⊎◌}
+use Rattle.std.proofs.Common.{◌≡◌, ◌∙◌, Bool, true, false, not, [], ◌∷◌, ◌++◌, None, Option, Some, Result, Ok, Err, IsErrAnd, inl, inr, sym, ap, ◌⊎◌}
 use Rattle.bw_model.specs.Refusals.{Tests, first_that_holds}
 use Rattle.bw_model.specs.declared.refusal.Refusal.{Refusal}
 use Rattle.bw_model.specs.declared.refusal.Refusal.TheVariants.{LayoutTooNarrow, OutOfMemory, OutOfRange}

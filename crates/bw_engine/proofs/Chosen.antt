@@ -1,5 +1,5 @@
 -- Headers of columns that are laid anew.
-use Rattle.std.proofs.Common.{◌≡◌, ◌∙◌, ℕ, ◌<◌, Bool, true, false, ◌||◌, not, IsTrue, List, [], ◌∷◌, Option, None, Some, Result, Ok, Err, OnOk, OnErr, ap, arith, get_or, if◌then◌else◌, length, map, option_map, refl, subst, suc, sym, zero}
+use Rattle.std.proofs.Common.{◌≡◌, ◌∙◌, ℕ, ◌<◌, Bool, true, false, not, IsTrue, List, [], ◌∷◌, Option, None, Some, Result, Ok, Err, OnOk, OnErr, ap, arith, get_or, if◌then◌else◌, length, map, option_map, refl, subst, suc, sym, zero}
 use Rattle.std.specs.List.{list_any}
 use Rattle.std.specs.Str.{bytes_eq}
 use Rattle.std.proofs.lemmas.Bool.{true≢false}

@@ -1,12 +1,11 @@
 -- What an UPDATE copies in the found slots is what it copies in the found rows.
-use Rattle.std.proofs.Common.{◌≡◌, ◌∙◌, ℕ, ◌+◌, ◌<◌, Bool, true, false, ◌&&◌, List, [], ◌∷◌, get_or, if◌then◌else◌, length, map, Option, None, Some, zero, suc, refl, sym, ap, arith}
+use Rattle.std.proofs.Common.{◌≡◌, ◌∙◌, ℕ, ◌+◌, ◌<◌, Bool, true, false, ◌&&◌, List, [], ◌∷◌, get_or, if◌then◌else◌, length, map, Option, None, Some, suc, refl, sym, ap, arith}
 use Rattle.std.specs.Prelude.{option_map}
 use Rattle.std.specs.List.{filter, list_all, range_with_len}
 use Rattle.std.proofs.lemmas.List.{get_or-map, length-map}
 use Rattle.bw_mask.specs.Masks.{MaskRows, len, row_at}
 use Rattle.bw_code.specs.Types.{is_null_or_of_type, types_of}
 use Rattle.bw_table.specs.Changes.{copies_fit, rows_found, sets_fit, value_for}
-use Rattle.bw_table.specs.Changes as tables
 use Rattle.bw_table.specs.Slots.{Slot, live_slot, slot_at}
 use Rattle.bw_table.specs.declared.setting.SetTo.{SetTo}
 use Rattle.bw_sql.specs.Tree.{ConditionTree}
@@ -46,7 +45,7 @@ places_where f test a (row ∷ rows) same =
 
     by : (b : Bool) → f a ≡ row → map f (filter test (range_with_len (a + 1) (length rows))) ≡ rows_where (λ i. test (a + suc i)) rows
         → map f (if b then a ∷ filter test (range_with_len (a + 1) (length rows)) else filter test (range_with_len (a + 1) (length rows)))
-            ≡ (if b then row ∷ rows_where (λ i. test (a + suc i)) rows else rows_where (λ i. test (a + suc i)) rows)
+        ≡ (if b then row ∷ rows_where (λ i. test (a + suc i)) rows else rows_where (λ i. test (a + suc i)) rows)
     by true here others = λ j. here j ∷ others j
     by false here others = others
 

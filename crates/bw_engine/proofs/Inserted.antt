@@ -1,15 +1,15 @@
 -- The rows of an INSERT, flat and as the table takes them.
-use Rattle.std.proofs.Common.{◌≡◌, ◌∙◌, ℕ, ◌+◌, ◌*◌, ◌/◌, ◌<◌, ◌≤◌, List, [], ◌∷◌, ◌++◌, Option, None, Some, ap, arith, drop, get_or, length, map, position, refl, suc, sym, take, true, zero}
-use Rattle.std.specs.List.{All, list_all}
+use Rattle.std.proofs.Common.{◌≡◌, ◌∙◌, ℕ, ◌+◌, ◌*◌, ◌/◌, ◌<◌, ◌≤◌, List, [], ◌∷◌, ◌++◌, ap, arith, drop, get_or, length, map, position, refl, suc, sym, take, zero}
+use Rattle.std.specs.List.{All}
 use Rattle.std.specs.Str.{bytes_eq}
 use Rattle.std.proofs.lemmas.List.{drop-drop, drop_at, length-map, take_at}
-use Rattle.std.proofs.lemmas.List.Elements.{All-cons, All-head, All-nil, All-tail}
+use Rattle.std.proofs.lemmas.List.Elements.{All-head, All-tail}
 use Rattle.bw_code.proofs.Lists.{made_is}
 use Rattle.bw_table.specs.Rows.{AreWholeRows, row_from, rows_from}
 use Rattle.bw_table.specs.Slots.{Slot, live_slots, slot_limit}
 use Rattle.bw_sql.specs.Rows.{joined}
 use Rattle.bw_model.specs.Insert.{row_for}
-use Rattle.bw_model.specs.Store.{Header, Row, Value, row_limit, value_at, value_from}
+use Rattle.bw_model.specs.Store.{Header, Row, Value, row_limit, value_from}
 use Rattle.bw_model.proofs.Lines.{All-map, count-of, length-joined, length-joined_map}
 use Rattle.bw_engine.specs.Stores.{rows_in}
 

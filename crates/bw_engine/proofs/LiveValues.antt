@@ -1,15 +1,15 @@
 -- The values of a column in the live slots, with NULL for each dead one.
-use Rattle.std.proofs.Common.{◌≡◌, ◌∙◌, ℕ, ℤ, ◌+◌, ◌<◌, ◌≤◌, Bool, true, false, List, [], ◌∷◌, Option, None, Some, ap, arith, drop, get_or, if◌then◌else◌, inl, inr, length, map, refl, sym, take}
+use Rattle.std.proofs.Common.{◌≡◌, ◌∙◌, ℕ, ◌+◌, ◌<◌, ◌≤◌, List, [], ◌∷◌, None, Some, ap, arith, drop, get_or, if◌then◌else◌, inl, inr, length, map, refl, sym, take}
 use Rattle.std.proofs.lemmas.Bool.{cases_Bool}
 use Rattle.std.proofs.lemmas.List.{ext_get_or, get_or-drop, get_or-map, get_or-take, length-drop, length-map, length-take-le}
 use Rattle.bw_cells.specs.Known.{known}
 use Rattle.bw_code.proofs.Lists.{made_at, made_is, made_len}
 use Rattle.bw_column.specs.Copies.{masked}
 use Rattle.bw_column.specs.Values as values
-use Rattle.bw_mask.specs.Masks.{MaskRows, len, row_at}
-use Rattle.bw_table.specs.Slots.{Slot, live_slot, live_slots, slot_at, slot_column}
+use Rattle.bw_mask.specs.Masks.{MaskRows, row_at}
+use Rattle.bw_table.specs.Slots.{Slot, live_slot, slot_at, slot_column}
 use Rattle.bw_model.specs.Filing.{column_of}
-use Rattle.bw_model.specs.Store.{Row, Value, value_at}
+use Rattle.bw_model.specs.Store.{Value, value_at}
 use Rattle.bw_engine.specs.Stores.{rows_in}
 use Rattle.bw_engine.proofs.SetRows.{same_value}
 

@@ -98,7 +98,7 @@ module _ (tables : Stored) (name : List ℕ) (table : StoredTable) (there : look
     pub changes_after : (early tests : Table → Tests) (says : Table → Reply) (change : Table → Table) (r : Result Reply Refusal)
         → AnswersAfter (early (table_in table)) (tests (table_in table)) r (λ reply. (reply ≡ says (table_in table)) × (table_in new ≡ change (table_in table)))
         → AnswersAfter (over (table_of (store_of tables) name) early) (over (table_of (store_of tables) name) tests) r
-            (λ reply. ◌≡◌ {A = Reply × Store} (reply, store_of after) (says (table_or_none (table_of (store_of tables) name)), with_table (store_of tables) name change))
+        (λ reply. ◌≡◌ {A = Reply × Store} (reply, store_of after) (says (table_or_none (table_of (store_of tables) name)), with_table (store_of tables) name change))
     changes_after early tests says change (Ok reply) answers =
         let replied = answers.1.0 ∙ ap (λ o. says (table_or_none o)) (sym is_there) in
         let stored = ap store_of is ∙ changed_in tables name table new change there answers.1.1 in

@@ -16,9 +16,7 @@ ghost use Rattle.bw_plan.specs.Checks.{Answers};
 use crate::found::found_slots;
 use crate::table::Table;
 use bw_model::{Refusal, Reply};
-use bw_plan::{
-    check_choices, chooses_too_narrow, resolve_delete, resolve_rebuild, resolve_update,
-};
+use bw_plan::{check_choices, chooses_too_narrow, resolve_delete, resolve_rebuild, resolve_update};
 use bw_sql::{Condition, Delete, LayoutChoice, Name, Rebuild, SetClause, Update};
 use indexmap::IndexMap;
 use std::alloc::Global;

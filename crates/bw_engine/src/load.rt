@@ -17,9 +17,9 @@ ghost use Rattle.bw_engine.specs.Files.{AnswersFile, CarriesFile, IsAnswered, Sa
 ghost use Rattle.bw_engine.specs.StoredChanges.{ChangesStored, Grows};
 ghost use Rattle.bw_engine.specs.Stores.{rows_in, store_of, table_in};
 
+use crate::create::COLUMN_LIMIT;
 use crate::file_answer::{FileAnswer, bytes_of};
 use crate::table::Table;
-use crate::create::COLUMN_LIMIT;
 use bw_code::ColumnType;
 use bw_csvload::{Cells, CsvRows, FirstRecord as CsvFirst, rows};
 use bw_model::{Refusal, Reply};

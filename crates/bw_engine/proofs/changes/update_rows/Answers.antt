@@ -1,4 +1,4 @@
-use Rattle.std.proofs.Common.{◌≡◌, ◌∙◌, [], ◌∷◌, ap, inl, inr, not, option_map, refl}
+use Rattle.std.proofs.Common.{◌∙◌, ap, option_map}
 use Rattle.std.specs.List.{list_all}
 use Rattle.bw_sql.specs.Tree.{condition_of}
 use Rattle.bw_model.specs.Condition.{found_rows}

@@ -1,4 +1,4 @@
-use Rattle.std.proofs.Common.{◌∙◌, ◌==◌, ◌||◌, ap, is_some, length, map, nat_le, nat_lt, not, sym}
+use Rattle.std.proofs.Common.{◌∙◌, ◌==◌, ◌||◌, ap, is_some, length, nat_le, nat_lt, not, sym}
 use Rattle.std.proofs.lemmas.List.{length-map}
 use Rattle.bw_model.specs.Store.{are_distinct, column_limit, header_of, table_limit}
 use Rattle.bw_model.proofs.Names.{names_of_definitions, narrow_of_definitions}

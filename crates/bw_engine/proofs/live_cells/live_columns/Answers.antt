@@ -1,8 +1,6 @@
-use Rattle.std.proofs.Common.{ap, arith, length, map, subst, sym, take, ◌∙◌, ◌≡◌, ◌≤◌}
-use Rattle.std.specs.List.{AllZip}
+use Rattle.std.proofs.Common.{ap, arith, length, sym, ◌∙◌, ◌≡◌, ◌≤◌}
 use Rattle.std.proofs.lemmas.List.{length-map, take_all}
 use Rattle.std.proofs.lemmas.List.FromFn.{length-map-range_with_len}
-use Rattle.bw_code.specs.Types.{IsTyped}
 use Rattle.bw_model.specs.Filing.{column_of}
 use Rattle.bw_engine.specs.Saving.{saved_cells}
 use Rattle.bw_engine.specs.Stores.{rows_in}

@@ -1,4 +1,4 @@
-use Rattle.std.proofs.Common.{◌≡◌, length, map, take}
+use Rattle.std.proofs.Common.{◌≡◌, map, take}
 use Rattle.std.specs.List.{AllZip, range_with_len}
 use Rattle.bw_code.specs.Types.{IsTyped}
 use Rattle.bw_model.specs.Filing.{column_of}

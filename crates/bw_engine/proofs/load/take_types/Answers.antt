@@ -1,4 +1,4 @@
-use Rattle.std.proofs.Common.{ap, arith, get_or, get_or-set_other, get_or-set_same, inl, inr, length, length-set, set, subst, sym, ◌∙◌, ◌≡◌}
+use Rattle.std.proofs.Common.{arith, get_or, get_or-set_other, get_or-set_same, inl, inr, length, length-set, set, subst, sym, ◌∙◌, ◌≡◌}
 use Rattle.std.proofs.lemmas.Bool.{cases_lt}
 use Rattle.std.proofs.lemmas.List.{ext_get_or, get_or-map, length-map}
 use Rattle.bw_code.specs.Types.{types_of}

@@ -3,7 +3,6 @@ use Rattle.std.specs.Prelude.{map}
 use Rattle.std.specs.List.{All, range_with_len}
 use Rattle.std.proofs.lemmas.List.{length-map}
 use Rattle.bw_file.specs.Format.{spelled_length}
-use Rattle.bw_file.specs.Table as file
 use Rattle.bw_file.specs.declared.version.Version.TheVariants.{Second}
 use Rattle.bw_model.specs.Filing.{column_of}
 use Rattle.bw_model.specs.Store.{Row, value_at}

@@ -1,4 +1,4 @@
-use Rattle.std.proofs.Common.{[], None, arith, get_or, get_or-set_other, get_or-set_same, inl, inr, length, length-set, map, set, subst, sym, ◌∙◌, ◌≡◌}
+use Rattle.std.proofs.Common.{None, arith, get_or, get_or-set_other, get_or-set_same, inl, inr, length, length-set, map, set, subst, sym, ◌∙◌, ◌≡◌}
 use Rattle.std.specs.List.{range_with_len}
 use Rattle.std.proofs.lemmas.Bool.{cases_lt}
 use Rattle.std.proofs.lemmas.List.{get_or_default}

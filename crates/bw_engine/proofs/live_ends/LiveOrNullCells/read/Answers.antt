@@ -1,4 +1,4 @@
-use Rattle.std.proofs.Common.{ap, arith, drop, length, take, ◌+◌, ◌≡◌, ◌≤◌, ◌∙◌}
+use Rattle.std.proofs.Common.{ap, arith, drop, length, take, ◌+◌, ◌≤◌, ◌∙◌}
 use Rattle.bw_engine.proofs.LiveValues.{masked_long, masked_run, run_long}
 use Rattle.bw_engine.proofs.live_ends.LiveOrNullCells.read.Goals as goal
 
