@@ -14,8 +14,8 @@ use Rattle.bw_column.specs.Values.{IsNullOrInteger, value_at}
 use Rattle.bw_code.proofs.Lists.{made_at, made_len}
 use Rattle.bw_table.specs.Changes.{type_at}
 use Rattle.bw_table.specs.Rows.{AreWholeRows, row_from, rows_from}
+use Rattle.bw_table.specs.Tables.{HoldTypes}
 use Rattle.bw_table.specs.declared.choice.Choice.{Choice}
-use Rattle.bw_table.proofs.Heads.{HoldTypes}
 use Rattle.bw_table.proofs.Typed.{of_any}
 
 pub are_whole : (width : ℕ) (cells : List (Option ℤ)) → 0 < width → length cells / width * width ≡ length cells → AreWholeRows width cells
