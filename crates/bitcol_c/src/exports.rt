@@ -140,9 +140,9 @@ fn answers(rt: HostRuntime) {
     assert!(rt; bitcol_reply(&mut handle, 0, &mut replies) == 13);
     assert!(rt; replies == *b"ok 2\nA\n3\nNULL");
     let mut size = 0;
-    let mut bytes = [0u8; 27];
-    assert!(rt; bitcol_file(&mut handle, b"x", &mut bytes[..26], &mut size) == 46);
-    assert!(rt; size == 27);
+    let mut bytes = [0u8; 30];
+    assert!(rt; bitcol_file(&mut handle, b"x", &mut bytes[..29], &mut size) == 46);
+    assert!(rt; size == 30);
     assert!(rt; bitcol_file(&mut handle, b"x", &mut bytes, &mut size) == 0);
     assert!(rt; bitcol_file(&mut handle, b"y", &mut bytes, &mut size) == 40);
     assert!(rt; bitcol_put_file(&mut handle, b"y", &bytes) == 0);
