@@ -61,7 +61,7 @@ static void files(void) {
     check(bitcol_file(&store, bytes_of("a.csv"), 5, file, 3, &length) == BITCOL_NO_ROOM && length == 4, "no room");
     check(bitcol_file(&store, bytes_of("a.csv"), 5, file, 4, &length) == BITCOL_DONE && length == 4, "room enough");
     check(memcmp(file, "1\n2\n", 4) == 0, "the file's bytes");
-    check(bitcol_file(&store, bytes_of("t"), 1, file, sizeof file, &length) == BITCOL_DONE && length == 27, "a table file");
+    check(bitcol_file(&store, bytes_of("t"), 1, file, sizeof file, &length) == BITCOL_DONE && length == 30, "a table file");
     check(memcmp(file, "BITCOL", 6) == 0, "which begins so");
     bitcol_close(store);
 }

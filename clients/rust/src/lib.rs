@@ -170,7 +170,7 @@ mod tests {
         let script = "CREATE TABLE t (a INT); LOAD t FROM 'a.csv'; SAVE t TO 't';";
         assert_eq!(replies(&mut store, script), "ok\nok 2\nok 2\n");
         let saved = store.file("t").expect("it was saved");
-        assert_eq!((saved.len(), &saved[..6]), (27, b"BITCOL".as_slice()));
+        assert_eq!((saved.len(), &saved[..6]), (30, b"BITCOL".as_slice()));
         assert_eq!((store.file("empty"), store.file("none")), (Some(Vec::new()), None));
         let mut other = opened(OnError::Continue);
         other.put_file("u", &saved).expect("memory");
