@@ -43,6 +43,7 @@ from .errors import (
     InternalError,
     NotSupportedError,
     OperationalError,
+    OutOfTime,
     ProgramEnded,
     ProgrammingError,
     Refused,
@@ -52,7 +53,7 @@ from .errors import (
 )
 from .library import Library, find_library
 from .program import find_program
-from .reply import Reply
+from .reply import Reply, reply_of
 from .script import quoted
 from .session import Session, TableSize
 from .table import Table
@@ -85,6 +86,7 @@ __all__ = [
     "Library",
     "NotSupportedError",
     "OperationalError",
+    "OutOfTime",
     "ProgramEnded",
     "ProgrammingError",
     "Refused",
@@ -105,5 +107,6 @@ __all__ = [
     "find_program",
     "paramstyle",
     "quoted",
+    "reply_of",
     "threadsafety",
 ]

@@ -7,19 +7,21 @@ client reads replies while it still writes: neither can wait for the other.
 from __future__ import annotations
 
 import contextlib
+import math
 import os
 import select
 import signal
 import subprocess
 import tempfile
 import threading
+import time
 import weakref
 from collections.abc import Iterable, Iterator
 from pathlib import Path
 from typing import NoReturn
 
 from .door import Bytes
-from .errors import InterfaceError, OperationalError, ProgramEnded
+from .errors import InterfaceError, OperationalError, OutOfTime, ProgramEnded
 from .reply import ReplyBuffer
 from .script import PathLike
 
@@ -69,12 +71,14 @@ class Coprocess:
         self._sent = 0
         self._waits = False
         self._end: str | None = None
+        self._deadline: float | None = None
 
-    def answer(self, script: bytes, statements: int) -> list[bytes]:
+    def answer(self, script: bytes, statements: int, seconds: float | None = None) -> list[bytes]:
         """See Door. An interrupted call's statements may have been carried out, or may yet be; its replies are dropped.
         One that comes in the middle of a transfer ends the program, since replies could not be told apart after it."""
         with self._lock:
             self._ensure_usable(script)
+            self._deadline = None if seconds is None else time.monotonic() + seconds
             try:
                 # What an interrupted call left comes first.
                 self._finish()
@@ -137,10 +141,13 @@ class Coprocess:
     def _move(self) -> None:
         """Waits until a pipe is ready, and moves what it takes or has."""
         pipes = self._for_both if self._unsent else self._for_answers
+        left = None if self._deadline is None else max(0.0, self._deadline - time.monotonic())
         # Nothing is on its way here, so what interrupts this loses nothing.
         self._waits = True
-        ready = pipes.poll()
+        ready = pipes.poll(None if left is None else math.ceil(left * 1000))
         self._waits = False
+        if not ready:
+            self._end_late()
         for pipe, _ in ready:
             if pipe == self._answers:
                 self._receive()
@@ -171,6 +178,13 @@ class Coprocess:
         how = f"was killed by {signal.Signals(-status).name}" if status < 0 else f"ended with status {status}"
         self._end = f"the program {how}{': ' + said if said else ''}"
         raise ProgramEnded(f"{self._end}; its tables are gone")
+
+    def _end_late(self) -> NoReturn:
+        """Ends a program that took longer than it may."""
+        self._child.kill()
+        self._reap()
+        self._end = "a call took longer than it may, and the program was ended"
+        raise OutOfTime(f"{self._end}; its tables are gone")
 
     def _abandon(self, fault: BaseException) -> None:
         """Ends a program whose replies can't be told apart any more."""

@@ -30,11 +30,12 @@ class File(Protocol):
 class Door(Protocol):
     """A store that answers scripts. Tables live until it is closed."""
 
-    def answer(self, script: bytes, statements: int) -> list[bytes]:
+    def answer(self, script: bytes, statements: int, seconds: float | None = None) -> list[bytes]:
         """The bytes of the replies to a script of so many statements, one for each, in order.
 
         Each statement ends with its `;` and isn't blank. Raises InterfaceError where the door is closed, and
-        ProgramEnded where the store is gone.
+        ProgramEnded where the store is gone. Where the call may take no more than some seconds and takes longer, the
+        store is ended and OutOfTime is raised; NotSupportedError where a door can't end its store.
         """
 
     def scratch(self) -> AbstractContextManager[File]:

@@ -7,9 +7,11 @@
             DataError             a value that no column or statement can hold
             OperationalError      the program can't be started, or was given more than it takes
                 ProgramEnded      .. the program ended, and its tables are gone
+                    OutOfTime     .. since a call took longer than it may
             ProgrammingError      a statement or a parameter that is wrong in itself
             NotSupportedError     what the store, or a package that isn't installed, would have to do
-            IntegrityError, InternalError     never raised: PEP 249 asks for the names
+            IntegrityError        never raised: PEP 249 asks for the name
+            InternalError         what parts of a table answer contradicts what they answered before
             Refused               the store refused a statement, and says so by a number and a text
                 StatementRefused  .. because of what the statement says; a ProgrammingError too
                 DataRefused       .. because of a value or of a file's bytes; a DataError too
@@ -49,12 +51,16 @@ class ProgramEnded(OperationalError):
     """The program ended, and its tables are gone. The text tells how."""
 
 
+class OutOfTime(ProgramEnded):
+    """A call took longer than it may, and the program was ended. Its tables are gone."""
+
+
 class IntegrityError(DatabaseError):
     """Never raised: the store has no keys and no checks."""
 
 
 class InternalError(DatabaseError):
-    """Never raised: PEP 249 asks for the name."""
+    """What the parts of a table (bitcol.cluster) answer contradicts what they answered before."""
 
 
 class ProgrammingError(DatabaseError):

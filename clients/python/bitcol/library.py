@@ -12,7 +12,7 @@ from enum import IntEnum
 from pathlib import Path
 
 from .door import Bytes
-from .errors import InterfaceError, OperationalError
+from .errors import InterfaceError, NotSupportedError, OperationalError
 from .reply import ReplyBuffer
 from .script import PathLike
 
@@ -78,10 +78,12 @@ class Library:
         self._scratch_files: list[StoreFile] = []
         self._files_made = 0
 
-    def answer(self, script: bytes, statements: int) -> list[bytes]:
+    def answer(self, script: bytes, statements: int, seconds: float | None = None) -> list[bytes]:
         """See Door. An interrupt comes when the library has answered; the statements were carried out, and the replies
         are dropped. OperationalError where there is no memory for a reply: its statement was carried out, and what
-        follows it was not."""
+        follows it was not. A call can't be ended, so it has no limit of time."""
+        if seconds is not None:
+            raise NotSupportedError("a call of the library can't be ended: it has no limit of time")
         with self._lock:
             self._ensure_usable()
             end = self._calls.bitcol_answer(self._address, script, len(script))

@@ -70,6 +70,26 @@ class Session:
             return []
         return [reply_of(data) for data in self._door.answer(b"".join(statements), len(statements))]
 
+    def answers(self, statements: Sequence[str], seconds: float | None = None) -> list[bytes]:
+        """The bytes of the reply to each statement, as the program wrote them, refusals among them. All are sent at
+        once. Where they take longer than these seconds the store is ended, and OutOfTime is raised."""
+        scripts = [statement_of(checked_text(statement)) for statement in statements]
+        # A door that knows no limit of time serves as well, where none is given.
+        limit = () if seconds is None else (seconds,)
+        return self._door.answer(b"".join(scripts), len(scripts), *limit) if scripts else []
+
+    def put_table(self, table: str, data: Bytes) -> int:
+        """OPEN of these bytes of a table file: makes a new table of them, and gives the number of rows."""
+        with self._door.scratch() as file:
+            file.write([data])
+            return self.open(table, file.name)
+
+    def table_bytes(self, table: str) -> bytes:
+        """SAVE to bytes: the table file of a table."""
+        with self._door.scratch() as file:
+            self.save(table, file.name)
+            return file.read()
+
     def write_table(
         self,
         table: str,
@@ -89,9 +109,7 @@ class Session:
 
     def read_table(self, table: str) -> Table:
         """All of a table."""
-        with self._door.scratch() as file:
-            self.save(table, file.name)
-            return Table.of_file(file.read())
+        return Table.of_file(self.table_bytes(table))
 
     def load(self, table: str, path: PathLike, header: bool = False) -> int:
         """LOAD: adds the rows of a CSV file to a table, all or none, and gives their number."""

@@ -53,6 +53,36 @@ class Statements(SessionTestCase):
         self.assertEqual([reply.refusal and reply.refusal.number for reply in replies], [None, 22, None])
         self.assertEqual(self.session.run(" -- nothing"), [])
 
+    def test_answers_are_the_bytes_of_replies(self) -> None:
+        wanted = [b"ok\n", b"ok 1\n", b"A\n7\nrows 1\n", b"error 20: no such table\n"]
+        statements = ["CREATE TABLE t (a INT)", "INSERT INTO t VALUES (7);", "SELECT a FROM t -- all", "SELECT a FROM u"]
+        self.assertEqual(self.session.answers(statements), wanted)
+        self.assertEqual(self.session.answers([]), [])
+        self.assertEqual(self.session.answers(["SELECT a FROM t"], 60), wanted[2:3])
+        with self.assertRaises(bitcol.ProgrammingError):
+            self.session.answers(["SELECT a FROM t; TABLES"])
+
+    def test_a_call_that_takes_longer_than_it_may(self) -> None:
+        with tempfile.TemporaryDirectory() as folder:
+            sleeper = Path(folder) / "sleeper"
+            sleeper.write_text("#!/bin/sh\nexec sleep 60\n")
+            sleeper.chmod(0o755)
+            session = self.new_session(program=sleeper)
+            with self.assertRaisesRegex(bitcol.OutOfTime, "took longer than it may"):
+                session.answers(["TABLES"], 0.2)
+            with self.assertRaises(bitcol.ProgramEnded):
+                session.execute("TABLES")
+
+    def test_tables_as_bytes(self) -> None:
+        self.session.run("CREATE TABLE t (a INT, b BIGINT); INSERT INTO t VALUES (1, NULL), (NULL, 5000000000)")
+        data = self.session.table_bytes("t")
+        other = self.new_session()
+        self.assertEqual(other.put_table("u", data), 2)
+        self.assertEqual(other.execute("SELECT * FROM u").rows(), [(1, None), (None, 5000000000)])
+        self.assertEqual(other.table_bytes("u"), data)
+        with self.assertRaises(bitcol.DataRefused):
+            other.put_table("v", data[:-1])
+
     def test_files_of_statements(self) -> None:
         with tempfile.TemporaryDirectory() as folder:
             csv, saved = Path(folder) / "it's; 1.csv", Path(folder) / "t.table"

@@ -1,0 +1,148 @@
+"""Changes: the parts of the next version. Nothing is changed where one of the tasks of a change fails."""
+
+from __future__ import annotations
+
+import os
+from collections.abc import Callable, Iterable, Sequence
+from typing import Any
+
+from ..errors import Error, Refused
+from ..reply import reply_of
+from ..script import PathLike
+from . import making
+from .groups import RETRIES
+from .holding import Place
+from .limit import Limit
+from .manifest import Manifest, Part
+from .merge import REFUSED
+
+# An INSERT goes to the last part as long as that has no more rows than these.
+GATHERED_ROWS = 2**20
+# How many files at fault one error names.
+FAULTS_NAMED = 10
+
+
+class Changes:
+    """What makes the parts of the version after one."""
+
+    def __init__(self, client: Any, place: Place, manifest: Manifest) -> None:
+        self._client, self._place = client, place
+        self._definition, self._columns = manifest.definition, manifest.columns
+        self._parts = manifest.parts
+
+    def loaded(self, files: Iterable[PathLike], header: bool, most_bytes: int, most_rows: int) -> list[Part]:
+        """The parts of the rows of CSV files, a file's in order, or the error that names each file at fault."""
+        paths = [os.path.abspath(file) for file in files]
+        limits: dict[str, Any] = {"header": header, "most_bytes": most_bytes, "most_rows": most_rows}
+        made = self._pieces_loaded(self._map(making.cut_csv, paths, is_forced=False, **limits))
+        # What a table can't hold as a whole is cut.
+        long = [number for number, some in enumerate(made) if len(some) == 1 and _is_too_long(some[0])]
+        cuts = self._map(making.cut_csv, [paths[number] for number in long], is_forced=True, **limits)
+        again = self._pieces_loaded(cuts)
+        for number, some in zip(long, again):
+            made[number] = some
+        found = [_file_made(some, header) for some in made]
+        return [part for some in _without_faults(found) for part in some]
+
+    def _pieces_loaded(self, cuts: Sequence[list[making.Piece] | Error]) -> list[list[Part | Error]]:
+        """Of each file what its pieces became, or the error for which it couldn't be cut."""
+        pieces = [(number, piece) for number, some in enumerate(cuts) if not isinstance(some, Error) for piece in some]
+        loaded = self._map(
+            making.load_piece, [piece for _, piece in pieces], place=self._place, definition=self._definition
+        )
+        made: list[list[Part | Error]] = [[some] if isinstance(some, Error) else [] for some in cuts]
+        for (number, _), part in zip(pieces, loaded):
+            made[number].append(part)
+        return made
+
+    def attached(self, files: Iterable[PathLike]) -> list[Part]:
+        """The parts of the rows of table files, or the error that names each file at fault."""
+        paths = [os.path.abspath(file) for file in files]
+        found: list[Part | Error] = self._map(making.attach_file, paths, place=self._place, columns=self._columns)
+        return _without_faults(found)
+
+    def changed(self, statement: str, counts: Sequence[int] | None) -> tuple[bytes, list[Part]]:
+        """The reply to an UPDATE or DELETE, and the parts that it leaves. `counts` are the rows that it finds in each
+        part, where that is known: only those in which it finds one are changed."""
+        if counts is None or not any(counts):
+            # A table without rows refuses the statement as well, and is made at once.
+            ((reply, _),) = self._statement([None], statement)
+            if counts is not None or reply.startswith(REFUSED):
+                return reply, list(self._parts)
+        found = [number for number in range(len(self._parts)) if counts is None or counts[number]]
+        told = self._statement([self._parts[number] for number in found], statement)
+        parts = list(self._parts)
+        count = 0
+        for number, (reply, part) in zip(found, told):
+            if reply.startswith(REFUSED):
+                return reply, list(self._parts)
+            parts[number] = part
+            count += reply_of(reply).count or 0
+        return b"ok %d\n" % count, parts
+
+    def inserted(self, statement: str) -> tuple[bytes, list[Part]]:
+        """The reply to an INSERT, and the parts that it leaves: few rows are gathered in the last part."""
+        last = self._parts[-1] if self._parts[-1].rows <= GATHERED_ROWS else None
+        ((reply, part),) = self._statement([last], statement)
+        front = self._parts if last is None else self._parts[:-1]
+        return reply, [*front, part] if part is not None else list(self._parts)
+
+    def put_together(self, most_rows: int) -> list[Part]:
+        """The parts, those that follow one another put together up to so many rows."""
+        runs: list[list[Part]] = []
+        for part in self._parts:
+            if runs and sum(each.rows for each in runs[-1]) + part.rows <= most_rows:
+                runs[-1].append(part)
+            else:
+                runs.append([part])
+        long = [run for run in runs if len(run) > 1]
+        made = iter(self._made(making.put_together, long, place=self._place, definition=self._definition))
+        return [next(made) if len(run) > 1 else run[0] for run in runs]
+
+    def _statement(self, parts: Sequence[Part | None], statement: str) -> list[tuple[bytes, Any]]:
+        return self._made(
+            making.change_part, parts, place=self._place, definition=self._definition, statement=statement
+        )
+
+    def _made(self, call: Callable[..., Any], each: Sequence[Any], **rest: Any) -> list[Any]:
+        """What tasks make. The first error is raised."""
+        found = self._map(call, each, **rest)
+        for made in found:
+            if isinstance(made, Error):
+                raise made
+        return found
+
+    def _map(self, call: Callable[..., Any], each: Sequence[Any], **rest: Any) -> list[Any]:
+        if not each:
+            return []
+        futures = self._client.map(call, list(each), pure=False, retries=RETRIES, **rest)
+        found: list[Any] = self._client.gather(futures)
+        return found
+
+
+def _is_too_long(made: Part | Error) -> bool:
+    return isinstance(made, Refused) and made.number in making.CUT_FOR
+
+
+def _file_made(made: Sequence[Part | Error], header: bool) -> list[Part] | Error:
+    """The parts of a file, or its first error, in which a record has its number in the file."""
+    parts: list[Part] = []
+    for each in made:
+        if isinstance(each, Error):
+            records = sum(part.rows for part in parts) + (1 if header and parts else 0)
+            return making.counted_from(each, records)
+        parts.append(each)
+    return parts
+
+
+def _without_faults(found: Sequence[Any]) -> list[Any]:
+    """What was made of files. Where some are at fault, one error names them, and is of the kind of the first."""
+    faults = [made for made in found if isinstance(made, Error)]
+    if faults:
+        named = "; ".join(_text(fault) for fault in faults[:FAULTS_NAMED])
+        raise making.with_text(faults[0], f"{named} ({len(faults)} of {len(found)} files at fault; nothing is changed)")
+    return list(found)
+
+
+def _text(fault: Error) -> str:
+    return fault.text if isinstance(fault, Refused) else str(fault)

@@ -1,0 +1,50 @@
+"""A limit of time for a question, over all of its rounds, and the waiting for answers under it."""
+
+from __future__ import annotations
+
+import time
+from collections.abc import Sequence
+from importlib import import_module
+from typing import Any
+
+from ..errors import Error, OutOfTime
+
+# How much longer than a worker the client waits: the worker tells which part it was.
+GRACE = 2.0
+
+
+class Limit:
+    """The time by which a question is to be answered, if there is one."""
+
+    def __init__(self, seconds: float | None) -> None:
+        self._end = None if seconds is None else time.monotonic() + seconds
+
+    def left(self) -> float | None:
+        """How many seconds are left, and None where there is no limit. OutOfTime where there are none."""
+        if self._end is None:
+            return None
+        left = self._end - time.monotonic()
+        if left <= 0:
+            raise OutOfTime("the question took longer than it may")
+        return left
+
+    def gathered(self, client: Any, futures: Sequence[Any]) -> list[Any]:
+        """What tasks give. An error that one gives is raised. Where they take too long they are given up."""
+        left = self.left()
+        if left is not None:
+            self._wait(client, futures, left + GRACE)
+        found = client.gather(list(futures))
+        for each in found:
+            if isinstance(each, Error):
+                raise each
+        return list(found)
+
+    def _wait(self, client: Any, futures: Sequence[Any], seconds: float) -> None:
+        distributed = import_module("distributed")
+        try:
+            distributed.wait(list(futures), timeout=seconds)
+        except Exception as fault:
+            if "Timeout" not in type(fault).__name__:
+                raise
+            client.cancel(list(futures))
+            raise OutOfTime("the question took longer than it may, and no worker answered it") from None

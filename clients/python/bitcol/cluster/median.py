@@ -1,0 +1,78 @@
+"""The exact median of several parts, by rounds of counts.
+
+The lower median of n values is the least value at or below which lie half of them, rounded up (law: MEDIAN BY COUNTS).
+So it is found by counts alone, which add up: it lies between the least and the greatest of the parts' own medians, and
+each round leaves a part of that range. Each round checks that the range still holds the median.
+"""
+
+from __future__ import annotations
+
+from collections.abc import Iterator, Sequence
+from itertools import islice
+from typing import Any
+
+from ..errors import InternalError
+from .select import Select
+
+# How many values inside of a range are tried in a round, besides its ends.
+PROBES = 3
+# Where a range holds no more values than these, they are fetched.
+FEW_VALUES = 100_000
+# The most groups of which medians are looked for.
+GROUP_LIMIT = 256
+
+
+class Search:
+    """A median that is looked for: the value of some rank in a column, between `low` and `high`. Once these are equal
+    it is found. Cells of a group have the pair of ends at `place`, and get the median there."""
+
+    def __init__(
+        self, select: Select, column: str, terms: Sequence[str], count: int, cells: list[Any], place: int
+    ) -> None:
+        self._select, self._column, self._terms = select, column, terms
+        self._cells, self._place = cells, place
+        self._rank = (count + 1) // 2
+        self._below = 0
+        self._points: list[int] = []
+        self.inside = count
+        ends = cells[place]
+        self.low, self.high = ends if ends is not None else (None, None)
+        self._tell()
+
+    @property
+    def is_open(self) -> bool:
+        """Whether the median isn't known yet."""
+        return bool(self.low != self.high)
+
+    def probes(self) -> list[str]:
+        """Statements that count the values below the range, and those up to some in it, the last of which is its
+        end."""
+        span, steps = self.high - self.low, PROBES + 1
+        self._points = sorted({self.low + span * step // steps for step in range(1, steps + 1)})
+        # The least value less one may be no literal, so the lower end is asked for by `<`.
+        terms = [f"{self._column} < {self.low}", *(f"{self._column} <= {point}" for point in self._points)]
+        return [self._select.narrowed("COUNT(*)", *self._terms, term) for term in terms]
+
+    def narrow(self, answers: Iterator[int]) -> None:
+        """Takes the answers to its probes, each the sum over all parts."""
+        counts = list(islice(answers, len(self._points) + 1))
+        if not counts[0] < self._rank <= counts[-1]:
+            raise InternalError("the ends of a median don't hold")
+        at = next(at for at, count in enumerate(counts) if count >= self._rank)
+        self._below, self.inside = counts[at - 1], counts[at] - counts[at - 1]
+        self.low, self.high = self.low if at == 1 else self._points[at - 2] + 1, self._points[at - 1]
+        self._tell()
+
+    def fetch(self) -> str:
+        """The statement whose rows are the values of the range."""
+        return self._select.narrowed(self._column, *self._terms, f"{self._column} BETWEEN {self.low} AND {self.high}")
+
+    def pick(self, values: list[int]) -> None:
+        """Takes all values of the range, of which one is the median."""
+        if len(values) != self.inside:
+            raise InternalError("the values of a median's range aren't as many as were counted")
+        self.low = self.high = sorted(values)[self._rank - self._below - 1]
+        self._tell()
+
+    def _tell(self) -> None:
+        self._cells[self._place] = self.low

@@ -1,0 +1,93 @@
+"""What several parts answer together, by what each of them answers.
+
+Each merge rests on a law over the definitions of set functions: what they say of the rows of two lists, one after the
+other, by what they say of each list. The laws are named where they are used.
+"""
+
+from __future__ import annotations
+
+from collections.abc import Iterable, Sequence
+from typing import Any, Union
+
+from ..errors import InternalError
+from ..reply import reply_of
+from .select import Item
+
+REFUSED = b"error "
+_LAST_LINE = b"rows "
+
+# What parts say of set functions: the cells of each group by the group's value, in the order of the items. Without
+# grouping all rows are the group (). A median is a pair of ends between which it lies.
+Groups = dict[Any, list[Any]]
+# Or the bytes of a refusal, which is the same for all parts.
+Folded = Union[Groups, bytes]
+
+
+def joined(replies: Sequence[bytes]) -> bytes:
+    """The reply to a SELECT of columns. Law: the found rows of two lists, one after the other, are those of the first
+    and then those of the second (FOUND ROWS OF TWO LISTS)."""
+    header = replies[0][: replies[0].index(b"\n") + 1]
+    ends = [reply.rindex(_LAST_LINE) for reply in replies]
+    count = sum(int(reply[end + len(_LAST_LINE) :]) for reply, end in zip(replies, ends))
+    bodies = (reply[len(header) : end] for reply, end in zip(replies, ends))
+    return b"".join([header, *bodies, b"rows %d\n" % count])
+
+
+def groups_of(reply: bytes, items: Sequence[Item], is_grouped: bool) -> Folded:
+    """What a part says of set functions. The first item is the grouping column where there is one."""
+    if reply.startswith(REFUSED):
+        return reply
+    found = reply_of(reply)
+    wanted = tuple(item.heading for item in items)
+    if found.headings != wanted:
+        raise InternalError(f"asked for {wanted}, and answered {found.headings}")
+    medians = [place for place, item in enumerate(items) if item.function == "MEDIAN"]
+    groups: Groups = {}
+    for row in found.rows():
+        cells = list(row)
+        for place in medians:
+            if cells[place] is not None:
+                cells[place] = (cells[place], cells[place])
+        groups[row[0] if is_grouped else ()] = cells
+    return groups
+
+
+def folded(found: Iterable[Folded], items: Sequence[Item]) -> Folded:
+    """What several parts, or folds of parts, say together. Law: a group of two lists, one after the other, is the group
+    of its value in each, put together; groups are ascending, that of NULL last (GROUPS OF TWO LISTS)."""
+    together: Groups = {}
+    for groups in found:
+        if isinstance(groups, bytes):
+            return groups
+        for value, cells in groups.items():
+            there = together.get(value)
+            together[value] = cells if there is None else [both(*each) for each in zip(items, there, cells)]
+    return together
+
+
+def both(item: Item, one: Any, other: Any) -> Any:
+    """What an item says of two lists of rows, by what it says of each.
+
+    Laws: COUNT and SUM of two lists are the sums of those of each, where SUM is NULL only if both are (COUNTS ADD UP,
+    SUMS ADD UP); MIN and MAX are the least and the greatest of those of each that aren't NULL (ENDS OF TWO LISTS). The
+    lower median of two lists lies between the lower medians of each (MEDIANS BOUND THE MEDIAN): fewer than half of each
+    list's values are below its own, and half of them or more are not above it.
+    """
+    if one is None or other is None:
+        return other if one is None else one
+    if item.function in ("COUNT", "SUM"):
+        return one + other
+    if item.function == "MEDIAN":
+        return min(one[0], other[0]), max(one[1], other[1])
+    return max(one, other) if item.function == "MAX" else min(one, other)
+
+
+def in_order(groups: Groups) -> list[Any]:
+    """The values of groups as an answer has them: ascending, NULL last."""
+    return sorted(groups, key=lambda value: (value is None, 0 if value is None else value))
+
+
+def reply_to(headings: Iterable[str], rows: Iterable[Sequence[Any]]) -> bytes:
+    """The bytes of a reply of these rows."""
+    lines = [",".join("NULL" if cell is None else str(cell) for cell in row) for row in rows]
+    return "\n".join([",".join(headings), *lines, f"rows {len(lines)}\n"]).encode()

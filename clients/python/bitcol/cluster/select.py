@@ -1,0 +1,121 @@
+"""What has to be known of a statement so that it can be asked of parts: its pieces, each as it was written.
+
+The program alone judges statements, and refuses them. A SELECT that it takes and this reader can't read is an error,
+never another answer.
+"""
+
+from __future__ import annotations
+
+import re
+from dataclasses import dataclass
+
+from ..script import NAME
+
+_TOKEN = re.compile(r"(--[^\n]*|[\t\n\r ]+)|'[^']*'|[A-Za-z0-9_]+|<>|!=|<=|>=|.", re.DOTALL)
+FUNCTIONS = ("COUNT", "SUM", "MIN", "MAX", "MEDIAN")
+
+
+@dataclass(frozen=True)
+class Item:
+    """An item of a select list: a set function of a column, or `*` for COUNT; or a column, whose function is None."""
+
+    function: str | None
+    column: str
+
+    @property
+    def heading(self) -> str:
+        """What the program writes above it, and a statement may have for it."""
+        return self.column if self.function is None else f"{self.function}({self.column})"
+
+
+class Tokens:
+    """The tokens of a statement, blanks and comments left out: `words` in upper case, and slices of the text."""
+
+    def __init__(self, statement: str) -> None:
+        self._statement = statement
+        self._found = [found for found in _TOKEN.finditer(statement) if found[1] is None]
+        # Of other letters than ASCII's some have one of these in upper case.
+        self.words = [found[0].upper() if found[0].isascii() else found[0] for found in self._found]
+
+    def between(self, first: int, end: int) -> str:
+        """The text from one token up to another, and not the blanks before that."""
+        inside = self._found[first:end]
+        return self._statement[inside[0].start() : inside[-1].end()] if inside else ""
+
+
+class Select:
+    """The pieces of a SELECT. `items` is None where the list is `*` or can't be read."""
+
+    def __init__(self, statement: str) -> None:
+        tokens = Tokens(statement)
+        words = tokens.words
+        self.verb = words[0] if words else ""
+        self.is_grouped = "GROUP" in words
+        self.list = self.source = self.table = ""
+        self.condition: str | None = None
+        self.key: str | None = None
+        self.items: list[Item] | None = None
+        if self.verb != "SELECT" or "FROM" not in words:
+            return
+        start = words.index("FROM")
+        self.list, self.items = tokens.between(1, start), _items(words[1:start])
+        self.source, self.table = tokens.between(start, len(words)), tokens.between(start, start + 2)
+        end = words.index("GROUP") if self.is_grouped else len(words)
+        if words[start + 2 : start + 3] == ["WHERE"]:
+            self.condition = tokens.between(start + 3, end)
+        if words[end : end + 2] == ["GROUP", "BY"] and len(words) == end + 3:
+            self.key = words[end + 2]
+
+    @property
+    def folds(self) -> bool:
+        """Whether it asks for set functions or groups, so that the answers of parts don't just follow one another."""
+        return self.items is not None and (self.key is not None or any(item.function for item in self.items))
+
+    def narrowed(self, item: str, *terms: str) -> str:
+        """A question of the found rows that meet some terms more."""
+        front = [f"({self.condition})"] if self.condition else []
+        return f"SELECT {item} {self.table} WHERE {' AND '.join([*front, *terms])}"
+
+
+@dataclass(frozen=True)
+class Change:
+    """An UPDATE or a DELETE: its verb, the table as it is written, and the condition, or None."""
+
+    verb: str
+    table: str
+    condition: str | None
+
+
+def change_of(statement: str) -> Change | None:
+    """The pieces of an UPDATE or a DELETE, or None where it isn't one that can be read."""
+    tokens = Tokens(statement)
+    words = tokens.words
+    place = {"UPDATE": 1, "DELETE": 2}.get(words[0] if words else "")
+    if place is None or len(words) <= place:
+        return None
+    end = words.index("WHERE") if "WHERE" in words else len(words)
+    condition = tokens.between(end + 1, len(words)) if end < len(words) else None
+    return Change(words[0], words[place], condition)
+
+
+def verb_of(statement: str) -> str:
+    """The first word of a statement, in upper case."""
+    words = Tokens(statement).words
+    return words[0] if words else ""
+
+
+def _items(words: list[str]) -> list[Item] | None:
+    items: list[Item] = []
+    item: list[str] = []
+    for word in [*words, ","]:
+        if word != ",":
+            item.append(word)
+            continue
+        if len(item) == 1 and NAME.fullmatch(item[0]):
+            items.append(Item(None, item[0]))
+        elif len(item) == 4 and item[0] in FUNCTIONS and item[1] == "(" and item[3] == ")":
+            items.append(Item(item[0], item[2]))
+        else:
+            return None
+        item = []
+    return items

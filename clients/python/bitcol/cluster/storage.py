@@ -1,0 +1,201 @@
+"""Where a table's files lie: a folder that the client and all workers reach under one name.
+
+A storage writes a file whole or not at all, and can put one in place only where there is none. That is all that a
+table needs: its parts are named by their content, and each version has a number that is taken once.
+"""
+
+from __future__ import annotations
+
+import inspect
+import os
+import secrets
+import time
+from collections.abc import Callable
+from importlib import import_module
+from pathlib import Path
+from typing import Any, Protocol
+
+from ..errors import NotSupportedError, OperationalError
+from ..script import PathLike
+
+# The end of a name of a file that isn't in place yet.
+UNFINISHED = ".new"
+
+
+class Storage(Protocol):
+    """A folder of files. It can be pickled, and is the same folder in another process."""
+
+    def where(self, name: str) -> str:
+        """How a person names a file of the folder."""
+
+    def prepare(self) -> None:
+        """Makes the folder, if it isn't there."""
+
+    def names(self) -> list[str]:
+        """The names of the files that are there."""
+
+    def read(self, name: str) -> bytes:
+        """All that a file holds. OperationalError where it can't be read."""
+
+    def write(self, name: str, data: bytes) -> None:
+        """Puts a file in place, whole or not at all, over one that is there."""
+
+    def write_new(self, name: str, data: bytes) -> None:
+        """Puts a file in place, whole or not at all. FileExistsError where one of this name is there: of two that come
+        at once, one is put in place."""
+
+    def age(self, name: str) -> float:
+        """For how many seconds a file has been as it is."""
+
+    def remove(self, name: str) -> None:
+        """Takes a file away."""
+
+
+def storage_of(folder: PathLike) -> Storage:
+    """The folder of this path, or of this address, which has a `://` in it."""
+    name = os.fspath(folder)
+    if "://" in name:
+        return RemoteFolder(name)
+    return HostFolder(os.path.abspath(name))
+
+
+class HostFolder:
+    """A folder of the host, or of a shared file system that is mounted on all hosts and has hard links."""
+
+    def __init__(self, path: str) -> None:
+        self._path = Path(path)
+
+    def __eq__(self, other: object) -> bool:
+        return isinstance(other, HostFolder) and self._path == other._path
+
+    def __hash__(self) -> int:
+        return hash(self._path)
+
+    def where(self, name: str) -> str:
+        """See Storage."""
+        return str(self._path / name)
+
+    def prepare(self) -> None:
+        """See Storage."""
+        self._path.mkdir(parents=True, exist_ok=True)
+
+    def names(self) -> list[str]:
+        """See Storage."""
+        return os.listdir(self._path) if self._path.is_dir() else []
+
+    def read(self, name: str) -> bytes:
+        """See Storage."""
+        try:
+            return (self._path / name).read_bytes()
+        except OSError as fault:
+            raise OperationalError(f"{self.where(name)}: {fault.strerror}") from None
+
+    def write(self, name: str, data: bytes) -> None:
+        """See Storage. It outlives a loss of power."""
+        self._place(name, data, os.replace)
+
+    def write_new(self, name: str, data: bytes) -> None:
+        """See Storage. A hard link takes no other file's place, as a rename would."""
+        self._place(name, data, os.link)
+
+    def _place(self, name: str, data: bytes, put: Callable[[Path, Path], None]) -> None:
+        path = self._path / name
+        unfinished = self._path / f"{name}-{secrets.token_hex(4)}{UNFINISHED}"
+        try:
+            with open(unfinished, "xb") as file:
+                file.write(data)
+                file.flush()
+                os.fsync(file.fileno())
+            put(unfinished, path)
+        finally:
+            unfinished.unlink(missing_ok=True)
+        folder = os.open(self._path, os.O_RDONLY)
+        try:
+            os.fsync(folder)
+        finally:
+            os.close(folder)
+
+    def age(self, name: str) -> float:
+        """See Storage."""
+        return time.time() - (self._path / name).stat().st_mtime
+
+    def remove(self, name: str) -> None:
+        """See Storage."""
+        (self._path / name).unlink(missing_ok=True)
+
+
+class RemoteFolder:
+    """A folder of a storage that fsspec knows, such as `s3://bucket/visits`. It has to put a file only where there is
+    none (the mode "create" of fsspec's `pipe_file`): NotSupportedError where its fsspec can't."""
+
+    def __init__(self, address: str) -> None:
+        self._address = address.rstrip("/")
+        self._opened: tuple[Any, str] | None = None
+
+    def __reduce__(self) -> tuple[type[RemoteFolder], tuple[str]]:
+        return RemoteFolder, (self._address,)
+
+    def __eq__(self, other: object) -> bool:
+        return isinstance(other, RemoteFolder) and self._address == other._address
+
+    def __hash__(self) -> int:
+        return hash(self._address)
+
+    def _system(self) -> tuple[Any, str]:
+        """The file system, and the folder's path in it."""
+        if self._opened is None:
+            try:
+                fsspec = import_module("fsspec")
+            except ImportError:
+                raise NotSupportedError(f"{self._address}: fsspec is not installed") from None
+            self._opened = fsspec.core.url_to_fs(self._address)
+        return self._opened
+
+    def where(self, name: str) -> str:
+        """See Storage."""
+        return f"{self._address}/{name}"
+
+    def prepare(self) -> None:
+        """See Storage."""
+        system, path = self._system()
+        if "mode" not in inspect.signature(system.pipe_file).parameters:
+            raise NotSupportedError(f"{self._address}: this storage can't put a file only where there is none")
+        system.makedirs(path, exist_ok=True)
+
+    def names(self) -> list[str]:
+        """See Storage."""
+        system, path = self._system()
+        system.invalidate_cache(path)
+        try:
+            return [found.rpartition("/")[2] for found in system.ls(path, detail=False)]
+        except FileNotFoundError:
+            return []
+
+    def read(self, name: str) -> bytes:
+        """See Storage."""
+        system, path = self._system()
+        try:
+            data: bytes = system.cat_file(f"{path}/{name}")
+        except OSError as fault:
+            raise OperationalError(f"{self.where(name)}: {fault}") from None
+        return data
+
+    def write(self, name: str, data: bytes) -> None:
+        """See Storage."""
+        system, path = self._system()
+        system.pipe_file(f"{path}/{name}", data)
+
+    def write_new(self, name: str, data: bytes) -> None:
+        """See Storage."""
+        system, path = self._system()
+        system.pipe_file(f"{path}/{name}", data, mode="create")
+
+    def age(self, name: str) -> float:
+        """See Storage."""
+        system, path = self._system()
+        return time.time() - float(system.modified(f"{path}/{name}").timestamp())
+
+    def remove(self, name: str) -> None:
+        """See Storage."""
+        system, path = self._system()
+        system.rm_file(f"{path}/{name}")

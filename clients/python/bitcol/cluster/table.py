@@ -1,0 +1,218 @@
+"""A table of parts: what a user calls."""
+
+from __future__ import annotations
+
+from collections.abc import Iterable, Iterator, Sequence
+from importlib import import_module
+from typing import Any
+
+from ..errors import NotSupportedError, OperationalError
+from ..reply import Reply, reply_of
+from ..script import PathLike, bound, checked_name, checked_text, statement_of
+from ..table_file import FILE_BYTES, ROW_LIMIT
+from .changes import Changes
+from .frames import ask_frame, frame_like
+from .groups import grouped
+from .holding import Place
+from .limit import Limit
+from .making import make_empty
+from .manifest import Manifest, Part, read_manifest, versions, write_manifest
+from .questions import Questions
+from .select import Select, change_of, verb_of
+from .storage import UNFINISHED, storage_of
+
+# Parts are put together up to so many rows.
+COMPACT_ROWS = 2**22
+DAY = 86_400
+
+
+def create(client: Any, folder: PathLike, table: str, definition: str, together: int | None = None) -> Table:
+    """A new table without rows, in a folder that has none. `definition` is what CREATE TABLE has between its
+    parentheses; a refusal of that is raised."""
+    place = Place(storage_of(folder), checked_name(table))
+    statement_of(f"CREATE TABLE {place.table} ({definition})")
+    place.storage.prepare()
+    if versions(place.storage):
+        raise OperationalError(f"there is a table in {place.storage.where('')}")
+    made = client.submit(make_empty, place, definition, pure=False)
+    ((part, columns),) = Limit(None).gathered(client, [made])
+    manifest = Manifest(1, place.table, definition, tuple(columns), (part,))
+    write_manifest(place.storage, manifest)
+    return Table(client, place, manifest, together)
+
+
+def open_table(client: Any, folder: PathLike, version: int | None = None, together: int | None = None) -> Table:
+    """The table of a folder, as it is or as it was in an older version. Workers open its parts meanwhile."""
+    storage = storage_of(folder)
+    manifest = read_manifest(storage, version)
+    return Table(client, Place(storage, manifest.table), manifest, together)
+
+
+class Table:
+    """A version of a table, its parts open on workers. A change of its own takes it to the next version; a change of
+    another client is seen after `refresh`."""
+
+    def __init__(self, client: Any, place: Place, manifest: Manifest, together: int | None = None) -> None:
+        """See create and open. `together` is how many parts are one object of dask's: by default as many as leave each
+        thread of the workers one."""
+        self._client, self._place, self._together = client, place, together
+        self.manifest = manifest
+        self._questions = Questions(client, grouped(client, place, manifest.parts, together))
+        self._before: Questions | None = None
+
+    def _show(self, manifest: Manifest) -> None:
+        # What was shown is held until the next answer, so that parts that stay aren't opened again.
+        self._before, self.manifest = self._questions, manifest
+        self._questions = Questions(self._client, grouped(self._client, self._place, manifest.parts, self._together))
+
+    @property
+    def version(self) -> int:
+        """The number of the version that is shown."""
+        return self.manifest.version
+
+    def __len__(self) -> int:
+        """The number of rows."""
+        return sum(part.rows for part in self.manifest.parts)
+
+    def __bool__(self) -> bool:
+        return True
+
+    def __repr__(self) -> str:
+        told = f"{self.manifest.table} ({self.manifest.definition}), version {self.version}"
+        return f"<{told}: {len(self)} rows in {len(self.manifest.parts)} parts>"
+
+    def sql(self, statement: str, values: Sequence[Any] = (), seconds: float | None = None) -> Reply:
+        """The reply to a SELECT, INSERT, UPDATE or DELETE, with these values in place of its `?`. A refusal is raised.
+        A SELECT that takes longer than these seconds raises OutOfTime."""
+        reply = reply_of(self.answer(_bound(statement, values), seconds))
+        if reply.refusal is not None:
+            raise reply.refusal
+        return reply
+
+    def answer(self, statement: str, seconds: float | None = None) -> bytes:
+        """The bytes of the reply, as one store with the rows of all parts would write them; those of a refusal too."""
+        text = _one(statement)
+        verb = verb_of(text)
+        if verb == "SELECT":
+            found = self._questions.answer(text, Limit(seconds))
+            self._before = None
+            return found
+        if seconds is not None:
+            raise NotSupportedError("only a SELECT has a limit of time")
+        if verb == "INSERT":
+            return self._commit(*self._changes.inserted(text))
+        if verb in ("UPDATE", "DELETE"):
+            return self._commit(*self._changes.changed(text, self._found(text)))
+        raise NotSupportedError(f"{verb} of a table of parts: it takes SELECT, INSERT, UPDATE and DELETE")
+
+    def _found(self, text: str) -> list[int] | None:
+        """How many rows of each part an UPDATE or DELETE finds, where that can be asked."""
+        change = change_of(text)
+        if change is None or change.condition is None:
+            return None
+        return self._questions.counts(f"SELECT COUNT(*) FROM {change.table} WHERE {change.condition}", change.condition)
+
+    def rows(self, statement: str, values: Sequence[Any] = (), ahead: int = 4) -> Iterator[tuple[Any, ...]]:
+        """The rows of a SELECT of columns, one by one. The rows of so many parts at most are here, or on their way."""
+        text = _one(_bound(statement, values))
+        select = Select(text)
+        if select.verb != "SELECT" or select.folds:
+            raise NotSupportedError("only a SELECT of columns gives rows one by one")
+        return self._questions.rows(text, ahead)
+
+    def to_delayed(self, statement: str) -> list[Any]:
+        """For each part in which a row may be found a frame of pandas of its rows of a SELECT of columns, as
+        dask.delayed has it."""
+        text = _one(statement)
+        names = self._names(text)
+        ask = import_module("dask").delayed(ask_frame, pure=True)
+        parts = self._questions.asked_parts(Select(text))
+        return [ask(group.holding, which, text, names) for group, which in parts]
+
+    def to_dask_dataframe(self, statement: str) -> Any:
+        """A frame of dask's with a partition for each part: bitcol meets the condition, and pandas does what bitcol
+        doesn't."""
+        meta = frame_like(self._names(_one(statement)))
+        return import_module("dask.dataframe").from_delayed(self.to_delayed(statement), meta=meta)
+
+    def _names(self, text: str) -> list[str]:
+        select = Select(text)
+        names = [column.name for column in self.manifest.columns]
+        if select.list != "*":
+            names = [item.heading for item in select.items or []]
+        if select.verb != "SELECT" or select.folds or not names or len(set(names)) < len(names):
+            raise NotSupportedError("a frame is made of a SELECT of columns, each of them once")
+        return names
+
+    def load(
+        self,
+        files: Iterable[PathLike],
+        header: bool = False,
+        most_bytes: int = FILE_BYTES,
+        most_rows: int = ROW_LIMIT,
+    ) -> Table:
+        """Adds the rows of CSV files, a part for each: all of them, or none, and then the error names each file at
+        fault. A file of more bytes or rows than these is cut at its records into several parts."""
+        return self._add(self._changes.loaded(files, header, most_bytes, most_rows))
+
+    def attach(self, files: Iterable[PathLike]) -> Table:
+        """Adds the rows of table files of the same columns, as `load` does: what SAVE of a single store left."""
+        return self._add(self._changes.attached(files))
+
+    def compact(self, most_rows: int = COMPACT_ROWS) -> Table:
+        """Puts parts that follow one another together, as long as they have no more rows than these. No answer
+        changes."""
+        parts = self._changes.put_together(most_rows)
+        if len(parts) < len(self.manifest.parts):
+            self._go_to(parts)
+        return self
+
+    def refresh(self) -> Table:
+        """Goes to the last version, whoever made it."""
+        self._show(read_manifest(self._place.storage))
+        return self
+
+    def vacuum(self, older_than: float = DAY) -> int:
+        """Takes away the versions before this one and the last, the files that neither names, and what broken changes
+        left: those that have been there for so many seconds, since a younger one may be about to be named. Gives their
+        number."""
+        storage = self._place.storage
+        kept = set()
+        for manifest in (self.manifest, read_manifest(storage)):
+            kept.add(manifest.file)
+            kept.update(part.file for part in manifest.parts)
+        old = [name for name in storage.names() if name not in kept and name.endswith((".table", ".json", UNFINISHED))]
+        old = [name for name in old if storage.age(name) >= older_than]
+        for name in old:
+            storage.remove(name)
+        return len(old)
+
+    @property
+    def _changes(self) -> Changes:
+        return Changes(self._client, self._place, self.manifest)
+
+    def _add(self, parts: Sequence[Part]) -> Table:
+        if parts:
+            self._go_to([*self.manifest.parts, *parts])
+        return self
+
+    def _commit(self, reply: bytes, parts: Sequence[Part]) -> bytes:
+        """Makes the next version of these parts where they aren't those that are shown, and gives the reply."""
+        if tuple(parts) != self.manifest.parts:
+            self._go_to(parts)
+        return reply
+
+    def _go_to(self, parts: Sequence[Part]) -> None:
+        manifest = self.manifest.following(parts)
+        write_manifest(self._place.storage, manifest)
+        self._show(manifest)
+
+
+def _bound(statement: str, values: Sequence[Any]) -> str:
+    text = checked_text(statement)
+    return bound(text, values) if "?" in text or not isinstance(values, tuple) or values else text
+
+
+def _one(statement: str) -> str:
+    """The one statement of a text, without its `;`."""
+    return statement_of(checked_text(statement)).decode()[:-1]

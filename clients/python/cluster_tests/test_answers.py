@@ -1,0 +1,181 @@
+"""Random statements over the same rows in one store and in parts: the answers are the same bytes."""
+
+from __future__ import annotations
+
+import os
+import unittest
+from unittest import mock
+
+import bitcol
+from bitcol import cluster
+from bitcol.cluster import median, questions
+
+from .statements import Chance
+from .support import (
+    GROUPING_PROGRAM,
+    SEED,
+    STATEMENTS,
+    TABLES,
+    ClusterTestCase,
+    PartsTestCase,
+    cut_rows,
+    is_grouping,
+    say,
+)
+
+
+class Answers(PartsTestCase):
+    def ask(self, tables: int, seed: str) -> None:
+        words = ("tables", "parts", "rows", "selects", "refused", "of set functions", "of groups", "medians")
+        counts = dict.fromkeys(words, 0)
+        for number in range(tables):
+            chance = Chance(f"{seed}-{SEED}-{number}")
+            chance.has_groups = "GROUP" in seed
+            few, probes = chance.choice([0, 3, 10_000]), chance.choice([1, 2, 14])
+            definition, rows = chance.table()
+            ordered = sorted(rows, key=str) if chance.random() < 0.3 else rows
+            together = chance.choice([None, 1, 2])
+            table, one = self.both(definition, cut_rows(chance, ordered), f"{seed}{number}", together)
+            counts["tables"] += 1
+            counts["parts"] += len(table.manifest.parts)
+            counts["rows"] += len(rows)
+            with mock.patch.object(questions, "FEW_VALUES", few), mock.patch.object(median, "PROBES", probes), \
+                    mock.patch.object(questions, "FAN_IN", chance.choice([2, 3, 32])):
+                for _ in range(STATEMENTS):
+                    statement = chance.select()
+                    reply = self.same(table, one, statement)
+                    self.count(counts, reply)
+                    counts["of groups"] += "GROUP BY" in statement and reply.refusal is None
+        say(f"SELECTs, equal byte for byte: {counts}")
+
+    def count(self, counts: dict[str, int], reply: bitcol.Reply) -> None:
+        counts["selects"] += 1
+        counts["refused"] += reply.refusal is not None
+        counts["of set functions"] += any("(" in heading for heading in reply.headings)
+        counts["medians"] += any("MEDIAN" in heading for heading in reply.headings)
+
+    def test_selects(self) -> None:
+        self.ask(TABLES, "s")
+
+    def test_medians(self) -> None:
+        """Parts whose medians are far apart, all equal, at the ends of a type, of NULLs alone."""
+        least, greatest = -(2**63), 2**63 - 1
+        parts = [
+            [(least, 1), (least, 2), (greatest, None)],
+            [(greatest, 5), (0, 5)],
+            [(None, 5), (None, 5)],
+            [(least, 7), (greatest, 9), (greatest, 11), (1, 13)],
+        ]
+        table, one = self.both("a BIGINT, b INT", parts)
+        for few in (0, 2, 100):
+            with mock.patch.object(questions, "FEW_VALUES", few):
+                for rest in ("", " WHERE a > 0", " WHERE a IS NULL", " WHERE b < 6 OR b IS NULL", " WHERE b > 100"):
+                    self.same(table, one, f"SELECT MEDIAN(a), MEDIAN(b), COUNT(*), SUM(a) FROM t{rest}")
+
+    def test_long_and_deep_statements(self) -> None:
+        table, one = self.both("a INT", [[(1,)], [(3,)], [(9,)]])
+        deep = "(" * 64 + "a > 0" + ")" * 64
+        self.same(table, one, f"SELECT COUNT(*) FROM t WHERE {deep}")
+        self.same(table, one, f"SELECT a FROM t WHERE ({deep})")
+        long = "SELECT MEDIAN(a) FROM t WHERE a > 0".ljust(65_536)
+        self.same(table, one, long)
+        self.same(table, one, long + " ")
+        ask = f"SELECT MEDIAN(a) FROM t WHERE {deep}"
+        self.refused("too deep", lambda: table.answer(ask), bitcol.NotSupportedError)
+        terms = " OR ".join(["a = 1"] * 7_200)
+        full = f"SELECT MEDIAN(a) FROM t WHERE a > 0 OR {terms}"
+        full += f" OR a = {'1'.zfill(65_536 - len(full) - 8)}"
+        self.assertEqual(len(full), 65_536)
+        self.assertFalse(one.answers([full])[0].startswith(b"error"))
+        self.refused("too long", lambda: table.answer(full), bitcol.NotSupportedError)
+
+    def test_other_statements(self) -> None:
+        table, _ = self.both("a INT", [[(1,)]])
+        others = ("DROP TABLE t", "TABLES", "REBUILD t", "SAVE t TO 'x'", "CREATE TABLE u (a INT)")
+        for statement in (*others, "STATS SELECT a FROM t"):
+            self.refused("of a table of parts", lambda: table.answer(statement), bitcol.NotSupportedError)
+        for statement in ("", "SELECT a FROM t; SELECT a FROM t", "SELECT 'a FROM t"):
+            self.refused("", lambda: table.answer(statement), bitcol.ProgrammingError)
+        self.assertEqual(table.sql("SELECT a FROM t WHERE a = ?", [1]).rows(), [(1,)])
+        self.assertEqual(table.sql("SELECT COUNT(*) FROM t").scalar(), 1)
+        self.refused("no such column", lambda: table.sql("SELECT z FROM t"), bitcol.StatementRefused)
+
+    def test_rows(self) -> None:
+        parts = [[(number, number % 3 or None) for number in range(start, start + 50)] for start in (0, 50, 100)]
+        table, one = self.both("a INT, b INT", parts, together=2)
+        for statement in ("SELECT b, a FROM t WHERE a < 120", "SELECT * FROM t", "SELECT a FROM t WHERE a < 0"):
+            for ahead in (1, 2, 9):
+                self.assertEqual(list(table.rows(statement, ahead=ahead)), one.execute(statement).rows())
+        self.refused("no such column", lambda: list(table.rows("SELECT z FROM t")), bitcol.StatementRefused)
+        self.refused("one by one", lambda: list(table.rows("SELECT COUNT(*) FROM t")), bitcol.NotSupportedError)
+
+    def test_parts_that_a_condition_cannot_meet(self) -> None:
+        table, one = self.both("a INT, b INT", [[(day, 1), (day, None)] for day in range(5)], together=1)
+        for condition, wanted in (("a = 3", 1), ("a > 2", 2), ("b IS NULL", 5), ("b > 1", 1), ("NOT (a < 4)", 1)):
+            groups = table._questions._asked_groups(condition)
+            self.assertEqual(sum(len(which) for _, which in groups), wanted, condition)
+            self.same(table, one, f"SELECT * FROM t WHERE {condition}")
+            self.same(table, one, f"SELECT COUNT(*), SUM(b), MEDIAN(a) FROM t WHERE {condition}")
+
+
+class Groups(Answers):
+    """The same with GROUP BY, by a program that stands in where the program has none."""
+
+    def setUp(self) -> None:
+        below = bitcol.find_program()
+        if not is_grouping():
+            stand_in = {"BITCOL": str(GROUPING_PROGRAM), "BITCOL_BELOW": below}
+            patch = mock.patch.dict(os.environ, stand_in)
+            patch.start()
+            self.addCleanup(patch.stop)
+        super().setUp()
+
+    def test_selects(self) -> None:
+        self.ask(max(1, TABLES // 6), "GROUP")
+
+    def test_groups_of_several_parts(self) -> None:
+        """Groups that lie in several parts, that of NULL among them, with medians far apart."""
+        parts = [
+            [(None, 1), (None, 2), (1, 5), (2, None)],
+            [(None, 100), (None, 101), (1, 7), (None, 50)],
+            [(1, -3), (None, None), (3, 9)],
+        ]
+        table, one = self.both("a INT, b BIGINT", parts)
+        for few in (0, 100):
+            with mock.patch.object(questions, "FEW_VALUES", few):
+                for rest in ("", " WHERE b < 101 OR b IS NULL", " WHERE a IS NULL", " WHERE b > 1000"):
+                    for items in ("a, MEDIAN(b)", "MEDIAN(b), COUNT(b), MEDIAN(a)", "COUNT(*)", "a", "SUM(b), a"):
+                        self.same(table, one, f"SELECT {items} FROM t{rest} GROUP BY a")
+
+    def test_too_many_medians(self) -> None:
+        rows = [(number, number) for number in range(20)]
+        table, one = self.both("a INT, b INT", [rows, [(a, -b - 1) for a, b in rows]])
+        self.same(table, one, "SELECT a, MEDIAN(b) FROM t GROUP BY a")
+        with mock.patch.object(questions, "GROUP_LIMIT", 19):
+            self.refused("more than 19 groups", lambda: table.answer("SELECT a, MEDIAN(b) FROM t GROUP BY a"))
+
+    test_medians = test_long_and_deep_statements = test_other_statements = test_rows = None  # type: ignore[assignment]
+    test_parts_that_a_condition_cannot_meet = None  # type: ignore[assignment]
+
+
+class AnswersOfWorkers(ClusterTestCase, Answers):
+    """The same by two workers."""
+
+    THREADS = 2
+
+    def test_selects(self) -> None:
+        self.ask(max(1, TABLES // 3), "w")
+
+    def test_versions_share_open_parts(self) -> None:
+        table, one = self.both("a INT", [[(number,)] for number in range(8)], together=2)
+        first = cluster.open(self.client, self.folder / "table", together=2)
+        self.same(first, one, "SELECT SUM(a) FROM t")
+        self.assertEqual(table.sql("UPDATE t SET a = 70 WHERE a = 7").count, 1)
+        self.assertEqual(table.sql("SELECT SUM(a) FROM t").scalar(), 28 + 63)
+        self.assertEqual(first.sql("SELECT SUM(a) FROM t").scalar(), 28)
+
+    test_long_and_deep_statements = test_other_statements = None  # type: ignore[assignment]
+
+
+if __name__ == "__main__":
+    unittest.main()
