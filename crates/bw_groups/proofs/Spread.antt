@@ -62,9 +62,11 @@ module _ (values : List (Option ℤ)) (ranks spread : List ℕ) (null i next : �
       let at = some_at there in
       let vs : drop i values ≡ Some at.0 ∷ drop (i + 1) values = drop_more values i None l ∙ ap (λ v. v ∷ drop (i + 1) values) at.1 in
       let rs : drop next ranks ≡ rank ∷ drop (next + 1) ranks = drop_more ranks next 0 (rank_there there) ∙ ap (λ r. r ∷ drop (next + 1) ranks) (sym is) in
-      let one : length (known (drop i values)) ≡ suc (length (known (drop (i + 1) values))) = known_drop values i l ∙ ap (λ v. length (known (v ∷ drop (i + 1) values))) at.1 in
-      (append_assoc spread (rank ∷ []) (ranks_over (drop (i + 1) values) (drop (next + 1) ranks) null)
-        ∙ ap (λ ys. spread ++ ys) (sym (ap (λ ys. ranks_over ys (drop next ranks) null) vs ∙ ap (λ ys. ranks_over (Some at.0 ∷ drop (i + 1) values) ys null) rs)) ∙ done, omega (arith, one, left))
+      let one : length (known (drop i values)) ≡ suc (length (known (drop (i + 1) values))) = known_drop values i l ∙ ap (λ v. length (known (v ∷ drop (i + 1) values))) at.1 in (
+        append_assoc spread (rank ∷ []) (ranks_over (drop (i + 1) values) (drop (next + 1) ranks) null)
+            ∙ ap (λ ys. spread ++ ys) (sym (ap (λ ys. ranks_over ys (drop next ranks) null) vs ∙ ap (λ ys. ranks_over (Some at.0 ∷ drop (i + 1) values) ys null) rs)) ∙ done,
+        omega (arith, one, left),
+      )
 
   pub more_null : is_some (get_or values i None) ≡ false
       → ((spread ++ null ∷ []) ++ ranks_over (drop (i + 1) values) (drop next ranks) null ≡ ranks_over values ranks null) × (next + length (known (drop (i + 1) values)) ≡ length ranks)

@@ -34,11 +34,7 @@ pub(crate) fn known_distances(
     distances_from(alloc, values, ends.least)
 }
 
-fn distances_from(
-    alloc: Global,
-    values: &[Option<i64>],
-    base: i64,
-) -> Result<Vec<u64>, AllocError>
+fn distances_from(alloc: Global, values: &[Option<i64>], base: i64) -> Result<Vec<u64>, AllocError>
     ensures { IfOk result (λ distances. distances.items ≡ filter_map (λ value. option_map (λ x. unsigned_abs (x -ℤ base)) value) values.now) }
 {
     values

@@ -11,11 +11,7 @@ use bw_code::Ends;
 use std::alloc::{AllocError, Global};
 
 /// What is asked of these values.
-pub(crate) fn summary_of(
-    alloc: Global,
-    values: &[i64],
-    asked: Asked,
-) -> Result<Summary, AllocError>
+pub(crate) fn summary_of(alloc: Global, values: &[i64], asked: Asked) -> Result<Summary, AllocError>
     requires { length values.now ≤ 2 ^ 24 }
     ensures { IfOk result (IsSummary asked values.now) }
 {

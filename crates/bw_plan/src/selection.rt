@@ -159,11 +159,7 @@ pub(crate) fn plan_if_any(
 }
 
 /// What is shown, where every column is there and none stands where it may not.
-fn shown_plan(
-    alloc: Global,
-    headers: &Headers<'_>,
-    query: &Select,
-) -> Result<ShownPlan, AllocError>
+fn shown_plan(alloc: Global, headers: &Headers<'_>, query: &Select) -> Result<ShownPlan, AllocError>
     requires there { list_any (is_missing headers.now) (columns_in (shown_items headers.now (items_of query.now.items))) ≡ false }
     requires grouping { grouping_is_missing headers.now query.now.grouping ≡ false }
     requires apart { shows_mixed query.now.grouping (items_of query.now.items) ≡ false }
@@ -172,7 +168,12 @@ fn shown_plan(
     match (&query.grouping, &query.items) {
         (None, SelectItems::All) => Ok(ShownPlan::Columns(all_places(alloc, headers)?)),
         (None, SelectItems::List(list)) => listed_plan(alloc, headers, list.as_slice()),
-        (Some(name), SelectItems::List(list)) => grouped_plan(alloc, headers, name, list.as_slice()),
+        (Some(name), SelectItems::List(list)) => grouped_plan(
+            alloc,
+            headers,
+            name,
+            list.as_slice(),
+        ),
         (Some(_), SelectItems::All) => unreachable!(),
     }
 }

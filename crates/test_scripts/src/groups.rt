@@ -38,9 +38,11 @@ fn groups_of_rows_that_are_left(rt: HostRuntime) {
 
 #[test]
 fn groups_at_the_ends_of_64_bits(rt: HostRuntime) {
-    let script = "CREATE TABLE t (a BIGINT {using}, b BIGINT {using}); INSERT INTO t VALUES (9223372036854775807, 1), (-9223372036854775808, -9223372036854775808), (NULL, NULL), \
+    let script =
+        "CREATE TABLE t (a BIGINT {using}, b BIGINT {using}); INSERT INTO t VALUES (9223372036854775807, 1), (-9223372036854775808, -9223372036854775808), (NULL, NULL), \
          (-9223372036854775808, -9223372036854775808); SELECT a, COUNT(*), SUM(b), MIN(b) FROM t GROUP BY a;";
-    let replies = "ok\nok 4\nA,COUNT(*),SUM(B),MIN(B)\n-9223372036854775808,2,-18446744073709551616,-9223372036854775808\n\
+    let replies =
+        "ok\nok 4\nA,COUNT(*),SUM(B),MIN(B)\n-9223372036854775808,2,-18446744073709551616,-9223372036854775808\n\
          9223372036854775807,1,1,1\nNULL,1,NULL,NULL\nrows 3\n";
     check_bigint_layings(&rt, script, replies);
 }

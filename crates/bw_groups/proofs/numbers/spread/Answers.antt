@@ -13,9 +13,9 @@ values-preserved c =
       | then-is_some+in_ok-push w ↦
           rw (w.spread-is, w.next-is, w.in_ok-push.ensures.items)
           (more_known c.args.values.now c.args.ranks.items c.values.spread.items c.args.null_rank c.values.i c.values.next c.values-test.true c.values.invariant.0 c.values.invariant.1
-            (sym c.is_some.ensures ∙ w.if-is_some.true) _ (get_or_read c.args.ranks.items c.values.next _ (rank_there c.args.values.now c.args.ranks.items c.values.spread.items c.args.null_rank c.values.i c.values.next c.values-test.true c.values.invariant.0 c.values.invariant.1 (sym c.is_some.ensures ∙ w.if-is_some.true)) w.index.ensures 0))
+          (sym c.is_some.ensures ∙ w.if-is_some.true) _ (get_or_read c.args.ranks.items c.values.next _ (rank_there c.args.values.now c.args.ranks.items c.values.spread.items c.args.null_rank c.values.i c.values.next c.values-test.true c.values.invariant.0 c.values.invariant.1 (sym c.is_some.ensures ∙ w.if-is_some.true)) w.index.ensures 0))
       | else-is_some+in_ok-push-2 w ↦
           rw (w.spread-is, w.next-is, w.in_ok-push-2.ensures.items)
           (more_null c.args.values.now c.args.ranks.items c.values.spread.items c.args.null_rank c.values.i c.values.next c.values-test.true c.values.invariant.0 c.values.invariant.1
-            (sym c.is_some.ensures ∙ w.if-is_some.false))
+          (sym c.is_some.ensures ∙ w.if-is_some.false))
     ]

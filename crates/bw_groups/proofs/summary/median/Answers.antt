@@ -16,6 +16,6 @@ returns c =
     let moved : IsPermutation c.args.values.now (c.select_nth_unstable-value.result.0.now ++ c.select_nth_unstable-value.result.1.now ∷ c.select_nth_unstable-value.result.2.now) = subst (λ xs. IsPermutation xs (c.select_nth_unstable-value.result.0.now ++ c.select_nth_unstable-value.result.1.now ∷ c.select_nth_unstable-value.result.2.now)) given c.select_nth_unstable-value.ensures.permutation in
     rw back
     (ap (slice_get (sorted c.args.values.now)) (sym c.select_nth_unstable-value.ensures.front_len)
-      ∙ middle_told c.args.values.now c.select_nth_unstable-value.result.0.now c.select_nth_unstable-value.result.2.now c.select_nth_unstable-value.result.1.now moved
-      (λ k d l. lower_is c.select_nth_unstable-value.result.1.now (slice_index_or c.select_nth_unstable-value.result.0.now k d) ∙ c.select_nth_unstable-value.ensures.partitioned.0 k d l)
-      (λ k d l. lower_is (slice_index_or c.select_nth_unstable-value.result.2.now k d) c.select_nth_unstable-value.result.1.now ∙ c.select_nth_unstable-value.ensures.partitioned.1 k d l))
+    ∙ middle_told c.args.values.now c.select_nth_unstable-value.result.0.now c.select_nth_unstable-value.result.2.now c.select_nth_unstable-value.result.1.now moved
+    (λ k d l. lower_is c.select_nth_unstable-value.result.1.now (slice_index_or c.select_nth_unstable-value.result.0.now k d) ∙ c.select_nth_unstable-value.ensures.partitioned.0 k d l)
+    (λ k d l. lower_is (slice_index_or c.select_nth_unstable-value.result.2.now k d) c.select_nth_unstable-value.result.1.now ∙ c.select_nth_unstable-value.ensures.partitioned.1 k d l))

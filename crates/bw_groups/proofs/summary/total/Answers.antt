@@ -10,6 +10,7 @@ values-preserved c =
     let value : to_z w64 (of_z w64 (get_or c.args.values.now c.values.i (pos 0))) ≡ get_or c.args.values.now c.values.i (pos 0) = search (arith, ints, to_z-of_z) in
     let more = total_more c.args.values.now c.values.i c.values-test.true in
     let sum = c.values.sum-is in
-    rw back
-    (c.add-sum.ensures.value ∙ ap (λ x. to_z w128 c.values.sum-bits +ℤ x) value ∙ omega (arith, ints, sum, c.values.invariant.0, more),
-      omega (arith, c.add-sum.ensures.bound, c.values.invariant.1))
+    rw back (
+      c.add-sum.ensures.value ∙ ap (λ x. to_z w128 c.values.sum-bits +ℤ x) value ∙ omega (arith, ints, sum, c.values.invariant.0, more),
+      omega (arith, c.add-sum.ensures.bound, c.values.invariant.1),
+    )

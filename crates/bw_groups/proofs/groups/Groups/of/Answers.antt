@@ -67,15 +67,17 @@ invariant_of-result c =
           let test : b ≡ true = grind (arith, nat_tests, w.if-nulls-ne0.true) in
           let count_one = ap (λ x. length ranked.entries.items + cond x 1 0) test in
           let push = length-append ranked.times.items ((length values - c.len.result) ∷ []) in
-          rw (w.times-is, w.in_ok-push.ensures.items, spread)
-          (omega (arith, times, long, count_one, push),
-            counted_null least values numbers stand ranked.entries.items ranked.ranks.items r.ranks ranked.times.items r.times c.requires (length values - c.len.result) (ap (λ n. length values - n) count))
+          rw (w.times-is, w.in_ok-push.ensures.items, spread) (
+            omega (arith, times, long, count_one, push),
+            counted_null least values numbers stand ranked.entries.items ranked.ranks.items r.ranks ranked.times.items r.times c.requires (length values - c.len.result) (ap (λ n. length values - n) count),
+          )
       | else-nulls-ne0 w ↦
           let test : b ≡ false = grind (arith, nat_tests, w.if-nulls-ne0.false) in
           let count_none = ap (λ x. length ranked.entries.items + cond x 1 0) test in
-          rw (w.times-is, spread)
-          (omega (arith, times, long, count_none),
-            counted_known least values numbers stand ranked.entries.items ranked.ranks.items r.ranks ranked.times.items r.times c.requires (omega (arith, w.if-nulls-ne0.false, count, as_many, known_few values)))
+          rw (w.times-is, spread) (
+            omega (arith, times, long, count_none),
+            counted_known least values numbers stand ranked.entries.items ranked.ranks.items r.ranks ranked.times.items r.times c.requires (omega (arith, w.if-nulls-ne0.false, count, as_many, known_few values)),
+          )
     ]
 
 pub returns-clause-groups : goal.returns-clause-groups
