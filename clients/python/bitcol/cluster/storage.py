@@ -117,7 +117,11 @@ class HostFolder:
 
     def age(self, name: str) -> float:
         """See Storage."""
-        return time.time() - (self._path / name).stat().st_mtime
+        try:
+            return time.time() - (self._path / name).stat().st_mtime
+        except FileNotFoundError:
+            # Another client took it away meanwhile.
+            return 0.0
 
     def remove(self, name: str) -> None:
         """See Storage."""
