@@ -58,7 +58,7 @@ fn what_groups_refuse(rt: HostRuntime) {
              STATS SELECT b FROM t GROUP BY a; STATS SELECT a FROM t GROUP BY a;",
             "ok\nok 1\nerror 27: columns and set functions mixed\nerror 27: columns and set functions mixed\n\
              error 22: no such column\nerror 22: no such column\nerror 22: no such column\nerror 22: no such column\n\
-             error 10: syntax error\nerror 21: no such table\nerror 27: columns and set functions mixed\nunits 0\n",
+             error 10: syntax error\nerror 20: no such table\nerror 27: columns and set functions mixed\nunits 0\n",
         )],
     );
 }
