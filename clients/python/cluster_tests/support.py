@@ -53,7 +53,7 @@ class Done:
         except Exception as fault:
             self.fault = pickle.loads(pickle.dumps(fault))
 
-    def result(self) -> Any:
+    def result(self, timeout: float | None = None) -> Any:
         if self.fault is not None:
             raise self.fault
         return self.value

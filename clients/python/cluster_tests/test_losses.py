@@ -38,6 +38,11 @@ def programs() -> dict[int, int]:
     return found
 
 
+def orphans() -> set[int]:
+    """The programs whose worker has ended."""
+    return {pid for pid, parent in programs().items() if parent == 1}
+
+
 def use_program(path: str) -> None:
     """On a worker: the program that is run from now on."""
     os.environ["BITCOL"] = path
@@ -93,6 +98,7 @@ class Losses(ClusterTestCase):
 
     def test_killed_workers_and_programs(self) -> None:
         """Each answer is right, or an error is told; no program is left without a worker."""
+        left_before = orphans()
         table, one = self.random_table(6, 20_000)
         statements = [
             "SELECT COUNT(*), SUM(a), MIN(a), MAX(a) FROM t WHERE b < 3",
@@ -116,15 +122,13 @@ class Losses(ClusterTestCase):
         say(f"killed meanwhile: {counts}; answers, all right: {asked}; faults told: {told}")
         self.assertGreater(asked, 0)
         time.sleep(1)
-        mine = {worker.pid for worker in self.workers.workers.values()} | {os.getpid()}
-        left = [pid for pid, parent in programs().items() if parent == 1 and parent not in mine]
-        self.assertEqual(left, [])
+        self.assertEqual(orphans() - left_before, set())
 
     def test_killed_workers_in_loads_and_changes(self) -> None:
         """A load, or a change, is carried out or told to have failed, and never in part."""
         table, _ = self.random_table(4, 2_000)
         file = write_csv(self.folder / "more.csv", [(7, 7)] * 500)
-        counts, told, rows, value = {"workers": 0, "programs": 0}, [], 8_000, 0
+        counts, told, value = {"workers": 0, "programs": 0}, [], 0
         end = time.monotonic() + SECONDS
         with self.killing(counts):
             while time.monotonic() < end:
@@ -187,7 +191,7 @@ class Losses(ClusterTestCase):
         program, told = os.path.realpath(bitcol.find_program()), []
         if not runs_in_little_memory(program):
             self.skipTest("the program is one with checks, which needs more addresses than a limit leaves it")
-        table, one = self.random_table(2, 100_000)
+        table, one = self.random_table(2, 50_000)
         (wanted,) = one.answers(["SELECT SUM(a), MEDIAN(a) FROM t"])
         for kilobytes in range(4_000, 24_000, 2_000):
             small = self.folder / f"small-{kilobytes}.sh"
@@ -217,7 +221,7 @@ class ShortMemory(ClusterTestCase):
     def setUp(self) -> None:
         import dask
 
-        limits = {"target": 0.002, "spill": False, "pause": False, "terminate": False}
+        limits = {"target": 0.0004, "spill": False, "pause": False, "terminate": False}
         settings = {f"distributed.worker.memory.{name}": value for name, value in limits.items()}
         patch = dask.config.set(settings)
         patch.__enter__()
@@ -227,14 +231,14 @@ class ShortMemory(ClusterTestCase):
     def test_more_parts_than_memory(self) -> None:
         """A worker whose memory holds some of ten parts: dask spills the others, and their programs end."""
         chance = random.Random(f"short-{SEED}")
-        parts = [[(chance.randrange(2**31), chance.choice([None, 1, 2])) for _ in range(100_000)] for _ in range(10)]
+        parts = [[(chance.randrange(2**31), chance.choice([None, 1, 2])) for _ in range(30_000)] for _ in range(10)]
         table, one = self.both("a INT, b INT", parts, together=1)
         most = 0
-        for number in range(6):
-            self.same(table, one, f"SELECT COUNT(*), SUM(a), MEDIAN(a) FROM t WHERE b < {number % 4}")
+        for number in range(4):
+            self.same(table, one, f"SELECT COUNT(*), SUM(a) FROM t WHERE b < {number} OR a < 2000000")
             nanny = next(iter(self.workers.workers.values())).pid
             most = max(most, sum(parent == nanny for parent in programs().values()))
-        room = 2_000_000 // table.manifest.parts[0].size
+        room = 400_000 // table.manifest.parts[0].size
         say(f"short memory: 10 parts, room for {room}; programs seen: {most} at most")
         self.assertLessEqual(most, room + 2)
 
@@ -255,6 +259,8 @@ class SlowProgram(PartsTestCase):
             "    child.write(data.decode()); child.flush()\n"
         )
         slow.chmod(0o755)
+        # Its parts would be shared.
+        del table
         with mock.patch.dict(os.environ, {"BITCOL": str(slow)}):
             again = cluster.open(self.client, self.folder / "table")
             start = time.monotonic()
@@ -262,7 +268,8 @@ class SlowProgram(PartsTestCase):
                 error = self.refused("longer than it may", lambda: again.sql(ask, seconds=0.7), bitcol.OutOfTime)
                 self.assertIn(".table", str(error))
             self.assertLess(time.monotonic() - start, 15)
-        self.same(table, one, "SELECT SUM(a) FROM t")
+            del again
+        self.same(cluster.open(self.client, self.folder / "table"), one, "SELECT SUM(a) FROM t")
 
 
 if __name__ == "__main__":

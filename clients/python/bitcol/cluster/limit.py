@@ -4,7 +4,6 @@ from __future__ import annotations
 
 import time
 from collections.abc import Sequence
-from importlib import import_module
 from typing import Any
 
 from ..errors import Error, OutOfTime
@@ -30,9 +29,8 @@ class Limit:
 
     def gathered(self, client: Any, futures: Sequence[Any]) -> list[Any]:
         """What tasks give. An error that one gives is raised. Where they take too long they are given up."""
-        left = self.left()
-        if left is not None:
-            self._wait(client, futures, left + GRACE)
+        if self._end is not None:
+            self._wait(client, futures, max(0.0, self._end - time.monotonic()) + GRACE)
         found = client.gather(list(futures))
         for each in found:
             if isinstance(each, Error):
@@ -40,11 +38,13 @@ class Limit:
         return list(found)
 
     def _wait(self, client: Any, futures: Sequence[Any], seconds: float) -> None:
-        distributed = import_module("distributed")
+        end = time.monotonic() + seconds
         try:
-            distributed.wait(list(futures), timeout=seconds)
+            for future in futures:
+                future.result(timeout=max(0.0, end - time.monotonic()))
         except Exception as fault:
-            if "Timeout" not in type(fault).__name__:
+            # Its class has another home in each version of Python and of dask.
+            if type(fault).__name__ != "TimeoutError":
                 raise
             client.cancel(list(futures))
             raise OutOfTime("the question took longer than it may, and no worker answered it") from None
