@@ -1,0 +1,4 @@
+pub mod Arranging
+pub mod Copy
+pub mod Grouping
+pub mod Spreading
