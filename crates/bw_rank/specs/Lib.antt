@@ -1,1 +1,4 @@
+pub mod Marking
 pub mod Ranks
+pub mod Sorting
+pub mod Tables

@@ -1,8 +1,11 @@
-//! What ranks tell of numbers.
+//! Ranks with how often each of the distinct numbers stands, and which way they are found.
 
 ghost use Rattle.std.specs.Prelude.{IfOk, length, ◌^◌, ◌≤◌};
 ghost use Rattle.bw_rank.specs.Ranks.{AreRanked};
 
+use crate::counted::with_times;
+use crate::ranks::{Ranks, greatest_of, rank};
+use crate::table::ranked_by_table;
 use std::alloc::{AllocError, Global};
 
 /// The distinct ones of some numbers, how often each stands, and of each of the numbers its place among these.
@@ -16,10 +19,16 @@ pub struct Ranked {
     pub ranks: Vec<u32>,
 }
 
-/// STUB
+/// Ranks numbers and counts how often each stands: by a table of counts where the greatest number is small, and else as
+/// `rank` does.
 pub fn rank_counted(alloc: Global, numbers: &[u64]) -> Result<Ranked, AllocError>
     requires { length numbers.now ≤ 2 ^ 24 }
     ensures { IfOk result (AreRanked numbers.now) }
 {
-    Err(AllocError)
+    let greatest = greatest_of(numbers);
+    if greatest < (2 * numbers.len() as u64).max(1 << 17) {
+        return ranked_by_table(alloc, numbers, greatest as usize + 1);
+    }
+    let Ranks { entries, ranks } = rank(alloc, numbers)?;
+    with_times(alloc, entries, ranks)
 }
