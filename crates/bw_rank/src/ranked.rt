@@ -26,7 +26,7 @@ pub fn rank_counted(alloc: Global, numbers: &[u64]) -> Result<Ranked, AllocError
     ensures { IfOk result (AreRanked numbers.now) }
 {
     let greatest = greatest_of(numbers);
-    if greatest < (2 * numbers.len() as u64).max(1 << 17) {
+    if greatest < (numbers.len() as u64 / 2).min(1 << 17) {
         return ranked_by_table(alloc, numbers, greatest as usize + 1);
     }
     let Ranks { entries, ranks } = rank(alloc, numbers)?;
