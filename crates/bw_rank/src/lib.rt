@@ -7,7 +7,6 @@ mod packed;
 mod ranked;
 mod ranks;
 mod table;
-mod wide;
 
 pub use ranked::{Ranked, rank_counted};
 pub use ranks::{Ranks, rank};

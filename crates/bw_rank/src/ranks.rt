@@ -5,7 +5,6 @@ ghost use Rattle.bw_rank.specs.Ranks.{AreRanks};
 
 use crate::marks::ranks_by_marks;
 use crate::packed::ranks_by_packed_sort;
-use crate::wide::ranks_by_wide_sort;
 use std::alloc::{AllocError, Global};
 
 /// The distinct ones of some numbers, and of each of the numbers its place among these.
@@ -27,9 +26,9 @@ pub fn rank(alloc: Global, numbers: &[u64]) -> Result<Ranks, AllocError>
     if greatest < (32 * numbers.len() as u64).max(1 << 16) {
         ranks_by_marks(alloc, numbers, greatest as usize + 1)
     } else if greatest < 1 << 40 {
-        ranks_by_packed_sort(alloc, numbers)
+        ranks_by_packed_sort::<u64>(alloc, numbers)
     } else {
-        ranks_by_wide_sort(alloc, numbers)
+        ranks_by_packed_sort::<u128>(alloc, numbers)
     }
 }
 
