@@ -146,7 +146,8 @@ class Coprocess:
         self._waits = True
         ready = pipes.poll(None if left is None else math.ceil(left * 1000))
         self._waits = False
-        if not ready:
+        # Past the limit one that still writes is ended too.
+        if not ready or left == 0.0:
             self._end_late()
         for pipe, _ in ready:
             if pipe == self._answers:

@@ -1,7 +1,7 @@
 """What several parts answer together, by what each of them answers.
 
 Each merge rests on a law over the definitions of set functions: what they say of the rows of two lists, one after the
-other, by what they say of each list. The laws are named where they are used.
+other, by what they say of each list. The laws are named where they are used; none of them is proved yet.
 """
 
 from __future__ import annotations
