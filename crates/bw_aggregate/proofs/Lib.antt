@@ -9,6 +9,7 @@ pub mod LeftRows
 pub mod Marks
 pub mod NearRows
 pub mod Nearest
+pub mod NextRows
 pub mod Parts
 pub mod Ranks
 pub mod RowsMore

@@ -4,6 +4,7 @@ pub mod Descents
 pub mod Ends
 pub mod Left
 pub mod Marks
+pub mod NextGroups
 pub mod PlaneSums
 pub mod Planes
 pub mod Runs

@@ -9,6 +9,7 @@ mod left;
 mod middle;
 mod nearest_planes;
 mod nearest_runs;
+mod parting;
 mod plane;
 mod plane_sums;
 mod rows;
@@ -22,5 +23,6 @@ mod tally_runs;
 mod telling;
 mod totals;
 
+pub use parting::next_group;
 pub use set_functions::{count, max, median, min, sum};
 pub use summary::{Asked, Summary, summarize};

@@ -1,5 +1,5 @@
 -- What a statement comes to, from what it answers by its tests.
-use Rattle.std.proofs.Common.{◌≡◌, ◌∙◌, ◌⊎◌, inl, inr, ℕ, Bool, true, false, not, List, Option, None, Some, is_none, is_some, Result, Ok, Err, OnErr, OnOk, MatchOption, [], if◌then◌else◌, nat_le, nat_lt, refl, sym, ap, subst, arith}
+use Rattle.std.proofs.Common.{◌≡◌, ◌∙◌, ◌⊎◌, inl, inr, ℕ, Bool, true, false, not, List, Option, None, Some, is_none, is_some, Result, Ok, Err, OnErr, OnOk, MatchOption, option_map, [], if◌then◌else◌, nat_le, nat_lt, refl, sym, ap, subst, arith}
 use Rattle.std.specs.Bool.{then_some}
 use Rattle.std.specs.Borrow.{Bor}
 use Rattle.std.specs.Option.{option_copied}
@@ -8,8 +8,8 @@ use Rattle.std.proofs.lemmas.Bool.Decides.{nat_tests}
 use Rattle.bw_sql.specs.Tree.{StatementTree, save, statement_of}
 use Rattle.bw_sql.specs.declared.tree.Statement.{Statement}
 use Rattle.bw_model.specs.Contents.{SaysTo}
-use Rattle.bw_model.specs.FileUse.{file_read, file_use, no_file, reads, unless_refused, use_in, writes}
-use Rattle.bw_model.specs.Refusals.{first_that_holds, over, refused_early}
+use Rattle.bw_model.specs.FileUse.{FileUse, file_read, file_use, no_file, reads, unless_refused, use_in, writes}
+use Rattle.bw_model.specs.Refusals.{first_that_holds, over, refused_early, tests_of}
 use Rattle.bw_model.specs.Step.{Step, WantsMemory, carried_out, refused_or}
 use Rattle.bw_model.specs.Store.{Store, Table}
 use Rattle.bw_model.specs.declared.content.Content.{Content}
@@ -17,14 +17,16 @@ use Rattle.bw_model.specs.declared.content.Content.TheVariants.{Nothing}
 use Rattle.bw_model.specs.declared.refusal.Refusal.{Refusal}
 use Rattle.bw_model.specs.declared.refusal.Refusal.TheVariants.{OutOfMemory, OverLimit, TableExists}
 use Rattle.bw_model.specs.declared.reply.Reply.{Reply}
-use Rattle.bw_model.specs.declared.reply.Reply.TheVariants.{Count, Done, Refused, Rows}
+use Rattle.bw_model.specs.declared.reply.Reply.TheVariants.{Count, Done, Refused, Rows, Units}
 use Rattle.bw_model.proofs.Unchanged.{early_first, never_refuses}
-use Rattle.bw_engine.specs.Files.{CarriesFile, Executes, IsAnswered, IsNoSave, LeavesBy, RepliesBy, SavesOr, saving_of}
-use Rattle.bw_engine.specs.Outcomes.{CarriesOut, reply_of}
+use Rattle.bw_engine.specs.Counting.{said_of}
+use Rattle.bw_engine.specs.Files.{CarriesFile, Executes, IsAnswered, IsNoSave, LeavesBy, Replies, RepliesBy, Saves, SavesOr, saving_of}
+use Rattle.bw_engine.specs.Outcomes.{CarriesOut, MayRefuseStep, reply_of}
 use Rattle.bw_engine.specs.StoredChanges.{ChangesStored}
 use Rattle.bw_engine.specs.Stores.{Stored, store_of}
 use Rattle.bw_engine.specs.declared.file_answer.FileAnswer.{FileAnswer}
 use Rattle.bw_engine.specs.declared.file_answer.FileAnswer.TheVariants as file
+use Rattle.bw_engine.specs.declared.outcome.Outcome.{Outcome}
 use Rattle.bw_engine.specs.declared.outcome.Outcome.TheVariants as outcome
 use Rattle.bw_engine.specs.declared.outcome.Saving.{Saving}
 use Rattle.bw_engine.proofs.Steps.{steps}
@@ -36,10 +38,10 @@ none_used (Some refusal) = refl
 
 -- a statement that names no file
 pub plain : (tables after : Stored) (statement : StatementTree) (answer : FileAnswer) (r : Result Reply Refusal) → use_in statement ≡ no_file
-    → CarriesOut (store_of tables) Nothing statement r (store_of after) → OnErr r (after ≡ tables) → Executes (store_of tables) statement answer (outcome.Reply (reply_of r)) (store_of after)
+    → CarriesOut (store_of tables) (said_of tables statement) statement r (store_of after) → OnErr r (after ≡ tables) → Executes tables statement answer (outcome.Reply (reply_of r)) (store_of after)
 plain tables after statement answer r none carries stays =
     let unused : file_use (store_of tables) statement ≡ no_file = ap (unless_refused (refused_early (store_of tables) statement)) none ∙ none_used (refused_early (store_of tables) statement) in (
-      subst (λ used. RepliesBy (file_read used) (store_of tables) statement answer (reply_of r) (store_of after)) (sym unused) (steps tables after Nothing statement r carries stays),
+      subst (λ used. RepliesBy (file_read used) tables statement answer (reply_of r) (store_of after)) (sym unused) (steps tables after (said_of tables statement) statement r carries stays),
       subst (λ used. IsNoSave used (reply_of r)) (sym unused) tt,
     )
 
@@ -57,22 +59,22 @@ module _ (tables after : Stored) (statement : StatementTree) (answer : FileAnswe
   wants (Ok reply) early stays e = cc
   wants (Err x) early stays e = let same : x ≡ OutOfMemory = cc in record { accepted = early; says = ap (λ y. Refused y) same; stays = ap store_of stays }
 
-  refused_first : (r : Result Reply Refusal) (refusal : Refusal) → refused_early (store_of tables) statement ≡ Some refusal → OnErr r (after ≡ tables) → r ≡ Err refusal → Step (store_of tables) Nothing statement (reply_of r) (store_of after)
+  refused_first : (r : Result Reply Refusal) (refusal : Refusal) → refused_early (store_of tables) statement ≡ Some refusal → OnErr r (after ≡ tables) → r ≡ Err refusal → Step (store_of tables) (said_of tables statement) statement (reply_of r) (store_of after)
   refused_first (Ok reply) refusal early stays e = cc
   refused_first (Err x) refusal early stays e =
       let same : x ≡ refusal = cc in
-      inr ((λ j. (Refused (same j), ap store_of stays j)) ∙ ap (λ o. refused_or o (store_of tables) (carried_out (store_of tables) Nothing statement)) (sym (early_first (store_of tables) Nothing statement refusal early)))
+      inr ((λ j. (Refused (same j), ap store_of stays j)) ∙ ap (λ o. refused_or o (store_of tables) (carried_out (store_of tables) (said_of tables statement) statement)) (sym (early_first (store_of tables) (said_of tables statement) statement refusal early)))
 
   by_early : (o : Option Refusal) (r : Result Reply Refusal) → refused_early (store_of tables) statement ≡ o → OnErr r (after ≡ tables)
       → MatchOption o (IsAnswered answer (SaysTo (store_of tables) statement) (λ said. CarriesOut (store_of tables) said statement r (store_of after)) (r ≡ Err OutOfMemory)) (λ refusal. r ≡ Err refusal)
-      → RepliesBy (file_read (unless_refused o (reads name))) (store_of tables) statement answer (reply_of r) (store_of after) × IsNoSave (unless_refused o (reads name)) (reply_of r)
+      → RepliesBy (file_read (unless_refused o (reads name))) tables statement answer (reply_of r) (store_of after) × IsNoSave (unless_refused o (reads name)) (reply_of r)
   by_early None r early stays h =
       (answered_so answer (SaysTo (store_of tables) statement) _ _ _ _ (λ said carries. steps tables after said statement r carries stays) (wants r early stays) h, tt)
   by_early (Some refusal) r early stays h = (refused_first r refusal early stays h, tt)
 
-  pub reading : (r : Result Reply Refusal) → CarriesFile (store_of tables) statement answer r (store_of after) → OnErr r (after ≡ tables) → Executes (store_of tables) statement answer (outcome.Reply (reply_of r)) (store_of after)
+  pub reading : (r : Result Reply Refusal) → CarriesFile (store_of tables) statement answer r (store_of after) → OnErr r (after ≡ tables) → Executes tables statement answer (outcome.Reply (reply_of r)) (store_of after)
   reading r carries stays =
-      subst (λ used. RepliesBy (file_read (unless_refused (refused_early (store_of tables) statement) used)) (store_of tables) statement answer (reply_of r) (store_of after) × IsNoSave (unless_refused (refused_early (store_of tables) statement) used) (reply_of r)) (sym named)
+      subst (λ used. RepliesBy (file_read (unless_refused (refused_early (store_of tables) statement) used)) tables statement answer (reply_of r) (store_of after) × IsNoSave (unless_refused (refused_early (store_of tables) statement) used) (reply_of r)) (sym named)
       (by_early (refused_early (store_of tables) statement) r refl stays carries)
 
 -- what reads no file
@@ -102,11 +104,11 @@ module _ (tables : Stored) (name given : List ℕ) (answer : FileAnswer) where
         | inr p ↦ (inr (ap (λ o. refused_or o (store_of tables) (carried_out (store_of tables) Nothing saves_it)) (sym (early ∙ p))), tt)
       ]
 
-  pub saving : (r : Result Saving Refusal) → SavesOr (store_of tables) saves_it r (store_of tables) → Executes (store_of tables) saves_it answer (saving_of r) (store_of tables)
+  pub saving : (r : Result Saving Refusal) → SavesOr (store_of tables) saves_it r (store_of tables) → Executes tables saves_it answer (saving_of r) (store_of tables)
   saving (Ok handed) h = h
   saving (Err e) h =
       let p = refused_save (refused_early (store_of tables) saves_it) e refl h in
-      (subst (λ read. RepliesBy read (store_of tables) saves_it answer (Refused e) (store_of tables)) (sym (read_none (refused_early (store_of tables) saves_it) given)) p.0, p.1)
+      (subst (λ read. RepliesBy read tables saves_it answer (Refused e) (store_of tables)) (sym (read_none (refused_early (store_of tables) saves_it) given)) p.0, p.1)
 
 -- what a statement makes of slots and encodings
 pub leaves : (tables after : Stored) (said : Content) (statement : StatementTree) (r : Result Reply Refusal) → CarriesOut (store_of tables) said statement r (store_of after) → OnErr r (after ≡ tables) → OnOk r (ChangesStored tables statement after)
@@ -115,6 +117,7 @@ leaves tables after said statement (Ok (Refused refusal)) h stays changes = absu
 leaves tables after said statement (Ok Done) h stays changes = changes
 leaves tables after said statement (Ok (Count n)) h stays changes = changes
 leaves tables after said statement (Ok (Rows shown)) h stays changes = changes
+leaves tables after said statement (Ok (Units n)) h stays changes = changes
 leaves tables after said statement (Err e) h stays changes = stays
 
 pub leaves_all : (tables : Stored) (said : Content) (statement : StatementTree) (r : Result Reply Refusal) → CarriesOut (store_of tables) said statement r (store_of tables) → ChangesStored tables statement tables

@@ -9,11 +9,14 @@ use Rattle.bw_sql.specs.declared.tree.SelectItem.{SelectItem}
 use Rattle.bw_sql.specs.declared.tree.SelectItem.TheVariants as item
 use Rattle.bw_sql.specs.declared.tree.SetFunction.{SetFunction}
 use Rattle.bw_sql.specs.declared.tree.SetFunction.TheVariants.{Count, Sum, Min, Max, Median}
-use Rattle.bw_model.specs.Select.{columns_in, folded, lines_for, said_of, shown}
+use Rattle.bw_model.specs.Groups.{Group, groups_by}
+use Rattle.bw_model.specs.Select.{columns_in, folded, lines_for, said_in, said_of, shown}
 use Rattle.bw_cells.specs.SetFunctions.{greatest, known, least, median, sum}
 use Rattle.bw_model.specs.Store.{Header, Row, place_of, value_at, value_from}
 use Rattle.bw_model.proofs.Items.{columns_only}
-use Rattle.bw_plan.specs.Selections.{ShowsBy, placed_item}
+use Rattle.bw_plan.specs.Selections.{ShowsBy, grouped_item, placed_item}
+use Rattle.bw_plan.specs.declared.grouping.GroupItem.{GroupItem}
+use Rattle.bw_plan.specs.declared.grouping.GroupItem.TheVariants as grouped
 use Rattle.bw_plan.specs.declared.selection.FunctionPlan.{FunctionPlan}
 use Rattle.bw_plan.specs.declared.selection.FunctionPlan.TheVariants as function
 use Rattle.bw_plan.specs.declared.selection.ShownPlan.{ShownPlan}
@@ -23,7 +26,7 @@ use Rattle.bw_plan.proofs.SetLaws.{place_inside}
 use Rattle.bw_aggregate.specs.Summaries.{IsSummary}
 use Rattle.bw_aggregate.specs.declared.summary.Asked.{Asked}
 use Rattle.bw_aggregate.specs.declared.summary.Summary.{Summary}
-use Rattle.bw_engine.specs.Folds.{AskFor, IsShownWithin, IsWithin, lines_by, number_by, number_of, plan_width, told_by}
+use Rattle.bw_engine.specs.Folds.{AskFor, IsItemWithin, IsShownWithin, IsWithin, lines_by, number_by, number_of, plan_width, told_by, told_in}
 use Rattle.bw_engine.specs.Found.{rows_where}
 use Rattle.bw_engine.specs.Stores.{rows_of_slots}
 use Rattle.bw_engine.proofs.FoundLaws.{counted}
@@ -68,6 +71,11 @@ module _ (headers : List Header) where
       ap (λ c. c ∷ map (λ g. shown (number_by rows g)) functions) (item_says rows one f (ap (λ l. get_or l 0 None) e))
       ∙ ap (λ l. said_of headers rows one ∷ l) (functions_say rows list functions (ap rest_of e))
 
+  -- a function of a group's rows
+  placed_told : (group : Group) (one : SelectItem) (i : GroupItem) (plan : Option FunctionPlan) → placed_item headers one ≡ plan → Some i ≡ option_map grouped.Function plan → told_in group i ≡ said_of headers group.rows one
+  placed_told group one i None at is = cc
+  placed_told group one i (Some plan) at is = ap (told_in group) (some_same i (grouped.Function plan) is) ∙ item_says group.rows one plan (sym at)
+
   -- each of their columns is there
   placed_within : (n : ℕ) → length headers ≡ n → (f : SetFunction) (name : List ℕ) (place : Option ℕ) (plan : FunctionPlan) → place_of headers name ≡ place → Some plan ≡ option_map (function.Of f) place → IsWithin n plan
   placed_within n count f name None plan at is = cc
@@ -86,20 +94,64 @@ module _ (headers : List Header) where
   functions_within n count (one ∷ list) (f ∷ functions) e =
       All-cons (IsWithin n) f functions (item_within n count one f (ap (λ l. get_or l 0 None) e)) (functions_within n count list functions (ap rest_of e))
 
+  placed_inside : (n : ℕ) → length headers ≡ n → (one : SelectItem) (i : GroupItem) (plan : Option FunctionPlan) → placed_item headers one ≡ plan → Some i ≡ option_map grouped.Function plan → IsItemWithin n i
+  placed_inside n count one i None at is = cc
+  placed_inside n count one i (Some plan) at is = subst (IsItemWithin n) (sym (some_same i (grouped.Function plan) is)) (item_within n count one plan (sym at))
+
+  -- what an item shows of a group
+  item_told : (group : Group) (one : SelectItem) (i : GroupItem) → Some i ≡ grouped_item headers one → told_in group i ≡ said_in headers group one
+  item_told group (item.Column name) i is = ap (told_in group) (some_same i grouped.Value is)
+  item_told group item.CountRows i is = placed_told group item.CountRows i (placed_item headers item.CountRows) refl is
+  item_told group (item.Function f name) i is = placed_told group (item.Function f name) i (placed_item headers (item.Function f name)) refl is
+
+  items_told : (group : Group) (list : List SelectItem) (items : List GroupItem) → map (λ i. Some i) items ≡ map (grouped_item headers) list → map (told_in group) items ≡ map (said_in headers group) list
+  items_told group [] [] e = refl
+  items_told group [] (i ∷ items) e = absurd (omega (arith, ap length e))
+  items_told group (one ∷ list) [] e = absurd (omega (arith, ap length e))
+  items_told group (one ∷ list) (i ∷ items) e =
+      ap (λ c. c ∷ map (told_in group) items) (item_told group one i (ap (λ l. get_or l 0 None) e))
+      ∙ ap (λ l. said_in headers group one ∷ l) (items_told group list items (ap rest_of e))
+
+  -- the column of each is there
+  item_inside : (n : ℕ) → length headers ≡ n → (one : SelectItem) (i : GroupItem) → Some i ≡ grouped_item headers one → IsItemWithin n i
+  item_inside n count (item.Column name) i is = subst (IsItemWithin n) (sym (some_same i grouped.Value is)) tt
+  item_inside n count item.CountRows i is = placed_inside n count item.CountRows i (placed_item headers item.CountRows) refl is
+  item_inside n count (item.Function f name) i is = placed_inside n count (item.Function f name) i (placed_item headers (item.Function f name)) refl is
+
+  items_inside : (n : ℕ) → length headers ≡ n → (list : List SelectItem) (items : List GroupItem) → map (λ i. Some i) items ≡ map (grouped_item headers) list → All (IsItemWithin n) items
+  items_inside n count list [] e = All-nil (IsItemWithin n)
+  items_inside n count [] (i ∷ items) e = absurd (omega (arith, ap length e))
+  items_inside n count (one ∷ list) (i ∷ items) e = All-cons (IsItemWithin n) i items (item_inside n count one i (ap (λ l. get_or l 0 None) e)) (items_inside n count list items (ap rest_of e))
+
   -- what a plan shows of rows is what the list shows
-  pub lines_are : (list : List SelectItem) (plan : ShownPlan) (rows : List Row) → ShowsBy headers list plan → lines_by plan rows ≡ lines_for headers list rows
-  lines_are list (plans.Columns places) rows by =
+  pub lines_are : (list : List SelectItem) (grouping : Option (List ℕ)) (plan : ShownPlan) (rows : List Row) → ShowsBy headers list grouping plan → lines_by plan rows ≡ lines_for headers list grouping rows
+  lines_are list None (plans.Columns places) rows by =
       rw by.0 (λ j. map (λ row. line_by_places headers (columns_in list) places.items row by.1 j) rows)
-  lines_are list (plans.Functions functions) rows by = rw by.0 (ap (λ line. line ∷ []) (functions_say rows list functions.items by.1))
+  lines_are list None (plans.Functions functions) rows by = rw by.0 (ap (λ line. line ∷ []) (functions_say rows list functions.items by.1))
+  lines_are list None (plans.Groups plan) rows by = absurd by
+  lines_are list (Some name) (plans.Columns places) rows by = absurd by
+  lines_are list (Some name) (plans.Functions functions) rows by = absurd by
+  lines_are list (Some name) (plans.Groups plan) rows by =
+      (λ j. map (λ group. items_told group list plan.items.items by.1 j) (groups_by (Some plan.by) rows))
+      ∙ ap (λ place. map (λ group. map (said_in headers group) list) (groups_by place rows)) by.0
 
-  pub width_is : (list : List SelectItem) (plan : ShownPlan) → ShowsBy headers list plan → plan_width plan ≡ length list
-  width_is list (plans.Columns places) by =
+  pub width_is : (list : List SelectItem) (grouping : Option (List ℕ)) (plan : ShownPlan) → ShowsBy headers list grouping plan → plan_width plan ≡ length list
+  width_is list None (plans.Columns places) by =
       sym (length-map places.items (λ place. Some place)) ∙ ap length by.1 ∙ length-map (columns_in list) (place_of headers) ∙ columns_only list by.0
-  width_is list (plans.Functions functions) by = sym (length-map functions.items (λ f. Some f)) ∙ ap length by.1 ∙ length-map list (placed_item headers)
+  width_is list None (plans.Functions functions) by = sym (length-map functions.items (λ f. Some f)) ∙ ap length by.1 ∙ length-map list (placed_item headers)
+  width_is list None (plans.Groups plan) by = absurd by
+  width_is list (Some name) (plans.Columns places) by = absurd by
+  width_is list (Some name) (plans.Functions functions) by = absurd by
+  width_is list (Some name) (plans.Groups plan) by = sym (length-map plan.items.items (λ i. Some i)) ∙ ap length by.1 ∙ length-map list (grouped_item headers)
 
-  pub shown_within : (n : ℕ) → length headers ≡ n → (list : List SelectItem) (plan : ShownPlan) → ShowsBy headers list plan → IsShownWithin n plan
-  shown_within n count list (plans.Columns places) by = places_inside headers count (columns_in list) places.items by.1
-  shown_within n count list (plans.Functions functions) by = functions_within n count list functions.items by.1
+  pub shown_within : (n : ℕ) → length headers ≡ n → (list : List SelectItem) (grouping : Option (List ℕ)) (plan : ShownPlan) → ShowsBy headers list grouping plan → IsShownWithin n plan
+  shown_within n count list None (plans.Columns places) by = places_inside headers count (columns_in list) places.items by.1
+  shown_within n count list None (plans.Functions functions) by = functions_within n count list functions.items by.1
+  shown_within n count list None (plans.Groups plan) by = absurd by
+  shown_within n count list (Some name) (plans.Columns places) by = absurd by
+  shown_within n count list (Some name) (plans.Functions functions) by = absurd by
+  shown_within n count list (Some name) (plans.Groups plan) by =
+      (let inside = place_inside headers name plan.by (sym by.0) in omega (arith, inside, count), items_inside n count list plan.items.items by.1)
 
 -- the values of a column in the rows that are found
 where_true : (place : ℕ) (bits : List Bool) (rows : List Row) → length bits ≡ length rows → items_where_true bits (column_of rows place) ≡ map (λ row. value_at row place) (rows_where (λ i. get_or bits i false) rows)

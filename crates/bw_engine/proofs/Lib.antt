@@ -3,10 +3,12 @@ mod After
 pub mod Chosen
 pub mod Columns
 pub mod Copies
+pub mod Counted
 pub mod Executed
 pub mod Folding
 mod FoundLaws
 pub mod Founds
+pub mod GroupShows
 pub mod Inserted
 pub mod LiveLaws
 pub mod LiveRows

@@ -21,12 +21,12 @@ use Rattle.bw_table.specs.Tables.{slots_in}
 use Rattle.bw_table.specs.declared.choice.Choice.{Choice}
 use Rattle.bw_table.specs.declared.setting.SetTo.{SetTo}
 use Rattle.bw_table.specs.declared.setting.SetTo.TheVariants.{Column, Value}
-use Rattle.bw_sql.specs.Tree.{ConditionTree, StatementTree, create_table, delete, drop_table, insert, list_tables, load, open_table, rebuild, save, select, update}
+use Rattle.bw_sql.specs.Tree.{ConditionTree, StatementTree, create_table, delete, drop_table, insert, list_tables, load, open_table, rebuild, save, select, stats, update}
 use Rattle.bw_sql.specs.declared.tree.LayoutChoice.{LayoutChoice}
 use Rattle.bw_sql.specs.declared.tree.SetClause.{SetClause}
 use Rattle.bw_model.specs.Store.{Header, Row, Store, Table, Value as Cell}
 use Rattle.bw_model.specs.declared.reply.Reply.{Reply}
-use Rattle.bw_model.specs.declared.reply.Reply.TheVariants.{Count, Done, Refused, Rows}
+use Rattle.bw_model.specs.declared.reply.Reply.TheVariants.{Count, Done, Refused, Rows, Units}
 use Rattle.bw_plan.specs.Plans.{Plan, planned}
 use Rattle.bw_plan.specs.Sets.{AreChoicesFor, AreSetsFor, source_to}
 use Rattle.bw_plan.specs.declared.plan.Source.{Source}
@@ -234,7 +234,8 @@ one_change tables after left (insert name listed rows) x y same = one_changed Gr
 one_change tables after left (update name sets condition) x y same = one_changed (SetsFound sets condition) tables after left name (λ old a b e. one_setting a b e old sets condition) x y same
 one_change tables after left (delete name condition) x y same = one_changed (KillsFound condition) tables after left name (λ old a b e. one_killing a b e old condition) x y same
 one_change tables after left (rebuild name choices) x y same = one_changed (BuildsAnew choices) tables after left name (λ old a b e. one_building a b e old choices) x y same
-one_change tables after left (select items name condition) x y same = x ∙ sym y
+one_change tables after left (select query) x y same = x ∙ sym y
+one_change tables after left (stats query) x y same = x ∙ sym y
 one_change tables after left (load name file first) x y same = one_changed Grows tables after left name (λ old a b e. one_growth a b e old) x y same
 one_change tables after left (save name file) x y same = x ∙ sym y
 one_change tables after left (open_table name file) x y same = one_added tables after left name x y same
@@ -245,3 +246,4 @@ one_stored tables after left tree (Refused refusal) x y same = x ∙ sym y
 one_stored tables after left tree Done x y same = one_change tables after left tree x y same
 one_stored tables after left tree (Count n) x y same = one_change tables after left tree x y same
 one_stored tables after left tree (Rows shown) x y same = one_change tables after left tree x y same
+one_stored tables after left tree (Units n) x y same = one_change tables after left tree x y same

@@ -4,7 +4,7 @@ use Rattle.std.specs.List.{All}
 use Rattle.std.proofs.lemmas.List.Elements.{All-cons, All-nil}
 use Rattle.std.proofs.lemmas.List.{get_or-map, length-map, map-append, take_all, take_more}
 use Rattle.bw_sql.specs.Rows.{joined}
-use Rattle.bw_sql.specs.Tree.{ConditionTree, ItemsTree}
+use Rattle.bw_sql.specs.Tree.{SelectTree}
 use Rattle.bw_sql.specs.declared.tree.SelectItem.TheVariants as item
 use Rattle.bw_code.specs.declared.kind.ColumnType.TheVariants.{Integer}
 use Rattle.bw_code.specs.declared.kind.Layout.TheVariants.{V}
@@ -37,9 +37,9 @@ one_line_flat cells = sym (append-nil cells)
 pub one_line_wide : (cells : List Cell) (width : ℕ) → length cells ≡ width → All (λ line. length line ≡ width) (cells ∷ [])
 one_line_wide cells width e = All-cons (λ line. length line ≡ width) cells [] e (All-nil (λ line. length line ≡ width))
 
-pub answer_is : (table : Table) (items : ItemsTree) (condition : Option ConditionTree) (shows : Shown)
-    → shows.headings ≡ map heading_of (shown_items table.headers items) → shows.lines ≡ lines_for table.headers (shown_items table.headers items) (found_rows table condition) → shows ≡ answer table items condition
-answer_is table items condition shows headings lines = λ j. record { headings = headings j; lines = lines j }
+pub answer_is : (table : Table) (query : SelectTree) (shows : Shown)
+    → shows.headings ≡ map heading_of (shown_items table.headers query.items) → shows.lines ≡ lines_for table.headers (shown_items table.headers query.items) query.grouping (found_rows table query.condition) → shows ≡ answer table query
+answer_is table query shows headings lines = λ j. record { headings = headings j; lines = lines j }
 
 -- columns are headed by their names
 pub headings_all : (list : List (List ℕ)) → map (λ name. Column name) list ≡ map heading_of (map (λ name. item.Column name) list)

@@ -22,9 +22,10 @@ use Rattle.bw_model.specs.declared.refusal.Refusal.{Refusal}
 use Rattle.bw_model.specs.declared.refusal.Refusal.TheVariants.{FileTooLarge, NotTableFile, OutOfMemory, UnreadableFile}
 use Rattle.bw_model.specs.declared.reply.Reply.{Reply}
 use Rattle.bw_model.specs.declared.reply.Reply.TheVariants.{Refused}
+use Rattle.bw_engine.specs.Counting.{said_of}
 use Rattle.bw_engine.specs.Outcomes.{CarriesOut}
 use Rattle.bw_engine.specs.StoredChanges.{LeavesStored}
-use Rattle.bw_engine.specs.Stores.{Stored}
+use Rattle.bw_engine.specs.Stores.{Stored, store_of}
 use Rattle.bw_engine.specs.declared.file_answer.FileAnswer.{FileAnswer}
 use Rattle.bw_engine.specs.declared.file_answer.FileAnswer.TheVariants as file
 use Rattle.bw_engine.specs.declared.outcome.Outcome.{Outcome}
@@ -41,14 +42,15 @@ IsAnswered file.NoMemory says P W = W
 IsAnswered (file.Bytes bytes) says P W = W ⊎ ((said : Content) × says bytes.now said × P said)
 
 -- the reply and the store after a statement that reads a file, where there is one
-abbrev pub RepliesBy : Option (List ℕ) → Store → StatementTree → FileAnswer → Reply → Store → Type 0
-RepliesBy None store statement answer reply after = Step store Nothing statement reply after
-RepliesBy (Some name) store statement answer reply after =
+abbrev pub RepliesBy : Option (List ℕ) → Stored → StatementTree → FileAnswer → Reply → Store → Type 0
+RepliesBy None tables statement answer reply after = Step (store_of tables) (said_of tables statement) statement reply after
+RepliesBy (Some name) tables statement answer reply after =
+    let store = store_of tables in
     IsAnswered answer (SaysTo store statement) (λ said. Step store said statement reply after) (WantsMemory store statement reply after)
 
 -- the reply and the store after a statement, with what was handed in as its file
-abbrev pub Replies : Store → StatementTree → FileAnswer → Reply → Store → Type 0
-Replies store statement answer reply after = RepliesBy (file_read (file_use store statement)) store statement answer reply after
+abbrev pub Replies : Stored → StatementTree → FileAnswer → Reply → Store → Type 0
+Replies tables statement answer reply after = RepliesBy (file_read (file_use (store_of tables) statement)) tables statement answer reply after
 
 -- a SAVE that isn't refused hands its bytes out, but where memory is wanting
 abbrev pub IsNoSave : FileUse → Reply → Type 0
@@ -66,9 +68,9 @@ pub record Saves (store : Store) (statement : StatementTree) (saving : Saving) (
   pub rows : saving.rows ≡ length table.rows
   pub stays : after ≡ store
 
-abbrev pub Executes : Store → StatementTree → FileAnswer → Outcome → Store → Type 0
-Executes store statement answer (outcome.Reply reply) after = Replies store statement answer reply after × IsNoSave (file_use store statement) reply
-Executes store statement answer (outcome.Save saving) after = Saves store statement saving after
+abbrev pub Executes : Stored → StatementTree → FileAnswer → Outcome → Store → Type 0
+Executes tables statement answer (outcome.Reply reply) after = Replies tables statement answer reply after × IsNoSave (file_use (store_of tables) statement) reply
+Executes tables statement answer (outcome.Save saving) after = Saves (store_of tables) statement saving after
 
 -- P of a value where none of the tests holds; want of memory, or the first test that holds
 abbrev pub AnswersFile : {T : Type 0} → Tests → Result T Refusal → (T → Type 0) → Type 0

@@ -6,9 +6,12 @@ use Rattle.bw_engine.specs.declared.folded.ColumnSummary.{ColumnSummary}
 use Rattle.bw_sql.specs.declared.tree.SetFunction.{SetFunction}
 use Rattle.bw_sql.specs.declared.tree.SetFunction.TheVariants.{Count, Sum, Min, Max, Median}
 use Rattle.bw_cells.specs.SetFunctions.{greatest, known, least, median, sum}
+use Rattle.bw_model.specs.Groups.{Group, groups_by}
 use Rattle.bw_model.specs.Store.{Row, value_at}
 use Rattle.bw_model.specs.Select.{shown}
 use Rattle.bw_model.specs.declared.answer.Cell.{Cell}
+use Rattle.bw_plan.specs.declared.grouping.GroupItem.{GroupItem}
+use Rattle.bw_plan.specs.declared.grouping.GroupItem.TheVariants as grouped
 use Rattle.bw_plan.specs.declared.selection.FunctionPlan.{FunctionPlan}
 use Rattle.bw_plan.specs.declared.selection.FunctionPlan.TheVariants as function
 use Rattle.bw_plan.specs.declared.selection.ShownPlan.{ShownPlan}
@@ -54,16 +57,28 @@ abbrev pub IsWithin : ℕ → FunctionPlan → Type 0
 IsWithin count function.CountRows = ⊤
 IsWithin count (function.Of f place) = place < count
 
+-- what an item shows of a group: its value, or what a function says of its rows
+abbrev pub told_in : Group → GroupItem → Cell
+told_in group grouped.Value = shown group.value
+told_in group (grouped.Function f) = shown (number_by group.rows f)
+
+abbrev pub IsItemWithin : ℕ → GroupItem → Type 0
+IsItemWithin count grouped.Value = ⊤
+IsItemWithin count (grouped.Function f) = IsWithin count f
+
 -- how many cells a line has
 abbrev pub plan_width : ShownPlan → ℕ
 plan_width (plans.Columns places) = length places.items
 plan_width (plans.Functions functions) = length functions.items
+plan_width (plans.Groups plan) = length plan.items.items
 
 abbrev pub IsShownWithin : ℕ → ShownPlan → Type 0
 IsShownWithin count (plans.Columns places) = All (λ place. place < count) places.items
 IsShownWithin count (plans.Functions functions) = All (IsWithin count) functions.items
+IsShownWithin count (plans.Groups plan) = (plan.by < count) × All (IsItemWithin count) plan.items.items
 
 -- the lines that are shown of rows
 abbrev pub lines_by : ShownPlan → List Row → List (List Cell)
 lines_by (plans.Columns places) rows = map (λ row. map (λ place. shown (value_at row place)) places.items) rows
 lines_by (plans.Functions functions) rows = map (λ f. shown (number_by rows f)) functions.items ∷ []
+lines_by (plans.Groups plan) rows = map (λ group. map (told_in group) plan.items.items) (groups_by (Some plan.by) rows)

@@ -1,6 +1,8 @@
+pub mod Counting
 pub mod Files
 pub mod Folds
 pub mod Found
+pub mod GroupLines
 pub mod Outcomes
 pub mod Runs
 pub mod Saving

@@ -10,7 +10,7 @@ use Rattle.bw_table.specs.Slots.{live_slot, slot_column}
 use Rattle.bw_table.specs.Tables.{slots_in}
 use Rattle.bw_table.specs.declared.choice.Choice.{Choice}
 use Rattle.bw_table.specs.declared.setting.SetTo.{SetTo}
-use Rattle.bw_sql.specs.Tree.{ConditionTree, StatementTree, create_table, delete, drop_table, insert, list_tables, load, open_table, rebuild, save, select, update}
+use Rattle.bw_sql.specs.Tree.{ConditionTree, StatementTree, create_table, delete, drop_table, insert, list_tables, load, open_table, rebuild, save, select, stats, update}
 use Rattle.bw_sql.specs.declared.tree.LayoutChoice.{LayoutChoice}
 use Rattle.bw_sql.specs.declared.tree.SetClause.{SetClause}
 use Rattle.bw_model.specs.Store.{Header, Row}
@@ -75,7 +75,8 @@ ChangesStored tables (insert name listed rows) after = IsChanged Grows tables na
 ChangesStored tables (update name sets condition) after = IsChanged (SetsFound sets condition) tables name after
 ChangesStored tables (delete name condition) after = IsChanged (KillsFound condition) tables name after
 ChangesStored tables (rebuild name choices) after = IsChanged (BuildsAnew choices) tables name after
-ChangesStored tables (select items name condition) after = after ≡ tables
+ChangesStored tables (select query) after = after ≡ tables
+ChangesStored tables (stats query) after = after ≡ tables
 ChangesStored tables (load name file first) after = IsChanged Grows tables name after
 ChangesStored tables (save name file) after = after ≡ tables
 ChangesStored tables (open_table name file) after = IsAdded tables name after

@@ -22,6 +22,7 @@ use crate::open::open_table;
 use crate::outcome::{Outcome, Saving};
 use crate::save::save;
 use crate::select::select;
+use crate::stats::stats;
 use crate::table::Table;
 use bw_model::{Refusal, Reply};
 use bw_sql::{Name, Statement};
@@ -74,6 +75,7 @@ impl Engine {
             | Statement::Delete(_)
             | Statement::Rebuild(_)
             | Statement::Select(_)
+            | Statement::Stats(_)
             | Statement::Save(_) => None,
         }
     }
@@ -81,7 +83,7 @@ impl Engine {
     /// Carries out a statement. Where it is refused nothing changes, not even how a column is encoded. The file is looked at
     /// where `wants` names one; what a SAVE writes is handed out.
     pub fn execute(&mut self, statement: Statement, file: FileAnswer<'_>) -> Outcome
-        ensures outcome { Executes (store_of self.old) (statement_of statement) file.entry result (store_of self.new) }
+        ensures outcome { Executes self.old (statement_of statement) file.entry result (store_of self.new) }
         ensures stored { LeavesBy self.old (statement_of statement) result self.new }
     {
         carry_out(self.alloc, &mut self.tables, statement, file)
@@ -109,7 +111,7 @@ fn carry_out(
     statement: Statement,
     file: FileAnswer<'_>,
 ) -> Outcome
-    ensures outcome { Executes (store_of tables.old.entries) (statement_of statement) file.entry result (store_of tables.new.entries) }
+    ensures outcome { Executes tables.old.entries (statement_of statement) file.entry result (store_of tables.new.entries) }
     ensures stored { LeavesBy tables.old.entries (statement_of statement) result tables.new.entries }
 {
     match statement {
@@ -121,6 +123,7 @@ fn carry_out(
         Statement::Delete(change) => replied(delete(alloc, tables, change)),
         Statement::Rebuild(change) => replied(rebuild(alloc, tables, change)),
         Statement::Select(query) => replied(select(alloc, tables, query)),
+        Statement::Stats(query) => replied(stats(alloc, tables, query)),
         Statement::Load(request) => replied(load(alloc, tables, request, file)),
         Statement::Open(request) => replied(open_table(alloc, tables, request, file)),
         Statement::Save(request) => saved(save(alloc, tables, request)),

@@ -104,7 +104,7 @@ fn summary_of(
 }
 
 /// What a summary tells of a set function; `None` is NULL.
-fn told_by(function: SetFunction, summary: &Summary) -> Option<i128>
+pub(crate) fn told_by(function: SetFunction, summary: &Summary) -> Option<i128>
     ensures { result ≡ told_by function summary.now }
 {
     match function {
@@ -117,7 +117,7 @@ fn told_by(function: SetFunction, summary: &Summary) -> Option<i128>
 }
 
 /// The same number in more bits.
-fn wide(value: Option<i64>) -> Option<i128>
+pub(crate) fn wide(value: Option<i64>) -> Option<i128>
     ensures { result ≡ value }
 {
     value.map(i128::from)
@@ -192,7 +192,7 @@ fn cells_of(alloc: Global, numbers: &[Option<i128>]) -> Result<Vec<Cell>, AllocE
 }
 
 /// `None` is NULL.
-fn cell(number: Option<i128>) -> Cell
+pub(crate) fn cell(number: Option<i128>) -> Cell
     ensures { result ≡ shown number }
 {
     match number {

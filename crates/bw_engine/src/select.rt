@@ -7,7 +7,7 @@ ghost use Rattle.bw_model.specs.Select.{answer, heading_of, shown_items};
 ghost use Rattle.bw_model.specs.Store.{names};
 ghost use Rattle.bw_model.specs.declared.answer.Heading.TheVariants.{Column};
 ghost use Rattle.bw_model.specs.declared.reply.Reply.TheVariants.{Rows};
-ghost use Rattle.bw_sql.specs.Tree.{condition_of, items_of, statement_of};
+ghost use Rattle.bw_sql.specs.Tree.{condition_of, items_of, select_of, statement_of};
 ghost use Rattle.bw_sql.specs.declared.tree.Statement.TheVariants as statements;
 ghost use Rattle.bw_engine.specs.Folds.{IsShownWithin, lines_by, plan_width};
 ghost use Rattle.bw_engine.specs.Found.{rows_where};
@@ -18,12 +18,13 @@ ghost use Rattle.bw_plan.specs.Checks.{Answers};
 
 use crate::folded::function_cells;
 use crate::found::found_slots;
+use crate::grouped::group_cells;
 use crate::shown::found_values;
 use crate::table::Table;
 use bw_mask::Mask;
 use bw_model::{Answer, Heading, Refusal, Reply, heading_of};
 use bw_plan::{Headers, ShownPlan, resolve_select};
-use bw_sql::{Condition, Name, Select, SelectItem, SelectItems};
+use bw_sql::{Name, Select, SelectItem, SelectItems};
 use indexmap::IndexMap;
 use std::alloc::{AllocError, Global};
 
@@ -31,38 +32,28 @@ use std::alloc::{AllocError, Global};
 pub(crate) fn select(
     alloc: Global,
     tables: &IndexMap<Name, Table>,
-    statement: Select,
+    query: Select,
 ) -> Result<Reply, Refusal>
-    ensures { CarriesOut (store_of tables.now.entries) Nothing (statement_of (statements.Select statement)) result (store_of tables.now.entries) }
+    ensures { CarriesOut (store_of tables.now.entries) Nothing (statement_of (statements.Select query)) result (store_of tables.now.entries) }
 {
-    let Select {
-        items,
-        table,
-        condition,
-    } = statement;
-    match tables.get(&table) {
-        Some(table) => shown_rows(alloc, table, items, &condition),
+    match tables.get(&query.table) {
+        Some(table) => shown_rows(alloc, table, query),
         None => Err(Refusal::NoSuchTable),
     }
 }
 
 /// What a table's found rows show.
-fn shown_rows(
-    alloc: Global,
-    table: &Table,
-    items: SelectItems,
-    condition: &Option<Condition>,
-) -> Result<Reply, Refusal>
-    ensures { Answers (select_tests (shown_items table.now.headers (items_of items)) (option_map condition_of condition.now) (table_in table.now)) result (λ reply. reply ≡ Rows (answer (table_in table.now) (items_of items) (option_map condition_of condition.now))) }
+fn shown_rows(alloc: Global, table: &Table, query: Select) -> Result<Reply, Refusal>
+    ensures { Answers (select_tests (select_of query) table.now.headers) result (λ reply. reply ≡ Rows (answer (table_in table.now) (select_of query))) }
 {
     let headers = table.headers();
-    let plan = resolve_select(alloc, &headers, &items, condition)?;
+    let plan = resolve_select(alloc, &headers, &query)?;
     let found = found_slots(alloc, table, &plan.condition)?;
-    let headings = headings_of(alloc, &headers, items)?;
+    let headings = headings_of(alloc, &headers, query.items)?;
     Ok(Reply::Rows(shown_answer(alloc, table, &plan.shown, &found, headings)?))
 }
 
-/// The answer that shows these columns of the found slots, or set functions of them.
+/// The answer that shows these columns of the found slots, or set functions of them or of their groups.
 fn shown_answer(
     alloc: Global,
     table: &Table,
@@ -84,6 +75,10 @@ fn shown_answer(
         }
         ShownPlan::Functions(functions) => {
             let cells = function_cells(alloc, table.stored(), functions.as_slice(), found)?;
+            Ok(Answer::new(headings, cells))
+        }
+        ShownPlan::Groups(plan) => {
+            let cells = group_cells(alloc, table.stored(), plan, found)?;
             Ok(Answer::new(headings, cells))
         }
     }

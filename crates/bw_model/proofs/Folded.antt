@@ -1,15 +1,18 @@
 -- What set functions of integers say fits a cell.
-use Rattle.std.proofs.Common.{◌≡◌, ℕ, ℤ, pos, negsuc, ◌+◌, ◌*◌, ◌≤◌, ◌^◌, ◌+ℤ◌, ◌≤ℤ◌, Bool, true, false, FitsSigned, List, [], ◌∷◌, int_le, length, slice_get, None, Some, cond, nat_lt, not, if◌then◌else◌, zero, suc, refl, sym, ap, arith, ◌∙◌, inl, inr}
+use Rattle.std.proofs.Common.{◌≡◌, ℕ, ℤ, pos, negsuc, ◌+◌, ◌*◌, ◌≤◌, ◌^◌, ◌+ℤ◌, ◌≤ℤ◌, Bool, true, false, FitsSigned, List, [], ◌∷◌, int_le, is_none, length, map, slice_get, None, Some, cond, nat_lt, not, if◌then◌else◌, zero, suc, refl, sym, ap, arith, ◌∙◌, inl, inr}
 use Rattle.std.specs.Int.{w128, w64}
-use Rattle.std.specs.List.{All, insert, position, position_or_len}
+use Rattle.std.specs.List.{All, dedup, insert, list_any, position, position_or_len}
+use Rattle.std.specs.Ordering.{int_eq}
 use Rattle.std.specs.Option.{unwrap_or}
 use Rattle.std.proofs.lemmas.Bool.{cases_lt}
 use Rattle.std.proofs.lemmas.List.Sums.{prefix_len-le-length}
 use Rattle.std.proofs.lemmas.Bool.Decides.{nat_tests}
 use Rattle.std.proofs.lemmas.Int.{ints}
-use Rattle.std.proofs.lemmas.List.Elements.{All-cons, All-head, All-nil, All-tail}
+use Rattle.std.proofs.lemmas.List.Elements.{All-append, All-cons, All-head, All-nil, All-tail}
+use Rattle.std.proofs.lemmas.List.Filters.{All-dedup}
 use Rattle.bw_model.specs.Select.{folded, shown}
 use Rattle.bw_cells.specs.SetFunctions.{known, put_in, sorted, sum, total}
+use Rattle.bw_model.specs.Groups.{group_values, null_of}
 use Rattle.bw_model.specs.Store.{Value, row_limit}
 use Rattle.bw_model.specs.Told.{IsCell}
 use Rattle.bw_sql.specs.declared.tree.SetFunction.{SetFunction}
@@ -89,6 +92,20 @@ folded_by Sum xs few all = sum_fits xs few all
 folded_by Min xs few all = sorted_fits xs _ all
 folded_by Max xs few all = sorted_fits xs _ all
 folded_by Median xs few all = sorted_fits xs _ all
+
+all_shown : (xs : List ℤ) → All IsStored xs → All IsNullOrStored (map Some xs)
+all_shown [] all = All-nil IsNullOrStored
+all_shown (x ∷ xs) all = All-cons IsNullOrStored (Some x) (map Some xs) (All-head IsStored x xs all) (all_shown xs (All-tail IsStored x xs all))
+
+null_fits : (b : Bool) → All IsNullOrStored (if b then None ∷ [] else [])
+null_fits true = All-cons IsNullOrStored None [] tt (All-nil IsNullOrStored)
+null_fits false = All-nil IsNullOrStored
+
+-- the values that groups have are among those of the rows
+pub all_grouped : (values : List Value) → All IsNullOrStored values → All IsNullOrStored (group_values values)
+all_grouped values all =
+    let once = All-dedup int_eq IsStored (sorted (known values)) (all_sorted IsStored (known values) (all_known values all)) in
+    All-append IsNullOrStored (map Some (dedup int_eq (sorted (known values)))) (null_of values) (all_shown (dedup int_eq (sorted (known values))) once) (null_fits (list_any is_none values))
 
 -- a set function of integers
 pub folded_fits : (f : SetFunction) (values : List Value) → length values ≤ row_limit → All IsNullOrStored values → IsCell (folded f (known values))

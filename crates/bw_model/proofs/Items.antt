@@ -1,12 +1,13 @@
 -- Select lists, and the lines that they show.
-use Rattle.std.proofs.Common.{◌≡◌, ℕ, ◌+◌, ◌<◌, ◌++◌, Bool, true, false, List, [], ◌∷◌, get_or, length, map, refl, suc, ap, take, ◌∙◌, sym}
+use Rattle.std.proofs.Common.{◌≡◌, ℕ, ◌+◌, ◌<◌, ◌++◌, Bool, true, false, List, [], ◌∷◌, Option, Some, None, get_or, length, map, refl, suc, ap, take, ◌∙◌, sym}
 use Rattle.std.proofs.lemmas.List.{length-map, map-append, take_more}
 use Rattle.std.proofs.lemmas.List.Elements.{filter_map-append}
 use Rattle.std.specs.List.{All}
 use Rattle.std.proofs.lemmas.List.Elements.{All-cons, All-nil}
 use Rattle.bw_sql.specs.declared.tree.SelectItem.{SelectItem}
 use Rattle.bw_sql.specs.declared.tree.SelectItem.TheVariants as item
-use Rattle.bw_model.specs.Select.{columns_in, has_functions, item_column, line_of, lines_for, said_of, shown}
+use Rattle.bw_model.specs.Select.{columns_in, has_functions, item_column, line_of, lines_for, said_in, said_of, shown}
+use Rattle.bw_model.specs.Groups.{groups_by}
 use Rattle.bw_model.specs.Store.{Header, Row, place_of, value_from}
 use Rattle.bw_model.proofs.Lines.{All-map}
 
@@ -28,14 +29,15 @@ columns_of_names [] = refl
 columns_of_names (name ∷ names) = ap (λ l. name ∷ l) (columns_of_names names)
 
 module _ (headers : List Header) (list : List SelectItem) (rows : List Row) where
-  one_line : (b : Bool) → has_functions list ≡ b → All (λ line. length line ≡ length list) (lines_for headers list rows)
+  one_line : (b : Bool) → has_functions list ≡ b → All (λ line. length line ≡ length list) (lines_for headers list None rows)
   one_line true e = rw e (All-cons (λ line. length line ≡ length list) (map (said_of headers rows) list) [] (length-map list (said_of headers rows)) (All-nil (λ line. length line ≡ length list)))
   one_line false e =
       rw e (All-map (line_of headers (columns_in list)) (length list) rows (λ row. length-map (columns_in list) (λ name. shown (value_from row (place_of headers name))) ∙ columns_only list e))
 
   -- each line has a cell for each item
-  pub lines_wide : All (λ line. length line ≡ length list) (lines_for headers list rows)
-  lines_wide = one_line (has_functions list) refl
+  pub lines_wide : (grouping : Option (List ℕ)) → All (λ line. length line ≡ length list) (lines_for headers list grouping rows)
+  lines_wide None = one_line (has_functions list) refl
+  lines_wide (Some name) = All-map (λ group. map (said_in headers group) list) (length list) (groups_by (place_of headers name) rows) (λ group. length-map list (said_in headers group))
 
 -- one row more
 pub mapped_more : {A B C : Type 0} (f : B → C) (v : A → B) (rows : List A) (i : ℕ) (row : A) → i < length rows → row ≡ get_or rows i row

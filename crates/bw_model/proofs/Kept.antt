@@ -5,7 +5,7 @@ use Rattle.std.specs.Str.{bytes_eq}
 use Rattle.std.proofs.lemmas.Bool.{leb-false, ltb-false, not-false, true≢false}
 use Rattle.std.proofs.lemmas.List.{length-map}
 use Rattle.std.proofs.lemmas.List.Elements.{All-append, All-cons, All-head, All-nil, All-push, All-tail}
-use Rattle.bw_sql.specs.Tree.{StatementTree, ConditionTree, create_table, delete, drop_table, insert, list_tables, load, open_table, rebuild, save, select, update}
+use Rattle.bw_sql.specs.Tree.{StatementTree, ConditionTree, create_table, delete, drop_table, insert, list_tables, load, open_table, rebuild, save, select, stats, update}
 use Rattle.bw_sql.specs.declared.tree.LayoutChoice.{LayoutChoice}
 use Rattle.bw_sql.specs.declared.tree.FirstRecord.{FirstRecord}
 use Rattle.bw_sql.specs.declared.tree.SetClause.{SetClause}
@@ -204,7 +204,8 @@ carried store said (insert name listed rows) are may none = inserts (table_of st
 carried store said (update name sets condition) are may none = updates (table_of store name) store name sets condition are refl none
 carried store said (delete name condition) are may none = deletes (table_of store name) store name condition are refl none
 carried store said (rebuild name choices) are may none = rebuilds (table_of store name) store name choices are refl none
-carried store said (select items name condition) are may none = are
+carried store said (select query) are may none = are
+carried store said (stats query) are may none = are
 carried store said (load name file first) are may none = loads (table_of store name) store name said are (fits_loaded store name file first said are may) refl none
 carried store said (save name file) are may none = are
 carried store said (open_table name file) are may none = opens store name file said are may none

@@ -6,6 +6,8 @@ pub mod ConditionLaws
 pub mod Cuts
 pub mod Dropped
 pub mod Folded
+pub mod GroupExamples
+pub mod GroupLaws
 pub mod HeadingTexts
 pub mod Items
 pub mod Kept
@@ -21,6 +23,7 @@ pub mod Passing
 pub mod RefusalTexts
 pub mod Replied
 pub mod ReplyTexts
+pub mod Rising
 pub mod Said
 pub mod Stores
 pub mod Typed

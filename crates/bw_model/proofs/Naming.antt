@@ -4,7 +4,7 @@ use Rattle.std.specs.List.{All}
 use Rattle.std.specs.Str.{bytes_eq}
 use Rattle.std.proofs.lemmas.List.Elements.{All-cons, All-head, All-nil, All-push, All-tail}
 use Rattle.bw_sql.specs.Names.{IsName}
-use Rattle.bw_sql.specs.Tree.{StatementTree, create_table, delete, drop_table, insert, list_tables, load, open_table, rebuild, save, select, update}
+use Rattle.bw_sql.specs.Tree.{StatementTree, create_table, delete, drop_table, insert, list_tables, load, open_table, rebuild, save, select, stats, update}
 use Rattle.bw_sql.specs.declared.tree.LayoutChoice.{LayoutChoice}
 use Rattle.bw_sql.specs.declared.tree.ColumnDefinition.{ColumnDefinition}
 use Rattle.bw_model.specs.Changes.{chosen_header, with_choices, with_updates, without_found}
@@ -88,7 +88,8 @@ carried store said (insert name listed rows) named brought may none = with_named
 carried store said (update name sets condition) named brought may none = with_named (with_updates sets condition) (λ table kept. kept) store name named
 carried store said (delete name condition) named brought may none = with_named (without_found condition) (λ table kept. kept) store name named
 carried store said (rebuild name choices) named brought may none = with_named (with_choices choices) (λ table kept. chosen_named choices table.headers kept) store name named
-carried store said (select items name condition) named brought may none = named
+carried store said (select query) named brought may none = named
+carried store said (stats query) named brought may none = named
 carried store said (load name file first) named brought may none = with_named (with_lines (lines_in said)) (λ table kept. kept) store name named
 carried store said (save name file) named brought may none = named
 carried store said (open_table name file) named brought may none =

@@ -7,7 +7,7 @@ use Rattle.std.proofs.lemmas.List.Elements.{All-head, All-tail}
 use Rattle.std.proofs.lemmas.List.FromFn.{get_or-map-range_with_len}
 use Rattle.bw_file.proofs.Fronts.{one-table}
 use Rattle.bw_file.specs.declared.version.Version.{Version}
-use Rattle.bw_sql.specs.Tree.{StatementTree, create_table, delete, drop_table, insert, list_tables, load, open_table, rebuild, save, select, update}
+use Rattle.bw_sql.specs.Tree.{StatementTree, create_table, delete, drop_table, insert, list_tables, load, open_table, rebuild, save, select, stats, update}
 use Rattle.bw_model.specs.Contents.{IsReadAs, IsSaid, IsTableIn}
 use Rattle.bw_model.specs.Filing.{Holds, HoldsBy, column_of, file_limit, filed}
 use Rattle.bw_model.specs.Store.{Row, Store, Table, Value, value_at}
@@ -67,6 +67,7 @@ one_table_said : (bytes : List ℕ) (said other : Content) → IsTableIn bytes s
 one_table_said bytes (content.Held table) (content.Held another) is are = ap content.Held (one_held bytes table another is are)
 one_table_said bytes (content.Held table) content.NotTable is are = absurd (are table is)
 one_table_said bytes (content.Held table) content.Nothing is are = absurd are
+one_table_said bytes (content.Held table) (content.Counted units) is are = absurd are
 one_table_said bytes (content.Held table) content.Missing is are = absurd are
 one_table_said bytes (content.Held table) content.TooLarge is are = absurd are
 one_table_said bytes (content.Held table) (content.Lines rows) is are = absurd are
@@ -74,11 +75,13 @@ one_table_said bytes (content.Held table) (content.Fault e) is are = absurd are
 one_table_said bytes content.NotTable (content.Held another) is are = absurd (is another are)
 one_table_said bytes content.NotTable content.NotTable is are = refl
 one_table_said bytes content.NotTable content.Nothing is are = absurd are
+one_table_said bytes content.NotTable (content.Counted units) is are = absurd are
 one_table_said bytes content.NotTable content.Missing is are = absurd are
 one_table_said bytes content.NotTable content.TooLarge is are = absurd are
 one_table_said bytes content.NotTable (content.Lines rows) is are = absurd are
 one_table_said bytes content.NotTable (content.Fault e) is are = absurd are
 one_table_said bytes content.Nothing other is are = absurd is
+one_table_said bytes (content.Counted units) other is are = absurd is
 one_table_said bytes content.Missing other is are = absurd is
 one_table_said bytes content.TooLarge other is are = absurd is
 one_table_said bytes (content.Lines rows) other is are = absurd is
@@ -92,7 +95,8 @@ one_reading store (insert name listed rows) bytes said other is are = is ∙ sym
 one_reading store (update name sets condition) bytes said other is are = is ∙ sym are
 one_reading store (delete name condition) bytes said other is are = is ∙ sym are
 one_reading store (rebuild name choices) bytes said other is are = is ∙ sym are
-one_reading store (select items name condition) bytes said other is are = is ∙ sym are
+one_reading store (select query) bytes said other is are = is ∙ sym are
+one_reading store (stats query) bytes said other is are = is ∙ sym are
 one_reading store (load name file first) bytes said other is are = is ∙ sym are
 one_reading store (save name file) bytes said other is are = is ∙ sym are
 one_reading store (open_table name file) bytes said other is are = one_table_said bytes said other is are

@@ -9,7 +9,7 @@ use Rattle.std.proofs.lemmas.List.{length-map}
 use Rattle.std.proofs.lemmas.List.Quantifiers.{position-Some}
 use Rattle.std.proofs.lemmas.Slice.Eq.{bytes_eq-Decides}
 use Rattle.bw_sql.specs.Names.{IsName}
-use Rattle.bw_sql.specs.Tree.{ConditionTree, ItemsTree, StatementTree, create_table, delete, drop_table, insert, list_tables, load, open_table, rebuild, save, select, update}
+use Rattle.bw_sql.specs.Tree.{ConditionTree, SelectTree, StatementTree, create_table, delete, drop_table, insert, list_tables, load, open_table, rebuild, save, select, stats, update}
 use Rattle.bw_code.specs.declared.kind.Layout.TheVariants.{V}
 use Rattle.bw_code.specs.declared.kind.Kind.TheVariants.{Offset}
 use Rattle.bw_model.specs.Condition.{found_rows, is_found}
@@ -17,13 +17,15 @@ use Rattle.bw_model.specs.Contents.{MayBeSaid, lines_in, table_held, types_in}
 use Rattle.bw_model.specs.Insert.{target_columns}
 use Rattle.bw_model.specs.Listing.{listing, table_line}
 use Rattle.bw_model.specs.Named.{AreNamed, HaveNames}
-use Rattle.bw_model.specs.Refusals.{Tests, delete_tests, first_that_holds, insert_tests, is_missing, load_tests, open_tests, over, rebuild_tests, save_tests, select_tests, tests_of, update_tests}
-use Rattle.bw_model.specs.Select.{answer, columns_in, function_heading, has_functions, heading_of, line_of, said_of, shown, shown_items}
+use Rattle.bw_model.specs.Refusals.{Tests, delete_tests, first_that_holds, insert_tests, is_missing, load_tests, open_tests, over, query_tests, rebuild_tests, save_tests, select_tests, tests_of, update_tests}
+use Rattle.bw_model.specs.Select.{answer, columns_in, function_heading, has_functions, heading_of, line_of, lines_for, said_in, said_of, shown, shown_items}
 use Rattle.bw_sql.specs.declared.tree.SelectItem.{SelectItem}
 use Rattle.bw_sql.specs.declared.tree.SelectItem.TheVariants as item
 use Rattle.bw_sql.specs.declared.tree.SetFunction.{SetFunction}
 use Rattle.bw_sql.specs.declared.tree.SetFunction.TheVariants.{Count, Sum, Min, Max, Median}
-use Rattle.bw_model.proofs.Folded.{IsNullOrStored, folded_fits}
+use Rattle.std.proofs.lemmas.List.Filters.{length-filter_both}
+use Rattle.bw_model.specs.Groups.{group_values, is_same, rows_having}
+use Rattle.bw_model.proofs.Folded.{IsNullOrStored, all_grouped, folded_fits}
 use Rattle.bw_model.specs.Step.{Step, carried_out, refused_or, table_or_none}
 use Rattle.bw_model.specs.Store.{Header, Row, Store, Table, Value, place_of, row_limit, table_of, type_at, value_from}
 use Rattle.bw_model.specs.Told.{IsCell, IsHeading, IsRefusal, IsReply}
@@ -44,7 +46,7 @@ use Rattle.bw_model.proofs.Typed.{typed_from}
 use Rattle.bw_model.proofs.Kept.{fits_loaded, table_in}
 use Rattle.bw_model.proofs.Naming.{named_in}
 use Rattle.bw_model.proofs.Passing.{neither, none_holds}
-use Rattle.bw_model.proofs.Said.{FitsTable, fault_is, said_to_open}
+use Rattle.bw_model.proofs.Said.{FitsTable, fault_is, said_to_open, units_said}
 
 -- the refusals of a statement: those that tell a record of a file have numbers that fit
 
@@ -68,6 +70,9 @@ plain_load : (there : Option Table) (said : Content) → FitsTable (types_in the
 plain_load None said fits = (tt, tt)
 plain_load (Some table) said fits = (tt, (tt, (fault_is (types_of table.headers) said fits, (tt, tt))))
 
+plain_query : (query : SelectTree) (store : Store) → ArePlain (query_tests query store)
+plain_query query store = plain_over (table_of store query.table) (λ table. select_tests query table.headers) (λ table. (tt, (tt, (tt, (tt, (tt, tt))))))
+
 plain_tests : (store : Store) (said : Content) (statement : StatementTree) → IsStore store → MayBeSaid store statement said → ArePlain (tests_of store said statement)
 plain_tests store said (create_table name definitions) are may = (tt, (tt, (tt, (tt, tt))))
 plain_tests store said (drop_table name) are may = plain_over (table_of store name) (λ table. []) (λ table. tt)
@@ -78,8 +83,8 @@ plain_tests store said (update name sets condition) are may =
     plain_over (table_of store name) (update_tests sets condition) (λ table. (tt, (tt, (tt, (tt, (tt, (tt, (tt, tt))))))))
 plain_tests store said (delete name condition) are may = plain_over (table_of store name) (λ table. delete_tests condition table) (λ table. (tt, (tt, tt)))
 plain_tests store said (rebuild name choices) are may = plain_over (table_of store name) (rebuild_tests choices) (λ table. (tt, (tt, (tt, tt))))
-plain_tests store said (select items name condition) are may =
-    plain_over (table_of store name) (λ table. select_tests (shown_items table.headers items) condition table) (λ table. (tt, (tt, (tt, (tt, tt)))))
+plain_tests store said (select query) are may = plain_query query store
+plain_tests store said (stats query) are may = plain_query query store
 plain_tests store said (load name file first) are may = plain_load (table_of store name) said (fits_loaded store name file first said are may)
 plain_tests store said (save name file) are may = plain_over (table_of store name) save_tests (λ table. (tt, tt))
 plain_tests store said (open_table name file) are may = (tt, (tt, (tt, (tt, (tt, tt)))))
@@ -164,18 +169,45 @@ module _ (headers : List Header) (rows : List Row) (few : length rows ≤ row_li
       All-cons (All IsCell) (map (said_of headers rows) list) [] (All-map IsCell (said_of headers rows) list (everywhere (λ one. IsCell (said_of headers rows one)) list said_fits)) (All-nil (All IsCell))
   lines_told_by false list = lines_fit headers (columns_in list) rows are
 
+-- a line for each group
+module _ (headers : List Header) (rows : List Row) (few : length rows ≤ row_limit) (are : All (IsRow headers) rows) where
+  group_fits : (place : Option ℕ) (list : List SelectItem) (value : Value) → IsNullOrStored value → All IsCell (map (said_in headers (record { value = value; rows = rows_having place value rows })) list)
+  group_fits place list value fits =
+      let test : Row → Bool = λ row. is_same (value_from row place) value in
+      let fewer = length-filter_both test (λ row. not (test row)) (λ row. refl) rows in
+      All-map IsCell (said_in headers (record { value = value; rows = rows_having place value rows })) list
+      (everywhere (λ one. IsCell (said_in headers (record { value = value; rows = rows_having place value rows }) one)) list
+      (λ one. by one (said_fits headers (rows_having place value rows) (omega (arith, few, fewer)) (All-filter test (IsRow headers) rows are) one)))
+    where
+      by : (one : SelectItem) → IsCell (said_of headers (rows_having place value rows) one) → IsCell (said_in headers (record { value = value; rows = rows_having place value rows }) one)
+      by (item.Column name) said = cell_fits value fits
+      by item.CountRows said = said
+      by (item.Function f name) said = said
+
+  groups_told : (place : Option ℕ) (list : List SelectItem) (values : List Value) → All IsNullOrStored values
+      → All (All IsCell) (map (λ group. map (said_in headers group) list) (map (λ value. record { value = value; rows = rows_having place value rows }) values))
+  groups_told place list [] all = All-nil (All IsCell)
+  groups_told place list (value ∷ values) all =
+      All-cons (All IsCell) _ _ (group_fits place list value (All-head IsNullOrStored value values all)) (groups_told place list values (All-tail IsNullOrStored value values all))
+
+  answer_told : (list : List SelectItem) (grouping : Option (List ℕ)) → All (All IsCell) (lines_for headers list grouping rows)
+  answer_told list None = lines_told_by headers rows few are (has_functions list) list
+  answer_told list (Some name) =
+      let place = place_of headers name in
+      groups_told place list (group_values (map (λ row. value_from row place) rows)) (all_grouped (map (λ row. value_from row place) rows) (values_fit headers rows few are place rows are))
+
 -- each statement
 
-selects : (there : Option Table) (items : ItemsTree) (condition : Option ConditionTree) → ((table : Table) → there ≡ Some table → IsTable table × HaveNames table.headers)
-    → first_that_holds (over there (λ table. select_tests (shown_items table.headers items) condition table)) ≡ None → IsReply (Rows (answer (table_or_none there) items condition))
-selects None items condition is none = cc
-selects (Some table) items condition is none =
-    let list = shown_items table.headers items in
-    let p = none_holds (select_tests list condition table) none in
+selects : (there : Option Table) (query : SelectTree) → ((table : Table) → there ≡ Some table → IsTable table × HaveNames table.headers)
+    → first_that_holds (over there (λ table. select_tests query table.headers)) ≡ None → IsReply (Rows (answer (table_or_none there) query))
+selects None query is none = cc
+selects (Some table) query is none =
+    let list = shown_items table.headers query.items in
+    let p = none_holds (select_tests query table.headers) none in
     let t = is table refl in
-    let rows = found_rows table condition in (
+    let rows = found_rows table query.condition in (
       headings_told list (names_there table.headers (columns_in list) p.0 t.1),
-      lines_told_by table.headers rows (omega (arith, few_found table condition, t.0.few)) (All-filter (is_found table.headers condition) (IsRow table.headers) table.rows t.0.rows) (has_functions list) list,
+      answer_told table.headers rows (omega (arith, few_found table query.condition, t.0.few)) (All-filter (is_found table.headers query.condition) (IsRow table.headers) table.rows t.0.rows) list query.grouping,
     )
 
 counts : (there : Option Table) (listed : Option (List (List ℕ))) (rows : List Row) → first_that_holds (over there (λ table. insert_tests (target_columns table.headers listed) rows table)) ≡ None → length rows < 2 ^ 64
@@ -234,8 +266,9 @@ carries_out store said (insert name listed rows) are named may none = counts (ta
 carries_out store said (update name sets condition) are named may none = found_fits (table_of store name) condition (λ table there. table_in store name table there are.tables)
 carries_out store said (delete name condition) are named may none = found_fits (table_of store name) condition (λ table there. table_in store name table there are.tables)
 carries_out store said (rebuild name choices) are named may none = tt
-carries_out store said (select items name condition) are named may none =
-    selects (table_of store name) items condition (λ table there. (table_in store name table there are.tables, named_in store name table there named)) none
+carries_out store said (select query) are named may none =
+    selects (table_of store query.table) query (λ table there. (table_in store query.table table there are.tables, named_in store query.table table there named)) none
+carries_out store said (stats query) are named may none = units_said store query said may
 carries_out store said (load name file first) are named may none = lines_counted (table_of store name) said none
 carries_out store said (save name file) are named may none = rows_counted (table_of store name) (λ table there. table_in store name table there are.tables)
 carries_out store said (open_table name file) are named may none = held_counted store name file said may none

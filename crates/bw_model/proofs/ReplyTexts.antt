@@ -10,7 +10,7 @@ use Rattle.bw_model.specs.declared.answer.Heading.{Heading}
 use Rattle.bw_model.specs.declared.refusal.Refusal.{Refusal}
 use Rattle.bw_model.specs.declared.refusal.Refusal.TheVariants as refusal
 use Rattle.bw_model.specs.declared.reply.Reply.{Reply}
-use Rattle.bw_model.specs.declared.reply.Reply.TheVariants.{Done, Count, Rows, Refused}
+use Rattle.bw_model.specs.declared.reply.Reply.TheVariants.{Done, Count, Units, Rows, Refused}
 use Rattle.bw_model.proofs.CellTexts.{InCell, cell_clean, cell_some, cell_told, decimal_bytes, decimal_told}
 use Rattle.bw_model.proofs.Cuts.{Between, Each, cut, each-append, each_between, each_weaker, items_clean, items_told}
 use Rattle.bw_model.proofs.HeadingTexts.{InHeading, heading_clean, heading_some, heading_told}
@@ -84,6 +84,7 @@ lines_told (x ∷ xs) (y ∷ ys) r q a b e =
 abbrev first_line : Reply → List ℕ
 first_line Done = codes "ok"
 first_line (Count n) = codes "ok " ++ decimal n
+first_line (Units n) = codes "units " ++ decimal n
 first_line (Rows answer) = with_commas heading_text answer.headings
 first_line (Refused r) = refusal_text r
 
@@ -94,6 +95,7 @@ other_lines _ = []
 lines_of_reply : (a : Reply) (s : List ℕ) → reply_text a ++ s ≡ first_line a ++ 10 ∷ (other_lines a ++ s)
 lines_of_reply Done s = refl
 lines_of_reply (Count n) s = append_assoc (codes "ok " ++ decimal n) (codes "\n") s
+lines_of_reply (Units n) s = append_assoc (codes "units " ++ decimal n) (codes "\n") s
 lines_of_reply (Refused r) s = append_assoc (refusal_text r) (codes "\n") s
 lines_of_reply (Rows answer) s =
     let heads = with_commas heading_text answer.headings in
@@ -115,6 +117,9 @@ first_clean : (a : Reply) → IsReply a → Each InLine (first_line a)
 first_clean Done is = each_between 11 122 (codes "ok") refl
 first_clean (Count n) is =
     each-append InLine (codes "ok ") (decimal n) (each_between 11 122 (codes "ok ") refl)
+    (each_weaker (Between 48 57) InLine (λ b p. (omega (arith, p.0), omega (arith, p.1))) (decimal n) (decimal_bytes n (wide n is)))
+first_clean (Units n) is =
+    each-append InLine (codes "units ") (decimal n) (each_between 11 122 (codes "units ") refl)
     (each_weaker (Between 48 57) InLine (λ b p. (omega (arith, p.0), omega (arith, p.1))) (decimal n) (decimal_bytes n (wide n is)))
 first_clean (Rows answer) is = low_in_line _ (heads_low answer.headings (each_of IsHeading answer.headings is.0))
 first_clean (Refused r) is = each_weaker (Between 32 122) InLine (λ b p. (omega (arith, p.0), p.1)) (refusal_text r) (refusal_clean r is)
@@ -162,6 +167,15 @@ by_kind (Refused r) (Rows answer) s t p q first rest =
     let low = rows_low answer q in let other = first_of_refusal r in let same : get_or (refusal_text r) 0 0 ≡ get_or (first_line (Rows answer)) 0 0 = ap (λ l. get_or l 0 0) first in absurd (omega arith)
 by_kind (Rows answer) (Refused r) s t p q first rest =
     let low = rows_low answer p in let other = first_of_refusal r in let same : get_or (first_line (Rows answer)) 0 0 ≡ get_or (refusal_text r) 0 0 = ap (λ l. get_or l 0 0) first in absurd (omega arith)
+by_kind (Units m) (Units n) s t p q first rest = (ap Units (decimal_told m n (wide m p) (wide n q) (ap (drop 6) first)), rest)
+by_kind Done (Units n) s t p q first rest = let same : ◌≡◌ {A = ℕ} 111 117 = ap (λ l. get_or l 0 0) first in absurd (omega arith)
+by_kind (Units n) Done s t p q first rest = let same : ◌≡◌ {A = ℕ} 117 111 = ap (λ l. get_or l 0 0) first in absurd (omega arith)
+by_kind (Count m) (Units n) s t p q first rest = let same : ◌≡◌ {A = ℕ} 111 117 = ap (λ l. get_or l 0 0) first in absurd (omega arith)
+by_kind (Units m) (Count n) s t p q first rest = let same : ◌≡◌ {A = ℕ} 117 111 = ap (λ l. get_or l 0 0) first in absurd (omega arith)
+by_kind (Units n) (Refused r) s t p q first rest = let other = first_of_refusal r in let same : 117 ≡ get_or (refusal_text r) 0 0 = ap (λ l. get_or l 0 0) first in absurd (omega arith)
+by_kind (Refused r) (Units n) s t p q first rest = let other = first_of_refusal r in let same : get_or (refusal_text r) 0 0 ≡ 117 = ap (λ l. get_or l 0 0) first in absurd (omega arith)
+by_kind (Units n) (Rows answer) s t p q first rest = let low = rows_low answer q in let same : 117 ≡ get_or (first_line (Rows answer)) 0 0 = ap (λ l. get_or l 0 0) first in absurd (omega arith)
+by_kind (Rows answer) (Units n) s t p q first rest = let low = rows_low answer p in let same : get_or (first_line (Rows answer)) 0 0 ≡ 117 = ap (λ l. get_or l 0 0) first in absurd (omega arith)
 by_kind (Rows x) (Rows y) s t p q first rest = answers_told x y s t p q first rest
 
 one_told : (a b : Reply) (s t : List ℕ) → IsReply a → IsReply b → reply_text a ++ s ≡ reply_text b ++ t → (as_read a ≡ as_read b) × (s ≡ t)

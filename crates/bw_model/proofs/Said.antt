@@ -17,9 +17,9 @@ use Rattle.bw_csvload.specs.declared.fault.CsvFault.{CsvFault}
 use Rattle.bw_csvload.specs.declared.fault.CsvFault.TheVariants as fault
 use Rattle.bw_csvload.proofs.Fits.{rows_in_file}
 use Rattle.bw_file.specs.Table as file
-use Rattle.bw_sql.specs.Tree.{StatementTree, load, open_table}
+use Rattle.bw_sql.specs.Tree.{SelectTree, StatementTree, load, open_table, stats}
 use Rattle.bw_sql.specs.declared.tree.FirstRecord.{FirstRecord}
-use Rattle.bw_model.specs.Contents.{IsReadAs, IsSaid, IsTableIn, MayBeSaid, first_of, is_no_table, lines_in, lines_or_fault, table_held, types_in}
+use Rattle.bw_model.specs.Contents.{IsReadAs, IsSaid, IsTableIn, MayBeSaid, first_of, is_no_table, lines_in, lines_or_fault, table_held, types_in, units_in}
 use Rattle.bw_model.specs.Filing.{Holds, column_of, file_limit, filed}
 use Rattle.bw_model.specs.Named.{HaveNames}
 use Rattle.bw_model.specs.Refusals.{fault_test, refusal_of_csv}
@@ -31,7 +31,7 @@ use Rattle.bw_model.specs.declared.content.Content.{Content}
 use Rattle.bw_model.specs.declared.content.Content.TheVariants as content
 
 -- what is true of each content that may be said
-module _ (store : Store) (statement : StatementTree) (P : Content → Type 0) (nothing : P content.Nothing) (missing : P content.Missing) (large : P content.TooLarge)
+module _ (store : Store) (statement : StatementTree) (P : Content → Type 0) (nothing : P content.Nothing) (counted : (units : ℕ) → units < 2 ^ 64 → P (content.Counted units)) (missing : P content.Missing) (large : P content.TooLarge)
     (read : (said : Content) (bytes : List ℕ) → length bytes ≤ file_limit → IsReadAs store statement bytes said → P said) where
   of_bytes : (b : Bool) (said : Content) (bytes : List ℕ) → nat_lt file_limit (length bytes) ≡ b → MatchBool b (said ≡ content.TooLarge) (IsReadAs store statement bytes said) → P said
   of_bytes true said bytes long is = subst P (sym is) large
@@ -42,7 +42,11 @@ module _ (store : Store) (statement : StatementTree) (P : Content → Type 0) (n
   of_file said (Some bytes) is = of_bytes (nat_lt file_limit (length bytes)) said bytes refl is
 
   pub each_said : (said : Content) → MayBeSaid store statement said → P said
-  each_said said may = elim may [ inl is ↦ subst P (sym is) nothing | inr some ↦ of_file said some.0 some.1 ]
+  each_said said may =
+      elim may [
+        | inl is ↦ subst P (sym is) nothing
+        | inr more ↦ elim more [ inl some ↦ subst P (sym some.2) (counted some.0 some.1) | inr some ↦ of_file said some.0 some.1 ]
+      ]
 
 -- CSV files
 
@@ -60,12 +64,13 @@ pub said_to_load : (store : Store) (name file : List ℕ) (first : FirstRecord) 
     → FitsTable (types_in (table_of store name)) said
 said_to_load store name file first said few may =
     let types = types_in (table_of store name) in
-    each_said store (load name file first) (FitsTable types) tt tt tt
+    each_said store (load name file first) (FitsTable types) tt (λ units few. tt) tt tt
     (λ read bytes short is. subst (FitsTable types) (sym is) (from_rows types (rows_of_file types (first_of first) bytes) (rows_in_file types few (first_of first) bytes (omega (arith, short))))) said may
 
 pub lines_are : (headers : List Header) (said : Content) → FitsTable (types_of headers) said → All (IsRow headers) (lines_in said)
 lines_are headers (content.Lines rows) fits = fits
 lines_are headers content.Nothing fits = All-nil (IsRow headers)
+lines_are headers (content.Counted units) fits = All-nil (IsRow headers)
 lines_are headers content.Missing fits = All-nil (IsRow headers)
 lines_are headers content.TooLarge fits = All-nil (IsRow headers)
 lines_are headers (content.Fault e) fits = All-nil (IsRow headers)
@@ -81,6 +86,7 @@ fault_fits fault.Memory fits = absurd fits
 pub fault_is : (types : List ColumnType) (said : Content) → FitsTable types said → IsRefusal (fault_test said).0
 fault_is types (content.Lines rows) fits = tt
 fault_is types content.Nothing fits = tt
+fault_is types (content.Counted units) fits = tt
 fault_is types content.Missing fits = tt
 fault_is types content.TooLarge fits = tt
 fault_is types (content.Fault e) fits = fault_fits e fits
@@ -136,6 +142,7 @@ read_table : (bytes : List ℕ) (said : Content) → IsTableIn bytes said → Is
 read_table bytes (content.Held table) is = λ there. held bytes table is
 read_table bytes content.NotTable is = λ there. absurd (true≢false there)
 read_table bytes content.Nothing is = absurd is
+read_table bytes (content.Counted units) is = absurd is
 read_table bytes content.Missing is = absurd is
 read_table bytes content.TooLarge is = absurd is
 read_table bytes (content.Lines rows) is = absurd is
@@ -143,5 +150,12 @@ read_table bytes (content.Fault e) is = absurd is
 
 pub said_to_open : (store : Store) (name file : List ℕ) (said : Content) → MayBeSaid store (open_table name file) said → is_no_table said ≡ false → IsHeld (table_held said)
 said_to_open store name file said may =
-    each_said store (open_table name file) IsHeldIn (λ there. absurd (true≢false there)) (λ there. absurd (true≢false there)) (λ there. absurd (true≢false there))
+    each_said store (open_table name file) IsHeldIn (λ there. absurd (true≢false there)) (λ units few there. absurd (true≢false there)) (λ there. absurd (true≢false there)) (λ there. absurd (true≢false there))
     (λ read bytes short is. read_table bytes read is) said may
+
+-- what is said of units is few enough for a reply
+
+pub units_said : (store : Store) (query : SelectTree) (said : Content) → MayBeSaid store (stats query) said → units_in said < 2 ^ 64
+units_said store query said may =
+    each_said store (stats query) (λ c. units_in c < 2 ^ 64) (omega arith) (λ units few. few) (omega arith) (omega arith)
+    (λ read bytes short is. subst (λ c. units_in c < 2 ^ 64) (sym is) (omega arith)) said may

@@ -5,7 +5,7 @@ use Rattle.std.specs.Str.{bytes_eq}
 use Rattle.std.proofs.lemmas.Bool.{ltb-false, true≢false}
 use Rattle.std.proofs.lemmas.List.{set-get_or}
 use Rattle.std.proofs.lemmas.List.Quantifiers.{position-Some}
-use Rattle.bw_sql.specs.Tree.{ConditionTree, ItemsTree, StatementTree, create_table, delete, insert, load, open_table, rebuild, select, update}
+use Rattle.bw_sql.specs.Tree.{ConditionTree, SelectTree, StatementTree, create_table, delete, insert, load, open_table, rebuild, select, update}
 use Rattle.bw_sql.specs.declared.tree.LayoutChoice.{LayoutChoice}
 use Rattle.bw_sql.specs.declared.tree.FirstRecord.{FirstRecord}
 use Rattle.bw_sql.specs.declared.tree.SetClause.{SetClause}
@@ -14,9 +14,9 @@ use Rattle.bw_model.specs.Changes.{with_choices, with_updates, without_found}
 use Rattle.bw_model.specs.Condition.{found_rows}
 use Rattle.bw_model.specs.Contents.{lines_in, table_held}
 use Rattle.bw_model.specs.Insert.{target_columns, with_rows}
-use Rattle.bw_model.specs.Refusals.{Tests, create_tests, delete_tests, first_that_holds, insert_tests, load_tests, open_tests, over, rebuild_tests, select_tests, tests_of, update_tests}
+use Rattle.bw_model.specs.Refusals.{Tests, create_tests, delete_tests, first_that_holds, insert_tests, load_tests, open_tests, over, query_tests, rebuild_tests, select_tests, tests_of, update_tests}
 use Rattle.bw_model.specs.Answers.{Shown}
-use Rattle.bw_model.specs.Select.{answer, shown_items}
+use Rattle.bw_model.specs.Select.{answer}
 use Rattle.bw_model.specs.Step.{carried_out, outcome_of, refused_or, table_or_none, with_lines, with_table}
 use Rattle.bw_model.specs.Store.{Header, Row, Store, Table, header_of, table_of}
 use Rattle.bw_model.specs.declared.content.Content.{Content}
@@ -155,14 +155,18 @@ module _ (store : Store) (name : List ℕ) (choices : List LayoutChoice) where
   pub not_rebuilt : table_of store name ≡ None → ◌≡◌ {A = Reply × Store} (Refused NoSuchTable, store) (outcome_of store Nothing (rebuild name choices))
   not_rebuilt = no_table store Nothing name (rebuild name choices) (rebuild_tests choices) (λ table. Done) (with_choices choices) refl refl
 
+-- the tests of a SELECT, over the table that is there
+pub query_first : (store : Store) (query : SelectTree) (table : Table) (first : Option Refusal)
+    → table_of store query.table ≡ Some table → first_that_holds (select_tests query table.headers) ≡ first → first_that_holds (query_tests query store) ≡ first
+query_first store query table first there is = ap (λ o. first_that_holds (over o (λ t. select_tests query t.headers))) there ∙ is
+
 -- what a SELECT shows
-pub selected : (store : Store) (items : ItemsTree) (name : List ℕ) (condition : Option ConditionTree) (table : Table) (shows : Shown)
-    → table_of store name ≡ Some table → first_that_holds (select_tests (shown_items table.headers items) condition table) ≡ None → shows ≡ answer table items condition
-    → ◌≡◌ {A = Reply × Store} (Rows shows, store) (outcome_of store Nothing (select items name condition))
-selected store items name condition table shows there none is =
-    let same : shows ≡ answer (table_or_none (table_of store name)) items condition = is ∙ ap (λ o. answer (table_or_none o) items condition) (sym there) in
-    (λ j. (Rows (same j), store))
-    ∙ sym (outcome_is store Nothing (select items name condition) None (ap (λ o. first_that_holds (over o (λ t. select_tests (shown_items t.headers items) condition t))) there ∙ none))
+pub selected : (store : Store) (query : SelectTree) (table : Table) (shows : Shown)
+    → table_of store query.table ≡ Some table → first_that_holds (select_tests query table.headers) ≡ None → shows ≡ answer table query
+    → ◌≡◌ {A = Reply × Store} (Rows shows, store) (outcome_of store Nothing (select query))
+selected store query table shows there none is =
+    let same : shows ≡ answer (table_or_none (table_of store query.table)) query = is ∙ ap (λ o. answer (table_or_none o) query) (sym there) in
+    (λ j. (Rows (same j), store)) ∙ sym (outcome_is store Nothing (select query) None (query_first store query table None there none))
 
 module _ (store : Store) (said : Content) (name file : List ℕ) (first : FirstRecord) where
   pub loaded : {E : Type 0} (i : ℕ) (d : List ℕ × Table) (new : Table) (r : Result Reply E) → position (λ e. bytes_eq name e.0) store ≡ Some i → d ≡ get_or store i d

@@ -1,7 +1,7 @@
 -- A refusal changes nothing, and comes first where the tests that need no file have one.
 use Rattle.std.proofs.Common.{◌≡◌, ◌∙◌, inl, inr, ap, Bool, true, false, is_some, nat_le, length, List, [], ◌∷◌, Option, None, Some, if◌then◌else◌}
 use Rattle.bw_sql.specs.declared.tree.SetClause.{SetClause}
-use Rattle.bw_sql.specs.Tree.{ConditionTree, StatementTree, create_table, delete, drop_table, insert, list_tables, load, open_table, rebuild, save, select, update}
+use Rattle.bw_sql.specs.Tree.{ConditionTree, StatementTree, create_table, delete, drop_table, insert, list_tables, load, open_table, rebuild, save, select, stats, update}
 use Rattle.bw_model.specs.Refusals.{copy_test, first_that_holds, load_tests, over, refused_early, set_tests, tests_of, update_tests}
 use Rattle.bw_model.specs.Step.{Step, carried_out, refused_or}
 use Rattle.bw_model.specs.Store.{Store, Table, table_limit, table_of}
@@ -20,7 +20,8 @@ never_refuses store said (insert name listed rows) refusal e = cc
 never_refuses store said (update name sets condition) refusal e = cc
 never_refuses store said (delete name condition) refusal e = cc
 never_refuses store said (rebuild name choices) refusal e = cc
-never_refuses store said (select items name condition) refusal e = cc
+never_refuses store said (select query) refusal e = cc
+never_refuses store said (stats query) refusal e = cc
 never_refuses store said (load name file first) refusal e = cc
 never_refuses store said (save name file) refusal e = cc
 never_refuses store said (open_table name file) refusal e = cc
@@ -58,7 +59,8 @@ early_first store said (insert name listed rows) refusal e = e
 early_first store said (update name sets condition) refusal e = early_update (table_of store name) sets condition refusal e
 early_first store said (delete name condition) refusal e = e
 early_first store said (rebuild name choices) refusal e = e
-early_first store said (select items name condition) refusal e = e
+early_first store said (select query) refusal e = e
+early_first store said (stats query) refusal e = e
 early_first store said (load name file first) refusal e = early_load (table_of store name) said refusal e
 early_first store said (save name file) refusal e = e
 early_first store said (open_table name file) refusal e = early_open (is_some (table_of store name)) (nat_le table_limit (length store)) _ refusal e

@@ -1,5 +1,6 @@
--- What a statement's file says to it: the rows of a CSV file (RFC 4180, as `csv` reads it) or the table of a table file (this product's own).
-use Rattle.std.specs.Prelude.{◌≡◌, ◌⊎◌, ℕ, Bool, true, false, List, [], length, nat_lt, Option, Some, None, Result, Ok, Err}
+-- What is said to a statement from outside the store: by its file, the rows of a CSV file (RFC 4180, as `csv` reads it) or the
+-- table of a table file (this product's own); or how many units its condition reads, which is free here.
+use Rattle.std.specs.Prelude.{◌≡◌, ◌⊎◌, ◌<◌, ◌^◌, ℕ, Bool, true, false, List, [], length, nat_lt, Option, Some, None, Result, Ok, Err}
 use Rattle.std.specs.Bool.{MatchBool}
 use Rattle.bw_code.specs.Types.{types_of}
 use Rattle.bw_code.specs.declared.kind.ColumnType.{ColumnType}
@@ -26,6 +27,11 @@ is_too_large _ = false
 abbrev pub is_no_table : Content → Bool
 is_no_table (content.Held table) = false
 is_no_table _ = true
+
+-- how many units a condition reads
+abbrev pub units_in : Content → ℕ
+units_in (content.Counted units) = units
+units_in _ = 0
 
 -- the rows that a CSV file spells
 abbrev pub lines_in : Content → List Row
@@ -72,6 +78,7 @@ abbrev pub IsSaid : Store → StatementTree → Option (List ℕ) → Content �
 IsSaid store statement None said = said ≡ content.Missing
 IsSaid store statement (Some bytes) said = SaysTo store statement bytes said
 
--- what may be said to a statement: nothing, or what a file says
+-- what may be said to a statement: nothing, any number of units that 64 bits hold, or what a file says
 abbrev pub MayBeSaid : Store → StatementTree → Content → Type 0
-MayBeSaid store statement said = (said ≡ content.Nothing) ⊎ ((file : Option (List ℕ)) × IsSaid store statement file said)
+MayBeSaid store statement said =
+    (said ≡ content.Nothing) ⊎ ((units : ℕ) × (units < 2 ^ 64) × (said ≡ content.Counted units)) ⊎ ((file : Option (List ℕ)) × IsSaid store statement file said)

@@ -5,6 +5,8 @@ pub mod Condition
 pub mod Contents
 pub mod FileUse
 pub mod Filing
+pub mod GroupLaws
+pub mod Groups
 pub mod Insert
 pub mod Listing
 pub mod Named

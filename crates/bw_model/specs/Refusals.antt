@@ -2,15 +2,17 @@
 -- of table definition, drop table statement, insert statement, searched update and delete statements and query specification, and limits of this product's own).
 use Rattle.std.specs.Prelude.{ℕ, ◌+◌, ◌++◌, ◌==◌, Bool, true, false, ◌||◌, not, nat_le, nat_lt, List, [], ◌∷◌, Option, Some, None, is_some, length, map, if◌then◌else◌}
 use Rattle.std.specs.List.{list_all, list_any}
+use Rattle.std.specs.Str.{bytes_eq}
 use Rattle.bw_code.specs.Types.{are_of_types, holds_its_type, is_null_or_of_type}
 use Rattle.bw_code.specs.declared.kind.ColumnType.{ColumnType}
 use Rattle.bw_lex.specs.declared.fault.SqlFault.{SqlFault}
 use Rattle.bw_lex.specs.declared.fault.SqlFault.TheVariants as fault
-use Rattle.bw_sql.specs.Tree.{ConditionTree, ConditionTrees, StatementTree, among, between, comparison, create_table, delete, drop_table, each_of, insert, list_tables, load, more, negated, none, null, open_table, rebuild, save, select, some_of, tested, update}
+use Rattle.bw_sql.specs.Tree.{ConditionTree, ConditionTrees, ItemsTree, StatementTree, all_columns, among, between, comparison, create_table, delete, drop_table, each_of, insert, list_tables, listed, load, more, negated, none, null, open_table, rebuild, save, SelectTree, select, some_of, stats, tested, update}
 use Rattle.bw_sql.specs.declared.tree.LayoutChoice.{LayoutChoice}
 use Rattle.bw_sql.specs.declared.tree.Operand.{Operand}
 use Rattle.bw_sql.specs.declared.tree.Operand.TheVariants.{Column, Constant}
 use Rattle.bw_sql.specs.declared.tree.SelectItem.{SelectItem}
+use Rattle.bw_sql.specs.declared.tree.SelectItem.TheVariants as item
 use Rattle.bw_sql.specs.declared.tree.SetClause.{SetClause}
 use Rattle.bw_csvload.specs.declared.fault.CsvFault.{CsvFault}
 use Rattle.bw_csvload.specs.declared.fault.CsvFault.TheVariants as csv
@@ -177,13 +179,35 @@ rebuild_tests choices table =
     ∷ (refusal.LayoutTooNarrow, list_any (λ header. is_too_narrow (chosen_header choices header)) table.headers)
     ∷ []
 
-abbrev pub select_tests : List SelectItem → Option ConditionTree → Table → Tests
-select_tests list condition table =
-    (refusal.NoSuchColumn, list_any (is_missing table.headers) (columns_in list))
-    ∷ (refusal.NoSuchColumn, condition_misses table.headers condition)
-    ∷ (refusal.OverLimit, lists_too_long condition)
-    ∷ (refusal.MixedItems, is_mixed list)
+abbrev pub grouping_is_missing : List Header → Option (List ℕ) → Bool
+grouping_is_missing headers None = false
+grouping_is_missing headers (Some name) = is_missing headers name
+
+-- whether an item is another column than that of the groups
+abbrev pub is_other_column : List ℕ → SelectItem → Bool
+is_other_column name (item.Column other) = not (bytes_eq other name)
+is_other_column name _ = false
+
+-- with groups all columns are asked for, or one that isn't that of the groups; without them columns beside set functions
+abbrev pub shows_mixed : Option (List ℕ) → ItemsTree → Bool
+shows_mixed (Some name) all_columns = true
+shows_mixed (Some name) (listed list) = list_any (is_other_column name) list
+shows_mixed None all_columns = false
+shows_mixed None (listed list) = is_mixed list
+
+-- the tests of a SELECT of a table of these columns
+abbrev pub select_tests : SelectTree → List Header → Tests
+select_tests query headers =
+    (refusal.NoSuchColumn, list_any (is_missing headers) (columns_in (shown_items headers query.items)))
+    ∷ (refusal.NoSuchColumn, condition_misses headers query.condition)
+    ∷ (refusal.NoSuchColumn, grouping_is_missing headers query.grouping)
+    ∷ (refusal.OverLimit, lists_too_long query.condition)
+    ∷ (refusal.MixedItems, shows_mixed query.grouping query.items)
     ∷ []
+
+-- of a SELECT, also where STATS stands before it
+abbrev pub query_tests : SelectTree → Store → Tests
+query_tests query store = over (table_of store query.table) (λ table. select_tests query table.headers)
 
 -- the fault of a CSV file, where it has one
 abbrev pub fault_test : Content → Refusal × Bool
@@ -215,11 +239,12 @@ abbrev pub tests_of : Store → Content → StatementTree → Tests
 tests_of store said (create_table name columns) = create_tests (map header_of columns) name store
 tests_of store said (drop_table name) = over (table_of store name) (λ table. [])
 tests_of store said list_tables = []
-tests_of store said (insert name listed rows) = over (table_of store name) (λ table. insert_tests (target_columns table.headers listed) rows table)
+tests_of store said (insert name columns rows) = over (table_of store name) (λ table. insert_tests (target_columns table.headers columns) rows table)
 tests_of store said (update name sets condition) = over (table_of store name) (update_tests sets condition)
 tests_of store said (delete name condition) = over (table_of store name) (λ table. delete_tests condition table)
 tests_of store said (rebuild name choices) = over (table_of store name) (rebuild_tests choices)
-tests_of store said (select items name condition) = over (table_of store name) (λ table. select_tests (shown_items table.headers items) condition table)
+tests_of store said (select query) = query_tests query store
+tests_of store said (stats query) = query_tests query store
 tests_of store said (load name file first) = over (table_of store name) (load_tests said)
 tests_of store said (save name file) = over (table_of store name) save_tests
 tests_of store said (open_table name file) = open_tests name store said

@@ -78,5 +78,6 @@ refusal_text refusal.OutOfMemory = codes "error 90: out of memory"
 abbrev pub reply_text : Reply → List ℕ
 reply_text reply.Done = line (codes "ok")
 reply_text (reply.Count n) = line (codes "ok " ++ decimal n)
+reply_text (reply.Units n) = line (codes "units " ++ decimal n)
 reply_text (reply.Rows answer) = answer_text answer
 reply_text (reply.Refused refusal) = line (refusal_text refusal)

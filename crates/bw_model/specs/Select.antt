@@ -1,13 +1,14 @@
--- What a SELECT answers (SQL-92, query specification and set function specification).
+-- What a SELECT answers (SQL-92, query specification, group by clause and set function specification).
 use Rattle.std.specs.Prelude.{ℕ, ℤ, Bool, false, true, not, if◌then◌else◌, List, [], ◌∷◌, ◌&&◌, Option, Some, None, filter_map, length, map, pos}
 use Rattle.std.specs.List.{list_any}
-use Rattle.bw_sql.specs.Tree.{ConditionTree, ItemsTree, all_columns, listed}
+use Rattle.bw_sql.specs.Tree.{ItemsTree, SelectTree, all_columns, listed}
 use Rattle.bw_sql.specs.declared.tree.SelectItem.{SelectItem}
 use Rattle.bw_sql.specs.declared.tree.SelectItem.TheVariants as item
 use Rattle.bw_sql.specs.declared.tree.SetFunction.{SetFunction}
 use Rattle.bw_sql.specs.declared.tree.SetFunction.TheVariants as function
 use Rattle.bw_model.specs.Answers.{Shown}
 use Rattle.bw_model.specs.Condition.{found_rows}
+use Rattle.bw_model.specs.Groups.{Group, groups_by}
 use Rattle.bw_cells.specs.SetFunctions.{greatest, known, least, median, sum}
 use Rattle.bw_model.specs.Store.{Header, Row, Table, Value, names, place_of, value_from}
 use Rattle.bw_model.specs.declared.answer.Cell.{Cell}
@@ -76,11 +77,17 @@ said_of headers rows item.CountRows = Number (pos (length rows))
 said_of headers rows (item.Function f name) = folded f (known (map (λ row. value_from row (place_of headers name)) rows))
 said_of headers rows (item.Column name) = Null
 
--- one line of set functions of these rows, or a line for each row, in the order of the rows
-abbrev pub lines_for : List Header → List SelectItem → List Row → List (List Cell)
-lines_for headers list rows = if has_functions list then map (said_of headers rows) list ∷ [] else map (line_of headers (columns_in list)) rows
+-- what an item says of a group: its value, or what a function says of its rows
+abbrev pub said_in : List Header → Group → SelectItem → Cell
+said_in headers group (item.Column name) = shown group.value
+said_in headers group one = said_of headers group.rows one
 
-abbrev pub answer : Table → ItemsTree → Option ConditionTree → Shown
-answer table items condition =
-    let list = shown_items table.headers items in
-    record { headings = map heading_of list; lines = lines_for table.headers list (found_rows table condition) }
+-- with groups a line for each; without them one line of set functions of these rows, or a line for each row, in the order of the rows
+abbrev pub lines_for : List Header → List SelectItem → Option (List ℕ) → List Row → List (List Cell)
+lines_for headers list (Some name) rows = map (λ group. map (said_in headers group) list) (groups_by (place_of headers name) rows)
+lines_for headers list None rows = if has_functions list then map (said_of headers rows) list ∷ [] else map (line_of headers (columns_in list)) rows
+
+abbrev pub answer : Table → SelectTree → Shown
+answer table query =
+    let list = shown_items table.headers query.items in
+    record { headings = map heading_of list; lines = lines_for table.headers list query.grouping (found_rows table query.condition) }

@@ -2,10 +2,10 @@
 use Rattle.std.specs.Prelude.{◌≡◌, ◌⊎◌, ℕ, List, [], ◌∷◌, ◌++◌, Option, Some, None, length, map, if◌then◌else◌}
 use Rattle.std.specs.Map.{remove_entry}
 use Rattle.std.specs.Str.{bytes_eq}
-use Rattle.bw_sql.specs.Tree.{StatementTree, create_table, delete, drop_table, insert, list_tables, load, open_table, rebuild, save, select, update}
+use Rattle.bw_sql.specs.Tree.{StatementTree, create_table, delete, drop_table, insert, list_tables, load, open_table, rebuild, save, select, stats, update}
 use Rattle.bw_model.specs.Changes.{with_choices, with_updates, without_found}
 use Rattle.bw_model.specs.Condition.{found_rows}
-use Rattle.bw_model.specs.Contents.{lines_in, table_held}
+use Rattle.bw_model.specs.Contents.{lines_in, table_held, units_in}
 use Rattle.bw_model.specs.Insert.{with_rows}
 use Rattle.bw_model.specs.Listing.{listing}
 use Rattle.bw_model.specs.Refusals.{first_that_holds, refused_early, tests_of}
@@ -15,7 +15,7 @@ use Rattle.bw_model.specs.declared.content.Content.{Content}
 use Rattle.bw_model.specs.declared.refusal.Refusal.{Refusal}
 use Rattle.bw_model.specs.declared.refusal.Refusal.TheVariants.{OutOfMemory}
 use Rattle.bw_model.specs.declared.reply.Reply.{Reply}
-use Rattle.bw_model.specs.declared.reply.Reply.TheVariants.{Done, Count, Rows, Refused}
+use Rattle.bw_model.specs.declared.reply.Reply.TheVariants.{Done, Count, Rows, Units, Refused}
 
 -- the table, or one without columns and rows where there is none
 abbrev pub table_or_none : Option Table → Table
@@ -35,7 +35,7 @@ without_table store name = remove_entry (bytes_eq name) store
 abbrev pub with_lines : List Row → Table → Table
 with_lines rows table = record { headers = table.headers; rows = table.rows ++ rows }
 
--- the reply and the store after a statement that isn't refused, with what its file says to it
+-- the reply and the store after a statement that isn't refused, with what is said to it: by its file, or how many units its condition reads
 abbrev pub carried_out : Store → Content → StatementTree → Reply × Store
 carried_out store said (create_table name columns) = (Done, store ++ (name, record { headers = map header_of columns; rows = [] }) ∷ [])
 carried_out store said (drop_table name) = (Done, without_table store name)
@@ -44,7 +44,8 @@ carried_out store said (insert name listed rows) = (Count (length rows), with_ta
 carried_out store said (update name sets condition) = (Count (length (found_rows (table_or_none (table_of store name)) condition)), with_table store name (with_updates sets condition))
 carried_out store said (delete name condition) = (Count (length (found_rows (table_or_none (table_of store name)) condition)), with_table store name (without_found condition))
 carried_out store said (rebuild name choices) = (Done, with_table store name (with_choices choices))
-carried_out store said (select items name condition) = (Rows (answer (table_or_none (table_of store name)) items condition), store)
+carried_out store said (select query) = (Rows (answer (table_or_none (table_of store query.table)) query), store)
+carried_out store said (stats query) = (Units (units_in said), store)
 carried_out store said (load name file first) = (Count (length (lines_in said)), with_table store name (with_lines (lines_in said)))
 carried_out store said (save name file) = (Count (length (table_or_none (table_of store name)).rows), store)
 carried_out store said (open_table name file) = (Count (length (table_held said).rows), store ++ (name, table_held said) ∷ [])

@@ -35,6 +35,7 @@ IsRefusal _ = Unit {0}
 abbrev pub IsReply : Reply → Type 0
 IsReply reply.Done = Unit {0}
 IsReply (reply.Count n) = n < 2 ^ 64
+IsReply (reply.Units n) = n < 2 ^ 64
 IsReply (reply.Rows answer) = All IsHeading answer.headings × All (All IsCell) answer.lines
 IsReply (reply.Refused refusal) = IsRefusal refusal
 

@@ -7,6 +7,8 @@ mod condition;
 mod condition_laws;
 mod content;
 mod filing;
+mod group_laws;
+mod groups;
 mod insert;
 mod laws;
 mod listing;
@@ -14,6 +16,7 @@ mod refusal;
 mod refusals;
 mod reply;
 mod select;
+mod select_refusals;
 mod set_functions;
 mod steps;
 mod store;
@@ -27,6 +30,7 @@ pub use condition_laws::{
 };
 pub use content::Content;
 pub use filing::FILE_LIMIT;
+pub use group_laws::{groups_are_of_same_values, groups_ascend, groups_part_rows};
 pub use laws::{
     one_content, one_table_a_file, refusals_change_nothing, refusals_need_no_memory,
     replies_are_told, stores_stay_well_formed, texts_tell_replies,

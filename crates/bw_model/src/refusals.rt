@@ -2,9 +2,8 @@
 
 ghost use Rattle.std.specs.Prelude.{◌≡◌, ◌==◌, ◌||◌, IfOk, Option, length, map, nat_le, nat_lt, option_map};
 ghost use Rattle.std.specs.List.{list_all, list_any};
-ghost use Rattle.bw_model.specs.Refusals.{chosen_columns, condition_misses, copy_test, create_tests, delete_tests, fault_test, first_that_holds, fits_in, has_long_list, insert_tests, is_missing, is_too_narrow, lists_too_long, load_tests, may_be_set, names_missing, open_tests, operand_is_missing, rebuild_tests, save_tests, select_tests, set_columns, set_tests, types_named};
-ghost use Rattle.bw_model.specs.Contents.{is_missing_file, is_no_table, is_too_large, lines_in};
-ghost use Rattle.bw_model.specs.Select.{columns_in, is_column, is_mixed};
+ghost use Rattle.bw_model.specs.Refusals.{chosen_columns, condition_misses, copy_test, create_tests, delete_tests, fault_test, first_that_holds, fits_in, has_long_list, insert_tests, is_missing, is_too_narrow, lists_too_long, load_tests, may_be_set, names_missing, open_tests, operand_is_missing, rebuild_tests, save_tests, set_columns, set_tests, types_named};
+ghost use Rattle.bw_model.specs.Contents.{is_missing_file, is_no_table, is_too_large, lines_in, units_in};
 ghost use Rattle.bw_code.specs.Types.{are_of_types, is_null_or_of_type};
 ghost use Rattle.bw_model.specs.Changes.{chosen_header};
 ghost use Rattle.bw_model.specs.Condition.{found_rows};
@@ -15,10 +14,9 @@ use crate::condition::value_of;
 use crate::content::Content;
 use crate::filing::is_too_long;
 use crate::refusal::Refusal;
-use crate::select::{has_functions, is_column};
 use crate::store::{Row, Table, are_distinct, place_of, table_of, type_named};
 use bw_code::{ColumnType, Header};
-use bw_sql::{Condition, LayoutChoice, Name, Operand, SelectItem, SetClause, Value};
+use bw_sql::{Condition, LayoutChoice, Name, Operand, SetClause, Value};
 use std::alloc::{AllocError, Global};
 
 /// The most columns that a table has.
@@ -34,7 +32,7 @@ const ROW_LIMIT: usize = 16_777_216;
 const ENTRY_LIMIT: usize = 1_000;
 
 /// A refusal, and whether it holds.
-type Test = (Refusal, bool);
+pub(crate) type Test = (Refusal, bool);
 
 /// The first refusal that holds.
 pub(crate) fn first_that_holds(tests: &[Test]) -> Option<Refusal>
@@ -47,7 +45,7 @@ pub(crate) fn first_that_holds(tests: &[Test]) -> Option<Refusal>
     }
 }
 
-fn is_missing(headers: &[Header<Name>], name: &Name) -> bool
+pub(crate) fn is_missing(headers: &[Header<Name>], name: &Name) -> bool
     ensures { result ≡ is_missing headers.now name.now }
 {
     place_of(headers, name).is_none()
@@ -109,7 +107,7 @@ fn has_long_list(condition: &Condition) -> bool
     }
 }
 
-fn condition_misses(headers: &[Header<Name>], condition: &Option<Condition>) -> bool
+pub(crate) fn condition_misses(headers: &[Header<Name>], condition: &Option<Condition>) -> bool
     ensures { result ≡ condition_misses headers.now (option_map condition_of condition.now) }
 {
     match condition {
@@ -118,7 +116,7 @@ fn condition_misses(headers: &[Header<Name>], condition: &Option<Condition>) -> 
     }
 }
 
-fn lists_too_long(condition: &Option<Condition>) -> bool
+pub(crate) fn lists_too_long(condition: &Option<Condition>) -> bool
     ensures { result ≡ lists_too_long (option_map condition_of condition.now) }
 {
     match condition {
@@ -302,39 +300,7 @@ pub(crate) fn rebuild_tests(
     ]
 }
 
-/// The tests of SELECT over a table, of which its items name these columns.
-pub(crate) fn select_tests(
-    columns: &[Name],
-    list: &[SelectItem],
-    condition: &Option<Condition>,
-    table: &Table,
-) -> [Test; 4]
-    requires { columns.now ≡ columns_in list.now }
-    ensures { result ≡ select_tests list.now (option_map condition_of condition.now) table.now }
-{
-    let headers = table.headers();
-    [
-        (Refusal::NoSuchColumn, misses_any(headers, columns)),
-        (Refusal::NoSuchColumn, condition_misses(headers, condition)),
-        (Refusal::OverLimit, lists_too_long(condition)),
-        (Refusal::MixedItems, is_mixed(list)),
-    ]
-}
-
-/// Whether columns are asked for beside set functions.
-fn is_mixed(list: &[SelectItem]) -> bool
-    ensures { result ≡ is_mixed list.now }
-{
-    has_functions(list) && has_columns(list)
-}
-
-fn has_columns(list: &[SelectItem]) -> bool
-    ensures { result ≡ list_any is_column list.now }
-{
-    list.iter().any(is_column)
-}
-
-fn misses_any(headers: &[Header<Name>], columns: &[Name]) -> bool
+pub(crate) fn misses_any(headers: &[Header<Name>], columns: &[Name]) -> bool
     ensures { result ≡ list_any (is_missing headers.now) columns.now }
 {
     columns.iter().any(|name| is_missing(headers, name))
@@ -395,6 +361,16 @@ fn fault_test(said: &Content) -> Test
     match said {
         Content::Fault(fault) => (Refusal::from(*fault), true),
         _ => (Refusal::OutOfRange, false),
+    }
+}
+
+/// How many units a condition reads.
+pub(crate) fn units_in(said: &Content) -> u64
+    ensures { result ≡ units_in said.now }
+{
+    match said {
+        Content::Counted(units) => *units,
+        _ => 0,
     }
 }
 

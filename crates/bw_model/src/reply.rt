@@ -10,6 +10,8 @@ pub enum Reply {
     Done,
     /// So many rows were added, changed, deleted, saved or opened.
     Count(u64),
+    /// So many units are read.
+    Units(u64),
     /// These are the rows.
     Rows(Answer),
     /// It is refused, and nothing has changed.

@@ -1,18 +1,19 @@
 //! What a SELECT answers.
 
-ghost use Rattle.std.specs.Prelude.{◌≡◌, ◌<◌, [], ◌∷◌, ◌++◌, IfOk, OnOk, length, map, option_map};
+ghost use Rattle.std.specs.Prelude.{◌≡◌, ◌<◌, [], ◌∷◌, ◌++◌, IfOk, OnOk, length, map};
 ghost use Rattle.bw_model.specs.Answers.{AreWholeLines};
-ghost use Rattle.bw_model.specs.Select.{answer, columns_in, function_heading, has_functions, heading_of, is_column, line_of, lines_for, said_of, shown, shown_items};
+ghost use Rattle.bw_model.specs.Select.{answer, columns_in, function_heading, has_functions, heading_of, is_column, line_of, lines_for, said_in, said_of, shown, shown_items};
 ghost use Rattle.bw_sql.specs.Rows.{joined};
-ghost use Rattle.bw_sql.specs.Tree.{condition_of, items_of};
+ghost use Rattle.bw_sql.specs.Tree.{items_of, select_of};
 ghost use Rattle.bw_sql.specs.declared.tree.SelectItem.TheVariants.{Column};
 
 use crate::answer::{Answer, Cell, Heading};
 use crate::condition::found_rows;
+use crate::groups::{Group, groups_by};
 use crate::set_functions::folded_at;
 use crate::store::{Row, Table, names, place_of, value_from};
 use bw_code::Header;
-use bw_sql::{Condition, Name, SelectItem, SelectItems, SetFunction, Value};
+use bw_sql::{Name, Select, SelectItem, SelectItems, SetFunction, Value};
 use std::alloc::{AllocError, Global};
 
 /// The items that are shown: `*` is all columns in order.
@@ -176,20 +177,76 @@ fn said_of_each(
     Ok(cells)
 }
 
+/// What an item says of a group.
+fn said_in(
+    alloc: Global,
+    headers: &[Header<Name>],
+    group: &Group<'_>,
+    item: &SelectItem,
+) -> Result<Cell, AllocError>
+    ensures { IfOk result (λ cell. cell ≡ said_in headers.now group.now item.now) }
+{
+    match item {
+        SelectItem::Column(_) => Ok(shown(group.value)),
+        SelectItem::CountRows | SelectItem::Function(_, _) => {
+            said_of(alloc, headers, &group.rows, item)
+        }
+    }
+}
+
+/// What each item says of a group.
+fn said_in_each(
+    alloc: Global,
+    headers: &[Header<Name>],
+    list: &[SelectItem],
+    group: &Group<'_>,
+) -> Result<Vec<Cell>, AllocError>
+    ensures { IfOk result (λ cells. cells.items ≡ map (said_in headers.now group.now) list.now) }
+{
+    let mut cells = Vec::new(alloc);
+    for item in list {
+        cells.push(said_in(alloc, headers, group, item)?)?;
+    }
+    Ok(cells)
+}
+
+/// What the items say of each group, line after line.
+fn lines_in(
+    alloc: Global,
+    headers: &[Header<Name>],
+    list: &[SelectItem],
+    groups: &[Group<'_>],
+) -> Result<Vec<Cell>, AllocError>
+    ensures { IfOk result (λ cells. cells.items ≡ joined (map (λ group. map (said_in headers.now group) list.now) groups.now)) }
+{
+    let mut cells = Vec::new(alloc);
+    for group in groups {
+        let mut line = said_in_each(alloc, headers, list, group)?;
+        cells.append(&mut line)?;
+    }
+    Ok(cells)
+}
+
 /// What the items show of these rows, line after line.
 fn cells_for(
     alloc: Global,
     headers: &[Header<Name>],
     list: &[SelectItem],
+    grouping: &Option<Name>,
     rows: &[&Row],
 ) -> Result<Vec<Cell>, AllocError>
-    ensures { IfOk result (λ cells. cells.items ≡ joined (lines_for headers.now list.now (map (λ row. row.now) rows.now))) }
+    ensures { IfOk result (λ cells. cells.items ≡ joined (lines_for headers.now list.now grouping.now (map (λ row. row.now) rows.now))) }
 {
-    if has_functions(list) {
-        said_of_each(alloc, headers, list, rows)
-    } else {
-        let columns = columns_in(alloc, list)?;
-        lines_of(alloc, headers, &columns, rows)
+    match grouping {
+        Some(name) => {
+            let groups = groups_by(alloc, place_of(headers, name), rows)?;
+            lines_in(alloc, headers, list, &groups)
+        }
+        None if has_functions(list) => said_of_each(alloc, headers, list, rows),
+        None => {
+            let columns = columns_in(alloc, list)?;
+            lines_of(alloc, headers, &columns, rows)
+        }
     }
 }
 
@@ -228,19 +285,15 @@ fn headings_of(alloc: Global, list: Vec<SelectItem>) -> Result<Vec<Heading>, All
     Ok(headings)
 }
 
-/// A line for each found row, in the order of the rows, or one line of set functions of them.
-pub fn answer_of(
-    alloc: Global,
-    table: &Table,
-    items: &SelectItems,
-    condition: &Option<Condition>,
-) -> Result<Answer, AllocError>
-    ensures { IfOk result (λ shows. shows ≡ answer table.now (items_of items.now) (option_map condition_of condition.now)) }
+/// With groups a line for each; without them a line for each found row, in the order of the rows, or one line of set
+/// functions of them.
+pub fn answer_of(alloc: Global, table: &Table, query: &Select) -> Result<Answer, AllocError>
+    ensures { IfOk result (λ shows. shows ≡ answer table.now (select_of query.now)) }
 {
     let headers = table.headers();
-    let list = shown_items(alloc, headers, items)?;
-    let rows = found_rows(alloc, table, condition)?;
-    let cells = cells_for(alloc, headers, &list, &rows)?;
+    let list = shown_items(alloc, headers, &query.items)?;
+    let rows = found_rows(alloc, table, &query.condition)?;
+    let cells = cells_for(alloc, headers, &list, &query.grouping, &rows)?;
     let headings = headings_of(alloc, list)?;
     Ok(Answer::new(headings, cells))
 }

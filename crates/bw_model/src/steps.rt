@@ -20,10 +20,11 @@ use crate::listing::listing_of;
 use crate::refusal::Refusal;
 use crate::refusals::{
     create_tests, first_that_holds, insert_tests, lines_in, load_tests, open_tests, save_tests,
-    select_tests,
+    units_in,
 };
 use crate::reply::Reply;
-use crate::select::{answer_of, columns_in, shown_items};
+use crate::select::answer_of;
+use crate::select_refusals::refused_query;
 use crate::store::{Row, Store, Table, header_of, names, place_of_table, same_rows, table_of};
 use bw_code::Header;
 use bw_sql::{
@@ -52,6 +53,7 @@ pub fn step(
         Statement::Delete(change) => delete(alloc, &mut store.tables, change),
         Statement::Rebuild(change) => rebuild(alloc, &mut store.tables, change),
         Statement::Select(query) => select(alloc, &store.tables, query),
+        Statement::Stats(query) => stats(alloc, &store.tables, said, query),
         Statement::Load(request) => load(alloc, &mut store.tables, said, request),
         Statement::Save(request) => save(alloc, &store.tables, request),
         Statement::Open(request) => open_table(alloc, &mut store.tables, said, request),
@@ -177,18 +179,28 @@ fn select(alloc: Global, tables: &[(Name, Table)], query: &Select) -> Result<Rep
     let Some(table) = table_of(tables, &query.table) else {
         return Ok(Reply::Refused(Refusal::NoSuchTable));
     };
-    let list = shown_items(alloc, table.headers(), &query.items)?;
-    let columns = columns_in(alloc, &list)?;
-    if let Some(refusal) = first_that_holds(&select_tests(
-        &columns,
-        &list,
-        &query.condition,
-        table,
-    )) {
+    if let Some(refusal) = refused_query(alloc, table, query)? {
         return Ok(Reply::Refused(refusal));
     }
-    let shows = answer_of(alloc, table, &query.items, &query.condition)?;
+    let shows = answer_of(alloc, table, query)?;
     Ok(Reply::Rows(shows))
+}
+
+fn stats(
+    alloc: Global,
+    tables: &[(Name, Table)],
+    said: &Content,
+    query: &Select,
+) -> Result<Reply, AllocError>
+    ensures { IfOk result (λ reply. ◌≡◌ {A = AnyReply × AnyStore} (reply, tables.now) (outcome_of tables.now said.now (statement_of (statements.Stats query.now)))) }
+{
+    let Some(table) = table_of(tables, &query.table) else {
+        return Ok(Reply::Refused(Refusal::NoSuchTable));
+    };
+    if let Some(refusal) = refused_query(alloc, table, query)? {
+        return Ok(Reply::Refused(refusal));
+    }
+    Ok(Reply::Units(units_in(said)))
 }
 
 fn load(

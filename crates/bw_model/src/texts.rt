@@ -19,6 +19,7 @@ pub fn reply_text(alloc: Global, reply: &Reply) -> Result<Vec<u8>, AllocError>
     match reply {
         Reply::Done => Vec::from_slice(alloc, b"ok\n"),
         Reply::Count(n) => Ok(format!(in alloc; "ok {n}\n")?.into_bytes()),
+        Reply::Units(n) => Ok(format!(in alloc; "units {n}\n")?.into_bytes()),
         Reply::Rows(answer) => answer_text(alloc, answer),
         Reply::Refused(refusal) => {
             let text = refusal_text(alloc, *refusal)?;

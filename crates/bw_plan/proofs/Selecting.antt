@@ -10,7 +10,9 @@ use Rattle.bw_model.specs.Select.{columns_in, has_functions, is_column, is_mixed
 use Rattle.bw_model.specs.Store.{Header, place_of}
 use Rattle.bw_model.proofs.Items.{columns_more}
 use Rattle.bw_model.proofs.Passing.{neither}
-use Rattle.bw_plan.specs.Selections.{is_unplaced}
+use Rattle.bw_plan.specs.Selections.{is_ungrouped, is_unplaced}
+use Rattle.bw_plan.specs.declared.grouping.GroupItem.TheVariants as grouped
+use Rattle.bw_plan.specs.declared.selection.FunctionPlan.TheVariants as function
 
 last : (b : Bool) → (b || false) ≡ b
 last true = refl
@@ -52,6 +54,20 @@ all_placed headers (item.Function f name ∷ list) there apart =
     let p = neither (is_missing headers name) (list_any (is_missing headers) (columns_in list)) there in
     ap (λ b. b || list_any (is_unplaced headers) list) (some_mapped _ (place_of headers name) (unplaced_by headers name (place_of headers name) refl p.0))
     ∙ all_placed headers list p.1 apart
+
+-- with groups each item is placed where its column is there
+pub all_grouped : (headers : List Header) (list : List SelectItem) → list_any (is_missing headers) (columns_in list) ≡ false → list_any (is_ungrouped headers) list ≡ false
+all_grouped headers [] there = refl
+all_grouped headers (item.Column name ∷ list) there = all_grouped headers list (neither (is_missing headers name) (list_any (is_missing headers) (columns_in list)) there).1
+all_grouped headers (item.CountRows ∷ list) there = all_grouped headers list there
+all_grouped headers (item.Function f name ∷ list) there =
+    let p = neither (is_missing headers name) (list_any (is_missing headers) (columns_in list)) there in
+    ap (λ b. b || list_any (is_ungrouped headers) list) (placed_twice (place_of headers name) (unplaced_by headers name (place_of headers name) refl p.0))
+    ∙ all_grouped headers list p.1
+  where
+    placed_twice : (o : Option ℕ) → is_some o ≡ true → not (is_some (option_map grouped.Function (option_map (function.Of f) o))) ≡ false
+    placed_twice None e = absurd (true≢false (sym e))
+    placed_twice (Some x) e = refl
 
 -- a list of functions that isn't mixed has no column
 pub no_columns : (list : List SelectItem) → has_functions list ≡ true → is_mixed list ≡ false → list_any is_column list ≡ false

@@ -2,10 +2,8 @@
 use Rattle.std.specs.Prelude.{◌≡◌, ◌⊎◌, ◌==◌, ℕ, List, [], ◌∷◌, Option, Some, None, Result, MatchResult, length, nat_lt, not}
 use Rattle.std.specs.List.{list_all, list_any}
 use Rattle.bw_sql.specs.Tree.{ConditionTree}
-use Rattle.bw_sql.specs.declared.tree.SelectItem.{SelectItem}
 use Rattle.bw_code.specs.Types.{are_of_types}
 use Rattle.bw_model.specs.Refusals.{Tests, condition_misses, first_that_holds, is_missing, lists_too_long, types_named}
-use Rattle.bw_model.specs.Select.{is_mixed}
 use Rattle.bw_model.specs.Store.{Header, Row, are_distinct}
 use Rattle.bw_model.specs.declared.refusal.Refusal.{Refusal}
 use Rattle.bw_model.specs.declared.refusal.Refusal.TheVariants as refusal
@@ -22,14 +20,8 @@ MayRefuse tests e = ((first_that_holds tests ≡ None) × (e ≡ refusal.OutOfMe
 abbrev pub Answers : {T : Type 0} → Tests → Result T Refusal → (T → Type 0) → Type 0
 Answers tests result P = MatchResult result (λ x. (first_that_holds tests ≡ None) × P x) (MayRefuse tests)
 
-abbrev pub shown_tests : List Header → List (List ℕ) → Tests
-shown_tests headers columns = (refusal.NoSuchColumn, list_any (is_missing headers) columns) ∷ []
-
 abbrev pub condition_tests : List Header → Option ConditionTree → Tests
 condition_tests headers condition = (refusal.NoSuchColumn, condition_misses headers condition) ∷ (refusal.OverLimit, lists_too_long condition) ∷ []
-
-abbrev pub mixed_tests : List SelectItem → Tests
-mixed_tests list = (refusal.MixedItems, is_mixed list) ∷ []
 
 abbrev pub listed_tests : List Header → List (List ℕ) → Tests
 listed_tests headers columns =

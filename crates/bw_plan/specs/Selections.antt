@@ -1,9 +1,11 @@
 -- What a SELECT shows, with places for names.
-use Rattle.std.specs.Prelude.{Bool, List, None, Option, Some, false, is_some, map, not, option_map, true, ◌≡◌}
+use Rattle.std.specs.Prelude.{Bool, List, None, Option, Some, false, is_some, map, not, option_map, true, ℕ, ◌≡◌}
 use Rattle.bw_sql.specs.declared.tree.SelectItem.{SelectItem}
 use Rattle.bw_sql.specs.declared.tree.SelectItem.TheVariants as item
 use Rattle.bw_model.specs.Select.{columns_in, has_functions}
 use Rattle.bw_model.specs.Store.{Header, place_of}
+use Rattle.bw_plan.specs.declared.grouping.GroupItem.{GroupItem}
+use Rattle.bw_plan.specs.declared.grouping.GroupItem.TheVariants as grouped
 use Rattle.bw_plan.specs.declared.selection.FunctionPlan.{FunctionPlan}
 use Rattle.bw_plan.specs.declared.selection.FunctionPlan.TheVariants as function
 use Rattle.bw_plan.specs.declared.selection.ShownPlan.{ShownPlan}
@@ -18,7 +20,18 @@ placed_item headers (item.Column name) = None
 abbrev pub is_unplaced : List Header → SelectItem → Bool
 is_unplaced headers item = not (is_some (placed_item headers item))
 
--- columns by their places, or where the list has set functions, these
-abbrev pub ShowsBy : List Header → List SelectItem → ShownPlan → Type 0
-ShowsBy headers list (shown.Columns places) = (has_functions list ≡ false) × (map (λ place. Some place) places.items ≡ map (place_of headers) (columns_in list))
-ShowsBy headers list (shown.Functions functions) = (has_functions list ≡ true) × (map (λ f. Some f) functions.items ≡ map (placed_item headers) list)
+-- what an item shows of a group: its value, or a set function with the place of its column, where there is such a column
+abbrev pub grouped_item : List Header → SelectItem → Option GroupItem
+grouped_item headers (item.Column name) = Some grouped.Value
+grouped_item headers item = option_map grouped.Function (placed_item headers item)
+
+abbrev pub is_ungrouped : List Header → SelectItem → Bool
+is_ungrouped headers item = not (is_some (grouped_item headers item))
+
+-- of groups what the items show of each, by the place of the grouping column; of rows columns by their places, or where the list
+-- has set functions, these
+abbrev pub ShowsBy : List Header → List SelectItem → Option (List ℕ) → ShownPlan → Type 0
+ShowsBy headers list None (shown.Columns places) = (has_functions list ≡ false) × (map (λ place. Some place) places.items ≡ map (place_of headers) (columns_in list))
+ShowsBy headers list None (shown.Functions functions) = (has_functions list ≡ true) × (map (λ f. Some f) functions.items ≡ map (placed_item headers) list)
+ShowsBy headers list (Some name) (shown.Groups plan) = (Some plan.by ≡ place_of headers name) × (map (λ i. Some i) plan.items.items ≡ map (grouped_item headers) list)
+ShowsBy headers list grouping plan = ⊥

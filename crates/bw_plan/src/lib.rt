@@ -4,6 +4,7 @@
 mod changes;
 mod comparison_truth;
 mod evaluation;
+mod grouping;
 mod headers;
 mod insertion;
 mod list_truth;
@@ -19,6 +20,7 @@ mod words;
 
 pub use changes::{UpdatePlan, check_choices, resolve_delete, resolve_rebuild, resolve_update};
 pub use evaluation::evaluate;
+pub use grouping::{GroupItem, GroupPlan};
 pub use headers::Headers;
 pub use insertion::resolve_insert;
 pub use narrow::{chooses_too_narrow, defines_too_narrow};

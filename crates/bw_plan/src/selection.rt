@@ -1,20 +1,21 @@
 //! SELECT: its columns as places in a row, and its condition over places.
 
-ghost use Rattle.std.specs.Prelude.{List, ◌≡◌, ◌++◌, ◌∷◌, [], ◌<◌, IfOk, OnOk, Some, false, length, map, option_map, true};
+ghost use Rattle.std.specs.Prelude.{◌≡◌, ◌++◌, ◌∷◌, [], ◌<◌, IfOk, None, OnOk, Some, false, length, map, option_map};
 ghost use Rattle.std.specs.List.{list_any};
-ghost use Rattle.bw_model.specs.Refusals.{first_that_holds, is_missing, select_tests};
+ghost use Rattle.bw_model.specs.Refusals.{grouping_is_missing, is_missing, select_tests, shows_mixed};
 ghost use Rattle.bw_model.specs.Select.{columns_in, has_functions, is_column, is_mixed, shown_items};
-ghost use Rattle.bw_model.specs.Store.{AreHeaders, Header, names, place_of};
-ghost use Rattle.bw_plan.specs.Checks.{Answers, Decides, condition_tests, mixed_tests, shown_tests};
+ghost use Rattle.bw_model.specs.Store.{AreHeaders, names, place_of};
+ghost use Rattle.bw_plan.specs.Checks.{Answers, Decides};
 ghost use Rattle.bw_plan.specs.Plans.{plan_of, planned};
 ghost use Rattle.bw_plan.specs.Selections.{ShowsBy, is_unplaced, placed_item};
-ghost use Rattle.bw_sql.specs.Tree.{condition_of, items_of};
+ghost use Rattle.bw_sql.specs.Tree.{condition_of, items_of, select_of};
 
+use crate::grouping::{GroupPlan, group_items, lacks_grouping, shows_mixed};
 use crate::headers::Headers;
 use crate::plan::RowCondition;
-use crate::resolution::{check_condition, placed};
+use crate::resolution::{has_long_lists, misses, placed};
 use bw_model::Refusal;
-use bw_sql::{Condition, SelectItem, SelectItems, SetFunction};
+use bw_sql::{Condition, Name, Select, SelectItem, SelectItems, SetFunction};
 use std::alloc::{AllocError, Global};
 
 /// A set function whose column is a place in a row.
@@ -33,6 +34,8 @@ pub enum ShownPlan {
     Columns(Vec<usize>),
     /// These functions of the found rows, in one line.
     Functions(Vec<FunctionPlan>),
+    /// A line for each group of the found rows.
+    Groups(GroupPlan),
 }
 
 /// A SELECT whose columns are places in a row.
@@ -46,47 +49,44 @@ pub struct SelectPlan {
 
 /// What a SELECT shows of a table of these columns, by their places, and its condition over places. It is
 /// refused, in this order, where a column that it shows or folds isn't there, where one of the condition
-/// isn't there, where an IN list has more than 1,000 entries, and where columns stand beside set functions.
+/// isn't there, where the grouping column isn't there, where an IN list has more than 1,000 entries, and where
+/// columns stand beside set functions (with GROUP BY: all columns, or one that isn't the grouping one).
 /// All of this is found before any memory is asked for.
 pub fn resolve_select(
     alloc: Global,
     headers: &Headers<'_>,
-    items: &SelectItems,
-    condition: &Option<Condition>,
+    query: &Select,
 ) -> Result<SelectPlan, Refusal>
     requires valid { AreHeaders headers.now }
-    ensures some { 0 < length (shown_items headers.now (items_of items.now)) }
-    ensures plan { let list = shown_items headers.now (items_of items.now) in let found = option_map condition_of condition.now in Answers (shown_tests headers.now (columns_in list) ++ condition_tests headers.now found ++ mixed_tests list) result (λ plan. ShowsBy headers.now list plan.shown × (option_map plan_of plan.condition ≡ option_map (planned headers.now) found)) }
+    ensures some { 0 < length (shown_items headers.now (items_of query.now.items)) }
+    ensures plan { Answers (select_tests (select_of query.now) headers.now) result (λ plan. ShowsBy headers.now (shown_items headers.now (items_of query.now.items)) query.now.grouping plan.shown × (option_map plan_of plan.condition ≡ option_map (planned headers.now) (option_map condition_of query.now.condition))) }
 {
-    check_select(headers, items, condition)?;
-    let shown = shown_plan(alloc, headers, items)?;
-    let condition = plan_if_any(alloc, headers, condition)?;
+    check_select(headers, query)?;
+    let shown = shown_plan(alloc, headers, query)?;
+    let condition = plan_if_any(alloc, headers, &query.condition)?;
     Ok(SelectPlan { shown, condition })
 }
 
 /// Refuses a SELECT for its first reason.
-fn check_select(
-    headers: &Headers<'_>,
-    items: &SelectItems,
-    condition: &Option<Condition>,
-) -> Result<(), Refusal>
+fn check_select(headers: &Headers<'_>, query: &Select) -> Result<(), Refusal>
     requires valid { AreHeaders headers.now }
-    ensures some { 0 < length (shown_items headers.now (items_of items.now)) }
-    ensures tests { let list = shown_items headers.now (items_of items.now) in Decides (shown_tests headers.now (columns_in list) ++ condition_tests headers.now (option_map condition_of condition.now) ++ mixed_tests list) result (λ _. Unit {0}) }
+    ensures some { 0 < length (shown_items headers.now (items_of query.now.items)) }
+    ensures tests { Decides (select_tests (select_of query.now) headers.now) result (λ _. Unit {0}) }
 {
-    check_items(headers, items)?;
-    check_condition(headers, condition)?;
-    check_mixed(items)
-}
-
-/// Refuses columns that aren't there.
-fn check_items(headers: &Headers<'_>, items: &SelectItems) -> Result<(), Refusal>
-    requires { AreHeaders headers.now }
-    ensures some { 0 < length (shown_items headers.now (items_of items.now)) }
-    ensures tests { Decides (shown_tests headers.now (columns_in (shown_items headers.now (items_of items.now)))) result (λ _. Unit {0}) }
-{
-    if lacks_shown(headers, items) {
+    if lacks_shown(headers, &query.items) {
         return Err(Refusal::NoSuchColumn);
+    }
+    if misses(headers, &query.condition) {
+        return Err(Refusal::NoSuchColumn);
+    }
+    if lacks_grouping(headers, &query.grouping) {
+        return Err(Refusal::NoSuchColumn);
+    }
+    if has_long_lists(&query.condition) {
+        return Err(Refusal::OverLimit);
+    }
+    if shows_mixed(&query.grouping, &query.items) {
+        return Err(Refusal::MixedItems);
     }
     Ok(())
 }
@@ -119,24 +119,11 @@ fn lacks_its_column(headers: &Headers<'_>, item: &SelectItem) -> bool
     }
 }
 
-/// Refuses columns beside set functions.
-fn check_mixed(items: &SelectItems) -> Result<(), Refusal>
-    ensures { (headers : List Header) → Decides (mixed_tests (shown_items headers (items_of items.now))) result (λ _. Unit {0}) }
+/// Whether columns stand beside set functions.
+pub(crate) fn is_mixed(list: &[SelectItem]) -> bool
+    ensures { result ≡ is_mixed list.now }
 {
-    if is_mixed(items) {
-        return Err(Refusal::MixedItems);
-    }
-    Ok(())
-}
-
-#[tactic(auto, using(crate::proofs::Selecting::columns_unmixed))]
-fn is_mixed(items: &SelectItems) -> bool
-    ensures { (headers : List Header) → result ≡ is_mixed (shown_items headers (items_of items.now)) }
-{
-    match items {
-        SelectItems::All => false,
-        SelectItems::List(list) => has_functions(list.as_slice()) && has_columns(list.as_slice()),
-    }
+    has_functions(list) && has_columns(list)
 }
 
 fn is_column(item: &SelectItem) -> bool
@@ -171,20 +158,42 @@ pub(crate) fn plan_if_any(
     }
 }
 
-/// What is shown, where every column is there and none stands beside a set function.
-fn shown_plan(
+/// What is shown, where every column is there and none stands where it may not.
+fn shown_plan(alloc: Global, headers: &Headers<'_>, query: &Select) -> Result<ShownPlan, AllocError>
+    requires there { list_any (is_missing headers.now) (columns_in (shown_items headers.now (items_of query.now.items))) ≡ false }
+    requires grouping { grouping_is_missing headers.now query.now.grouping ≡ false }
+    requires apart { shows_mixed query.now.grouping (items_of query.now.items) ≡ false }
+    ensures { IfOk result (ShowsBy headers.now (shown_items headers.now (items_of query.now.items)) query.now.grouping) }
+{
+    match (&query.grouping, &query.items) {
+        (None, SelectItems::All) => Ok(ShownPlan::Columns(all_places(alloc, headers)?)),
+        (None, SelectItems::List(list)) => listed_plan(alloc, headers, list.as_slice()),
+        (Some(name), SelectItems::List(list)) => grouped_plan(
+            alloc,
+            headers,
+            name,
+            list.as_slice(),
+        ),
+        (Some(_), SelectItems::All) => unreachable!(),
+    }
+}
+
+/// What a list shows of each group.
+fn grouped_plan(
     alloc: Global,
     headers: &Headers<'_>,
-    items: &SelectItems,
+    grouping: &Name,
+    list: &[SelectItem],
 ) -> Result<ShownPlan, AllocError>
-    requires there { list_any (is_missing headers.now) (columns_in (shown_items headers.now (items_of items.now))) ≡ false }
-    requires apart { is_mixed (shown_items headers.now (items_of items.now)) ≡ false }
-    ensures { IfOk result (ShowsBy headers.now (shown_items headers.now (items_of items.now))) }
+    requires there { list_any (is_missing headers.now) (columns_in list.now) ≡ false }
+    requires grouping { is_missing headers.now grouping.now ≡ false }
+    ensures { IfOk result (ShowsBy headers.now list.now (Some grouping.now)) }
 {
-    match items {
-        SelectItems::All => Ok(ShownPlan::Columns(all_places(alloc, headers)?)),
-        SelectItems::List(list) => listed_plan(alloc, headers, list.as_slice()),
-    }
+    let Some(by) = headers.place(grouping) else {
+        unreachable!()
+    };
+    let items = group_items(alloc, headers, list)?;
+    Ok(ShownPlan::Groups(GroupPlan { by, items }))
 }
 
 /// What a list shows.
@@ -195,7 +204,7 @@ fn listed_plan(
 ) -> Result<ShownPlan, AllocError>
     requires there { list_any (is_missing headers.now) (columns_in list.now) ≡ false }
     requires apart { is_mixed list.now ≡ false }
-    ensures { IfOk result (ShowsBy headers.now list.now) }
+    ensures { IfOk result (ShowsBy headers.now list.now None) }
 {
     if has_functions(list) {
         Ok(ShownPlan::Functions(functions_in(alloc, headers, list)?))
@@ -253,7 +262,7 @@ fn places_in(
 }
 
 /// A set function with the place of its column, where there is such a column.
-fn placed_item(headers: &Headers<'_>, item: &SelectItem) -> Option<FunctionPlan>
+pub(crate) fn placed_item(headers: &Headers<'_>, item: &SelectItem) -> Option<FunctionPlan>
     ensures { result ≡ placed_item headers.now item.now }
 {
     match item {

@@ -4,11 +4,11 @@ use Rattle.std.specs.Bool.{MatchBool}
 use Rattle.std.proofs.lemmas.Bool.{true≢false}
 use Rattle.bw_csvload.specs.declared.fault.CsvFault.{CsvFault}
 use Rattle.bw_csvload.specs.declared.fault.CsvFault.TheVariants as csv
-use Rattle.bw_sql.specs.Tree.{StatementTree, create_table, delete, drop_table, insert, list_tables, load, open_table, rebuild, save, select, update}
+use Rattle.bw_sql.specs.Tree.{SelectTree, StatementTree, create_table, delete, drop_table, insert, list_tables, load, open_table, rebuild, save, select, stats, update}
 use Rattle.bw_model.specs.Contents.{IsReadAs, IsSaid, IsTableIn, SaysTo, is_missing_file, lines_or_fault}
 use Rattle.bw_model.specs.FileUse.{FileUse, file_use, no_file, reads, unless_refused, use_in, writes}
 use Rattle.bw_model.specs.Filing.{file_limit}
-use Rattle.bw_model.specs.Refusals.{Tests, fault_test, first_that_holds, over, refusal_of_csv, refused_early, tests_of}
+use Rattle.bw_model.specs.Refusals.{Tests, fault_test, first_that_holds, over, query_tests, refusal_of_csv, refused_early, tests_of}
 use Rattle.bw_model.specs.Step.{carried_out, outcome_of, refused_or}
 use Rattle.bw_model.specs.Store.{Row, Store, Table, table_of}
 use Rattle.bw_model.specs.declared.content.Content.{Content}
@@ -17,8 +17,10 @@ use Rattle.bw_model.specs.declared.refusal.Refusal.{Refusal}
 use Rattle.bw_model.specs.declared.refusal.Refusal.TheVariants as refusal
 use Rattle.bw_model.specs.declared.reply.Reply.TheVariants.{Count, Refused}
 use Rattle.bw_model.proofs.Unchanged.{never_refuses}
+use Rattle.bw_engine.specs.Counting.{said_of}
+use Rattle.bw_engine.specs.Stores.{Stored}
 use Rattle.bw_shell.specs.Answers.{Answers, AnswersBy, ByFile, Outcome}
-use Rattle.bw_shell.specs.States.{HasFile, State, file_in}
+use Rattle.bw_shell.specs.States.{HasFile, State, file_in, store_in}
 use Rattle.bw_shell.proofs.Saves.{there_is}
 
 -- the refusals that a file may be the reason of
@@ -61,12 +63,18 @@ module _ (store : Store) (said : Content) (wanted : Refusal) (is_file : of_file 
 
   in_file : (also : Content) → (fault_test also).0 ≡ wanted → (fault_test also).1 ≡ false
   in_file content.Nothing = λ e. refl
+  in_file (content.Counted units) = λ e. refl
   in_file content.Missing = λ e. refl
   in_file content.TooLarge = λ e. refl
   in_file (content.Lines rows) = λ e. refl
   in_file (content.Fault fault) = other (refusal_of_csv fault) (in_csv fault)
   in_file (content.Held table) = λ e. refl
   in_file content.NotTable = λ e. refl
+
+  in_query : (query : SelectTree) → NoneHolds wanted (query_tests query store)
+  in_query query =
+      over_table (table_of store query.table) _
+      (λ table. (other refusal.NoSuchColumn refl, (other refusal.NoSuchColumn refl, (other refusal.NoSuchColumn refl, (other refusal.OverLimit refl, (other refusal.MixedItems refl, tt))))))
 
   none_holds : (tree : StatementTree) → NoneHolds wanted (tests_of store said tree)
   none_holds (create_table name columns) = (other refusal.TableExists refl, (other refusal.ColumnNamedTwice refl, (other refusal.OverLimit refl, (other refusal.LayoutTooNarrow refl, tt))))
@@ -80,9 +88,8 @@ module _ (store : Store) (said : Content) (wanted : Refusal) (is_file : of_file 
       (λ table. (other refusal.NoSuchColumn refl, (other refusal.NoSuchColumn refl, (other refusal.NoSuchColumn refl, (other refusal.ColumnNamedTwice refl, (other refusal.OverLimit refl, (other refusal.OutOfRange refl, (other refusal.OutOfRange refl, tt))))))))
   none_holds (delete name condition) = over_table (table_of store name) _ (λ table. (other refusal.NoSuchColumn refl, (other refusal.OverLimit refl, tt)))
   none_holds (rebuild name choices) = over_table (table_of store name) _ (λ table. (other refusal.NoSuchColumn refl, (other refusal.ColumnNamedTwice refl, (other refusal.LayoutTooNarrow refl, tt))))
-  none_holds (select items name condition) =
-      over_table (table_of store name) _
-      (λ table. (other refusal.NoSuchColumn refl, (other refusal.NoSuchColumn refl, (other refusal.OverLimit refl, (other refusal.MixedItems refl, tt)))))
+  none_holds (select query) = in_query query
+  none_holds (stats query) = in_query query
   none_holds (load name file first) = over_table (table_of store name) _ (λ table. (unreadable, (other refusal.FileTooLarge refl, (in_file said, (other refusal.TableFull refl, tt)))))
   none_holds (save name file) = over_table (table_of store name) _ (λ table. (other refusal.FileTooLarge refl, tt))
   none_holds (open_table name file) =
@@ -105,6 +112,7 @@ lines_there (Err fault) = refl
 
 table_there : (bytes : List ℕ) (said : Content) → IsTableIn bytes said → is_missing_file said ≡ false
 table_there bytes content.Nothing is = refl
+table_there bytes (content.Counted units) is = refl
 table_there bytes content.Missing is = absurd is
 table_there bytes content.TooLarge is = refl
 table_there bytes (content.Lines rows) is = refl
@@ -120,7 +128,8 @@ read_there store (insert name listed rows) bytes said is = ap is_missing_file is
 read_there store (update name sets condition) bytes said is = ap is_missing_file is
 read_there store (delete name condition) bytes said is = ap is_missing_file is
 read_there store (rebuild name choices) bytes said is = ap is_missing_file is
-read_there store (select items name condition) bytes said is = ap is_missing_file is
+read_there store (select query) bytes said is = ap is_missing_file is
+read_there store (stats query) bytes said is = ap is_missing_file is
 read_there store (load name file first) bytes said is = ap is_missing_file is ∙ lines_there _
 read_there store (save name file) bytes said is = ap is_missing_file is
 read_there store (open_table name file) bytes said is = table_there bytes said is
@@ -128,6 +137,21 @@ read_there store (open_table name file) bytes said is = table_there bytes said i
 by_length : (store : Store) (tree : StatementTree) (bytes : List ℕ) (said : Content) (long : Bool) → MatchBool long (said ≡ content.TooLarge) (IsReadAs store tree bytes said) → is_missing_file said ≡ false
 by_length store tree bytes said true is = ap is_missing_file is
 by_length store tree bytes said false is = read_there store tree bytes said is
+
+-- nor is it where no file is read
+none_missing : (tables : Stored) (tree : StatementTree) → is_missing_file (said_of tables tree) ≡ false
+none_missing tables (create_table name columns) = refl
+none_missing tables (drop_table name) = refl
+none_missing tables list_tables = refl
+none_missing tables (insert name listed rows) = refl
+none_missing tables (update name sets condition) = refl
+none_missing tables (delete name condition) = refl
+none_missing tables (rebuild name choices) = refl
+none_missing tables (select query) = refl
+none_missing tables (stats query) = refl
+none_missing tables (load name file first) = refl
+none_missing tables (save name file) = refl
+none_missing tables (open_table name file) = refl
 
 -- what a statement is refused for
 
@@ -143,31 +167,31 @@ module _ (before : State) (tree : StatementTree) (after : State) where
   Rose = after.failures ≡ before.failures + 1
 
   not_refused : (said : Content) (wanted : Refusal) → of_file wanted ≡ true → (wanted ≡ refusal.UnreadableFile → is_missing_file said ≡ false) → Outcome before said tree (Refused wanted) after → Rose
-  not_refused said wanted is there outcome = absurd (no_outcome before.store said wanted is there tree (sym outcome.replies))
+  not_refused said wanted is there outcome = absurd (no_outcome (store_in before) said wanted is there tree (sym outcome.replies))
 
   written_by : (use_of : FileUse) → AnswersBy use_of before tree (Refused refusal.UnwritableFile) after → Rose
-  written_by no_file outcome = not_refused content.Nothing refusal.UnwritableFile refl (λ e. refl) outcome
+  written_by no_file outcome = not_refused (said_of before.tables tree) refusal.UnwritableFile refl (λ e. cc) outcome
   written_by (reads name) answers =
       elim answers [ inl by ↦ not_refused by.said refusal.UnwritableFile refl (λ e. cc) by.outcome | inr cannot ↦ cannot.failed.one_more ]
   written_by (writes name) answers =
       elim answers [ inl by ↦ not_counted refusal.UnwritableFile (length by.table.rows) by.says | inr cannot ↦ cannot.failed.one_more ]
 
   pub written : Answers before tree (Refused refusal.UnwritableFile) after → Rose
-  written answers = elim answers [ inl wants ↦ absurd (let says = wants.says in cc) | inr by ↦ written_by (file_use before.store tree) by ]
+  written answers = elim answers [ inl wants ↦ absurd (let says = wants.says in cc) | inr by ↦ written_by (file_use (store_in before) tree) by ]
 
   module _ (name bytes : List ℕ) (reading : use_in tree ≡ reads name) (filed : file_in before.files name ≡ Some bytes) where
-    found_by : (file : List ℕ) → file_use before.store tree ≡ reads file → ByFile before tree file (Refused refusal.UnreadableFile) after → Rose
+    found_by : (file : List ℕ) → file_use (store_in before) tree ≡ reads file → ByFile before tree file (Refused refusal.UnreadableFile) after → Rose
     found_by file is by =
-        let same : file ≡ name = (let one = sym (named (refused_early before.store tree) (use_in tree) file is) ∙ reading in cc) in
+        let same : file ≡ name = (let one = sym (named (refused_early (store_in before) tree) (use_in tree) file is) ∙ reading in cc) in
         let found = there_is before.files name bytes by.file filed (subst (λ n. HasFile before.files n by.file) same by.there) in
-        let says : SaysTo before.store tree bytes by.said = subst (λ f. IsSaid before.store tree f by.said) found by.says in
-        not_refused by.said refusal.UnreadableFile refl (λ e. by_length before.store tree bytes by.said (nat_lt file_limit (length bytes)) says) by.outcome
+        let says : SaysTo (store_in before) tree bytes by.said = subst (λ f. IsSaid (store_in before) tree f by.said) found by.says in
+        not_refused by.said refusal.UnreadableFile refl (λ e. by_length (store_in before) tree bytes by.said (nat_lt file_limit (length bytes)) says) by.outcome
 
-    read_by : (use_of : FileUse) → file_use before.store tree ≡ use_of → AnswersBy use_of before tree (Refused refusal.UnreadableFile) after → Rose
-    read_by no_file is outcome = not_refused content.Nothing refusal.UnreadableFile refl (λ e. refl) outcome
+    read_by : (use_of : FileUse) → file_use (store_in before) tree ≡ use_of → AnswersBy use_of before tree (Refused refusal.UnreadableFile) after → Rose
+    read_by no_file is outcome = not_refused (said_of before.tables tree) refusal.UnreadableFile refl (λ e. none_missing before.tables tree) outcome
     read_by (reads file) is answers = elim answers [ inl by ↦ found_by file is by | inr cannot ↦ cannot.failed.one_more ]
     read_by (writes file) is answers =
         elim answers [ inl by ↦ not_counted refusal.UnreadableFile (length by.table.rows) by.says | inr cannot ↦ cannot.failed.one_more ]
 
     pub read : Answers before tree (Refused refusal.UnreadableFile) after → Rose
-    read answers = elim answers [ inl wants ↦ absurd (let says = wants.says in cc) | inr by ↦ read_by (file_use before.store tree) refl by ]
+    read answers = elim answers [ inl wants ↦ absurd (let says = wants.says in cc) | inr by ↦ read_by (file_use (store_in before) tree) refl by ]

@@ -4,14 +4,15 @@ use Rattle.std.specs.Prelude.{filter}
 use Rattle.std.specs.List.{list_any, position_or_len}
 use Rattle.std.specs.Str.{bytes_eq}
 use Rattle.std.proofs.lemmas.List.{length-map}
-use Rattle.bw_sql.specs.Tree.{ConditionTree, ConditionTrees, ItemsTree, all_columns, among, between, comparison, each_of, listed, more, negated, none, null, select, some_of, tested}
+use Rattle.bw_sql.specs.Tree.{ConditionTree, ConditionTrees, ItemsTree, SelectTree, all_columns, among, between, comparison, each_of, listed, more, negated, none, null, select, some_of, tested}
 use Rattle.bw_sql.specs.declared.tree.Operand.{Operand}
 use Rattle.bw_sql.specs.declared.tree.Operand.TheVariants.{Column, Constant}
 use Rattle.bw_sql.specs.declared.tree.SelectItem.{SelectItem}
 use Rattle.bw_sql.specs.declared.tree.SelectItem.TheVariants as item
 use Rattle.bw_model.specs.Condition.{each_truth, found_rows, is_found, some_truth, truth_at, value_of}
-use Rattle.bw_model.specs.Refusals.{condition_misses, first_that_holds, is_missing, lists_too_long, names_missing, operand_is_missing, over, select_tests, some_names_missing, tests_of}
-use Rattle.bw_model.specs.Select.{answer, columns_in, folded, has_functions, heading_of, is_mixed, lines_for, said_of, shown, shown_items}
+use Rattle.bw_model.specs.Groups.{Group, groups_by}
+use Rattle.bw_model.specs.Refusals.{condition_misses, first_that_holds, grouping_is_missing, is_missing, lists_too_long, names_missing, operand_is_missing, over, select_tests, shows_mixed, some_names_missing, tests_of}
+use Rattle.bw_model.specs.Select.{answer, columns_in, folded, has_functions, heading_of, lines_for, said_in, said_of, shown, shown_items}
 use Rattle.bw_cells.specs.SetFunctions.{known}
 use Rattle.bw_model.specs.Step.{outcome_of, refused_or, table_or_none}
 use Rattle.bw_model.specs.Store.{Header, Row, Store, Table, names, place_of, table_of, value_from}
@@ -115,59 +116,74 @@ said_same headers others same rows item.CountRows = refl
 said_same headers others same rows (item.Function f name) = (λ j. folded f (known (map (λ row. value_from row (same name j)) rows)))
 said_same headers others same rows (item.Column name) = refl
 
-lines_same : (headers others : List Header) → HavePlaces headers others → (list : List SelectItem) (rows : List Row) → lines_for headers list rows ≡ lines_for others list rows
-lines_same headers others same list rows =
+said_in_same : (headers others : List Header) → HavePlaces headers others → (group : Group) (x : SelectItem) → said_in headers group x ≡ said_in others group x
+said_in_same headers others same group item.CountRows = refl
+said_in_same headers others same group (item.Function f name) = said_same headers others same group.rows (item.Function f name)
+said_in_same headers others same group (item.Column name) = refl
+
+lines_same : (headers others : List Header) → HavePlaces headers others → (list : List SelectItem) (grouping : Option (List ℕ)) (rows : List Row) → lines_for headers list grouping rows ≡ lines_for others list grouping rows
+lines_same headers others same list None rows =
     (λ j. if has_functions list then map (λ x. said_same headers others same rows x j) list ∷ []
     else map (λ row. map (λ name. shown (value_from row (same name j))) (columns_in list)) rows)
+lines_same headers others same list (Some name) rows = (λ j. map (λ group. map (λ x. said_in_same headers others same group x j) list) (groups_by (same name j) rows))
 
--- what a SELECT over a table says
-abbrev said_for : ItemsTree → Option ConditionTree → Option Table → Reply
-said_for items condition there = (refused_or (first_that_holds (over there (λ table. select_tests (shown_items table.headers items) condition table))) [] (Rows (answer (table_or_none there) items condition), [])).0
+grouping_same : (headers others : List Header) → HavePlaces headers others → (grouping : Option (List ℕ)) → grouping_is_missing headers grouping ≡ grouping_is_missing others grouping
+grouping_same headers others same None = refl
+grouping_same headers others same (Some name) = ap (λ place. not (is_some place)) (same name)
+
+-- what a SELECT over a table says; the table's name is in no test and in no answer
+abbrev said_for : SelectTree → Option Table → Reply
+said_for query there = (refused_or (first_that_holds (over there (λ table. select_tests query table.headers))) [] (Rows (answer (table_or_none there) query), [])).0
 
 any_store : (first : Option Refusal) (store : Store) (reply : Reply) → (refused_or first store (reply, store)).0 ≡ (refused_or first [] (reply, [])).0
 any_store None store reply = refl
 any_store (Some refusal) store reply = refl
 
-said_is : (store : Store) (said : Content) (items : ItemsTree) (name : List ℕ) (condition : Option ConditionTree) → (outcome_of store said (select items name condition)).0 ≡ said_for items condition (table_of store name)
-said_is store said items name condition =
-    any_store (first_that_holds (tests_of store said (select items name condition))) store (Rows (answer (table_or_none (table_of store name)) items condition))
+-- the same SELECT of a table of this name
+abbrev asked_of : List ℕ → SelectTree → SelectTree
+asked_of name query = record { items = query.items; table = name; condition = query.condition; grouping = query.grouping }
 
-module _ (table twin : Table) (named : names table.headers ≡ names twin.headers) (filled : table.rows ≡ twin.rows) (items : ItemsTree) (condition : Option ConditionTree) where
+said_is : (store : Store) (said : Content) (name : List ℕ) (query : SelectTree) → (outcome_of store said (select (asked_of name query))).0 ≡ said_for query (table_of store name)
+said_is store said name query = any_store (first_that_holds (tests_of store said (select (asked_of name query)))) store (Rows (answer (table_or_none (table_of store name)) query))
+
+module _ (table twin : Table) (named : names table.headers ≡ names twin.headers) (filled : table.rows ≡ twin.rows) (query : SelectTree) where
   places : HavePlaces table.headers twin.headers
   places name = same_place table.headers twin.headers name named
 
-  shown_same : shown_items table.headers items ≡ shown_items twin.headers items
-  shown_same = items_same table.headers twin.headers items named
+  shown_same : shown_items table.headers query.items ≡ shown_items twin.headers query.items
+  shown_same = items_same table.headers twin.headers query.items named
 
-  tests_same : select_tests (shown_items table.headers items) condition table ≡ select_tests (shown_items twin.headers items) condition twin
+  tests_same : select_tests query table.headers ≡ select_tests query twin.headers
   tests_same =
       let missing : is_missing table.headers ≡ is_missing twin.headers = (λ j. λ name. not (is_some (places name j))) in
-      let misses = condition_same table.headers twin.headers places condition in
+      let misses = condition_same table.headers twin.headers places query.condition in
+      let lacks = grouping_same table.headers twin.headers places query.grouping in
       (λ j. (refusal.NoSuchColumn, list_any (missing j) (columns_in (shown_same j)))
       ∷ (refusal.NoSuchColumn, misses j)
-      ∷ (refusal.OverLimit, lists_too_long condition)
-      ∷ (refusal.MixedItems, is_mixed (shown_same j))
+      ∷ (refusal.NoSuchColumn, lacks j)
+      ∷ (refusal.OverLimit, lists_too_long query.condition)
+      ∷ (refusal.MixedItems, shows_mixed query.grouping query.items)
       ∷ [])
 
-  rows_same : found_rows table condition ≡ found_rows twin condition
-  rows_same = let found = found_same table.headers twin.headers places condition in (λ j. filter (found j) (filled j))
+  rows_same : found_rows table query.condition ≡ found_rows twin query.condition
+  rows_same = let found = found_same table.headers twin.headers places query.condition in (λ j. filter (found j) (filled j))
 
-  answer_same : answer table items condition ≡ answer twin items condition
+  answer_same : answer table query ≡ answer twin query
   answer_same =
-      let lines : lines_for table.headers (shown_items table.headers items) (found_rows table condition) ≡ lines_for twin.headers (shown_items twin.headers items) (found_rows twin condition) =
-      lines_same table.headers twin.headers places (shown_items table.headers items) (found_rows table condition)
-      ∙ (λ j. lines_for twin.headers (shown_same j) (rows_same j))
+      let lines : lines_for table.headers (shown_items table.headers query.items) query.grouping (found_rows table query.condition) ≡ lines_for twin.headers (shown_items twin.headers query.items) query.grouping (found_rows twin query.condition) =
+      lines_same table.headers twin.headers places (shown_items table.headers query.items) query.grouping (found_rows table query.condition)
+      ∙ (λ j. lines_for twin.headers (shown_same j) query.grouping (rows_same j))
       in
       (λ j. record { headings = map heading_of (shown_same j); lines = lines j })
 
-  said_alike : said_for items condition (Some table) ≡ said_for items condition (Some twin)
+  said_alike : said_for query (Some table) ≡ said_for query (Some twin)
   said_alike = (λ j. (refused_or (first_that_holds (tests_same j)) [] (Rows (answer_same j), [])).0)
 
   pub one_reply : (store other : Store) (said also : Content) (name alias : List ℕ) → table_of store name ≡ Some table → table_of other alias ≡ Some twin
-      → (outcome_of store said (select items name condition)).0 ≡ (outcome_of other also (select items alias condition)).0
+      → (outcome_of store said (select (asked_of name query))).0 ≡ (outcome_of other also (select (asked_of alias query))).0
   one_reply store other said also name alias here there =
-      said_is store said items name condition
-      ∙ ap (said_for items condition) here
+      said_is store said name query
+      ∙ ap (said_for query) here
       ∙ said_alike
-      ∙ sym (ap (said_for items condition) there)
-      ∙ sym (said_is other also items alias condition)
+      ∙ sym (ap (said_for query) there)
+      ∙ sym (said_is other also alias query)

@@ -1,5 +1,6 @@
 pub mod ByFolder
 pub mod Conversed
+pub mod Counts
 pub mod EarlyEnds
 pub mod FileFailures
 pub mod FileMaps

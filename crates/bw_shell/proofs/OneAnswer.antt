@@ -18,10 +18,13 @@ use Rattle.bw_model.specs.declared.refusal.Refusal.TheVariants.{OutOfMemory}
 use Rattle.bw_model.specs.declared.reply.Reply.{Reply}
 use Rattle.bw_model.specs.declared.reply.Reply.TheVariants.{Count, Refused}
 use Rattle.bw_model.proofs.OneTable.{one_file, one_said}
+use Rattle.bw_engine.specs.StoredChanges.{LeavesStored}
+use Rattle.bw_engine.specs.Stores.{Stored, store_of}
+use Rattle.bw_engine.proofs.OneStored.{one_stored}
 use Rattle.bw_shell.specs.Answers.{Answers, AnswersBy, ByFile, IsSaved, Outcome}
 use Rattle.bw_shell.specs.Folders.{Files}
 use Rattle.bw_shell.specs.Run.{MayAnswer, no_statement, statement, too_long, unclosed}
-use Rattle.bw_shell.specs.States.{HasFile, KeepsFiles, SetsFile, State, file_in}
+use Rattle.bw_shell.specs.States.{HasFile, KeepsFiles, SetsFile, State, file_in, store_in}
 
 -- files that are known, and the same under each name
 
@@ -55,32 +58,38 @@ one_there None others name file other same x y = absurd (let known = same.known 
 one_there (Some list) None name file other same x y = absurd (let known = same.known_too in cc)
 one_there (Some list) (Some right) name file other same x y = x ∙ same.same name ∙ sym y
 
--- one store, and the same files
+-- the same tables, slots and encodings too, and the same files
 pub record SameState (state other : State) : Type 0 where
-  pub stores : state.store ≡ other.store
+  pub tables : state.tables ≡ other.tables
   pub files : SameFiles state.files other.files
 
 pub record SameAnswer (reply other : Reply) (after left : State) : Type 0 where
   pub replies : reply ≡ other
   pub states : SameState after left
 
--- over one store
+-- over the same tables
 
-module _ (store : Store) (files others : Option Files) (failures count : ℕ) (same : SameFiles files others) (tree : StatementTree) (reply other : Reply) (after left : State) where
+module _ (tables : Stored) (files others : Option Files) (failures count : ℕ) (same : SameFiles files others) (tree : StatementTree) (reply other : Reply) (after left : State) where
+  abbrev store : Store
+  store = store_of tables
+
   abbrev here : State
-  here = record { store = store; files = files; failures = failures }
+  here = record { tables = tables; files = files; failures = failures }
 
   abbrev there : State
-  there = record { store = store; files = others; failures = count }
+  there = record { tables = tables; files = others; failures = count }
 
   one_outcome : (said also : Content) → said ≡ also → Outcome here said tree reply after → Outcome there also tree other left → SameAnswer reply other after left
-  one_outcome said also is x y = record {
-    replies = x.replies ∙ ap (λ c. (outcome_of store c tree).0) is ∙ sym y.replies;
-    states = record {
-      stores = x.leaves.store_is ∙ ap (λ c. (outcome_of store c tree).1) is ∙ sym y.leaves.store_is;
-      files = kept_files files others after.files left.files same x.leaves.files_stay y.leaves.files_stay;
-    };
-  }
+  one_outcome said also is x y =
+      let replies = x.replies ∙ ap (λ c. (outcome_of store c tree).0) is ∙ sym y.replies in
+      let stores = x.leaves.store_is ∙ ap (λ c. (outcome_of store c tree).1) is ∙ sym y.leaves.store_is in
+      record {
+        replies = replies;
+        states = record {
+          tables = one_stored tables after.tables left.tables tree other (subst (λ r. LeavesStored tables tree r after.tables) replies x.stored) y.stored stores;
+          files = kept_files files others after.files left.files same x.leaves.files_stay y.leaves.files_stay;
+        };
+      }
 
   one_by_file : (name : List ℕ) → ByFile here tree name reply after → ByFile there tree name other left → SameAnswer reply other after left
   one_by_file name x y =
@@ -98,7 +107,7 @@ module _ (store : Store) (files others : Option Files) (failures count : ℕ) (s
       record {
         replies = x.says ∙ ap (λ t. Count (length t.rows)) table ∙ sym y.says;
         states = record {
-          stores = x.store_stays ∙ sym y.store_stays;
+          tables = x.tables_stay ∙ sym y.tables_stay;
           files = set_files file y.bytes files others after.files left.files same (subst (λ b. SetsFile file b files after.files) bytes x.file_set) y.file_set;
         };
       }
@@ -143,7 +152,7 @@ answer_grows state closed text reply after (too_long long) = omega arith
 answer_grows state closed text reply after (unclosed short) = omega arith
 answer_grows state closed text reply after (no_statement fault is) = omega arith
 answer_grows state closed text reply after (statement tree says a) =
-    elim a [ inl wants ↦ let stays = wants.stays.failures_stay in omega arith | inr x ↦ use_grows (file_use state.store tree) state tree reply after x ]
+    elim a [ inl wants ↦ let stays = wants.stays.failures_stay in omega arith | inr x ↦ use_grows (file_use (store_in state) tree) state tree reply after x ]
 
 -- a part's answer
 
@@ -156,12 +165,12 @@ same_refusal state other text a b same x y p q = record { replies = ap (λ f. Re
 never_both : (text : List ℕ) (tree : StatementTree) (fault : SqlFault) → Says text tree → IsStatementFault fault text → fault ≢ faults.Memory → ⊥
 never_both text tree fault says is other = other (no_fault text tree fault says is)
 
--- the other state, with this store
+-- the other state, with these tables
 same_statement : (state also after left : State) (tree : StatementTree) (reply other : Reply) → SameState state also → reply ≢ Refused OutOfMemory → other ≢ Refused OutOfMemory → after.failures ≡ state.failures → left.failures ≡ also.failures
     → Answers state tree reply after → Answers also tree other left → SameAnswer reply other after left
 same_statement state also after left tree reply other same m n p q a b =
-    one_statement state.store state.files also.files state.failures also.failures same.files tree reply other after left m n p q a
-    (subst (λ s. Answers (record { store = s; files = also.files; failures = also.failures }) tree other left) (sym same.stores) b)
+    one_statement state.tables state.files also.files state.failures also.failures same.files tree reply other after left m n p q a
+    (subst (λ s. Answers (record { tables = s; files = also.files; failures = also.failures }) tree other left) (sym same.tables) b)
 
 pub same_answer : (state also after left : State) (closed : Bool) (text : List ℕ) (reply other : Reply) → SameState state also → reply ≢ Refused OutOfMemory → other ≢ Refused OutOfMemory → after.failures ≡ state.failures → left.failures ≡ also.failures
     → MayAnswer state closed text reply after → MayAnswer also closed text other left → SameAnswer reply other after left

@@ -6,7 +6,7 @@ use Rattle.std.proofs.lemmas.List.Elements.{All-head, All-tail}
 use Rattle.std.proofs.lemmas.Slice.Eq.{bytes_eq-Decides}
 use Rattle.bw_lex.specs.declared.script.Part.{Part}
 use Rattle.bw_sql.specs.Statements.{Says}
-use Rattle.bw_sql.specs.Tree.{StatementTree, create_table, delete, drop_table, insert, list_tables, load, open_table, rebuild, save, select, update}
+use Rattle.bw_sql.specs.Tree.{StatementTree, create_table, delete, drop_table, insert, list_tables, load, open_table, rebuild, save, select, stats, update}
 use Rattle.bw_model.specs.FileUse.{FileUse, file_use, no_file, reads, use_in, writes}
 use Rattle.bw_model.specs.Refusals.{refused_early}
 use Rattle.bw_model.specs.declared.reply.Reply.{Reply}
@@ -15,7 +15,7 @@ use Rattle.bw_shell.specs.Elsewhere.{IsNoSaveTo}
 use Rattle.bw_shell.specs.Folders.{Files}
 use Rattle.bw_shell.specs.Replies.{Answered, and_then, none_left}
 use Rattle.bw_shell.specs.Run.{MayAnswer, no_statement, statement, text_of, too_long, unclosed}
-use Rattle.bw_shell.specs.States.{KeepsFiles, KeepsOthers, SetsFile, State, file_in}
+use Rattle.bw_shell.specs.States.{KeepsFiles, KeepsOthers, SetsFile, State, file_in, store_in}
 use Rattle.bw_shell.proofs.ByFolder.{used}
 
 -- the folder still gives its files, and this one is as it was
@@ -53,18 +53,19 @@ saves_to (insert table listed rows) file e = cc
 saves_to (update table sets condition) file e = cc
 saves_to (delete table condition) file e = cc
 saves_to (rebuild table choices) file e = cc
-saves_to (select items table condition) file e = cc
+saves_to (select query) file e = cc
+saves_to (stats query) file e = cc
 saves_to (load table given first) file e = cc
 saves_to (save table given) file e = let same : given ≡ file = cc in (table, ap (save table) same)
 saves_to (open_table table given) file e = cc
 
 module _ (before : State) (tree : StatementTree) (reply : Reply) (after : State) (file : List ℕ) (known : IsSome before.files) (elsewhere : (name : List ℕ) → tree ≡ save name file → ⊥) where
-  not_this : (saved : List ℕ) → file_use before.store tree ≡ writes saved → bytes_eq saved file ≡ false
+  not_this : (saved : List ℕ) → file_use (store_in before) tree ≡ writes saved → bytes_eq saved file ≡ false
   not_this saved is =
-      let to = saves_to tree saved (used (refused_early before.store tree) (use_in tree) saved is).1 in
+      let to = saves_to tree saved (used (refused_early (store_in before) tree) (use_in tree) saved is).1 in
       by_test saved file (bytes_eq saved file) refl (λ same. elsewhere to.0 (to.1 ∙ ap (save to.0) same))
 
-  by_use : (use_of : FileUse) → file_use before.store tree ≡ use_of → AnswersBy use_of before tree reply after → Stays before.files after.files file
+  by_use : (use_of : FileUse) → file_use (store_in before) tree ≡ use_of → AnswersBy use_of before tree reply after → Stays before.files after.files file
   by_use no_file is outcome = kept_file before.files after.files file known outcome.leaves.files_stay
   by_use (reads name) is answers =
       elim answers [
@@ -81,7 +82,7 @@ module _ (before : State) (tree : StatementTree) (reply : Reply) (after : State)
   other_file answers =
       elim answers [
         | inl wants ↦ kept_file before.files after.files file known wants.stays.files_stay
-        | inr by ↦ by_use (file_use before.store tree) refl by
+        | inr by ↦ by_use (file_use (store_in before) tree) refl by
       ]
 
 -- a folder that has a file gives its files

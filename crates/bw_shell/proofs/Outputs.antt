@@ -120,7 +120,7 @@ module _ (on_error : OnError) (read : ScriptEnd) (script : List ℕ) where
 pub one_output : (on_error : OnError) (read : ScriptEnd) (script : List ℕ) (state final left : State) (end other : RunEnd) (bytes also : List ℕ) → IsOutput on_error read script state end bytes final → IsOutput on_error read script state other also left → (end ≡ other) × (bytes ≡ also)
 one_output on_error read script state final left end other bytes also a b =
     let parts = same_parts 0 script b.parts a.parts b.are_parts a.are_parts in
-    let alike : SameState state state = record { stores = refl; files = itself state.files a.known } in
+    let alike : SameState state state = record { tables = refl; files = itself state.files a.known } in
     let same =
     same_output on_error read script end other final left a.written b.written a.parts state state bytes also alike a.unfailing b.unfailing a.memory b.memory a.session
     (subst (λ l. Session on_error read script state l other also left) parts b.session) in

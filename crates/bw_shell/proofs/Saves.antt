@@ -24,16 +24,16 @@ use Rattle.bw_model.proofs.Unchanged.{early_first}
 use Rattle.bw_shell.specs.Answers.{Answers, AnswersBy, ByFile, CannotRead, IsSaved, Outcome, RunsOutOfMemory}
 use Rattle.bw_shell.specs.Folders.{Files}
 use Rattle.bw_shell.specs.Opening.{Opens}
-use Rattle.bw_shell.specs.States.{HasFile, Leaves, SetsFile, State, file_in}
+use Rattle.bw_shell.specs.States.{HasFile, Leaves, SetsFile, State, file_in, store_in}
 
 no_refusal : {P : Type 0} (n : ℕ) (refusal : Refusal) → Count n ≡ Refused refusal → P
 no_refusal n refusal e = cc
 
 -- what is refused whatever its file says has no count
-early : {P : Type 0} (before after : State) (tree : StatementTree) (n : ℕ) (refusal : Refusal) → refused_early before.store tree ≡ Some refusal → Outcome before content.Nothing tree (Count n) after → P
+early : {P : Type 0} (before after : State) (tree : StatementTree) (n : ℕ) (refusal : Refusal) → refused_early (store_in before) tree ≡ Some refusal → Outcome before content.Nothing tree (Count n) after → P
 early before after tree n refusal is outcome =
     no_refusal n refusal
-    (outcome.replies ∙ ap (λ first. (refused_or first before.store (carried_out before.store content.Nothing tree)).0) (early_first before.store content.Nothing tree refusal is))
+    (outcome.replies ∙ ap (λ first. (refused_or first (store_in before) (carried_out (store_in before) content.Nothing tree)).0) (early_first (store_in before) content.Nothing tree refusal is))
 
 -- SAVE
 
@@ -64,29 +64,29 @@ bytes_fit : (bytes : List ℕ) (table : Table) → HoldsBy Second bytes table �
 bytes_fit bytes table holds few = ap (nat_lt file_limit) (ap length holds.spells.bytes_are ∙ length-spelling Second (filed table)) ∙ few
 
 module _ (before after : State) (name file : List ℕ) (n : ℕ) (known : IsSome before.files) where
-  by_saved : refused_early before.store (save name file) ≡ None → IsSaved before (save name file) file (Count n) after → Saved before.store name file n after.files
+  by_saved : refused_early (store_in before) (save name file) ≡ None → IsSaved before (save name file) file (Count n) after → Saved (store_in before) name file n after.files
   by_saved free is =
       let asks : save name file ≡ save is.name file = is.asks in
       let same : name ≡ is.name = cc in
       let says : Count n ≡ Count (length is.table.rows) = is.says in
-      let there = ap (table_of before.store) same ∙ is.there in
+      let there = ap (table_of (store_in before)) same ∙ is.there in
       record {
         table = is.table;
         there = there;
         counted = cc;
         bytes = is.bytes;
         holds = is.holds;
-        fits = bytes_fit is.bytes is.table is.holds (few_bytes (table_of before.store name) is.table there free);
+        fits = bytes_fit is.bytes is.table is.holds (few_bytes (table_of (store_in before) name) is.table there free);
         filed = set_there file is.bytes before.files after.files known is.file_set;
       }
 
-  save_by : (first : Option Refusal) → refused_early before.store (save name file) ≡ first → AnswersBy (unless_refused first (writes file)) before (save name file) (Count n) after → Saved before.store name file n after.files
+  save_by : (first : Option Refusal) → refused_early (store_in before) (save name file) ≡ first → AnswersBy (unless_refused first (writes file)) before (save name file) (Count n) after → Saved (store_in before) name file n after.files
   save_by None free answers = elim answers [ inl is ↦ by_saved free is | inr cannot ↦ no_refusal n UnwritableFile cannot.says ]
   save_by (Some refusal) is outcome = early before after (save name file) n refusal is outcome
 
-  pub saved : Answers before (save name file) (Count n) after → Saved before.store name file n after.files
+  pub saved : Answers before (save name file) (Count n) after → Saved (store_in before) name file n after.files
   saved answers =
-      elim answers [ inl wants ↦ no_refusal n OutOfMemory wants.says | inr by ↦ save_by (refused_early before.store (save name file)) refl by ]
+      elim answers [ inl wants ↦ no_refusal n OutOfMemory wants.says | inr by ↦ save_by (refused_early (store_in before) (save name file)) refl by ]
 
 -- OPEN
 
@@ -110,6 +110,7 @@ module _ (bytes : List ℕ) (table : Table) (holds : Holds bytes table) (fits : 
   read_held (content.Held other) is = ap content.Held (one_held bytes other table is holds)
   read_held content.NotTable is = absurd (is table holds)
   read_held content.Nothing is = absurd is
+  read_held (content.Counted units) is = absurd is
   read_held content.Missing is = absurd is
   read_held content.TooLarge is = absurd is
   read_held (content.Lines rows) is = absurd is
@@ -118,14 +119,14 @@ module _ (bytes : List ℕ) (table : Table) (holds : Holds bytes table) (fits : 
   held : (said : Content) → MatchBool (nat_lt file_limit (length bytes)) (said ≡ content.TooLarge) (IsTableIn bytes said) → said ≡ content.Held table
   held said says = read_held said (subst (λ long. MatchBool long (said ≡ content.TooLarge) (IsTableIn bytes said)) fits says)
 
-  module _ (later final : State) (other file : List ℕ) (reply : Reply) (filed : file_in later.files file ≡ Some bytes) (free : refused_early later.store (open_table other file) ≡ None) where
+  module _ (later final : State) (other file : List ℕ) (reply : Reply) (filed : file_in later.files file ≡ Some bytes) (free : refused_early (store_in later) (open_table other file) ≡ None) where
     by_file : ByFile later (open_table other file) file reply final → Opens later other table reply final
     by_file by =
         let found = there_is later.files file bytes by.file filed by.there in
-        let same = held by.said (subst (λ f. IsSaid later.store (open_table other file) f by.said) found by.says) in
-        let outcome : outcome_of later.store by.said (open_table other file) ≡ carried_out later.store (content.Held table) (open_table other file) =
-        ap (λ said. outcome_of later.store said (open_table other file)) same
-        ∙ ap (λ first. refused_or first later.store (carried_out later.store (content.Held table) (open_table other file))) free
+        let same = held by.said (subst (λ f. IsSaid (store_in later) (open_table other file) f by.said) found by.says) in
+        let outcome : outcome_of (store_in later) by.said (open_table other file) ≡ carried_out (store_in later) (content.Held table) (open_table other file) =
+        ap (λ said. outcome_of (store_in later) said (open_table other file)) same
+        ∙ ap (λ first. refused_or first (store_in later) (carried_out (store_in later) (content.Held table) (open_table other file))) free
         in
         record {
           says = by.outcome.replies ∙ ap (λ (p : Reply × Store). p.0) outcome;

@@ -7,11 +7,11 @@ use Rattle.std.proofs.lemmas.List.{length-take-le, take-append-drop}
 use Rattle.bw_split.specs.Splitting.{part_text, is_blank_part, texts_from}
 use Rattle.bw_split.proofs.HaveParts.{have_parts}
 use Rattle.bw_split.proofs.PartTexts.{parts_given}
-use Rattle.bw_model.specs.Store.{Store}
+use Rattle.bw_engine.specs.Stores.{Stored}
 use Rattle.bw_shell.specs.Sessions.{AnswersRest, HasEnded, Ran}
 use Rattle.bw_shell.specs.Run.{IsRun, SessionOver}
 use Rattle.bw_shell.specs.Script.{GivesNext, IsRead, longest_script}
-use Rattle.bw_shell.specs.States.{FolderState, State, with_store}
+use Rattle.bw_shell.specs.States.{FolderState, State, with_tables}
 use Rattle.bw_shell.specs.declared.reading.Next.TheVariants.{Piece, End}
 use Rattle.bw_shell.specs.declared.reading.ScriptEnd.{ScriptEnd}
 use Rattle.bw_shell.specs.declared.reading.ScriptEnd.TheVariants.{Reached, Fault}
@@ -80,7 +80,7 @@ dropped on_error part state last is = either (is_blank_part part) where
 
 module _ (on_error : OnError) (given : Option (List ℕ)) (old : Option (List ℕ)) (before : FolderState) where
   abbrev first : State
-  first = with_store [] before
+  first = with_tables [] before
 
   -- These bytes were read, the parts that they close were answered, and this part is begun after them.
   pub record SoFar (left now : Option (List ℕ)) (room : ℕ) (part : List ℕ) (state : State) : Type 0 where
@@ -93,9 +93,9 @@ module _ (on_error : OnError) (given : Option (List ℕ)) (old : Option (List �
   at_start = record { read = []; consumed = Consumes-nil given; counted = refl; ran = starts on_error first (texts_from []) old }
 
   -- a run over the parts of a script
-  over : (left new : Option (List ℕ)) (end : RunEnd) (store : Store) (after : FolderState) (script : List ℕ) (read : ScriptEnd) → IsRead given left script read → length script ≤ longest_script
-      → (bytes : List ℕ) → SessionOver on_error read first (texts_from [] script) end bytes (with_store store after) → Appends old new bytes → IsRun on_error given left old new before after end
-  over left new end store after script read is_read fits bytes session grown =
+  over : (left new : Option (List ℕ)) (end : RunEnd) (tables : Stored) (after : FolderState) (script : List ℕ) (read : ScriptEnd) → IsRead given left script read → length script ≤ longest_script
+      → (bytes : List ℕ) → SessionOver on_error read first (texts_from [] script) end bytes (with_tables tables after) → Appends old new bytes → IsRun on_error given left old new before after end
+  over left new end tables after script read is_read fits bytes session grown =
       let has = have_parts script in
       record {
         script = script;
@@ -104,8 +104,8 @@ module _ (on_error : OnError) (given : Option (List ℕ)) (old : Option (List �
         fits = fits;
         parts = has.0;
         are_parts = has.1;
-        store = store;
-        has_run = (bytes, subst (λ parts. SessionOver on_error read first parts end bytes (with_store store after)) (parts_given script has.0 has.1) session, grown);
+        tables = tables;
+        has_run = (bytes, subst (λ parts. SessionOver on_error read first parts end bytes (with_tables tables after)) (parts_given script has.0 has.1) session, grown);
       }
 
   module _ (left now : Option (List ℕ)) (room : ℕ) (part : List ℕ) (state : State) (s : SoFar left now room part state) where
@@ -139,32 +139,32 @@ module _ (on_error : OnError) (given : Option (List ℕ)) (old : Option (List �
         ran = ran_twice on_error first state after (λ more. texts_from [] ((s.read ++ piece) ++ more)) (λ more. texts_from part (piece ++ more)) (texts_from begun) old now new so_far ran;
       }
 
-      pub ends_early : (new : Option (List ℕ)) (end : RunEnd) (store : Store) (after : FolderState) → HasEnded on_error state (λ more. texts_from part (piece ++ more)) now new end (with_store store after) → IsRun on_error given next old new before after end
-      ends_early new end store after ended =
+      pub ends_early : (new : Option (List ℕ)) (end : RunEnd) (tables : Stored) (after : FolderState) → HasEnded on_error state (λ more. texts_from part (piece ++ more)) now new end (with_tables tables after) → IsRun on_error given next old new before after end
+      ends_early new end tables after ended =
           let w = whole given next (s.read ++ piece) consumed (omega (arith, counted)) in
-          let all = ran_to_end on_error first state (with_store store after) (λ more. texts_from [] ((s.read ++ piece) ++ more)) (λ more. texts_from part (piece ++ more)) old now new end so_far ended in
-          over next new end store after w.script w.read w.is_read w.fits all.written
-          (subst (λ script. SessionOver on_error w.read first (texts_from [] script) end all.written (with_store store after)) (sym w.split) (all.session w.read w.more)) all.grown
+          let all = ran_to_end on_error first state (with_tables tables after) (λ more. texts_from [] ((s.read ++ piece) ++ more)) (λ more. texts_from part (piece ++ more)) old now new end so_far ended in
+          over next new end tables after w.script w.read w.is_read w.fits all.written
+          (subst (λ script. SessionOver on_error w.read first (texts_from [] script) end all.written (with_tables tables after)) (sym w.split) (all.session w.read w.more)) all.grown
 
     -- the script ends here, read so
 
-    ends_here : (next new : Option (List ℕ)) (read : ScriptEnd) (end : RunEnd) (store : Store) (after : FolderState) → IsRead given next s.read read
-        → (bytes : List ℕ) → SessionOver on_error read state (texts_from part []) end bytes (with_store store after) → Appends now new bytes → IsRun on_error given next old new before after end
-    ends_here next new read end store after is_read bytes session grown =
-        over next new end store after s.read read is_read (omega (arith, s.counted)) (s.ran.written ++ bytes)
-        (subst (λ script. SessionOver on_error read first (texts_from [] script) end (s.ran.written ++ bytes) (with_store store after)) (append-nil s.read) (s.ran.goes_on read [] end bytes (with_store store after) session))
+    ends_here : (next new : Option (List ℕ)) (read : ScriptEnd) (end : RunEnd) (tables : Stored) (after : FolderState) → IsRead given next s.read read
+        → (bytes : List ℕ) → SessionOver on_error read state (texts_from part []) end bytes (with_tables tables after) → Appends now new bytes → IsRun on_error given next old new before after end
+    ends_here next new read end tables after is_read bytes session grown =
+        over next new end tables after s.read read is_read (omega (arith, s.counted)) (s.ran.written ++ bytes)
+        (subst (λ script. SessionOver on_error read first (texts_from [] script) end (s.ran.written ++ bytes) (with_tables tables after)) (append-nil s.read) (s.ran.goes_on read [] end bytes (with_tables tables after) session))
         (appends_twice old now new s.ran.written bytes s.ran.grown grown)
 
     all_read : (next : Option (List ℕ)) (buffer : List ℕ) → GivesNext left next room buffer (End Reached) → IsRead given next s.read Reached
     all_read next buffer at_end = read_whole given left s.read s.consumed at_end
 
-    pub ends_reached : (next new : Option (List ℕ)) (buffer : List ℕ) (end : RunEnd) (store : Store) (after : FolderState) → GivesNext left next room buffer (End Reached) → AnswersRest on_error part state now new end (with_store store after) → IsRun on_error given next old new before after end
-    ends_reached next new buffer end store after at_end rest = ends_here next new Reached end store after (all_read next buffer at_end) rest.0 rest.1 rest.2
+    pub ends_reached : (next new : Option (List ℕ)) (buffer : List ℕ) (end : RunEnd) (tables : Stored) (after : FolderState) → GivesNext left next room buffer (End Reached) → AnswersRest on_error part state now new end (with_tables tables after) → IsRun on_error given next old new before after end
+    ends_reached next new buffer end tables after at_end rest = ends_here next new Reached end tables after (all_read next buffer at_end) rest.0 rest.1 rest.2
 
     broken : (next : Option (List ℕ)) (buffer : List ℕ) → GivesNext left next room buffer (End Fault) → IsRead given next s.read Fault
     broken next buffer (inl kept) = inl (Consumes-kept given left next s.read s.consumed kept)
     broken next buffer (inr over) = inr (omega (arith, s.counted, over.0), has_more given left next s.read over.1.0 s.consumed over.1.1)
 
-    pub ends_broken : (next : Option (List ℕ)) (buffer : List ℕ) (store : Store) (after : FolderState) → with_store store after ≡ state → GivesNext left next room buffer (End Fault) → IsRun on_error given next old now before after ends.ReadFault
-    ends_broken next buffer store after is gives =
-        ends_here next now Fault ends.ReadFault store after (broken next buffer gives) [] (dropped on_error part state (with_store store after) is) (appends_none now)
+    pub ends_broken : (next : Option (List ℕ)) (buffer : List ℕ) (tables : Stored) (after : FolderState) → with_tables tables after ≡ state → GivesNext left next room buffer (End Fault) → IsRun on_error given next old now before after ends.ReadFault
+    ends_broken next buffer tables after is gives =
+        ends_here next now Fault ends.ReadFault tables after (broken next buffer gives) [] (dropped on_error part state (with_tables tables after) is) (appends_none now)

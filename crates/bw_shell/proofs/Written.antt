@@ -6,7 +6,7 @@ use Rattle.bw_lex.specs.Parts.{AreParts, ArePartsFrom, cut, is_blank_run, last, 
 use Rattle.bw_lex.specs.declared.script.Part.{Part}
 use Rattle.bw_model.specs.ReplyText.{reply_text}
 use Rattle.bw_model.specs.declared.reply.Reply.{Reply}
-use Rattle.bw_model.specs.declared.reply.Reply.TheVariants.{Done, Count, Rows, Refused}
+use Rattle.bw_model.specs.declared.reply.Reply.TheVariants.{Done, Count, Units, Rows, Refused}
 use Rattle.bw_shell.specs.Replies.{LeavesOff, WroteReplies, and_then, none_left}
 use Rattle.bw_shell.specs.Run.{Either, IsOver, MayAnswer, Session, is_dropped, last_end, stops, text_of}
 use Rattle.bw_shell.specs.Script.{IsPrefixOf}
@@ -84,6 +84,7 @@ at_stop : (on_error : OnError) (read : ScriptEnd) (script : List ℕ) (state : S
 at_stop Continue read script state part parts reply after kept answers stop = absurd (true≢false (sym stop))
 at_stop Stop read script state part parts Done after kept answers stop = absurd (true≢false (sym stop))
 at_stop Stop read script state part parts (Count n) after kept answers stop = absurd (true≢false (sym stop))
+at_stop Stop read script state part parts (Units n) after kept answers stop = absurd (true≢false (sym stop))
 at_stop Stop read script state part parts (Rows answer) after kept answers stop = absurd (true≢false (sym stop))
 at_stop Stop read script state part parts (Refused refusal) after kept answers stop = record {
   answered = part ∷ [];

@@ -9,29 +9,31 @@ use Rattle.bw_model.specs.Refusals.{refused_early}
 use Rattle.bw_model.specs.Step.{outcome_of}
 use Rattle.bw_model.specs.Store.{Table, table_of}
 use Rattle.bw_model.specs.declared.content.Content.{Content}
-use Rattle.bw_model.specs.declared.content.Content.TheVariants.{Nothing}
 use Rattle.bw_model.specs.declared.refusal.Refusal.TheVariants.{OutOfMemory, UnreadableFile, UnwritableFile}
 use Rattle.bw_model.specs.declared.reply.Reply.{Reply}
 use Rattle.bw_model.specs.declared.reply.Reply.TheVariants.{Count, Refused}
-use Rattle.bw_shell.specs.States.{Failed, HasFile, KeepsFiles, KeepsOthers, Leaves, SetsFile, State}
+use Rattle.bw_engine.specs.Counting.{said_of}
+use Rattle.bw_engine.specs.StoredChanges.{LeavesStored}
+use Rattle.bw_shell.specs.States.{Failed, HasFile, KeepsFiles, KeepsOthers, Leaves, SetsFile, State, Stays, store_in}
 
 -- memory runs out: nothing changes
 pub record RunsOutOfMemory (before : State) (statement : StatementTree) (reply : Reply) (after : State) : Type 0 where
-  pub accepted : refused_early before.store statement ≡ None
+  pub accepted : refused_early (store_in before) statement ≡ None
   pub says : reply ≡ Refused OutOfMemory
-  pub stays : Leaves before before.store after
+  pub stays : Stays before after
 
--- the outcome, with what the file says
+-- the outcome, with what is said to the statement: the reply and the store are the model's, and the slots and encodings are as the statement leaves them
 pub record Outcome (before : State) (said : Content) (statement : StatementTree) (reply : Reply) (after : State) : Type 0 where
-  pub replies : reply ≡ (outcome_of before.store said statement).0
-  pub leaves : Leaves before (outcome_of before.store said statement).1 after
+  pub replies : reply ≡ (outcome_of (store_in before) said statement).0
+  pub leaves : Leaves before (outcome_of (store_in before) said statement).1 after
+  pub stored : LeavesStored before.tables statement reply after.tables
 
 -- the outcome, by the file that the folder has
 pub record ByFile (before : State) (statement : StatementTree) (name : List ℕ) (reply : Reply) (after : State) : Type 0 where
   pub file : Option (List ℕ)
   pub there : HasFile before.files name file
   pub said : Content
-  pub says : IsSaid before.store statement file said
+  pub says : IsSaid (store_in before) statement file said
   pub outcome : Outcome before said statement reply after
 
 -- the folder failed at reading
@@ -45,11 +47,11 @@ pub record IsSaved (before : State) (statement : StatementTree) (file : List ℕ
   pub name : List ℕ
   pub asks : statement ≡ save name file
   pub table : Table
-  pub there : table_of before.store name ≡ Some table
+  pub there : table_of (store_in before) name ≡ Some table
   pub bytes : List ℕ
   pub holds : HoldsBy Second bytes table
   pub says : reply ≡ Count (length table.rows)
-  pub store_stays : after.store ≡ before.store
+  pub tables_stay : after.tables ≡ before.tables
   pub file_set : SetsFile file bytes before.files after.files
   pub failures_stay : after.failures ≡ before.failures
 
@@ -60,10 +62,10 @@ pub record CannotWrite (before : State) (file : List ℕ) (reply : Reply) (after
   pub others_stay : KeepsOthers file before.files after.files
 
 abbrev pub AnswersBy : FileUse → State → StatementTree → Reply → State → Type 0
-AnswersBy no_file before statement reply after = Outcome before Nothing statement reply after
+AnswersBy no_file before statement reply after = Outcome before (said_of before.tables statement) statement reply after
 AnswersBy (reads file) before statement reply after = ByFile before statement file reply after ⊎ CannotRead before reply after
 AnswersBy (writes file) before statement reply after = IsSaved before statement file reply after ⊎ CannotWrite before file reply after
 
 -- a statement's answer: its outcome, or what it comes to where memory runs out or the folder fails
 abbrev pub Answers : State → StatementTree → Reply → State → Type 0
-Answers before statement reply after = RunsOutOfMemory before statement reply after ⊎ AnswersBy (file_use before.store statement) before statement reply after
+Answers before statement reply after = RunsOutOfMemory before statement reply after ⊎ AnswersBy (file_use (store_in before) statement) before statement reply after

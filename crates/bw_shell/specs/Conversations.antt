@@ -3,7 +3,7 @@ use Rattle.std.specs.Prelude.{◌≡◌, ◌≢◌, ◌⊎◌, ℕ, if◌then◌
 use Rattle.bw_lex.specs.Parts.{AreParts}
 use Rattle.bw_lex.specs.declared.script.Part.{Part}
 use Rattle.bw_split.specs.Splitting.{cuts}
-use Rattle.bw_model.specs.Store.{Store}
+use Rattle.bw_engine.specs.Stores.{Stored}
 use Rattle.bw_shell.specs.Folders.{Files}
 use Rattle.bw_shell.specs.Run.{HasRun}
 use Rattle.bw_shell.specs.States.{State}
@@ -15,19 +15,19 @@ use Rattle.bw_shell.specs.declared.running.RunEnd.TheVariants as ends
 -- how a conversation is seen
 pub record Held : Type 0 where
   pub on_error : OnError
-  pub store : Store
+  pub tables : Stored
   pub files : Files
   pub replies : List ℕ
 
-abbrev pub held : OnError → Store → Files → List ℕ → Held
-held on_error store files replies = record { on_error = on_error; store = store; files = files; replies = replies }
+abbrev pub held : OnError → Stored → Files → List ℕ → Held
+held on_error tables files replies = record { on_error = on_error; tables = tables; files = files; replies = replies }
 
 abbrev pub without_replies : Held → Held
-without_replies h = held h.on_error h.store h.files []
+without_replies h = held h.on_error h.tables h.files []
 
 -- its state: its files are known, and its folder never fails
 abbrev pub state_of : Held → State
-state_of h = record { store = h.store; files = Some h.files; failures = 0 }
+state_of h = record { tables = h.tables; files = Some h.files; failures = 0 }
 
 -- From this state a whole script was answered: its parts are a session that ends so in that state, and its bytes were put after the others.
 abbrev pub Responds : OnError → List ℕ → State → List ℕ → List ℕ → RunEnd → State → Type 0
@@ -37,7 +37,7 @@ Responds on_error script before old new end after =
 -- all but the files
 pub record KeepsRest (old new : Held) : Type 0 where
   pub on_error : new.on_error ≡ old.on_error
-  pub store : new.store ≡ old.store
+  pub tables : new.tables ≡ old.tables
   pub replies : new.replies ≡ old.replies
 
 -- One script and then another were answered: the first, whose run ended at one of its parts; or each of its parts, and then the other from the state

@@ -8,6 +8,7 @@ use Rattle.bw_model.specs.declared.refusal.Refusal.TheVariants.{OutOfMemory, Unr
 use Rattle.bw_model.specs.declared.reply.Reply.{Reply}
 use Rattle.bw_model.specs.declared.reply.Reply.TheVariants.{Refused}
 use Rattle.bw_engine.specs.Files.{Replies}
+use Rattle.bw_engine.specs.Stores.{Stored, store_of}
 use Rattle.bw_engine.specs.declared.file_answer.FileAnswer.TheVariants as file
 use Rattle.bw_shell.specs.Folders.{Reads, failures_after}
 use Rattle.bw_shell.specs.States.{FolderState}
@@ -27,8 +28,8 @@ IsReadFor (Some name) before after None = ⊥
 IsReadFor (Some name) before after (Some read) = IsRead name before after read
 
 -- the reply where the folder didn't give the file
-abbrev pub AnswersFault : FolderFault → Store → StatementTree → Reply → Store → Type 0
-AnswersFault Missing store statement reply after = Replies store statement file.Unreadable reply after
-AnswersFault TooLarge store statement reply after = Replies store statement file.TooLarge reply after
-AnswersFault Failed store statement reply after = (reply ≡ Refused UnreadableFile) × (after ≡ store)
-AnswersFault Memory store statement reply after = (reply ≡ Refused OutOfMemory) × (after ≡ store)
+abbrev pub AnswersFault : FolderFault → Stored → StatementTree → Reply → Store → Type 0
+AnswersFault Missing tables statement reply after = Replies tables statement file.Unreadable reply after
+AnswersFault TooLarge tables statement reply after = Replies tables statement file.TooLarge reply after
+AnswersFault Failed tables statement reply after = (reply ≡ Refused UnreadableFile) × (after ≡ store_of tables)
+AnswersFault Memory tables statement reply after = (reply ≡ Refused OutOfMemory) × (after ≡ store_of tables)

@@ -3,9 +3,9 @@ use Rattle.std.specs.Prelude.{◌≡◌, ℕ, List, [], ◌∷◌, ◌++◌, len
 use Rattle.bw_model.specs.Store.{Table}
 use Rattle.bw_model.specs.declared.reply.Reply.{Reply}
 use Rattle.bw_model.specs.declared.reply.Reply.TheVariants.{Count}
-use Rattle.bw_shell.specs.States.{Leaves, State}
+use Rattle.bw_shell.specs.States.{Leaves, State, store_in}
 
 -- the table was added under this name as the last one, and its rows were counted
 pub record Opens (before : State) (name : List ℕ) (table : Table) (reply : Reply) (after : State) : Type 0 where
   pub says : reply ≡ Count (length table.rows)
-  pub adds : Leaves before (before.store ++ (name, table) ∷ []) after
+  pub adds : Leaves before (store_in before ++ (name, table) ∷ []) after

@@ -1,4 +1,4 @@
--- A run of a script (SQL-92: direct invocation of SQL): its parts are answered in order over one store, and the replies are written.
+-- A run of a script (SQL-92: direct invocation of SQL): its parts are answered in order over the same tables, and the replies are written.
 use Rattle.std.specs.Prelude.{◌≡◌, ◌<◌, ◌≤◌, ◌⊎◌, ℕ, Bool, true, false, not, List, [], ◌∷◌, ◌++◌, length, map, slice_range, Option}
 use Rattle.std.specs.Io.KnownBytes.{Appends, Keeps}
 use Rattle.bw_lex.specs.Parts.{AreParts}
@@ -9,12 +9,12 @@ use Rattle.bw_sql.specs.Statements.{IsStatementFault, Says, longest_statement}
 use Rattle.bw_sql.specs.Tree.{StatementTree}
 use Rattle.bw_model.specs.Refusals.{refusal_of_fault}
 use Rattle.bw_model.specs.ReplyText.{reply_text}
-use Rattle.bw_model.specs.Store.{Store}
 use Rattle.bw_model.specs.declared.refusal.Refusal.TheVariants.{StatementTooLong, Syntax}
 use Rattle.bw_model.specs.declared.reply.Reply.{Reply}
 use Rattle.bw_model.specs.declared.reply.Reply.TheVariants.{Refused}
+use Rattle.bw_engine.specs.Stores.{Stored}
 use Rattle.bw_shell.specs.Answers.{Answers}
-use Rattle.bw_shell.specs.States.{FolderState, State, with_store}
+use Rattle.bw_shell.specs.States.{FolderState, State, with_tables}
 use Rattle.bw_shell.specs.Script.{IsPrefixOf, IsRead, longest_script}
 use Rattle.bw_shell.specs.declared.reading.ScriptEnd.{ScriptEnd}
 use Rattle.bw_shell.specs.declared.reading.ScriptEnd.TheVariants.{Reached, Fault}
@@ -89,8 +89,8 @@ pub record IsRun (on_error : OnError) (given left old new : Option (List ℕ)) (
   pub fits : length script ≤ longest_script
   pub parts : List Part
   pub are_parts : AreParts script parts
-  pub store : Store
-  pub has_run : HasRun on_error read script parts (with_store [] before) old new end (with_store store after)
+  pub tables : Stored
+  pub has_run : HasRun on_error read script parts (with_tables [] before) old new end (with_tables tables after)
 
 -- where there is no memory to begin with, nothing is read or written and no file is touched
 abbrev pub RunsTo : OnError → (given left old new : Option (List ℕ)) → (before after : FolderState) → RunEnd → Type 0

@@ -1,12 +1,18 @@
--- What a session holds between two statements: a store, the folder's files where they are known, and how often the folder failed.
+-- What a session holds between two statements: the tables as they are stored, the folder's files where they are known, and how often the
+-- folder failed.
 use Rattle.std.specs.Prelude.{◌≡◌, ◌+◌, ℕ, List, Option, Some, None, IsSomeAnd}
 use Rattle.bw_model.specs.Store.{Store}
+use Rattle.bw_engine.specs.Stores.{Stored, store_of}
 use Rattle.bw_shell.specs.Folders.{Files, IsSameBut, IsSet, file_of}
 
 pub record State : Type 0 where
-  pub store : Store
+  pub tables : Stored
   pub files : Option Files
   pub failures : ℕ
+
+-- the store as the model has it
+abbrev pub store_in : State → Store
+store_in state = store_of state.tables
 
 -- what a folder is seen as
 pub record FolderState : Type 0 where
@@ -16,8 +22,8 @@ pub record FolderState : Type 0 where
 abbrev pub seen : Option Files → ℕ → FolderState
 seen files failures = record { files = files; failures = failures }
 
-abbrev pub with_store : Store → FolderState → State
-with_store store folder = record { store = store; files = folder.files; failures = folder.failures }
+abbrev pub with_tables : Stored → FolderState → State
+with_tables tables folder = record { tables = tables; files = folder.files; failures = folder.failures }
 
 -- a folder that gives its files keeps them
 abbrev pub KeepsFiles : Option Files → Option Files → Type 0
@@ -45,11 +51,17 @@ file_in (Some files) name = file_of files name
 
 -- the store is this one, and all else stays
 pub record Leaves (before : State) (store : Store) (after : State) : Type 0 where
-  pub store_is : after.store ≡ store
+  pub store_is : store_in after ≡ store
   pub files_stay : KeepsFiles before.files after.files
   pub failures_stay : after.failures ≡ before.failures
 
--- the folder failed once more, and the store stays
+-- all stays, slots and encodings too
+pub record Stays (before after : State) : Type 0 where
+  pub tables_stay : after.tables ≡ before.tables
+  pub files_stay : KeepsFiles before.files after.files
+  pub failures_stay : after.failures ≡ before.failures
+
+-- the folder failed once more, and the tables stay
 pub record Failed (before after : State) : Type 0 where
-  pub store_stays : after.store ≡ before.store
+  pub tables_stay : after.tables ≡ before.tables
   pub one_more : after.failures ≡ before.failures + 1

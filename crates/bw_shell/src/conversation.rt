@@ -21,13 +21,12 @@ pub struct Conversation {
 
 impl Model for Conversation {
     ghost use Rattle.std.specs.Prelude.{[]};
-    ghost use Rattle.bw_engine.specs.Stores.{store_of};
     ghost use Rattle.bw_split.specs.Splitters.{Begun};
     ghost use Rattle.bw_shell.specs.Conversations.{Held, held};
 
     ghost Value = { Held };
 
-    ghost view = { λ c. held c.session.on_error (store_of c.session.engine) c.folder c.replies.items };
+    ghost view = { λ c. held c.session.on_error c.session.engine c.folder c.replies.items };
 
     ghost invariant = { λ c. Begun c.session.splitter [] };
 }

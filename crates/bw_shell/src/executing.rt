@@ -2,13 +2,14 @@
 
 ghost use Rattle.std.specs.Prelude.{◌≡◌, ◌≤◌, ◌<◌, ◌+◌, ◌^◌, IsSome, None};
 ghost use Rattle.bw_engine.specs.Files.{Replies};
+ghost use Rattle.bw_engine.specs.StoredChanges.{LeavesStored};
 ghost use Rattle.bw_engine.specs.Stores.{store_of};
 ghost use Rattle.bw_model.specs.FileUse.{file_read, file_use};
 ghost use Rattle.bw_sql.specs.Tree.{statement_of};
 ghost use Rattle.bw_shell.specs.Answers.{Answers};
 ghost use Rattle.bw_shell.specs.FileWriting.{WritesOut};
 ghost use Rattle.bw_shell.specs.FileReading.{AnswersFault, IsReadFor};
-ghost use Rattle.bw_shell.specs.States.{seen, with_store};
+ghost use Rattle.bw_shell.specs.States.{seen, with_tables};
 
 use crate::folders::{Folder, FolderFault};
 use bw_engine::{Engine, FILE_LIMIT, FileAnswer, Outcome, Refusal, Reply, Saving};
@@ -17,7 +18,7 @@ use bw_sql::Statement;
 /// Carries out a statement. The file that it wants is read first, and what it hands out is written.
 pub(crate) fn execute<F: Folder>(engine: &mut Engine, folder: &mut F, statement: Statement) -> Reply
     requires { F.failure_count folder.old < 2 ^ 63 }
-    ensures answers { Answers (with_store (store_of engine.old) (seen (F.files folder.old) (F.failure_count folder.old))) (statement_of statement) result (with_store (store_of engine.new) (seen (F.files folder.new) (F.failure_count folder.new))) }
+    ensures answers { Answers (with_tables engine.old (seen (F.files folder.old) (F.failure_count folder.old))) (statement_of statement) result (with_tables engine.new (seen (F.files folder.new) (F.failure_count folder.new))) }
     ensures failures { F.failure_count folder.new ≤ F.failure_count folder.old + 1 }
 {
     match read_wanted(engine, folder, &statement) {
@@ -44,7 +45,7 @@ fn read_wanted<F: Folder>(
 fn execute_alone<F: Folder>(engine: &mut Engine, folder: &mut F, statement: Statement) -> Reply
     requires few { F.failure_count folder.old < 2 ^ 63 }
     requires alone { file_read (file_use (store_of engine.old) (statement_of statement)) ≡ None }
-    ensures answers { Answers (with_store (store_of engine.old) (seen (F.files folder.old) (F.failure_count folder.old))) (statement_of statement) result (with_store (store_of engine.new) (seen (F.files folder.new) (F.failure_count folder.new))) }
+    ensures answers { Answers (with_tables engine.old (seen (F.files folder.old) (F.failure_count folder.old))) (statement_of statement) result (with_tables engine.new (seen (F.files folder.new) (F.failure_count folder.new))) }
     ensures failures { F.failure_count folder.new ≤ F.failure_count folder.old + 1 }
 {
     match engine.execute(statement, FileAnswer::NotAsked) {
@@ -56,7 +57,8 @@ fn execute_alone<F: Folder>(engine: &mut Engine, folder: &mut F, statement: Stat
 /// The reply to a statement whose file the folder didn't give.
 fn answer_fault(engine: &mut Engine, statement: Statement, fault: FolderFault) -> Reply
     requires { IsSome (file_read (file_use (store_of engine.old) (statement_of statement))) }
-    ensures { AnswersFault fault (store_of engine.old) (statement_of statement) result (store_of engine.new) }
+    ensures replies { AnswersFault fault engine.old (statement_of statement) result (store_of engine.new) }
+    ensures stored { LeavesStored engine.old (statement_of statement) result engine.new }
 {
     match fault {
         FolderFault::Missing => answer_of(engine, statement, FileAnswer::Unreadable),
@@ -69,7 +71,8 @@ fn answer_fault(engine: &mut Engine, statement: Statement, fault: FolderFault) -
 /// The reply to a statement that reads a file.
 fn answer_of(engine: &mut Engine, statement: Statement, file: FileAnswer<'_>) -> Reply
     requires { IsSome (file_read (file_use (store_of engine.old) (statement_of statement))) }
-    ensures { Replies (store_of engine.old) (statement_of statement) file.entry result (store_of engine.new) }
+    ensures replies { Replies engine.old (statement_of statement) file.entry result (store_of engine.new) }
+    ensures stored { LeavesStored engine.old (statement_of statement) result engine.new }
 {
     match engine.execute(statement, file) {
         Outcome::Reply(reply) => reply,

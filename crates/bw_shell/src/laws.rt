@@ -1,10 +1,12 @@
 //! Laws of the definitions.
 
-ghost use Rattle.std.specs.Prelude.{◌≡◌, ◌≢◌, ◌+◌, ◌++◌, ◌<◌, ◌⊎◌, ℕ, All, IsSome, List, None, Option, Some, [], length, map};
+ghost use Rattle.std.specs.Prelude.{◌≡◌, ◌≢◌, ◌+◌, ◌++◌, ◌<◌, ◌⊎◌, ℕ, All, Bool, IsSome, List, None, Option, Some, [], length, map};
 ghost use Rattle.std.specs.List.{flat_map};
 ghost use Rattle.bw_lex.specs.Parts.{AreParts};
 ghost use Rattle.bw_lex.specs.declared.script.Part.{Part as AnyPart};
-ghost use Rattle.bw_sql.specs.Tree.{ConditionTree, ItemsTree, StatementTree, open_table, save, select};
+ghost use Rattle.bw_engine.specs.Counting.{units_of};
+ghost use Rattle.bw_sql.specs.Statements.{Says};
+ghost use Rattle.bw_sql.specs.Tree.{ConditionTree, ItemsTree, SelectTree, StatementTree, open_table, save, select, stats};
 ghost use Rattle.bw_model.specs.FileUse.{reads, use_in};
 ghost use Rattle.bw_model.specs.ReplyText.{reply_text};
 ghost use Rattle.bw_model.specs.Step.{outcome_of};
@@ -13,15 +15,15 @@ ghost use Rattle.bw_model.specs.Told.{as_read};
 ghost use Rattle.bw_model.specs.declared.content.Content.{Content as AnyContent};
 ghost use Rattle.bw_model.specs.declared.refusal.Refusal.TheVariants.{UnreadableFile, UnwritableFile};
 ghost use Rattle.bw_model.specs.declared.reply.Reply.{Reply as AnyReply};
-ghost use Rattle.bw_model.specs.declared.reply.Reply.TheVariants.{Count, Refused};
+ghost use Rattle.bw_model.specs.declared.reply.Reply.TheVariants.{Count, Refused, Units};
 ghost use Rattle.bw_shell.specs.Answers.{Answers, CannotRead, RunsOutOfMemory};
 ghost use Rattle.bw_shell.specs.Conversations.{EndsAtCut, Responds, RespondsInTurn};
 ghost use Rattle.bw_shell.specs.Elsewhere.{IsNoSaveTo};
 ghost use Rattle.bw_shell.specs.Opening.{Opens};
 ghost use Rattle.bw_shell.specs.Output.{IsOutput};
 ghost use Rattle.bw_shell.specs.Replies.{Answered, WroteReplies};
-ghost use Rattle.bw_shell.specs.Run.{Session};
-ghost use Rattle.bw_shell.specs.States.{State, file_in};
+ghost use Rattle.bw_shell.specs.Run.{MayAnswer, Session};
+ghost use Rattle.bw_shell.specs.States.{State, file_in, store_in};
 ghost use Rattle.bw_shell.specs.declared.reading.ScriptEnd.{ScriptEnd as HowRead};
 ghost use Rattle.bw_shell.specs.declared.reading.ScriptEnd.TheVariants.{Fault};
 ghost use Rattle.bw_shell.specs.declared.running.OnError.{OnError as WhatThen};
@@ -40,7 +42,7 @@ pub fn replies_are_written()
 /// the same replies, but that the headings `COLUMNS` and `ROWS` of a list of tables read like columns of
 /// these names.
 pub fn output_determines_replies()
-    ensures { (script other : List ℕ) (parts others : List AnyPart) (a b : List AnyReply) (first second after last : State) → first.store ≡ [] → second.store ≡ [] → Answered script first parts a after → Answered other second others b last → flat_map reply_text a ≡ flat_map reply_text b → map as_read a ≡ map as_read b }
+    ensures { (script other : List ℕ) (parts others : List AnyPart) (a b : List AnyReply) (first second after last : State) → first.tables ≡ [] → second.tables ≡ [] → Answered script first parts a after → Answered other second others b last → flat_map reply_text a ≡ flat_map reply_text b → map as_read a ≡ map as_read b }
 {}
 
 /// A script has one output over the same files: two runs in which neither the writer nor the folder failed, and that never
@@ -55,8 +57,8 @@ pub fn one_output()
 /// out, and nothing changes; or the folder failed at reading.
 pub fn saved_tables_open()
     ensures { (before after later last : State) (name file other : List ℕ) (n : ℕ) (reply : AnyReply) → IsSome before.files → Answers before (save name file) (Count n) after
-        → file_in later.files file ≡ file_in after.files file → table_of later.store other ≡ None → length later.store < table_limit → Answers later (open_table other file) reply last
-        → (table : Table) × (table_of before.store name ≡ Some table) × (n ≡ length table.rows) × (Opens later other table reply last ⊎ RunsOutOfMemory later (open_table other file) reply last ⊎ CannotRead later reply last) }
+        → file_in later.files file ≡ file_in after.files file → table_of (store_in later) other ≡ None → length later.tables < table_limit → Answers later (open_table other file) reply last
+        → (table : Table) × (table_of (store_in before) name ≡ Some table) × (n ≡ length table.rows) × (Opens later other table reply last ⊎ RunsOutOfMemory later (open_table other file) reply last ⊎ CannotRead later reply last) }
 {}
 
 /// A statement leaves every file but the one that it saves a table to, where the folder gives its files.
@@ -73,8 +75,8 @@ pub fn other_files_stay()
 pub fn saved_tables_open_later()
     ensures { (script : List ℕ) (before after later last : State) (parts : List AnyPart) (replies : List AnyReply) (name file other : List ℕ) (n : ℕ) (reply : AnyReply)
         → IsSome before.files → Answers before (save name file) (Count n) after → Answered script after parts replies later → All (IsNoSaveTo file script) parts
-        → table_of later.store other ≡ None → length later.store < table_limit → Answers later (open_table other file) reply last
-        → (table : Table) × (table_of before.store name ≡ Some table) × (n ≡ length table.rows) × (Opens later other table reply last ⊎ RunsOutOfMemory later (open_table other file) reply last ⊎ CannotRead later reply last) }
+        → table_of (store_in later) other ≡ None → length later.tables < table_limit → Answers later (open_table other file) reply last
+        → (table : Table) × (table_of (store_in before) name ≡ Some table) × (n ≡ length table.rows) × (Opens later other table reply last ⊎ RunsOutOfMemory later (open_table other file) reply last ⊎ CannotRead later reply last) }
 {}
 
 /// A statement is answered with error 41, and a statement that reads a file which is there with error 40, only where the
@@ -88,9 +90,9 @@ pub fn file_errors_are_failures()
 /// No layout and no kind of encoding shows in a SELECT: over two tables whose columns have the same names in the same order, and whose
 /// rows are the same, it has the same reply, be it an answer or a refusal.
 pub fn layouts_never_show()
-    ensures { (store other : Store) (said also : AnyContent) (table twin : Table) (name alias : List ℕ) (items : ItemsTree) (condition : Option ConditionTree)
+    ensures { (store other : Store) (said also : AnyContent) (table twin : Table) (name alias : List ℕ) (query : SelectTree)
         → table_of store name ≡ Some table → table_of other alias ≡ Some twin → names table.headers ≡ names twin.headers → table.rows ≡ twin.rows
-        → (outcome_of store said (select items name condition)).0 ≡ (outcome_of other also (select items alias condition)).0 }
+        → (outcome_of store said (select (record { items = query.items; table = name; condition = query.condition; grouping = query.grouping }))).0 ≡ (outcome_of other also (select (record { items = query.items; table = alias; condition = query.condition; grouping = query.grouping }))).0 }
 {}
 
 /// A run that ended at an error or because its writer failed, and of whose script the reader gave no more than this, is a run of every
@@ -107,4 +109,13 @@ pub fn early_ends_stay()
 pub fn scripts_join()
     ensures joined { (on_error : WhatThen) (script other : List ℕ) (state : State) (old new : List ℕ) (end : HowEnded) (last : State) → EndsAtCut script → RespondsInTurn on_error script other state old new end last → Responds on_error (script ++ other) state old new end last }
     ensures split { (on_error : WhatThen) (script other : List ℕ) (state : State) (old new : List ℕ) (end : HowEnded) (last : State) → EndsAtCut script → Responds on_error (script ++ other) state old new end last → RespondsInTurn on_error script other state old new end last }
+{}
+
+/// The number that a STATS prints is that of the units which the condition reads at the live slots of its table, as they stand
+/// and are encoded then, up to the greatest number that 64 bits hold; and it changes nothing, slots and encodings included. In every run a
+/// part of the script that is answered by such a number says a STATS, and the number is that of the tables before it.
+pub fn stats_count_units()
+    ensures counted { (before after : State) (query : SelectTree) (n : ℕ) → Answers before (stats query) (Units n) after → (n ≡ units_of before.tables query) × (after.tables ≡ before.tables) }
+    ensures each { (before after : State) (closed : Bool) (text : List ℕ) (n : ℕ) → MayAnswer before closed text (Units n) after
+        → (query : SelectTree) × Says text (stats query) × (n ≡ units_of before.tables query) × (after.tables ≡ before.tables) }
 {}

@@ -20,7 +20,7 @@ pub use host_folder::HostFolder;
 pub use laws::{
     early_ends_stay, file_errors_are_failures, layouts_never_show, one_output, other_files_stay,
     output_determines_replies, replies_are_written, saved_tables_open, saved_tables_open_later,
-    scripts_join,
+    scripts_join, stats_count_units,
 };
 pub use reading::ScriptEnd;
 pub use reply_text::write_reply;

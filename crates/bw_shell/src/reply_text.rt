@@ -17,6 +17,7 @@ pub fn write_reply<W: Write>(writer: &mut W, reply: &Reply) -> Result<(), WriteF
     match reply {
         Reply::Done => put(writer, b"ok\n"),
         Reply::Count(n) => put_count(writer, b"ok ", *n),
+        Reply::Units(n) => put_count(writer, b"units ", *n),
         Reply::Rows(answer) => put_answer(writer, answer),
         Reply::Refused(refusal) => {
             put_refusal(writer, *refusal)?;

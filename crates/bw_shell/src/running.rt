@@ -1,7 +1,6 @@
 //! A script run from its bytes to the bytes of its replies.
 
 ghost use Rattle.std.specs.Prelude.{◌≡◌, ◌≤◌, ◌<◌, ◌^◌, [], IfOk, length};
-ghost use Rattle.bw_engine.specs.Stores.{store_of};
 ghost use Rattle.bw_shell.specs.Run.{IsRun, RunsTo};
 ghost use Rattle.bw_shell.specs.States.{seen};
 ghost use Rattle.bw_split.specs.Splitters.{Begun};
@@ -76,7 +75,7 @@ fn answer_script<R: Read, W: Write, F: Folder>(
     folder: &mut F,
 ) -> RunEnd
     requires begun { Begun session.old.splitter [] }
-    requires fresh { store_of session.old.engine ≡ [] }
+    requires fresh { session.old.engine ≡ [] }
     requires room { 0 < length buffer.old }
     requires failures { F.failure_count folder.old ≤ 2 ^ 62 }
     ensures { IsRun session.old.on_error (R.remaining reader.old) (R.remaining reader.new) (W.contents writer.old) (W.contents writer.new) (seen (F.files folder.old) (F.failure_count folder.old)) (seen (F.files folder.new) (F.failure_count folder.new)) result }

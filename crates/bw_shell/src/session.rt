@@ -2,11 +2,10 @@
 
 ghost use Rattle.std.specs.Prelude.{◌≡◌, ◌≤◌, ◌<◌, ◌+◌, ◌^◌, IfOk, IfSome, List, MatchResult, [], length, ℕ};
 ghost use Rattle.bw_lex.specs.declared.fault.SqlFault.TheVariants.{TooLong};
-ghost use Rattle.bw_engine.specs.Stores.{store_of};
 ghost use Rattle.bw_model.specs.ReplyText.{reply_text};
 ghost use Rattle.bw_shell.specs.Sessions.{AnswersPart, AnswersPiece, AnswersRest};
 ghost use Rattle.bw_shell.specs.Run.{MayAnswer, stops};
-ghost use Rattle.bw_shell.specs.States.{seen, with_store};
+ghost use Rattle.bw_shell.specs.States.{seen, with_tables};
 ghost use Rattle.bw_shell.specs.Writing.{Wrote};
 ghost use Rattle.bw_split.specs.Prefixes.{longest_part};
 ghost use Rattle.bw_split.specs.Splitters.{Begun, Stands};
@@ -36,7 +35,7 @@ impl Session {
     /// A store without tables, before the first byte of a script.
     pub(crate) fn new(alloc: Global, on_error: OnError) -> Result<Session, AllocError>
         ensures begun { IfOk result (λ a. Begun a.splitter []) }
-        ensures store { IfOk result (λ a. store_of a.engine ≡ []) }
+        ensures store { IfOk result (λ a. a.engine ≡ []) }
         ensures on_error { IfOk result (λ a. a.on_error ≡ on_error) }
     {
         let splitter = Splitter::new(alloc)?;
@@ -59,8 +58,8 @@ impl Session {
         requires begun { self.old.splitter.stage ≡ stage.Begun }
         requires failures { F.failure_count folder.old + length piece.now < 2 ^ 63 }
         ensures answers { (part : List ℕ) → Begun self.old.splitter part
-            → AnswersPiece self.old.on_error part piece.now (with_store (store_of self.old.engine) (seen (F.files folder.old) (F.failure_count folder.old))) (W.contents writer.old) (W.contents writer.new) result self.new.splitter
-            (with_store (store_of self.new.engine) (seen (F.files folder.new) (F.failure_count folder.new))) }
+            → AnswersPiece self.old.on_error part piece.now (with_tables self.old.engine (seen (F.files folder.old) (F.failure_count folder.old))) (W.contents writer.old) (W.contents writer.new) result self.new.splitter
+            (with_tables self.new.engine (seen (F.files folder.new) (F.failure_count folder.new))) }
         ensures failures { F.failure_count folder.new ≤ F.failure_count folder.old + length piece.now }
         ensures on_error { self.new.on_error ≡ self.old.on_error }
         ensures begun { IfSome result (λ _. Begun self.new.splitter []) }
@@ -84,8 +83,8 @@ impl Session {
         requires begun { self.old.splitter.stage ≡ stage.Begun }
         requires failures { F.failure_count folder.old < 2 ^ 63 }
         ensures answers { (part : List ℕ) → Begun self.old.splitter part
-            → AnswersRest self.old.on_error part (with_store (store_of self.old.engine) (seen (F.files folder.old) (F.failure_count folder.old))) (W.contents writer.old) (W.contents writer.new) result
-            (with_store (store_of self.new.engine) (seen (F.files folder.new) (F.failure_count folder.new))) }
+            → AnswersRest self.old.on_error part (with_tables self.old.engine (seen (F.files folder.old) (F.failure_count folder.old))) (W.contents writer.old) (W.contents writer.new) result
+            (with_tables self.new.engine (seen (F.files folder.new) (F.failure_count folder.new))) }
         ensures begun { Begun self.new.splitter [] }
         ensures on_error { self.new.on_error ≡ self.old.on_error }
     {
@@ -109,8 +108,8 @@ impl Session {
         requires stands { self.old.splitter.stage ≡ stage.Standing }
         requires failures { F.failure_count folder.old < 2 ^ 63 }
         ensures answers { (part : List ℕ) → Stands self.old.splitter part
-            → AnswersPart self.old.on_error is_closed part (with_store (store_of self.old.engine) (seen (F.files folder.old) (F.failure_count folder.old))) (W.contents writer.old) (W.contents writer.new) result
-            (with_store (store_of self.new.engine) (seen (F.files folder.new) (F.failure_count folder.new))) }
+            → AnswersPart self.old.on_error is_closed part (with_tables self.old.engine (seen (F.files folder.old) (F.failure_count folder.old))) (W.contents writer.old) (W.contents writer.new) result
+            (with_tables self.new.engine (seen (F.files folder.new) (F.failure_count folder.new))) }
         ensures begun { Begun self.new.splitter [] }
         ensures failures { F.failure_count folder.new ≤ F.failure_count folder.old + 1 }
         ensures on_error { self.new.on_error ≡ self.old.on_error }
@@ -148,7 +147,7 @@ fn reply_to<F: Folder>(
 ) -> Reply
     requires { F.failure_count folder.old < 2 ^ 63 }
     ensures answers { (part : List ℕ) → MatchResult text.entry (λ text. (length part ≤ longest_part) × (text.now ≡ part)) (λ fault. (longest_part < length part) × (fault ≡ TooLong))
-        → MayAnswer (with_store (store_of engine.old) (seen (F.files folder.old) (F.failure_count folder.old))) is_closed part result (with_store (store_of engine.new) (seen (F.files folder.new) (F.failure_count folder.new))) }
+        → MayAnswer (with_tables engine.old (seen (F.files folder.old) (F.failure_count folder.old))) is_closed part result (with_tables engine.new (seen (F.files folder.new) (F.failure_count folder.new))) }
     ensures failures { F.failure_count folder.new ≤ F.failure_count folder.old + 1 }
 {
     let Ok(text) = text else {

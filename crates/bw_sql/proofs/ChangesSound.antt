@@ -4,7 +4,7 @@ use Rattle.bw_lex.specs.declared.token.CompareOp.TheVariants.{Eq}
 use Rattle.bw_lex.specs.declared.token.Symbol.TheVariants as s
 use Rattle.bw_sql.specs.declared.keyword.Keyword.TheVariants as k
 use Rattle.bw_sql.specs.declared.terminal.StatementWord.{StatementWord}
-use Rattle.bw_sql.specs.declared.terminal.StatementWord.TheVariants.{Load, Rebuild, Save, Tables}
+use Rattle.bw_sql.specs.declared.terminal.StatementWord.TheVariants.{Load, Rebuild, Save, Stats, Tables}
 use Rattle.bw_sql.specs.declared.terminal.Terminal.{Terminal}
 use Rattle.bw_sql.specs.declared.terminal.Terminal.TheVariants as t
 use Rattle.bw_sql.specs.declared.tree.KindWord.{KindWord}
@@ -12,13 +12,14 @@ use Rattle.bw_sql.specs.declared.tree.LayoutChoice.{LayoutChoice}
 use Rattle.bw_sql.specs.declared.tree.LayoutWord.{LayoutWord}
 use Rattle.bw_sql.specs.declared.tree.Operand.{Operand}
 use Rattle.bw_sql.specs.declared.tree.SetClause.{SetClause}
-use Rattle.bw_sql.specs.Tree.{ConditionTree, StatementTree, delete, drop_table, list_tables, rebuild, update}
-use Rattle.bw_sql.specs.Grammar.{ChoicePart, ConditionPart, KindPart, ListOf, OperandPart, SetPart, Spells, choice, deletes, deletes_where, drops, lists_tables, rebuilds, rebuilds_columns, set, updates, updates_where}
-use Rattle.bw_sql.specs.Reading.{after_close, after_equals, after_from, after_set, after_table, after_using, after_word, choice_at, choice_list_at, choices_at, condition_at, delete_at, drop_at, filter_at, kind_at, layout_at, name_at, operand_at, rebuild_at, set_at, set_to, sets_at, statement_word_at, update_at, worded_at}
+use Rattle.bw_sql.specs.Tree.{ConditionTree, StatementTree, delete, drop_table, list_tables, rebuild, stats, update}
+use Rattle.bw_sql.specs.Grammar.{ChoicePart, ConditionPart, KindPart, ListOf, OperandPart, SetPart, Spells, choice, asks_stats, deletes, deletes_where, drops, lists_tables, rebuilds, rebuilds_columns, set, updates, updates_where}
+use Rattle.bw_sql.specs.Reading.{after_close, after_equals, after_from, after_set, after_table, after_using, after_word, choice_at, choice_list_at, choices_at, condition_at, delete_at, drop_at, filter_at, kind_at, layout_at, name_at, operand_at, rebuild_at, select_at, set_at, set_to, sets_at, statement_word_at, stats_at, update_at, worded_at}
 use Rattle.bw_sql.specs.Words.{layout_of, layout_spelling, statement_spelling}
 use Rattle.bw_sql.proofs.Begun.{IsStatement, spelled}
 use Rattle.bw_sql.proofs.ConditionsSound.{condition_sound, operand_sound}
 use Rattle.bw_sql.proofs.FilesSound.{load_sound, save_sound}
+use Rattle.bw_sql.proofs.SelectSound.{select_sound}
 use Rattle.bw_sql.proofs.ListsSound.{IsSound, after_from-is, after_table-is, answers_once, bound, closes, kind_sound, mapped, moved, name_is, name_sound, parts_sound, rested, statement_word_is}
 use Rattle.bw_sql.proofs.WordLemmas.{layout_of-is}
 
@@ -146,6 +147,14 @@ rebuild_sound n ts tree rest h nothing =
     let e = answers_once (rebuild a.0.0 b.0.0) tree b.0.1 rest b.2 in
     spelled (t.Name (codes "REBUILD")) ts _ (rebuild a.0.0 b.0.0) tree (name_is ts a.0.0 a.0.1 (name_sound ts a.0.0 a.0.1 a.1)) e.0 (choice_list_sound n a.0.1 b.0.1 a.0.0 b.0.0 b.1 (e.1 ∙ nothing))
 
+-- STATS
+
+stats_sound : (n : ℕ) (ts : List Terminal) → (tree : StatementTree) (rest : List Terminal) → stats_at n ts ≡ Some (tree, rest) → IsStatement (t.Name (codes "STATS") ∷ ts) tree rest
+unfolding stats_at
+stats_sound n (t.Keyword k.Select ∷ ts) tree rest h nothing =
+    mapped stats (λ us tree rest. IsStatement (t.Name (codes "STATS") ∷ t.Keyword k.Select ∷ us) tree rest) ts (select_at n ts) tree rest h (λ asked reads nothing. asks_stats (select_sound n ts asked rest reads nothing)) nothing
+stats_sound n ts tree rest h nothing = cc
+
 -- a statement after the name that begins it
 after_word_sound : (n : ℕ) (word : StatementWord) (ts : List Terminal) (tree : StatementTree) (rest : List Terminal) → after_word n word ts ≡ Some (tree, rest) → IsStatement (t.Name (statement_spelling word) ∷ ts) tree rest
 after_word_sound n Tables ts tree rest h nothing =
@@ -154,6 +163,7 @@ after_word_sound n Tables ts tree rest h nothing =
 after_word_sound n Rebuild ts tree rest h nothing = rebuild_sound n ts tree rest h nothing
 after_word_sound n Load ts tree rest h nothing = load_sound ts tree rest h nothing
 after_word_sound n Save ts tree rest h nothing = save_sound ts tree rest h nothing
+after_word_sound n Stats ts tree rest h nothing = stats_sound n ts tree rest h nothing
 
 pub worded_sound : (n : ℕ) (ts : List Terminal) (tree : StatementTree) (rest : List Terminal) → worded_at n ts ≡ Some (tree, rest) → IsStatement ts tree rest
 unfolding worded_at

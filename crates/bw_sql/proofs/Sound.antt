@@ -4,15 +4,14 @@ use Rattle.bw_lex.specs.declared.token.Symbol.TheVariants as s
 use Rattle.bw_sql.specs.declared.keyword.Keyword.TheVariants as k
 use Rattle.bw_sql.specs.declared.terminal.Terminal.{Terminal}
 use Rattle.bw_sql.specs.declared.terminal.Terminal.TheVariants as t
-use Rattle.bw_sql.specs.Tree.{ConditionTree, ItemsTree, StatementTree, create_table, insert, select}
-use Rattle.bw_sql.specs.Grammar.{ListOf, NamePart, RowPart, ColumnPart, ItemsPart, ConditionPart, Spells, creates, inserts, inserts_into, selects, selects_where}
-use Rattle.bw_sql.specs.Reading.{after_close, after_from, after_into, after_open, after_table, after_values, column_list_at, columns_at, condition_at, create_at, ended, filter_at, insert_at, items_at, name_at, names_at, rows_at, select_at, statement_at, whole_at}
+use Rattle.bw_sql.specs.Tree.{StatementTree, create_table, insert, select}
+use Rattle.bw_sql.specs.Grammar.{ListOf, NamePart, RowPart, ColumnPart, Spells, creates, inserts, inserts_into, selects}
+use Rattle.bw_sql.specs.Reading.{after_close, after_into, after_open, after_table, after_values, column_list_at, columns_at, create_at, ended, insert_at, name_at, names_at, rows_at, select_at, statement_at, whole_at}
 use Rattle.bw_sql.proofs.Begun.{IsStatement, spelled}
 use Rattle.bw_sql.proofs.ChangesSound.{delete_sound, drop_sound, update_sound, worded_sound}
-use Rattle.bw_sql.proofs.ConditionsSound.{condition_sound}
 use Rattle.bw_sql.proofs.FilesSound.{open_sound}
-use Rattle.bw_sql.proofs.ItemsSound.{items_sound}
-use Rattle.bw_sql.proofs.ListsSound.{after_from-is, closes, after_into-is, after_open-is, after_table-is, after_values-is, answers_once, bound, columns_sound, mapped, name_is, name_sound, names_sound, rows_sound}
+use Rattle.bw_sql.proofs.SelectSound.{select_sound}
+use Rattle.bw_sql.proofs.ListsSound.{closes, after_into-is, after_open-is, after_table-is, after_values-is, answers_once, bound, columns_sound, mapped, name_is, name_sound, names_sound, rows_sound}
 
 create_sound : (n : ℕ) (ts : List Terminal) → (tree : StatementTree) (rest : List Terminal) → create_at n ts ≡ Some (tree, rest) → IsStatement (t.Keyword k.Create ∷ ts) tree rest
 unfolding create_at
@@ -50,25 +49,6 @@ insert_sound n ts tree rest h nothing =
     spelled (t.Keyword k.Insert) ts _ (insert b.0.0 c.0.0 e.0.0) tree front f.0
     (list_part_sound n b.0.1 c.0.0 c.0.1 d.0 b.0.0 e.0.0 c.1 (after_values-is c.0.1 d.0 d.1) (subst (ListOf RowPart d.0 e.0.0) (f.1 ∙ nothing) (rows_sound n d.0 e.0.0 e.0.1 e.1)))
 
-filter_sound : (n : ℕ) (ts us vs : List Terminal) (items : ItemsTree) (table : List ℕ) (filter : Option ConditionTree) → ItemsPart ts items (t.Keyword k.From ∷ t.Name table ∷ us) → filter_at n us ≡ Some (filter, vs) → vs ≡ [] → Spells (t.Keyword k.Select ∷ ts) (select items table filter)
-unfolding filter_at
-filter_sound n ts (t.Keyword k.Where ∷ us) vs items table filter shown h nothing =
-    mapped Some (λ _ f rest. rest ≡ [] → Spells (t.Keyword k.Select ∷ ts) (select items table f)) us (condition_at n us) filter vs h (λ c reads ended. selects_where shown (subst (ConditionPart us c) ended (condition_sound n us c vs reads))) nothing
-filter_sound n ts us vs items table filter shown h nothing =
-    let e = answers_once None filter us vs h in
-    rw (← e.0) (selects (subst (λ l. ItemsPart ts items (t.Keyword k.From ∷ t.Name table ∷ l)) (e.1 ∙ nothing) shown))
-
-select_sound : (n : ℕ) (ts : List Terminal) → (tree : StatementTree) (rest : List Terminal) → select_at n ts ≡ Some (tree, rest) → IsStatement (t.Keyword k.Select ∷ ts) tree rest
-unfolding select_at
-select_sound n ts tree rest h nothing =
-    let a = bound (items_at n ts) _ (tree, rest) h in
-    let b = bound (after_from a.0.1) _ (tree, rest) a.2 in
-    let c = bound (name_at b.0) _ (tree, rest) b.2 in
-    let d = bound (filter_at n c.0.1) _ (tree, rest) c.2 in
-    let e = answers_once (select a.0.0 c.0.0 d.0.0) tree d.0.1 rest d.2 in
-    spelled (t.Keyword k.Select) ts ts (select a.0.0 c.0.0 d.0.0) tree refl e.0
-    (filter_sound n ts c.0.1 d.0.1 a.0.0 c.0.0 d.0.0 (subst (ItemsPart ts a.0.0) (after_from-is a.0.1 b.0 b.1 ∙ ap (λ l. t.Keyword k.From ∷ l) (name_is b.0 c.0.0 c.0.1 (name_sound b.0 c.0.0 c.0.1 c.1))) (items_sound n ts a.0.0 a.0.1 a.1)) d.1 (e.1 ∙ nothing))
-
 statement_sound : (n : ℕ) (ts : List Terminal) (tree : StatementTree) (rest : List Terminal) → statement_at n ts ≡ Some (tree, rest) → IsStatement ts tree rest
 unfolding statement_at
 statement_sound n (t.Keyword k.Create ∷ ts) tree rest h = create_sound n ts tree rest h
@@ -76,7 +56,7 @@ statement_sound n (t.Keyword k.Drop ∷ ts) tree rest h = drop_sound ts tree res
 statement_sound n (t.Keyword k.Insert ∷ ts) tree rest h = insert_sound n ts tree rest h
 statement_sound n (t.Keyword k.Update ∷ ts) tree rest h = update_sound n ts tree rest h
 statement_sound n (t.Keyword k.Delete ∷ ts) tree rest h = delete_sound n ts tree rest h
-statement_sound n (t.Keyword k.Select ∷ ts) tree rest h = select_sound n ts tree rest h
+statement_sound n (t.Keyword k.Select ∷ ts) tree rest h = mapped select (λ us tree rest. IsStatement (t.Keyword k.Select ∷ us) tree rest) ts (select_at n ts) tree rest h (λ asked reads nothing. selects (select_sound n ts asked rest reads nothing))
 statement_sound n (t.Keyword k.Open ∷ ts) tree rest h = open_sound ts tree rest h
 statement_sound n ts tree rest h = worded_sound n ts tree rest h
 

@@ -5,7 +5,7 @@ use Rattle.std.specs.Char.{to_ascii_uppercase}
 use Rattle.std.specs.List.{All}
 use Rattle.std.proofs.lemmas.List.Elements.{All-cons, All-nil}
 use Rattle.std.proofs.Math.Seq.{drop-append_seam, take-append_seam}
-use Rattle.bw_sql.specs.Grammar.{ColumnPart, KindPart, ListOf, Spells, TypePart, UsingPart, bigint, column, creates, deletes, deletes_where, drops, inserts, inserts_into, int, integer, kind, last, lists_tables, loads, loads_with_header, next, no_kind, no_layout, opens, rebuilds, rebuilds_columns, saves, selects, selects_where, updates, updates_where, using_layout}
+use Rattle.bw_sql.specs.Grammar.{ColumnPart, KindPart, ListOf, Spells, TypePart, UsingPart, bigint, column, creates, deletes, deletes_where, drops, inserts, inserts_into, int, integer, kind, last, lists_tables, loads, loads_with_header, next, no_kind, no_layout, opens, rebuilds, rebuilds_columns, saves, selects, asks_stats, updates, updates_where, using_layout}
 use Rattle.bw_sql.specs.Files.{IsFileName}
 use Rattle.bw_sql.specs.Named.{files_named}
 use Rattle.bw_sql.specs.Names.{IsName, keyword_of}
@@ -101,8 +101,8 @@ spelled_names terminals statement deletes seen = All-nil IsName
 spelled_names terminals statement (deletes_where condition) seen = All-nil IsName
 spelled_names terminals statement rebuilds seen = All-nil IsName
 spelled_names terminals statement (rebuilds_columns choices) seen = All-nil IsName
-spelled_names terminals statement (selects items) seen = All-nil IsName
-spelled_names terminals statement (selects_where items condition) seen = All-nil IsName
+spelled_names terminals statement (selects asked) seen = All-nil IsName
+spelled_names terminals statement (asks_stats asked) seen = All-nil IsName
 spelled_names terminals statement loads seen = All-nil IsName
 spelled_names terminals statement loads_with_header seen = All-nil IsName
 spelled_names terminals statement saves seen = All-nil IsName
@@ -123,8 +123,8 @@ spelled_files terminals statement deletes seen = All-nil IsFileName
 spelled_files terminals statement (deletes_where condition) seen = All-nil IsFileName
 spelled_files terminals statement rebuilds seen = All-nil IsFileName
 spelled_files terminals statement (rebuilds_columns choices) seen = All-nil IsFileName
-spelled_files terminals statement (selects items) seen = All-nil IsFileName
-spelled_files terminals statement (selects_where items condition) seen = All-nil IsFileName
+spelled_files terminals statement (selects asked) seen = All-nil IsFileName
+spelled_files terminals statement (asks_stats asked) seen = All-nil IsFileName
 spelled_files terminals statement (loads {table} {file}) seen = one_file file seen.1.1.1.0
 spelled_files terminals statement (loads_with_header {table} {file}) seen = one_file file seen.1.1.1.0
 spelled_files terminals statement (saves {table} {file}) seen = one_file file seen.1.1.1.0

@@ -3,7 +3,7 @@ use Rattle.std.proofs.Common.{◌≡◌, ℕ, Bool, true, false, cond, List, cod
 use Rattle.std.specs.Str.{bytes_eq}
 use Rattle.std.specs.Cmp.Lexicographic.{bytes_decides}
 use Rattle.bw_sql.specs.declared.terminal.StatementWord.{StatementWord}
-use Rattle.bw_sql.specs.declared.terminal.StatementWord.TheVariants.{Load, Rebuild, Save, Tables}
+use Rattle.bw_sql.specs.declared.terminal.StatementWord.TheVariants.{Load, Rebuild, Save, Stats, Tables}
 use Rattle.bw_sql.specs.declared.tree.LayoutWord.{LayoutWord}
 use Rattle.bw_sql.specs.declared.tree.LayoutWord.TheVariants.{P, V, H, S}
 use Rattle.bw_sql.specs.declared.tree.KindWord.{KindWord}
@@ -43,7 +43,8 @@ statement_word_of-is word w h =
     chosen_word statement_spelling word w (bytes_eq word (codes "TABLES")) Tables _ (is word (codes "TABLES"))
     (chosen_word statement_spelling word w (bytes_eq word (codes "REBUILD")) Rebuild _ (is word (codes "REBUILD"))
     (chosen_word statement_spelling word w (bytes_eq word (codes "LOAD")) Load _ (is word (codes "LOAD"))
-    (chosen_word statement_spelling word w (bytes_eq word (codes "SAVE")) Save None (is word (codes "SAVE")) (λ e. cc))))
+    (chosen_word statement_spelling word w (bytes_eq word (codes "SAVE")) Save _ (is word (codes "SAVE"))
+    (chosen_word statement_spelling word w (bytes_eq word (codes "STATS")) Stats None (is word (codes "STATS")) (λ e. cc)))))
     h
 
 -- where nothing else can be chosen
@@ -75,6 +76,7 @@ statement_word_of-spelling Tables = refl
 statement_word_of-spelling Rebuild = refl
 statement_word_of-spelling Load = refl
 statement_word_of-spelling Save = refl
+statement_word_of-spelling Stats = refl
 
 pub first_record_of-header : first_record_of (codes "HEADER") ≡ Some Header
 unfolding first_record_of

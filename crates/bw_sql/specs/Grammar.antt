@@ -24,7 +24,7 @@ use Rattle.bw_sql.specs.declared.tree.SelectItem.TheVariants as items
 use Rattle.bw_sql.specs.declared.tree.SetFunction.{SetFunction}
 use Rattle.bw_sql.specs.declared.tree.FirstRecord.TheVariants.{Header, Row}
 use Rattle.bw_sql.specs.Words.{function_word, kind_spelling, layout_spelling}
-use Rattle.bw_sql.specs.Tree.{ConditionTree, among, between, comparison, each_of, negated, null, some_of, tested, trees_of, ItemsTree, all_columns, listed, StatementTree, create_table, delete, drop_table, insert, list_tables, load, open_table, rebuild, save, select, update}
+use Rattle.bw_sql.specs.Tree.{ConditionTree, among, between, comparison, each_of, negated, null, some_of, tested, trees_of, ItemsTree, all_columns, listed, StatementTree, create_table, delete, drop_table, insert, list_tables, load, open_table, rebuild, save, SelectTree, select, stats, update}
 
 -- one {, one}
 pub data ListOf {A : Type 0} (One : List Terminal → A → List Terminal → Type 0) : List Terminal → List A → List Terminal → Type 0 where
@@ -164,6 +164,22 @@ mutual
     in_parentheses : {c : ConditionTree} {ts rest : List Terminal} → ConditionPart ts c (t.Symbol s.Close ∷ rest) → PrimaryPart (t.Symbol s.Open ∷ ts) c rest
     predicate : {x : Operand} {c : ConditionTree} {ts mid rest : List Terminal} → OperandPart ts x mid → TailPart x mid c rest → PrimaryPart ts c rest
 
+-- [WHERE cond]
+pub data WherePart : List Terminal → Option ConditionTree → List Terminal → Type 0 where
+  no_condition : {rest : List Terminal} → WherePart rest None rest
+  where_condition : {c : ConditionTree} {ts rest : List Terminal} → ConditionPart ts c rest → WherePart (t.Keyword k.Where ∷ ts) (Some c) rest
+
+-- [GROUP BY name]
+pub data GroupPart : List Terminal → Option (List ℕ) → List Terminal → Type 0 where
+  no_groups : {rest : List Terminal} → GroupPart rest None rest
+  group_by : {word : List ℕ} {rest : List Terminal} → GroupPart (t.Keyword k.Group ∷ t.Keyword k.By ∷ t.Name word ∷ rest) (Some word) rest
+
+-- after SELECT: items FROM name [WHERE cond] [GROUP BY name], and nothing after it
+pub data SelectPart : List Terminal → SelectTree → Type 0 where
+  asks : {table : List ℕ} {items : ItemsTree} {c : Option ConditionTree} {g : Option (List ℕ)} {ts us vs : List Terminal} →
+      ItemsPart ts items (t.Keyword k.From ∷ t.Name table ∷ us) → WherePart us c vs → GroupPart vs g [] →
+      SelectPart ts (record { items = items; table = table; condition = c; grouping = g })
+
 -- statement, and nothing after it
 pub data Spells : List Terminal → StatementTree → Type 0 where
   -- CREATE TABLE name ( coldef {, coldef} )
@@ -202,14 +218,10 @@ pub data Spells : List Terminal → StatementTree → Type 0 where
   rebuilds_columns : {table : List ℕ} {choices : List LayoutChoice} {ts : List Terminal} →
       ListOf ChoicePart ts choices (t.Symbol s.Close ∷ []) →
       Spells (t.Name (codes "REBUILD") ∷ t.Name table ∷ t.Symbol s.Open ∷ ts) (rebuild table choices)
-  -- SELECT items FROM name
-  selects : {table : List ℕ} {items : ItemsTree} {ts : List Terminal} →
-      ItemsPart ts items (t.Keyword k.From ∷ t.Name table ∷ []) →
-      Spells (t.Keyword k.Select ∷ ts) (select items table None)
-  -- SELECT items FROM name WHERE cond
-  selects_where : {table : List ℕ} {items : ItemsTree} {c : ConditionTree} {ts us : List Terminal} →
-      ItemsPart ts items (t.Keyword k.From ∷ t.Name table ∷ t.Keyword k.Where ∷ us) → ConditionPart us c [] →
-      Spells (t.Keyword k.Select ∷ ts) (select items table (Some c))
+  -- SELECT items FROM name [WHERE cond] [GROUP BY name]
+  selects : {asked : SelectTree} {ts : List Terminal} → SelectPart ts asked → Spells (t.Keyword k.Select ∷ ts) (select asked)
+  -- STATS SELECT items FROM name [WHERE cond] [GROUP BY name]
+  asks_stats : {asked : SelectTree} {ts : List Terminal} → SelectPart ts asked → Spells (t.Name (codes "STATS") ∷ t.Keyword k.Select ∷ ts) (stats asked)
   -- LOAD name FROM text
   loads : {table file : List ℕ} → Spells (t.Name (codes "LOAD") ∷ t.Name table ∷ t.Keyword k.From ∷ t.Text file ∷ []) (load table file Row)
   -- LOAD name FROM text WITH HEADER

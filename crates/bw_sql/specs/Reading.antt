@@ -7,7 +7,7 @@ use Rattle.bw_lex.specs.declared.token.CompareOp.TheVariants.{Eq}
 use Rattle.bw_lex.specs.declared.token.Symbol.TheVariants as s
 use Rattle.bw_sql.specs.declared.keyword.Keyword.TheVariants as k
 use Rattle.bw_sql.specs.declared.terminal.StatementWord.{StatementWord}
-use Rattle.bw_sql.specs.declared.terminal.StatementWord.TheVariants.{Load, Rebuild, Save, Tables}
+use Rattle.bw_sql.specs.declared.terminal.StatementWord.TheVariants.{Load, Rebuild, Save, Stats, Tables}
 use Rattle.bw_sql.specs.declared.terminal.Terminal.{Terminal}
 use Rattle.bw_sql.specs.declared.terminal.Terminal.TheVariants as t
 use Rattle.bw_sql.specs.declared.tree.TypeWord.{TypeWord}
@@ -29,7 +29,7 @@ use Rattle.bw_sql.specs.declared.tree.SetFunction.TheVariants.{Count}
 use Rattle.bw_sql.specs.declared.tree.FirstRecord.{FirstRecord}
 use Rattle.bw_sql.specs.declared.tree.FirstRecord.TheVariants.{Row}
 use Rattle.bw_sql.specs.Words.{first_record_of, function_of, kind_of, layout_of, statement_word_of}
-use Rattle.bw_sql.specs.Tree.{ConditionTree, among, between, comparison, negated, null, tested, ItemsTree, all_columns, listed, StatementTree, create_table, delete, drop_table, insert, list_tables, load, open_table, rebuild, save, select, update}
+use Rattle.bw_sql.specs.Tree.{ConditionTree, among, between, comparison, negated, null, tested, ItemsTree, all_columns, listed, StatementTree, create_table, delete, drop_table, insert, list_tables, load, open_table, rebuild, save, SelectTree, select, stats, update}
 
 -- what is read, and the terminals after it; none is a syntax error
 abbrev pub Read : Type 0 → Type 0
@@ -94,6 +94,10 @@ after_values _ = None
 abbrev pub after_from : List Terminal → Option (List Terminal)
 after_from (t.Keyword k.From ∷ ts) = Some ts
 after_from _ = None
+
+abbrev pub after_by : List Terminal → Option (List Terminal)
+after_by (t.Keyword k.By ∷ ts) = Some ts
+after_by _ = None
 
 abbrev pub after_to : List Terminal → Option (List Terminal)
 after_to (t.Keyword k.To ∷ ts) = Some ts
@@ -345,11 +349,15 @@ unfoldable pub filter_at : ℕ → List Terminal → Read (Option ConditionTree)
 filter_at n (t.Keyword k.Where ∷ ts) = map_first Some (condition_at n ts)
 filter_at n ts = Some (None, ts)
 
+unfoldable pub grouping_at : List Terminal → Read (Option (List ℕ))
+grouping_at (t.Keyword k.Group ∷ ts) = after_by ts >>= λ us. map_first Some (name_at us)
+grouping_at ts = Some (None, ts)
+
 -- what follows SELECT
-unfoldable pub select_at : ℕ → List Terminal → Read StatementTree
+unfoldable pub select_at : ℕ → List Terminal → Read SelectTree
 select_at n ts =
-    items_at n ts >>= λ items. after_from items.1 >>= λ us. name_at us >>= λ table. filter_at n table.1 >>= λ filter.
-    Some (select items.0 table.0 filter.0, filter.1)
+    items_at n ts >>= λ items. after_from items.1 >>= λ us. name_at us >>= λ table. filter_at n table.1 >>= λ filter. grouping_at filter.1 >>= λ grouping.
+    Some (record { items = items.0; table = table.0; condition = filter.0; grouping = grouping.0 }, grouping.1)
 
 abbrev pub set_to : List ℕ → Operand → SetClause
 set_to column source = record { column = column; source = source }
@@ -417,6 +425,11 @@ save_at ts = name_at ts >>= λ table. after_to table.1 >>= λ us. map_first (sav
 unfoldable pub open_at : List Terminal → Read StatementTree
 open_at ts = name_at ts >>= λ table. map_first (open_table table.0) (source_at table.1)
 
+-- what follows STATS
+unfoldable pub stats_at : ℕ → List Terminal → Read StatementTree
+stats_at n (t.Keyword k.Select ∷ ts) = map_first stats (select_at n ts)
+stats_at n ts = None
+
 unfoldable pub statement_word_at : List Terminal → Read StatementWord
 statement_word_at (t.Name word ∷ ts) = with_rest (statement_word_of word) ts
 statement_word_at _ = None
@@ -427,6 +440,7 @@ after_word n Tables ts = Some (list_tables, ts)
 after_word n Rebuild ts = rebuild_at n ts
 after_word n Load ts = load_at ts
 after_word n Save ts = save_at ts
+after_word n Stats ts = stats_at n ts
 
 unfoldable pub worded_at : ℕ → List Terminal → Read StatementTree
 worded_at n ts = statement_word_at ts >>= λ word. after_word n word.0 word.1
@@ -437,7 +451,7 @@ statement_at n (t.Keyword k.Drop ∷ ts) = drop_at ts
 statement_at n (t.Keyword k.Insert ∷ ts) = insert_at n ts
 statement_at n (t.Keyword k.Update ∷ ts) = update_at n ts
 statement_at n (t.Keyword k.Delete ∷ ts) = delete_at n ts
-statement_at n (t.Keyword k.Select ∷ ts) = select_at n ts
+statement_at n (t.Keyword k.Select ∷ ts) = map_first select (select_at n ts)
 statement_at n (t.Keyword k.Open ∷ ts) = open_at ts
 statement_at n ts = worded_at n ts
 

@@ -13,6 +13,7 @@ use Rattle.bw_sql.specs.declared.tree.ColumnDefinition.{ColumnDefinition}
 use Rattle.bw_sql.specs.declared.tree.LayoutChoice.{LayoutChoice}
 use Rattle.bw_sql.specs.declared.tree.SetClause.{SetClause}
 use Rattle.bw_sql.specs.declared.tree.FirstRecord.{FirstRecord}
+use Rattle.bw_sql.specs.declared.tree.Select.{Select}
 use Rattle.bw_sql.specs.declared.tree.SelectItem.{SelectItem}
 use Rattle.bw_sql.specs.declared.tree.SelectItems.{SelectItems}
 use Rattle.bw_sql.specs.declared.tree.SelectItems.TheVariants as items
@@ -42,6 +43,13 @@ pub data ItemsTree : Type 0 where
   all_columns : ItemsTree
   listed : List SelectItem → ItemsTree
 
+-- what a SELECT asks for
+pub record SelectTree : Type 0 where
+  pub items : ItemsTree
+  pub table : List ℕ
+  pub condition : Option ConditionTree
+  pub grouping : Option (List ℕ)
+
 pub data StatementTree : Type 0 where
   create_table : (table : List ℕ) → List ColumnDefinition → StatementTree
   drop_table : (table : List ℕ) → StatementTree
@@ -50,7 +58,8 @@ pub data StatementTree : Type 0 where
   update : (table : List ℕ) → List SetClause → Option ConditionTree → StatementTree
   delete : (table : List ℕ) → Option ConditionTree → StatementTree
   rebuild : (table : List ℕ) → List LayoutChoice → StatementTree
-  select : ItemsTree → (table : List ℕ) → Option ConditionTree → StatementTree
+  select : SelectTree → StatementTree
+  stats : SelectTree → StatementTree
   load : (table : List ℕ) → (file : List ℕ) → FirstRecord → StatementTree
   save : (table : List ℕ) → (file : List ℕ) → StatementTree
   open_table : (table : List ℕ) → (file : List ℕ) → StatementTree
@@ -78,6 +87,9 @@ abbrev pub items_of : SelectItems → ItemsTree
 items_of items.All = all_columns
 items_of (items.List list) = listed list
 
+abbrev pub select_of : Select → SelectTree
+select_of s = record { items = items_of s.items; table = s.table; condition = option_map condition_of s.condition; grouping = s.grouping }
+
 -- the statement that a Rust value holds
 abbrev pub statement_of : Statement → StatementTree
 statement_of (statements.CreateTable s) = create_table s.table s.columns.items
@@ -87,7 +99,8 @@ statement_of (statements.Insert s) = insert s.table s.columns s.rows
 statement_of (statements.Update s) = update s.table s.sets.items (option_map condition_of s.condition)
 statement_of (statements.Delete s) = delete s.table (option_map condition_of s.condition)
 statement_of (statements.Rebuild s) = rebuild s.table s.choices.items
-statement_of (statements.Select s) = select (items_of s.items) s.table (option_map condition_of s.condition)
+statement_of (statements.Select s) = select (select_of s)
+statement_of (statements.Stats s) = stats (select_of s)
 statement_of (statements.Load s) = load s.table s.file s.first
 statement_of (statements.Save s) = save s.table s.file
 statement_of (statements.Open s) = open_table s.table s.file

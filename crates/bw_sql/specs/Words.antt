@@ -2,7 +2,7 @@
 use Rattle.std.specs.Prelude.{ℕ, List, codes, Option, Some, None, if◌then◌else◌}
 use Rattle.std.specs.Str.{bytes_eq}
 use Rattle.bw_sql.specs.declared.terminal.StatementWord.{StatementWord}
-use Rattle.bw_sql.specs.declared.terminal.StatementWord.TheVariants.{Load, Rebuild, Save, Tables}
+use Rattle.bw_sql.specs.declared.terminal.StatementWord.TheVariants.{Load, Rebuild, Save, Stats, Tables}
 use Rattle.bw_sql.specs.declared.tree.LayoutWord.{LayoutWord}
 use Rattle.bw_sql.specs.declared.tree.LayoutWord.TheVariants.{P, V, H, S}
 use Rattle.bw_sql.specs.declared.tree.KindWord.{KindWord}
@@ -32,6 +32,7 @@ statement_spelling Tables = codes "TABLES"
 statement_spelling Rebuild = codes "REBUILD"
 statement_spelling Load = codes "LOAD"
 statement_spelling Save = codes "SAVE"
+statement_spelling Stats = codes "STATS"
 
 unfoldable pub layout_of : List ℕ → Option LayoutWord
 layout_of word =
@@ -48,7 +49,8 @@ statement_word_of word =
     if bytes_eq word (codes "TABLES") then Some Tables
     else (if bytes_eq word (codes "REBUILD") then Some Rebuild
     else (if bytes_eq word (codes "LOAD") then Some Load
-    else (if bytes_eq word (codes "SAVE") then Some Save else None)))
+    else (if bytes_eq word (codes "SAVE") then Some Save
+    else (if bytes_eq word (codes "STATS") then Some Stats else None))))
 
 -- what the word after WITH says of a file's first record
 unfoldable pub first_record_of : List ℕ → Option FirstRecord

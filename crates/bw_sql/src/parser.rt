@@ -304,6 +304,7 @@ impl<'a> Parser<'a> {
             StatementWord::Rebuild => self.rebuild(),
             StatementWord::Load => self.load(),
             StatementWord::Save => self.save(),
+            StatementWord::Stats => self.stats(),
         }
     }
 
@@ -325,7 +326,7 @@ impl<'a> Parser<'a> {
         } else if self.eat_word(Keyword::Delete) {
             self.delete()
         } else if self.eat_word(Keyword::Select) {
-            self.select()
+            Ok(Statement::Select(self.select()?))
         } else if self.eat_word(Keyword::Open) {
             self.open_table()
         } else {

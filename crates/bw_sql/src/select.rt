@@ -1,13 +1,14 @@
-//! SELECT, out of terminals.
+//! SELECT and STATS, out of terminals.
 
-ghost use Rattle.std.specs.Prelude.{◌≡◌, ◌<◌, ℕ, OnOk, length};
+ghost use Rattle.std.specs.Prelude.{◌≡◌, ◌<◌, ◌≤◌, ℕ, OnOk, length};
 ghost use Rattle.bw_sql.specs.Reading as reading;
 ghost use Rattle.bw_sql.specs.Reading.{Gives};
-ghost use Rattle.bw_sql.specs.Tree.{items_of, statement_of};
+ghost use Rattle.bw_sql.specs.Tree.{items_of, select_of, statement_of};
 ghost use Rattle.bw_sql.specs.Words as words;
 
 use crate::item_list::ItemList;
 use crate::keyword::Keyword;
+use crate::name::Name;
 use crate::parser::Parser;
 use crate::terminal::Terminal;
 use crate::tree::{Select, SelectItem, SelectItems, SetFunction, Statement};
@@ -120,21 +121,48 @@ impl<'a> Parser<'a> {
         }
     }
 
-    // after SELECT: items FROM name [WHERE cond]
+    // [GROUP BY name]
+    #[tactic(auto, unfolding(crate::specs::Reading::grouping_at))]
+    fn grouping(&mut self) -> Result<Option<Name>, SqlFault>
+        ensures no_longer { OnOk result (length self.new.rest.now ≤ length self.old.rest.now) }
+        ensures read { Gives (λ grouping. grouping) result self.new.rest.now (reading.grouping_at self.old.rest.now) }
+    {
+        if self.eat_word(Keyword::Group) {
+            self.take_word(Keyword::By)?;
+            Ok(Some(self.name()?))
+        } else {
+            Ok(None)
+        }
+    }
+
+    // after SELECT: items FROM name [WHERE cond] [GROUP BY name]
     #[tactic(auto, unfolding(crate::specs::Reading::select_at))]
-    pub(crate) fn select(&mut self) -> Result<Statement, SqlFault>
+    pub(crate) fn select(&mut self) -> Result<Select, SqlFault>
         ensures shorter { OnOk result (length self.new.rest.now < length self.old.rest.now) }
         ensures read { (n : ℕ) → length self.old.rest.now < n
-            → Gives statement_of result self.new.rest.now (reading.select_at n self.old.rest.now) }
+            → Gives select_of result self.new.rest.now (reading.select_at n self.old.rest.now) }
     {
         let items = self.items()?;
         self.take_word(Keyword::From)?;
         let table = self.name()?;
         let condition = self.filter()?;
-        Ok(Statement::Select(Select {
+        let grouping = self.grouping()?;
+        Ok(Select {
             items,
             table,
             condition,
-        }))
+            grouping,
+        })
+    }
+
+    // after STATS: a SELECT
+    #[tactic(auto, unfolding(crate::specs::Reading::stats_at))]
+    pub(crate) fn stats(&mut self) -> Result<Statement, SqlFault>
+        ensures shorter { OnOk result (length self.new.rest.now < length self.old.rest.now) }
+        ensures read { (n : ℕ) → length self.old.rest.now < n
+            → Gives statement_of result self.new.rest.now (reading.stats_at n self.old.rest.now) }
+    {
+        self.take_word(Keyword::Select)?;
+        Ok(Statement::Stats(self.select()?))
     }
 }

@@ -23,6 +23,7 @@ pub(crate) enum StatementWord {
     Rebuild,
     Load,
     Save,
+    Stats,
 }
 
 /// A word that is a name, in any case. A contract sees the name.
@@ -130,6 +131,8 @@ fn statement_word(word: &[u8]) -> Option<StatementWord>
         Some(StatementWord::Load)
     } else if spells(word, b"SAVE") {
         Some(StatementWord::Save)
+    } else if spells(word, b"STATS") {
+        Some(StatementWord::Stats)
     } else {
         None
     }

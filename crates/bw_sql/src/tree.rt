@@ -22,6 +22,8 @@ pub enum Statement {
     Update(Update),
     Delete(Delete),
     Select(Select),
+    /// `STATS` and a SELECT: how much it reads to find its rows.
+    Stats(Select),
     Rebuild(Rebuild),
     Load(Load),
     Save(Save),
@@ -113,12 +115,13 @@ pub struct LayoutChoice {
     pub kind: Option<KindWord>,
 }
 
-/// `SELECT items FROM table [WHERE condition]`.
+/// `SELECT items FROM table [WHERE condition] [GROUP BY grouping]`.
 #[derive(Debug, Drop)]
 pub struct Select {
     pub items: SelectItems,
     pub table: Name,
     pub condition: Option<Condition>,
+    pub grouping: Option<Name>,
 }
 
 /// `LOAD table FROM file [WITH HEADER]`.

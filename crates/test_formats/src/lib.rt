@@ -1,4 +1,4 @@
-//! Worked examples as tests of the formats in which tables and scripts come and go.
+//! Worked examples as tests of the formats in which tables and scripts come and go, and of the texts of SELECTs.
 #![tactic(auto)]
 
 #[cfg(test)]
@@ -13,5 +13,7 @@ mod measured;
 mod pieces;
 #[cfg(test)]
 mod seen;
+#[cfg(test)]
+mod selects;
 #[cfg(test)]
 mod table_files;

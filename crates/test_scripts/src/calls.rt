@@ -125,9 +125,7 @@ fn found_and_answered<R: Abort + AllocGlobal>(
     select: &Select,
 ) -> (usize, usize) {
     let found = found_rows(rt.alloc(), table, &select.condition).expect(rt, "memory");
-    let answer = answer_of(rt.alloc(), table, &select.items, &select.condition).expect(
-        rt, "memory",
-    );
+    let answer = answer_of(rt.alloc(), table, select).expect(rt, "memory");
     (found.len(), answer.line_count())
 }
 
@@ -158,6 +156,7 @@ fn truths_by_the_plain_program(rt: HostRuntime) {
 enum ReplyKind {
     Done,
     Count(u64),
+    Units(u64),
     Lines(usize),
     Refused,
 }
@@ -166,6 +165,7 @@ fn kind_of(reply: Reply) -> ReplyKind {
     match reply {
         Reply::Done => ReplyKind::Done,
         Reply::Count(count) => ReplyKind::Count(count),
+        Reply::Units(units) => ReplyKind::Units(units),
         Reply::Rows(answer) => ReplyKind::Lines(answer.line_count()),
         Reply::Refused(_) => ReplyKind::Refused,
     }
@@ -189,6 +189,7 @@ fn an_engine_executes(rt: HostRuntime) {
         ("INSERT INTO t VALUES (1), (NULL)", ReplyKind::Count(2)),
         ("TABLES", ReplyKind::Lines(1)),
         ("SELECT a FROM t", ReplyKind::Lines(2)),
+        ("STATS SELECT a FROM t WHERE a = 1", ReplyKind::Units(1)),
     ] {
         see_at(&rt, text, replied(&rt, &mut engine, text), reply);
     }

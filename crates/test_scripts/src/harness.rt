@@ -98,6 +98,11 @@ pub(crate) fn check_script<R: Abort + AllocGlobal>(rt: &R, script: &str, replies
     check_files(rt, &[], script, replies);
 }
 
+/// Checks that a script gets these replies from the run. The plain program has no slots, so it can't count what is read.
+pub(crate) fn check_counts<R: Abort + AllocGlobal>(rt: &R, script: &str, replies: &str) {
+    check_run(rt, &mut folder_of(rt, &[]), script, replies);
+}
+
 /// Checks that a script gets these replies over a folder with these files, from the run and from the plain program, and gives
 /// the folder that the run left. The plain program reads that one, so a script reads no file before it writes it, and writes
 /// none twice.

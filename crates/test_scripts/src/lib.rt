@@ -17,6 +17,8 @@ mod files;
 #[cfg(test)]
 mod functions;
 #[cfg(test)]
+mod groups;
+#[cfg(test)]
 mod harness;
 #[cfg(test)]
 mod large;
@@ -30,5 +32,7 @@ mod seen;
 mod selects;
 #[cfg(test)]
 mod splitting;
+#[cfg(test)]
+mod stats;
 #[cfg(test)]
 mod tables;

@@ -2,6 +2,7 @@ use Rattle.std.proofs.Common.{refl}
 use Rattle.bw_sql.specs.Tree.{statement_of}
 use Rattle.bw_sql.specs.declared.tree.Statement.TheVariants as statements
 use Rattle.bw_model.specs.declared.content.Content.TheVariants.{Nothing}
+use Rattle.bw_engine.specs.Counting.{said_of}
 use Rattle.bw_engine.proofs.Executed.{leaves, leaves_all, leaves_reading, leaves_saving, plain, reading, saving}
 use Rattle.bw_engine.proofs.engine.carry_out.Goals as goal
 
@@ -64,6 +65,11 @@ pub returns-in-Select-clause-stored : goal.returns-in-Select-clause-stored
 returns-in-Select-clause-stored c =
     rw (c.in-Select.is, c.replied-in-Select.ensures)
     (leaves_all c.args.tables.now.entries Nothing (statement_of (statements.Select c.in-Select.query)) c.select.result c.select.ensures refl)
+
+pub returns-in-Stats-clause-stored : goal.returns-in-Stats-clause-stored
+returns-in-Stats-clause-stored c =
+    rw (c.in-Stats.is, c.replied-in-Stats.ensures)
+    (leaves_all c.args.tables.now.entries (said_of c.args.tables.now.entries (statement_of (statements.Stats c.in-Stats.query))) (statement_of (statements.Stats c.in-Stats.query)) c.stats.result c.stats.ensures refl)
 
 pub returns-in-Load-clause-stored : goal.returns-in-Load-clause-stored
 returns-in-Load-clause-stored c =

@@ -1,11 +1,15 @@
-use Rattle.std.proofs.Common.{ap, length, map, sym, ◌≡◌, ◌∙◌, [], ◌∷◌}
+use Rattle.std.proofs.Common.{Some, ap, length, map, subst, sym, ◌≡◌, ◌∙◌, [], ◌∷◌}
+use Rattle.std.specs.List.{All}
 use Rattle.std.proofs.lemmas.List.{length-map}
 use Rattle.bw_mask.specs.Masks.{row_at}
 use Rattle.bw_model.specs.Select.{shown}
-use Rattle.bw_engine.specs.Folds.{number_by}
+use Rattle.bw_model.specs.Groups.{groups_by}
+use Rattle.bw_sql.specs.Rows.{joined}
+use Rattle.bw_engine.specs.Folds.{number_by, told_in}
 use Rattle.bw_engine.specs.Found.{rows_where}
 use Rattle.bw_engine.specs.Stores.{rows_of_slots}
-use Rattle.bw_engine.proofs.Shows.{lines_answer, one_line_flat, one_line_wide, values_lines, values_whole}
+use Rattle.bw_engine.proofs.GroupShows.{group_lines_wide}
+use Rattle.bw_engine.proofs.Shows.{lines_answer, one_line_flat, one_line_wide, values_lines, values_whole, whole_answer}
 use Rattle.bw_engine.proofs.select.shown_answer.Goals as goal
 
 pub of_values-requires : goal.of_values-requires
@@ -30,3 +34,28 @@ returns-in_ok-cells-in-Functions-clause-lines c =
     let told : cells ≡ map (λ f. shown (said f)) functions = rw (c.as_slice-in-Functions.ensures.value, c.stored-in-Functions.ensures) at c.in_ok-cells-in-Functions.ensures in
     let count : length cells ≡ width = ap length told ∙ length-map functions (λ f. shown (said f)) ∙ sym wide in
     rw c.in-Functions.is (c.new.ensures.lines ∙ lines_answer (cells ∷ []) cells width c.requires.some (one_line_wide cells width count) (one_line_flat cells) ∙ ap (λ line. line ∷ []) told)
+
+pub group_cells-requires-clause-by : goal.group_cells-requires-clause-by
+group_cells-requires-clause-by c = let places = rw c.in-Groups.is at c.requires.places in rw c.stored-in-Groups.ensures places.0
+
+pub group_cells-requires-clause-items : goal.group_cells-requires-clause-items
+group_cells-requires-clause-items c = let places = rw c.in-Groups.is at c.requires.places in rw c.stored-in-Groups.ensures places.1
+
+pub new-requires-in-Groups : goal.new-requires-in-Groups
+new-requires-in-Groups c =
+    let items = c.in-Groups.plan.items.items in
+    let groups = groups_by (Some c.in-Groups.plan.by) (rows_where (row_at c.args.found.now) (rows_of_slots c.args.table.now.slots)) in
+    let width = length c.args.headings.items in
+    let wide : width ≡ length items = rw c.in-Groups.is at c.requires.wide in
+    let flat : c.in_ok-cells-in-Groups.cells.items ≡ joined (map (λ group. map (told_in group) items) groups) = rw c.stored-in-Groups.ensures at c.in_ok-cells-in-Groups.ensures in
+    whole_answer (map (λ group. map (told_in group) items) groups) c.in_ok-cells-in-Groups.cells.items width c.requires.some (subst (λ w. All (λ line. length line ≡ w) (map (λ group. map (told_in group) items) groups)) (sym wide) (group_lines_wide items groups)) flat
+
+pub returns-in_ok-cells-in-Groups-clause-lines : goal.returns-in_ok-cells-in-Groups-clause-lines
+returns-in_ok-cells-in-Groups-clause-lines c =
+    let items = c.in-Groups.plan.items.items in
+    let groups = groups_by (Some c.in-Groups.plan.by) (rows_where (row_at c.args.found.now) (rows_of_slots c.args.table.now.slots)) in
+    let width = length c.args.headings.items in
+    let wide : width ≡ length items = rw c.in-Groups.is at c.requires.wide in
+    let flat : c.in_ok-cells-in-Groups.cells.items ≡ joined (map (λ group. map (told_in group) items) groups) = rw c.stored-in-Groups.ensures at c.in_ok-cells-in-Groups.ensures in
+    rw c.in-Groups.is
+    (c.new-in-Groups.ensures.lines ∙ lines_answer (map (λ group. map (told_in group) items) groups) c.in_ok-cells-in-Groups.cells.items width c.requires.some (subst (λ w. All (λ line. length line ≡ w) (map (λ group. map (told_in group) items) groups)) (sym wide) (group_lines_wide items groups)) flat)

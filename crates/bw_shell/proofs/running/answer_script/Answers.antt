@@ -1,6 +1,5 @@
 use Rattle.std.proofs.Common.{[], refl, ◌∙◌, arith}
 use Rattle.std.proofs.lemmas.List.{length-take-le}
-use Rattle.bw_engine.specs.Stores.{store_of}
 use Rattle.bw_shell.proofs.Scripts.{at_start, ends_broken, ends_early, ends_reached, more_read}
 use Rattle.bw_shell.proofs.running.answer_script.Goals as goal
 
@@ -25,7 +24,7 @@ pub returns-in-Some : goal.returns-in-Some
 returns-in-Some g c =
     let so = c.loop-n.invariant.part in
     let answers = rw c.loop-n.invariant.on_error at (c.in-Some.ensures.answers so.0 so.1.0) in
-    ends_early _ _ _ _ _ _ _ so.0 _ so.1.1 _ c.read_piece.new.buffer c.in-Piece.n c.in-Piece.ensures _ c.in-Some.end (store_of c.answer_piece.new.self.engine) _ answers
+    ends_early _ _ _ _ _ _ _ so.0 _ so.1.1 _ c.read_piece.new.buffer c.in-Piece.n c.in-Piece.ensures _ c.in-Some.end c.answer_piece.new.self.engine _ answers
 
 pub loop-n-smaller : goal.loop-n-smaller
 loop-n-smaller g c = omega (arith, c.in-Piece.ensures.0, c.in-Piece.ensures.1)
@@ -54,10 +53,10 @@ returns-in-End-Reached g c =
     let so = c.loop-n.invariant.part in
     let gives = rw c.in-End-Reached.field-0-is at c.in-End-Reached.ensures in
     let answers = rw c.loop-n.invariant.on_error at (c.answer_rest.ensures.answers so.0 so.1.0) in
-    ends_reached _ _ _ _ _ _ _ so.0 _ so.1.1 _ _ c.read_piece.new.buffer c.answer_rest.result (store_of c.answer_rest.new.self.engine) _ gives answers
+    ends_reached _ _ _ _ _ _ _ so.0 _ so.1.1 _ _ c.read_piece.new.buffer c.answer_rest.result c.answer_rest.new.self.engine _ gives answers
 
 pub returns-in-End-Fault : goal.returns-in-End-Fault
 returns-in-End-Fault g c =
     let so = c.loop-n.invariant.part in
     let gives = rw c.in-End-Fault.field-0-is at c.in-End-Fault.ensures in
-    ends_broken _ _ _ _ _ _ _ so.0 _ so.1.1 _ c.read_piece.new.buffer (store_of c.loop-n.session.engine) _ refl gives
+    ends_broken _ _ _ _ _ _ _ so.0 _ so.1.1 _ c.read_piece.new.buffer c.loop-n.session.engine _ refl gives

@@ -51,7 +51,11 @@ returns-in-CreateTable c =
                                               elim other [
                                                 | inl given ↦ none_wanted store statement (ap (λ s. use_in (statement_of s)) given.1)
                                                 | inr other ↦
-                                                    none_read store statement other.0.file (ap (λ s. use_in (statement_of s)) other.1)
+                                                    elim other [
+                                                      | inl given ↦ none_wanted store statement (ap (λ s. use_in (statement_of s)) given.1)
+                                                      | inr other ↦
+                                                          none_read store statement other.0.file (ap (λ s. use_in (statement_of s)) other.1)
+                                                    ]
                                               ]
                                         ]
                                   ]

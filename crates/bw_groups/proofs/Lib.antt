@@ -1,0 +1,9 @@
+pub mod Distances
+pub mod Distinct
+pub mod Ends
+pub mod Grouped
+pub mod Placing
+pub mod RanksMake
+pub mod RunLists
+pub mod Spread
+pub mod Sums

@@ -1,0 +1,9 @@
+-- Ranks of values that are not null, over all values.
+use Rattle.std.specs.Prelude.{List, None, Option, Some, [], ◌∷◌, ℕ, ℤ}
+
+-- each null has the same rank, and each other value the next one
+abbrev pub ranks_over : List (Option ℤ) → List ℕ → ℕ → List ℕ
+ranks_over [] ranks null = []
+ranks_over (None ∷ values) ranks null = null ∷ ranks_over values ranks null
+ranks_over (Some x ∷ values) [] null = []
+ranks_over (Some x ∷ values) (rank ∷ ranks) null = rank ∷ ranks_over values ranks null

@@ -1,0 +1,107 @@
+//! The values of a column as numbers that keep their order.
+
+ghost use Rattle.std.specs.Prelude.{All, IfOk, None, Some, [], filter_map, if◌then◌else◌, length, map, option_map, pos, unsigned_abs, ◌++◌, ◌+ℤ◌, ◌-ℤ◌, ◌∷◌, ◌≡◌, ◌≤ℤ◌};
+ghost use Rattle.bw_cells.specs.SetFunctions.{known};
+ghost use Rattle.bw_groups.specs.Spreading.{ranks_over};
+
+use bw_cells::Measured;
+use bw_code::Ends;
+use std::alloc::{AllocError, Global};
+
+/// The least and the greatest of the values that are not NULL; 0 where there is none.
+pub(crate) fn known_ends(values: &[Option<i64>]) -> Ends
+    ensures least { All (λ x. result.least ≤ℤ x) (known values.now) }
+    ensures greatest { All (λ x. x ≤ℤ result.greatest) (known values.now) }
+{
+    match values.ends() {
+        Some(ends) => ends,
+        None => Ends {
+            least: 0,
+            greatest: 0,
+        },
+    }
+}
+
+/// How far above the least each of the values that are not NULL lies, in their order.
+pub(crate) fn known_distances(
+    alloc: Global,
+    values: &[Option<i64>],
+    ends: &Ends,
+) -> Result<Vec<u64>, AllocError>
+    requires { All (λ x. ends.now.least ≤ℤ x) (known values.now) }
+    ensures { IfOk result (λ distances. map (λ n. ends.now.least +ℤ pos n) distances.items ≡ known values.now) }
+{
+    distances_from(alloc, values, ends.least)
+}
+
+fn distances_from(alloc: Global, values: &[Option<i64>], base: i64) -> Result<Vec<u64>, AllocError>
+    ensures { IfOk result (λ distances. distances.items ≡ filter_map (λ value. option_map (λ x. unsigned_abs (x -ℤ base)) value) values.now) }
+{
+    values
+        .iter()
+        .filter_map(|value| distance(*value, base))
+        .collect(alloc)
+}
+
+/// How far a value lies from the base; `None` of NULL.
+fn distance(value: Option<i64>, base: i64) -> Option<u64>
+    ensures { result ≡ option_map (λ x. unsigned_abs (x -ℤ base)) value }
+{
+    match value {
+        Some(value) => Some(value.abs_diff(base)),
+        None => None,
+    }
+}
+
+/// The values that lie so far above the least, and NULL after them, if it is there.
+pub(crate) fn values_at(
+    alloc: Global,
+    ends: &Ends,
+    distances: &[u64],
+    has_null: bool,
+) -> Result<Vec<Option<i64>>, AllocError>
+    requires { All (λ n. (ends.now.least +ℤ pos n) ≤ℤ ends.now.greatest) distances.now }
+    ensures { IfOk result (λ values. values.items ≡ map (λ n. Some (ends.now.least +ℤ pos n)) distances.now ++ (if has_null then None ∷ [] else [])) }
+{
+    let mut values = Vec::with_capacity(alloc, distances.len().saturating_add(1))?;
+    'distances: for i in 0..distances.len() {
+        values.push(value_at(*ends, distances[i]))?;
+    }
+    if has_null {
+        values.push(None)?;
+    }
+    Ok(values)
+}
+
+fn value_at(ends: Ends, distance: u64) -> Option<i64>
+    requires { (ends.least +ℤ pos distance) ≤ℤ ends.greatest }
+    ensures { result ≡ Some (ends.least +ℤ pos distance) }
+{
+    Some(ends.least.wrapping_add_unsigned(distance))
+}
+
+/// The ranks of the values that are not NULL over all values, of which each NULL has this rank.
+pub(crate) fn spread(
+    alloc: Global,
+    values: &[Option<i64>],
+    ranks: Vec<u32>,
+    null_rank: u32,
+) -> Result<Vec<u32>, AllocError>
+    requires { length ranks.items ≡ length (known values.now) }
+    ensures { IfOk result (λ spread. spread.items ≡ ranks_over values.now ranks.items null_rank) }
+{
+    if ranks.len() == values.len() {
+        return Ok(ranks);
+    }
+    let mut spread = Vec::with_capacity(alloc, values.len())?;
+    let mut next = 0;
+    'values: for i in 0..values.len() {
+        if values[i].is_some() {
+            spread.push(ranks[next])?;
+            next += 1;
+        } else {
+            spread.push(null_rank)?;
+        }
+    }
+    Ok(spread)
+}

@@ -1,0 +1,6 @@
+pub mod Counting
+pub mod Marked
+pub mod Placed
+pub mod Rankings
+pub mod Times
+pub mod Whole

@@ -1,0 +1,4 @@
+pub mod Marking
+pub mod Ranks
+pub mod Sorting
+pub mod Tables
