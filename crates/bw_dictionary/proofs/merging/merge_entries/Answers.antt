@@ -1,0 +1,64 @@
+use Rattle.std.proofs.Common.{[], ap, arith, get_or, length, pos, w64, ℤ, ◌++◌, ◌+◌, ◌≡◌, ◌≤◌, ◌∙◌, ◌∷◌}
+use Rattle.std.proofs.lemmas.Int.{ints, to_z-of_z}
+use mir.Val.{of_z, to_z}
+use Rattle.bw_dictionary.proofs.Union.{is_union, skipped, took_both, took_new, took_old}
+use Rattle.bw_dictionary.proofs.merging.merge_entries.Goals as goal
+
+pub merge-preserved-in-Skip : goal.merge-preserved-in-Skip
+merge-preserved-in-Skip c =
+    let v = c.merge.invariant in
+    let turn = c.in-Skip.ensures in
+    record {
+      old = omega (arith, turn.0);
+      new = v.new;
+      merging = rw c.in_ok-push-in-Skip.ensures.items (skipped c.args.old.now c.args.stands.now c.args.new.now c.merge.i c.merge.j c.merge.entries.items c.merge.moves.items c.merge.places.items c.requires.old c.requires.new v.merging turn.0 turn.1);
+    }
+
+pub merge-preserved-in-Old : goal.merge-preserved-in-Old
+merge-preserved-in-Old c =
+    let v = c.merge.invariant in
+    let turn = c.in-Old.ensures in
+    let x = get_or c.args.old.now c.merge.i (pos 0) in
+    let back : to_z w64 (of_z w64 x) ≡ x = search (arith, ints, to_z-of_z) in
+    let union = c.in_ok-push-in-Old.ensures.items ∙ ap (λ (y : ℤ). c.merge.entries.items ++ y ∷ []) back in
+    let few : length c.merge.entries.items ≤ c.merge.i + c.merge.j = v.merging.few in
+    let place : c.len-place.result ≡ length c.merge.entries.items = omega (arith, c.len-place.ensures, c.merge.entries.ok.0) in
+    record {
+      old = omega (arith, turn.0);
+      new = v.new;
+      merging = rw (union, c.in_ok-push-in-Old-2.ensures.items) (took_old c.args.old.now c.args.stands.now c.args.new.now c.merge.i c.merge.j c.merge.entries.items c.merge.moves.items c.merge.places.items c.requires.old c.requires.new v.merging c.len-place.result turn.0 turn.1 turn.2 place);
+    }
+
+pub merge-preserved-in-New : goal.merge-preserved-in-New
+merge-preserved-in-New c =
+    let v = c.merge.invariant in
+    let turn = c.in-New.ensures in
+    let x = get_or c.args.new.now c.merge.j (pos 0) in
+    let back : to_z w64 (of_z w64 x) ≡ x = search (arith, ints, to_z-of_z) in
+    let union = c.in_ok-push-in-New.ensures.items ∙ ap (λ (y : ℤ). c.merge.entries.items ++ y ∷ []) back in
+    let place : c.len-place.result ≡ length c.merge.entries.items = omega (arith, c.len-place.ensures, c.merge.entries.ok.0) in
+    record {
+      old = v.old;
+      new = omega (arith, turn.0);
+      merging = rw (union, c.in_ok-push-in-New-2.ensures.items) (took_new c.args.old.now c.args.stands.now c.args.new.now c.merge.i c.merge.j c.merge.entries.items c.merge.moves.items c.merge.places.items c.requires.old c.requires.new v.merging c.len-place.result turn.0 turn.1 place);
+    }
+
+pub merge-preserved : goal.merge-preserved
+merge-preserved c =
+    let v = c.merge.invariant in
+    let turn = c.in-Both.ensures in
+    let x = get_or c.args.old.now c.merge.i (pos 0) in
+    let back : to_z w64 (of_z w64 x) ≡ x = search (arith, ints, to_z-of_z) in
+    let union = c.in_ok-push-in-Both.ensures.items ∙ ap (λ (y : ℤ). c.merge.entries.items ++ y ∷ []) back in
+    let place : c.len-place.result ≡ length c.merge.entries.items = omega (arith, c.len-place.ensures, c.merge.entries.ok.0) in
+    record {
+      old = omega (arith, turn.0);
+      new = omega (arith, turn.1);
+      merging = rw (union, c.in_ok-push-in-Both-2.ensures.items, c.in_ok-push-in-Both-3.ensures.items) (took_both c.args.old.now c.args.stands.now c.args.new.now c.merge.i c.merge.j c.merge.entries.items c.merge.moves.items c.merge.places.items c.requires.old c.requires.new v.merging c.len-place.result turn.0 turn.1 turn.2 turn.3 place);
+    }
+
+pub returns : goal.returns
+returns c =
+    let v = c.merge.invariant in
+    is_union c.args.old.now c.args.stands.now c.args.new.now c.merge.i c.merge.j c.merge.entries.items c.merge.moves.items c.merge.places.items
+    (omega (arith, c.if-i-old.false, v.old)) (omega (arith, c.if-j-new.false, v.new)) v.merging

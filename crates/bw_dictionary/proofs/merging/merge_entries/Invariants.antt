@@ -1,0 +1,13 @@
+use Rattle.std.proofs.Common.{length, ◌+◌, ◌-◌, ◌≤◌}
+use Rattle.bw_dictionary.specs.Merging.{Merging}
+use Rattle.bw_dictionary.proofs.merging.merge_entries.Given as goal
+
+abbrev pub invariant-merge : goal.invariant-merge
+invariant-merge l = record {
+  old : l.i ≤ length l.old;
+  new : l.j ≤ length l.new;
+  merging : Merging l.old l.stands l.new l.i l.j l.entries.items l.moves.items l.places.items;
+}
+
+abbrev pub decreases-merge : goal.decreases-merge
+decreases-merge l = (length l.old - l.i) + (length l.new - l.j)

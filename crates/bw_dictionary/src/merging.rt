@@ -1,0 +1,107 @@
+//! The entries of a dictionary that still stand, put together with new ones.
+
+ghost use Rattle.std.specs.Prelude.{IfOk, length, ◌+◌, ◌<◌, ◌≡◌, ◌≤◌, ◌^◌};
+ghost use Rattle.bw_code.specs.Ascending.{IsAscending};
+ghost use Rattle.bw_dictionary.specs.Merging.{IsTurn, IsUnion};
+
+use std::alloc::{AllocError, Global};
+
+/// Which list the next entry is of.
+enum Turn {
+    /// The next old one does not stand.
+    Skip,
+    /// The next old one alone.
+    Old,
+    /// The next new one alone.
+    New,
+    /// Both have it.
+    Both,
+}
+
+/// Two lists of entries put together.
+#[derive(Debug, Drop)]
+pub struct MergedEntries {
+    /// All entries, ascending.
+    pub entries: Vec<i64>,
+    /// For each old one that still stands its place among all.
+    pub moves: Vec<u32>,
+    /// For each new one its place among all.
+    pub places: Vec<u32>,
+}
+
+/// Which list the next entry is of, after i old and j new ones.
+fn turn_of(old: &[i64], stands: &[bool], new: &[i64], i: usize, j: usize) -> Turn
+    requires flags { length stands.now ≡ length old.now }
+    requires old { i ≤ length old.now }
+    requires new { j ≤ length new.now }
+    requires some { i + j < length old.now + length new.now }
+    ensures { IsTurn old.now stands.now new.now i j result }
+{
+    if i == old.len() {
+        return Turn::New;
+    }
+    if !stands[i] {
+        return Turn::Skip;
+    }
+    if j == new.len() {
+        return Turn::Old;
+    }
+    if old[i] < new[j] {
+        return Turn::Old;
+    }
+    if new[j] < old[i] {
+        return Turn::New;
+    }
+    Turn::Both
+}
+
+/// The old entries that still stand, put together with the new ones.
+pub fn merge_entries(
+    alloc: Global,
+    old: &[i64],
+    stands: &[bool],
+    new: &[i64],
+) -> Result<MergedEntries, AllocError>
+    requires flags { length stands.now ≡ length old.now }
+    requires few { length old.now + length new.now ≤ 2 ^ 31 }
+    requires old { IsAscending old.now }
+    requires new { IsAscending new.now }
+    ensures { IfOk result (λ merged. IsUnion old.now stands.now new.now merged.entries.items merged.moves.items merged.places.items) }
+{
+    let mut entries = Vec::with_capacity(alloc, old.len() + new.len())?;
+    let mut moves = Vec::with_capacity(alloc, old.len())?;
+    let mut places = Vec::with_capacity(alloc, new.len())?;
+    let mut i = 0;
+    let mut j = 0;
+    'merge: while i < old.len() || j < new.len() {
+        let place = entries.len() as u32;
+        match turn_of(old, stands, new, i, j) {
+            Turn::Skip => {
+                moves.push(0)?;
+                i += 1;
+            }
+            Turn::Old => {
+                entries.push(old[i])?;
+                moves.push(place)?;
+                i += 1;
+            }
+            Turn::New => {
+                entries.push(new[j])?;
+                places.push(place)?;
+                j += 1;
+            }
+            Turn::Both => {
+                entries.push(old[i])?;
+                moves.push(place)?;
+                places.push(place)?;
+                i += 1;
+                j += 1;
+            }
+        }
+    }
+    Ok(MergedEntries {
+        entries,
+        moves,
+        places,
+    })
+}

@@ -1,0 +1,97 @@
+//! The distinct integers among cells, and the place of each cell's among them.
+
+ghost use Rattle.std.specs.Prelude.{All, FitsSigned, IfOk, [], length, map, pos, ◌+ℤ◌, ◌^◌, ◌≡◌, ◌≤◌, ◌≤ℤ◌};
+ghost use Rattle.bw_cells.specs.Distances.{distance_from};
+ghost use Rattle.bw_cells.specs.Known.{known};
+ghost use Rattle.bw_code.specs.Encodings.{IsGreatest, IsLeast};
+ghost use Rattle.bw_dictionary.specs.Ranking.{AreRanked};
+
+use bw_cells::Measured;
+use bw_code::Ends;
+use bw_rank::{Ranks, rank};
+use std::alloc::{AllocError, Global};
+
+/// The distinct integers among cells, and the place of each cell's among them: the entries of a dictionary and its codes.
+#[derive(Debug, Drop)]
+pub struct RankedCells {
+    /// The distinct integers, ascending.
+    pub entries: Vec<i64>,
+    /// For each cell the place of its integer among the entries, and 0 for a NULL.
+    pub places: Vec<u32>,
+}
+
+/// The distinct integers among at most 16,777,216 cells, and the place of each cell's among them.
+pub fn rank_cells<C: Measured>(alloc: Global, cells: &C) -> Result<RankedCells, AllocError>
+    requires { length (C.cells cells.now) ≤ 2 ^ 24 }
+    ensures { IfOk result (AreRanked (C.cells cells.now)) }
+{
+    match cells.ends() {
+        Some(ends) => rank_between(alloc, cells, ends),
+        None => rank_nulls(alloc, cells),
+    }
+}
+
+/// No integers, and a place for each NULL.
+fn rank_nulls<C: Measured>(alloc: Global, cells: &C) -> Result<RankedCells, AllocError>
+    requires { known (C.cells cells.now) ≡ [] }
+    ensures { IfOk result (AreRanked (C.cells cells.now)) }
+{
+    Ok(RankedCells {
+        entries: Vec::new(alloc),
+        places: Vec::from_elem(alloc, 0, cells.len())?,
+    })
+}
+
+/// The same of cells with these ends, by their distances from the least. That of a NULL is 0, so it gets no entry of its own.
+fn rank_between<C: Measured>(
+    alloc: Global,
+    cells: &C,
+    ends: Ends,
+) -> Result<RankedCells, AllocError>
+    requires few { length (C.cells cells.now) ≤ 2 ^ 24 }
+    requires least { IsLeast (known (C.cells cells.now)) ends.least }
+    requires greatest { IsGreatest (known (C.cells cells.now)) ends.greatest }
+    ensures { IfOk result (AreRanked (C.cells cells.now)) }
+{
+    let distances = distances_of(alloc, cells, ends.least)?;
+    let Ranks { entries, ranks } = rank(alloc, &distances)?;
+    Ok(RankedCells {
+        entries: values_at(alloc, ends, &entries)?,
+        places: ranks,
+    })
+}
+
+/// How far each cell lies above the base; 0 for a NULL.
+fn distances_of<C: Measured>(alloc: Global, cells: &C, base: i64) -> Result<Vec<u64>, AllocError>
+    ensures { IfOk result (λ distances. distances.items ≡ map (distance_from base) (C.cells cells.now)) }
+{
+    let mut distances = Vec::with_capacity(alloc, cells.len())?;
+    let mut run = [0; 64];
+    let mut at = 0;
+    while at < cells.len() {
+        let n = (cells.len() - at).min(64);
+        cells.distances(at, base, &mut run[..n]);
+        distances.extend_from_slice(&run[..n])?;
+        at += n;
+    }
+    Ok(distances)
+}
+
+/// The integers that lie so far above the least.
+fn values_at(alloc: Global, ends: Ends, distances: &[u64]) -> Result<Vec<i64>, AllocError>
+    requires { All (λ n. (ends.least +ℤ pos n) ≤ℤ ends.greatest) distances.now }
+    ensures { IfOk result (λ values. values.items ≡ map (λ n. ends.least +ℤ pos n) distances.now) }
+{
+    let mut values = Vec::with_capacity(alloc, distances.len())?;
+    'distances: for i in 0..distances.len() {
+        values.push_reserved(value_at(ends, distances[i]));
+    }
+    Ok(values)
+}
+
+fn value_at(ends: Ends, distance: u64) -> i64
+    requires { (ends.least +ℤ pos distance) ≤ℤ ends.greatest }
+    ensures { result ≡ ends.least +ℤ pos distance }
+{
+    ends.least.wrapping_add_unsigned(distance)
+}
