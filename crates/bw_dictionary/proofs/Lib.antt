@@ -1,3 +1,5 @@
 pub mod Below
 pub mod Encoded
+pub mod Moved
 pub mod Union
+pub mod Unique

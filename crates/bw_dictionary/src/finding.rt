@@ -1,6 +1,6 @@
 //! Entries looked for among others.
 
-ghost use Rattle.std.specs.Prelude.{All, Contains, IfOk, IfSome, IsSome, length, pos, slice_index_or, ◌<◌, ◌^◌, ◌↔◌, ◌≤◌, ◌≤ℤ◌};
+ghost use Rattle.std.specs.Prelude.{All, Contains, IfOk, IfSome, IsSome, length, pos, slice_index_or, ◌<◌, ◌↔◌, ◌≤◌, ◌≤ℤ◌};
 ghost use Rattle.bw_code.specs.Ascending.{IsAscending};
 ghost use Rattle.bw_code.specs.Encodings.{AreCodes, entry_code};
 ghost use Rattle.bw_dictionary.specs.Finding.{AreBelow};
@@ -12,8 +12,7 @@ pub fn find_entries(
     alloc: Global,
     entries: &[i64],
     wanted: &[i64],
-) -> Result<Option<Vec<u32>>, AllocError>
-    requires few { length entries.now ≤ 2 ^ 31 }
+) -> Result<Option<Vec<u64>>, AllocError>
     requires entries { IsAscending entries.now }
     requires wanted { IsAscending wanted.now }
     ensures all { IfOk result (λ found. IsSome found ↔ All (Contains entries.now) wanted.now) }
@@ -26,7 +25,7 @@ pub fn find_entries(
         if at == entries.len() || entries[at] != wanted[i] {
             return Ok(None);
         }
-        places.push_reserved(at as u32);
+        places.push_reserved(at as u64);
     }
     Ok(Some(places))
 }
@@ -34,7 +33,6 @@ pub fn find_entries(
 /// The first place from `at` on whose entry is not below an integer, by galloping (Bentley and Yao, 1976), since many wanted
 /// integers lie near each other: by steps that double, and then by bisection of the last.
 fn first_from(entries: &[i64], at: usize, x: i64) -> usize
-    requires few { length entries.now ≤ 2 ^ 31 }
     requires entries { IsAscending entries.now }
     requires inside { at ≤ length entries.now }
     requires before { AreBelow entries.now x at }

@@ -1,6 +1,6 @@
 //! The entries of a dictionary that still stand, put together with new ones.
 
-ghost use Rattle.std.specs.Prelude.{IfOk, length, ◌+◌, ◌<◌, ◌≡◌, ◌≤◌, ◌^◌};
+ghost use Rattle.std.specs.Prelude.{IfOk, length, ◌+◌, ◌<◌, ◌≡◌, ◌≤◌};
 ghost use Rattle.bw_code.specs.Ascending.{IsAscending};
 ghost use Rattle.bw_dictionary.specs.Merging.{IsTurn, IsUnion};
 
@@ -24,9 +24,9 @@ pub struct MergedEntries {
     /// All entries, ascending.
     pub entries: Vec<i64>,
     /// For each old one that still stands its place among all.
-    pub moves: Vec<u32>,
+    pub moves: Vec<u64>,
     /// For each new one its place among all.
-    pub places: Vec<u32>,
+    pub places: Vec<u64>,
 }
 
 /// Which list the next entry is of, after i old and j new ones.
@@ -63,7 +63,6 @@ pub fn merge_entries(
     new: &[i64],
 ) -> Result<MergedEntries, AllocError>
     requires flags { length stands.now ≡ length old.now }
-    requires few { length old.now + length new.now ≤ 2 ^ 31 }
     requires old { IsAscending old.now }
     requires new { IsAscending new.now }
     ensures { IfOk result (λ merged. IsUnion old.now stands.now new.now merged.entries.items merged.moves.items merged.places.items) }
@@ -74,7 +73,7 @@ pub fn merge_entries(
     let mut i = 0;
     let mut j = 0;
     'merge: while i < old.len() || j < new.len() {
-        let place = entries.len() as u32;
+        let place = entries.len() as u64;
         match turn_of(old, stands, new, i, j) {
             Turn::Skip => {
                 moves.push(0)?;

@@ -4,8 +4,10 @@ ghost use Rattle.std.specs.Prelude.{All, FitsSigned, IfOk, [], length, map, pos,
 ghost use Rattle.bw_cells.specs.Distances.{distance_from};
 ghost use Rattle.bw_cells.specs.Known.{known};
 ghost use Rattle.bw_code.specs.Encodings.{IsGreatest, IsLeast};
+ghost use Rattle.bw_dictionary.specs.Moving.{moved_place};
 ghost use Rattle.bw_dictionary.specs.Ranking.{AreRanked};
 
+use crate::standing::move_codes;
 use bw_cells::Measured;
 use bw_code::Ends;
 use bw_rank::{Ranks, rank};
@@ -18,6 +20,53 @@ pub struct RankedCells {
     pub entries: Vec<i64>,
     /// For each cell the place of its integer among the entries, and 0 for a NULL.
     pub places: Vec<u32>,
+}
+
+impl RankedCells {
+    /// The places as codes.
+    pub fn all_codes(&self, alloc: Global) -> Result<Vec<u64>, AllocError>
+        ensures { IfOk result (λ codes. codes.items ≡ self.now.places.items) }
+    {
+        let mut codes = Vec::from_elem(alloc, 0, self.places.len())?;
+        widen(&self.places, &mut codes);
+        Ok(codes)
+    }
+
+    /// The codes of the cells by a table that has one for each entry; that of a NULL is 0.
+    pub fn codes<C: Measured>(
+        &self,
+        alloc: Global,
+        cells: &C,
+        table: &[u64],
+    ) -> Result<Vec<u64>, AllocError>
+        requires ranked { AreRanked (C.cells cells.now) self.now }
+        requires table { length table.now ≡ length self.now.entries.items }
+        ensures { IfOk result (λ codes. codes.items ≡ map (moved_place table.now self.now.entries.items) (C.cells cells.now)) }
+    {
+        let mut codes = Vec::with_capacity(alloc, cells.len())?;
+        let mut list = [0; 64];
+        let mut at = 0;
+        while at < cells.len() {
+            let n = (cells.len() - at).min(64);
+            let run = &mut list[..n];
+            let present = cells.distances(at, 0, run);
+            widen(&self.places[at..at + n], run);
+            move_codes(run, present, table);
+            codes.extend_from_slice(run)?;
+            at += n;
+        }
+        Ok(codes)
+    }
+}
+
+/// Places as codes.
+fn widen(places: &[u32], codes: &mut [u64])
+    requires { length places.now ≡ length codes.old }
+    ensures { codes.new ≡ places.now }
+{
+    'places: for i in 0..places.len() {
+        codes[i] = u64::from(places[i]);
+    }
 }
 
 /// The distinct integers among at most 16,777,216 cells, and the place of each cell's among them.

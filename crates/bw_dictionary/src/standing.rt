@@ -1,0 +1,38 @@
+//! Which places of a dictionary some code has, and codes that move to other places, in runs of at most 64 rows.
+
+ghost use Rattle.std.specs.Prelude.{false, if◌then◌else◌, length, slice_index, slice_index_or, true, ℕ, ◌<◌, ◌↔◌, ◌≡◌, ◌≤◌, ◌⊎◌};
+ghost use Rattle.bw_mask.specs.Masks.{bit_of};
+ghost use Rattle.bw_dictionary.specs.Merging.{StandsAt};
+ghost use Rattle.bw_dictionary.specs.Moving.{IsCodeOf};
+
+use bw_mask::has_bit;
+
+/// Marks the places that the codes of a run have, of those rows whose bit is set.
+pub fn mark_standing(stands: &mut [bool], codes: &[u64], present: u64)
+    requires few { length codes.now ≤ 64 }
+    requires inside { (k : ℕ) → k < length codes.now → bit_of present k ≡ true → slice_index codes.now k < length stands.old }
+    ensures count { length stands.new ≡ length stands.old }
+    ensures marks { (m : ℕ) → StandsAt stands.new m ↔ (StandsAt stands.old m ⊎ IsCodeOf codes.now present (length codes.now) m) }
+{
+    'codes: for i in 0..codes.len() {
+        if has_bit(present, i) {
+            stands[codes[i] as usize] = true;
+        }
+    }
+}
+
+/// Each code of a run becomes what the table has in its place, and 0 where the row's bit isn't set.
+pub fn move_codes(codes: &mut [u64], present: u64, moves: &[u64])
+    requires few { length codes.old ≤ 64 }
+    requires inside { (k : ℕ) → k < length codes.old → bit_of present k ≡ true → slice_index codes.old k < length moves.now }
+    ensures count { length codes.new ≡ length codes.old }
+    ensures each { (k : ℕ) → k < length codes.old → slice_index codes.new k ≡ (if bit_of present k then slice_index moves.now (slice_index codes.old k) else 0) }
+{
+    'codes: for i in 0..codes.len() {
+        codes[i] = if has_bit(present, i) {
+            moves[codes[i] as usize]
+        } else {
+            0
+        };
+    }
+}
