@@ -6,6 +6,7 @@ pub mod Chosen
 pub mod Extremes
 pub mod Filled
 pub mod Flat
+pub mod Grown
 pub mod Held
 pub mod Known
 pub mod Listed
@@ -23,4 +24,5 @@ pub mod Scans
 pub mod Shifting
 pub mod Spanned
 pub mod Spreads
+pub mod Standing
 pub mod Told

@@ -5,6 +5,7 @@ pub mod Extremes
 pub mod Copies
 pub mod Costs
 pub mod Keeping
+pub mod Moves
 pub mod Places
 pub mod PlaneSources
 pub mod Planes

@@ -2,29 +2,18 @@
 
 ghost use Rattle.std.specs.Prelude.{[], All, IfOk, OnOk, is_some, length, map, ℕ, ◌++◌, ◌+◌, ◌<◌, ◌^◌, ◌≡◌, ◌≤◌};
 ghost use Rattle.bw_code.specs.Encodings.{IsFit, kind_of, width};
+ghost use Rattle.bw_code.specs.declared.kind.Kind.TheVariants as kinds;
 ghost use Rattle.bw_column.specs.Codes.{IsCoded, codes_for};
 ghost use Rattle.bw_column.specs.Columns.{Keeps};
 ghost use Rattle.bw_column.specs.Values.{IsNullOrHeld, known, widest};
 
 use crate::column::Column;
 use crate::storage::Codes;
-use crate::telling::tell_cells;
 use bw_cells::Measured;
-use bw_code::{Encoding, Fitting, Kind, Layout};
+use bw_code::{Encoding, Kind, Layout, Offset};
+use bw_dictionary::{dictionary_of, rank_cells};
 use bw_mask::Mask;
 use std::alloc::{AllocError, Global};
-
-/// The encoding of a kind that fits the values which are not null.
-fn encoding_of<C: Measured>(alloc: Global, values: &C, kind: Kind) -> Result<Encoding, AllocError>
-    requires few { length (C.cells values.now) ≤ 2 ^ 24 }
-    ensures fits { IfOk result (IsFit (known (C.cells values.now))) }
-    ensures kind { IfOk result (λ e. kind_of e ≡ kind) }
-    ensures coded { IfOk result (λ e. All (IsCoded e) (C.cells values.now)) }
-{
-    let mut fitting = Fitting::new(alloc, kind, values.len())?;
-    tell_cells(&mut fitting, values)?;
-    fitting.encoding(alloc)
-}
 
 impl Column {
     /// A column without values, and room for so many.
@@ -66,9 +55,50 @@ impl Column {
         ensures fits { IfOk result (λ c. IsFit (known (C.cells values.now)) c.encoding) }
         ensures kind { IfOk result (λ c. kind_of c.encoding ≡ kind) }
     {
-        let encoding = encoding_of(alloc, values, kind)?;
+        match kind {
+            Kind::Offset => Column::build_measured(alloc, values, layout),
+            Kind::Dictionary => Column::build_ranked(alloc, values, layout),
+        }
+    }
+
+    /// A column of these values by their distances from the least.
+    fn build_measured<C: Measured>(
+        alloc: Global,
+        values: &C,
+        layout: Layout,
+    ) -> Result<Column, AllocError>
+        requires held { All (IsNullOrHeld layout) (C.cells values.now) }
+        requires few { length (C.cells values.now) ≤ 2 ^ 24 }
+        ensures values { IfOk result (λ c. c.values ≡ C.cells values.now) }
+        ensures layout { IfOk result (λ c. c.layout ≡ layout) }
+        ensures fits { IfOk result (λ c. IsFit (known (C.cells values.now)) c.encoding) }
+        ensures kind { IfOk result (λ c. kind_of c.encoding ≡ kinds.Offset) }
+    {
+        let offset = Offset::spanning(values.ends());
+        let encoding = Encoding::Offset(offset);
         let mut column = Column::with_room(alloc, layout, encoding, values.len())?;
         column.extend_from(values);
+        Ok(column)
+    }
+
+    /// A column of these values by their places among the distinct ones, which are found together.
+    fn build_ranked<C: Measured>(
+        alloc: Global,
+        values: &C,
+        layout: Layout,
+    ) -> Result<Column, AllocError>
+        requires held { All (IsNullOrHeld layout) (C.cells values.now) }
+        requires few { length (C.cells values.now) ≤ 2 ^ 24 }
+        ensures values { IfOk result (λ c. c.values ≡ C.cells values.now) }
+        ensures layout { IfOk result (λ c. c.layout ≡ layout) }
+        ensures fits { IfOk result (λ c. IsFit (known (C.cells values.now)) c.encoding) }
+        ensures kind { IfOk result (λ c. kind_of c.encoding ≡ kinds.Dictionary) }
+    {
+        let ranked = rank_cells(alloc, values)?;
+        let encoding = dictionary_of(alloc, &ranked.entries)?;
+        let codes = ranked.all_codes(alloc)?;
+        let mut column = Column::with_room(alloc, layout, encoding, values.len())?;
+        column.extend_with(values, &codes);
         Ok(column)
     }
 

@@ -2,6 +2,7 @@
 
 ghost use Rattle.std.specs.Prelude.{All, IfOk, OnOk, count_by, true, false, length, ℕ, ◌++◌, ◌+◌, ◌<◌, ◌^◌, ◌≡◌, ◌≤◌};
 ghost use Rattle.bw_code.specs.Encodings.{IsFit, kind_of, width};
+ghost use Rattle.bw_code.specs.declared.kind.Kind.TheVariants as kinds;
 ghost use Rattle.bw_mask.specs.Masks.{len};
 ghost use Rattle.bw_column.specs.Codes.{IsCoded, codes_for};
 ghost use Rattle.bw_column.specs.Columns.{Keeps};
@@ -11,9 +12,12 @@ ghost use Rattle.bw_column.specs.Preparing.{IsEncodingFor, IsPreparedFor, more};
 ghost use Rattle.bw_column.specs.Values.{IsNullOrHeld, known};
 
 use crate::column::Column;
-use crate::kept::{KeptCodes, find_codes, keep_codes};
+use crate::growing::Grown;
+use crate::kept::{KeptCodes, are_coded, find_codes};
 use crate::step::Step;
 use bw_cells::{Cells, Measured};
+use bw_code::Kind;
+use bw_dictionary::rank_cells;
 use bw_mask::Mask;
 use std::alloc::{AllocError, Global};
 use std::marker::Model;
@@ -57,15 +61,60 @@ impl Column {
         ensures prepared { IfOk result (IsPreparedFor self.new (C.cells values.now) grow) }
         ensures keeps { Keeps self.new self.old }
     {
+        match self.kind() {
+            Kind::Offset => self.room_measured(alloc, values, grow),
+            Kind::Dictionary => self.room_ranked(alloc, values, grow),
+        }
+    }
+
+    /// The same of a column of distances from a base.
+    fn room_measured<C: Measured>(
+        &mut self,
+        alloc: Global,
+        values: &C,
+        grow: bool,
+    ) -> Result<Prepared, AllocError>
+        requires held { All (IsNullOrHeld self.old.layout) (C.cells values.now) }
+        requires some { length (C.cells values.now) ≤ 2 ^ 24 }
+        requires few { length self.old.values + more grow (C.cells values.now) ≤ 2 ^ 24 }
+        ensures prepared { IfOk result (IsPreparedFor self.new (C.cells values.now) grow) }
+        ensures keeps { Keeps self.new self.old }
+    {
         let more = count_more(values, grow);
-        if let Some(codes) = find_codes(alloc, &self.encoding, values)? {
+        let codes = KeptCodes::Distances;
+        if are_coded(&self.encoding, values) {
             self.reserve(more)?;
             let step = Step::Stay;
             return Ok(Prepared { step, codes });
         }
-        let encoding = self.encoding_with(alloc, values)?;
-        let codes = keep_codes(alloc, &encoding, values)?;
-        let step = self.step_to(alloc, encoding, more)?;
+        let step = self.step_with(alloc, values, more)?;
+        Ok(Prepared { step, codes })
+    }
+
+    /// The same of a column in a dictionary: which integers the values have, and which of them is each, is found together.
+    fn room_ranked<C: Measured>(
+        &mut self,
+        alloc: Global,
+        values: &C,
+        grow: bool,
+    ) -> Result<Prepared, AllocError>
+        requires kind { kind_of self.old.encoding ≡ kinds.Dictionary }
+        requires held { All (IsNullOrHeld self.old.layout) (C.cells values.now) }
+        requires some { length (C.cells values.now) ≤ 2 ^ 24 }
+        requires few { length self.old.values + more grow (C.cells values.now) ≤ 2 ^ 24 }
+        ensures prepared { IfOk result (IsPreparedFor self.new (C.cells values.now) grow) }
+        ensures keeps { Keeps self.new self.old }
+    {
+        let more = count_more(values, grow);
+        let ranked = rank_cells(alloc, values)?;
+        if let Some(codes) = find_codes(alloc, &self.encoding, values, &ranked)? {
+            self.reserve(more)?;
+            let step = Step::Stay;
+            return Ok(Prepared { step, codes });
+        }
+        let Grown { column, codes } = self.grown(alloc, values, &ranked, more)?;
+        let codes = KeptCodes::Places(ranked.codes(alloc, values, &codes)?);
+        let step = Step::Replace(column);
         Ok(Prepared { step, codes })
     }
 

@@ -135,8 +135,7 @@ impl Column {
             let step = Step::Stay;
             return Ok(Prepared { step, codes });
         }
-        let encoding = self.encoding_with(alloc, copy)?;
-        let step = self.step_to(alloc, encoding, 0)?;
+        let step = self.step_with(alloc, copy, 0)?;
         Ok(Prepared { step, codes })
     }
 

@@ -112,8 +112,7 @@ impl Column {
             return Ok(Prepared { step, codes });
         }
         let one = [value];
-        let encoding = self.encoding_with(alloc, &one.as_slice())?;
-        let step = self.step_to(alloc, encoding, 0)?;
+        let step = self.step_with(alloc, &one.as_slice(), 0)?;
         Ok(Prepared { step, codes })
     }
 }

@@ -2,13 +2,17 @@
 
 ghost use Rattle.std.specs.Bool.{OnTrue};
 ghost use Rattle.std.specs.Prelude.{All, IfOk, IfSome, IsSome, IsTrue, drop, length, slice_index, slice_index_or, take, None, Option, ℤ, ◌+◌, ◌<◌, ◌↔◌, ◌≡◌, ◌≤◌};
+ghost use Rattle.bw_code.specs.Encodings.{IsEncoding, kind_of};
+ghost use Rattle.bw_code.specs.declared.kind.Kind.TheVariants as kinds;
+ghost use Rattle.bw_dictionary.specs.Ranking.{AreRanked};
 ghost use Rattle.bw_column.specs.Codes.{IsCoded, code_for, codes_for};
 ghost use Rattle.bw_column.specs.Keeping.{AreKept};
 ghost use Rattle.bw_column.specs.Values.{value_at};
 
 use crate::codes::{code_of, encode_all};
-use bw_cells::Cells;
+use bw_cells::{Cells, Measured};
 use bw_code::Encoding;
+use bw_dictionary::{RankedCells, find_entries};
 use std::alloc::{AllocError, Global};
 
 /// The codes of cells. Only those of a DICTIONARY are kept: each was looked for in its list.
@@ -36,7 +40,7 @@ impl KeptCodes {
 }
 
 /// Whether each of the cells has a code.
-fn are_coded<C: Cells>(encoding: &Encoding, cells: &C) -> bool
+pub(crate) fn are_coded<C: Cells>(encoding: &Encoding, cells: &C) -> bool
     ensures { IsTrue result ↔ All (IsCoded encoding.now) (C.cells cells.now) }
 {
     let mut run = [None; 64];
@@ -53,68 +57,25 @@ fn are_coded<C: Cells>(encoding: &Encoding, cells: &C) -> bool
     true
 }
 
-/// The codes of the cells, if each of them has one.
-pub(crate) fn find_codes<C: Cells>(
+/// The codes of cells by a dictionary, if each of them has one.
+pub(crate) fn find_codes<C: Measured>(
     alloc: Global,
     encoding: &Encoding,
     cells: &C,
+    ranked: &RankedCells,
 ) -> Result<Option<KeptCodes>, AllocError>
+    requires ranked { AreRanked (C.cells cells.now) ranked.now }
+    requires kind { kind_of encoding.now ≡ kinds.Dictionary }
+    requires sound { IsEncoding encoding.now }
     ensures all { IfOk result (λ found. IsSome found ↔ All (IsCoded encoding.now) (C.cells cells.now)) }
     ensures kept { IfOk result (λ found. IfSome found (AreKept (codes_for encoding.now (C.cells cells.now)))) }
 {
-    match encoding {
-        Encoding::Offset(_) => {
-            if are_coded(encoding, cells) {
-                Ok(Some(KeptCodes::Distances))
-            } else {
-                Ok(None)
-            }
-        }
-        Encoding::Dictionary(_) => find_places(alloc, encoding, cells),
-    }
-}
-
-/// The codes of the cells, kept, if each of them has one.
-fn find_places<C: Cells>(
-    alloc: Global,
-    encoding: &Encoding,
-    cells: &C,
-) -> Result<Option<KeptCodes>, AllocError>
-    ensures all { IfOk result (λ found. IsSome found ↔ All (IsCoded encoding.now) (C.cells cells.now)) }
-    ensures kept { IfOk result (λ found. IfSome found (AreKept (codes_for encoding.now (C.cells cells.now)))) }
-{
-    let mut places = Vec::with_capacity(alloc, cells.len())?;
-    let mut run = [None; 64];
-    let mut codes = [0; 64];
-    let mut at = 0;
-    while at < cells.len() {
-        let n = (cells.len() - at).min(64);
-        cells.read(at, &mut run[..n]);
-        if !encode_all(encoding, &run[..n], &mut codes[..n]) {
-            return Ok(None);
-        }
-        places.extend_from_slice(&codes[..n])?;
-        at += n;
-    }
-    Ok(Some(KeptCodes::Places(places)))
-}
-
-/// The codes of cells of which each has one.
-pub(crate) fn keep_codes<C: Cells>(
-    alloc: Global,
-    encoding: &Encoding,
-    cells: &C,
-) -> Result<KeptCodes, AllocError>
-    requires { All (IsCoded encoding.now) (C.cells cells.now) }
-    ensures { IfOk result (AreKept (codes_for encoding.now (C.cells cells.now))) }
-{
-    match encoding {
-        Encoding::Offset(_) => Ok(KeptCodes::Distances),
-        Encoding::Dictionary(_) => {
-            let Some(codes) = find_places(alloc, encoding, cells)? else {
-                unreachable!()
-            };
-            Ok(codes)
-        }
-    }
+    let Encoding::Dictionary(dictionary) = encoding else {
+        unreachable!()
+    };
+    let Some(table) = find_entries(alloc, dictionary.entries(), &ranked.entries)? else {
+        return Ok(None);
+    };
+    let codes = ranked.codes(alloc, cells, &table)?;
+    Ok(Some(KeptCodes::Places(codes)))
 }

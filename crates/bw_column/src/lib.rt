@@ -13,6 +13,7 @@ mod distances;
 mod ends;
 mod extending;
 mod filling;
+mod growing;
 mod kept;
 mod pair_codes;
 mod pairs;
@@ -22,7 +23,6 @@ mod runs;
 mod split;
 mod step;
 mod storage;
-mod telling;
 
 pub use change::Prepared;
 pub use column::Column;

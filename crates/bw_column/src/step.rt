@@ -3,9 +3,8 @@
 ghost use Rattle.std.specs.Bool.{OnTrue};
 ghost use Rattle.std.specs.Prelude.{All, IfOk, length, ◌++◌, ◌+◌, ◌^◌, ◌≡◌, ◌≤◌};
 ghost use Rattle.bw_code.specs.Encodings.{IsFit, kind_of, width};
-ghost use Rattle.bw_code.specs.Fittings.{AreTold, told_kind};
 ghost use Rattle.bw_code.specs.declared.encoding.Encoding.TheVariants as by;
-ghost use Rattle.bw_code.specs.declared.kind.Kind.TheVariants as kind;
+ghost use Rattle.bw_code.specs.declared.kind.Kind.TheVariants as kinds;
 ghost use Rattle.bw_column.specs.Codes.{IsCoded};
 ghost use Rattle.bw_column.specs.Columns.{Keeps};
 ghost use Rattle.bw_column.specs.Preparing.{CanTake, after};
@@ -13,9 +12,9 @@ ghost use Rattle.bw_column.specs.Storing.{ShiftsTo};
 ghost use Rattle.bw_column.specs.Values.{IsNullOrHeld, known, widest};
 
 use crate::column::Column;
-use crate::telling::{tell_cells, tell_runs};
-use bw_cells::Measured;
-use bw_code::{Encoding, Fitting, Kind, Layout, Offset};
+use bw_cells::{Measured, ends_of_both};
+use bw_code::{Encoding, Kind, Layout, Offset};
+use bw_dictionary::rank_cells;
 use std::alloc::{AllocError, Global};
 
 /// What a column does before it takes values, so that each of them has a code.
@@ -30,51 +29,63 @@ pub(crate) enum Step {
 }
 
 impl Column {
-    /// The column's own values that are not null, told. Of all values so many can be told before a dictionary's list
-    /// grows.
-    fn told(&self, alloc: Global, room: usize) -> Result<Fitting, AllocError>
-        ensures told { IfOk result (AreTold (known self.now.values)) }
-        ensures kind { IfOk result (λ f. told_kind f ≡ kind_of self.now.encoding) }
+    /// The offset that spans the column's values and these.
+    fn offset_with<C: Measured>(&self, values: &C) -> Offset
+        requires kind { kind_of self.now.encoding ≡ kinds.Offset }
+        requires held { All (IsNullOrHeld self.now.layout) (C.cells values.now) }
+        ensures fits { IsFit (known (self.now.values ++ C.cells values.now)) (by.Offset result) }
+        ensures own { All (IsCoded (by.Offset result)) self.now.values }
+        ensures coded { All (IsCoded (by.Offset result)) (C.cells values.now) }
+        ensures narrow { result.width ≤ widest self.now.layout }
+    {
+        let _held = self.len();
+        Offset::spanning(ends_of_both(self.ends(), values.ends()))
+    }
+
+    /// The step to the encoding of the column's kind that fits its values and these, and room for so many values more. The column
+    /// keeps its values, layout and encoding, also where memory is wanting.
+    pub(crate) fn step_with<C: Measured>(
+        &mut self,
+        alloc: Global,
+        values: &C,
+        more: usize,
+    ) -> Result<Step, AllocError>
+        requires held { All (IsNullOrHeld self.old.layout) (C.cells values.now) }
+        requires some { length (C.cells values.now) ≤ 2 ^ 24 }
+        requires few { length self.old.values + more ≤ 2 ^ 24 }
+        ensures can { IfOk result (CanTake self.new) }
+        ensures values { IfOk result (λ step. (after self.new step).values ≡ self.old.values) }
+        ensures layout { IfOk result (λ step. (after self.new step).layout ≡ self.old.layout) }
+        ensures fits { IfOk result (λ step. IsFit (known (self.old.values ++ C.cells values.now)) (after self.new step).encoding) }
+        ensures kind { IfOk result (λ step. kind_of (after self.new step).encoding ≡ kind_of self.old.encoding) }
+        ensures coded { IfOk result (λ step. All (IsCoded (after self.new step).encoding) (C.cells values.now)) }
+        ensures room { IfOk result (λ step. length self.old.values + more ≤ (after self.new step).room) }
+        ensures keeps { Keeps self.new self.old }
     {
         match self.kind() {
-            Kind::Offset => Ok(Fitting::Offset(self.ends())),
+            Kind::Offset => {
+                let offset = self.offset_with(values);
+                self.step_to(alloc, offset, more)
+            }
             Kind::Dictionary => {
-                let mut fitting = Fitting::new(alloc, Kind::Dictionary, room)?;
-                tell_runs(&mut fitting, self)?;
-                Ok(fitting)
+                let ranked = rank_cells(alloc, values)?;
+                let grown = self.grown(alloc, values, &ranked, more)?;
+                Ok(Step::Replace(grown.column))
             }
         }
     }
 
-    /// The encoding of the column's kind that fits its values and these.
-    pub(crate) fn encoding_with<C: Measured>(
-        &self,
-        alloc: Global,
-        values: &C,
-    ) -> Result<Encoding, AllocError>
-        requires held { All (IsNullOrHeld self.now.layout) (C.cells values.now) }
-        requires some { length (C.cells values.now) ≤ 2 ^ 24 }
-        ensures fits { IfOk result (IsFit (known (self.now.values ++ C.cells values.now))) }
-        ensures kind { IfOk result (λ e. kind_of e ≡ kind_of self.now.encoding) }
-        ensures own { IfOk result (λ e. All (IsCoded e) self.now.values) }
-        ensures coded { IfOk result (λ e. All (IsCoded e) (C.cells values.now)) }
-        ensures narrow { IfOk result (λ e. width e ≤ widest self.now.layout) }
-    {
-        let mut fitting = self.told(alloc, self.len() + values.len())?;
-        tell_cells(&mut fitting, values)?;
-        fitting.encoding(alloc)
-    }
-
-    /// The same values in another encoding, and room for so many values more.
-    fn anew(&self, alloc: Global, encoding: Encoding, more: usize) -> Result<Column, AllocError>
-        requires coded { All (IsCoded encoding) self.now.values }
-        requires narrow { width encoding ≤ widest self.now.layout }
+    /// The same values by another offset, and room for so many values more.
+    fn anew(&self, alloc: Global, offset: Offset, more: usize) -> Result<Column, AllocError>
+        requires coded { All (IsCoded (by.Offset offset)) self.now.values }
+        requires narrow { offset.width ≤ widest self.now.layout }
         requires few { length self.now.values + more ≤ 2 ^ 24 }
         ensures values { IfOk result (λ c. c.values ≡ self.now.values) }
         ensures layout { IfOk result (λ c. c.layout ≡ self.now.layout) }
-        ensures encoding { IfOk result (λ c. c.encoding ≡ encoding) }
+        ensures encoding { IfOk result (λ c. c.encoding ≡ by.Offset offset) }
         ensures room { IfOk result (λ c. length self.now.values + more ≤ c.room) }
     {
+        let encoding = Encoding::Offset(offset);
         let mut column = Column::with_room(alloc, self.layout(), encoding, self.len() + more)?;
         column.extend_from(self);
         Ok(column)
@@ -91,32 +102,25 @@ impl Column {
         }
     }
 
-    /// The step to an encoding of the column's kind, and room for so many values more. Codes that can be shifted
-    /// take no second column. The column keeps its values, layout and encoding, also where memory is wanting.
-    pub(crate) fn step_to(
-        &mut self,
-        alloc: Global,
-        encoding: Encoding,
-        more: usize,
-    ) -> Result<Step, AllocError>
-        requires kind { kind_of encoding ≡ kind_of self.old.encoding }
-        requires coded { All (IsCoded encoding) self.old.values }
-        requires narrow { width encoding ≤ widest self.old.layout }
+    /// The step to another offset, and room for so many values more. Codes that can be shifted take no second column. The
+    /// column keeps its values, layout and encoding, also where memory is wanting.
+    fn step_to(&mut self, alloc: Global, offset: Offset, more: usize) -> Result<Step, AllocError>
+        requires kind { kind_of self.old.encoding ≡ kinds.Offset }
+        requires coded { All (IsCoded (by.Offset offset)) self.old.values }
+        requires narrow { offset.width ≤ widest self.old.layout }
         requires few { length self.old.values + more ≤ 2 ^ 24 }
         ensures can { IfOk result (CanTake self.new) }
         ensures values { IfOk result (λ step. (after self.new step).values ≡ self.old.values) }
         ensures layout { IfOk result (λ step. (after self.new step).layout ≡ self.old.layout) }
-        ensures encoding { IfOk result (λ step. (after self.new step).encoding ≡ encoding) }
+        ensures encoding { IfOk result (λ step. (after self.new step).encoding ≡ by.Offset offset) }
         ensures room { IfOk result (λ step. length self.old.values + more ≤ (after self.new step).room) }
         ensures keeps { Keeps self.new self.old }
     {
-        match encoding {
-            Encoding::Offset(offset) if self.shifts_to(offset.width) => {
-                self.reserve(more)?;
-                Ok(Step::Shift(offset))
-            }
-            other => Ok(Step::Replace(self.anew(alloc, other, more)?)),
+        if self.shifts_to(offset.width) {
+            self.reserve(more)?;
+            return Ok(Step::Shift(offset));
         }
+        Ok(Step::Replace(self.anew(alloc, offset, more)?))
     }
 
     /// Counts the codes, which are distances from a base, from another base.

@@ -16,7 +16,7 @@ use Rattle.bw_rank.specs.Ranks.{AreRanks}
 use Rattle.bw_dictionary.specs.Ranking.{place_of}
 
 -- each of the known is a cell
-cell_of : (cells : List (Option ℤ)) (x : ℤ) (k : ℕ) → k < length (known cells) → get_or (known cells) k x ≡ x → (j : ℕ) × (j < length cells) × (get_or cells j None ≡ Some x)
+pub cell_of : (cells : List (Option ℤ)) (x : ℤ) (k : ℕ) → k < length (known cells) → get_or (known cells) k x ≡ x → (j : ℕ) × (j < length cells) × (get_or cells j None ≡ Some x)
 cell_of [] x k h e = absurd (omega (arith, h))
 cell_of (Some y ∷ cells) x zero h e = (0, omega arith, ap Some e)
 cell_of (Some y ∷ cells) x (suc k) h e = let rest = cell_of cells x k (omega (arith, h)) e in (suc rest.0, omega (arith, rest.1), rest.2)

@@ -1,0 +1,58 @@
+use Rattle.std.proofs.Common.{List, ap, length, refl, sym, ℕ, ℤ, ◌++◌, ◌≡◌, ◌∙◌}
+use Rattle.std.specs.Prelude.{Contains, ◌↔◌}
+use Rattle.bw_code.specs.Ascending.{IsAscending}
+use Rattle.bw_code.specs.Encodings.{AreDistinct, IsFit}
+use Rattle.bw_code.specs.declared.encoding.Encoding.TheVariants as by
+use Rattle.bw_dictionary.specs.Merging.{IsUnion, StandsIn}
+use Rattle.bw_column.specs.Values.{known}
+use Rattle.bw_column.proofs.Grown.{moves_are, places_are, union_fits}
+use Rattle.bw_column.proofs.Narrow.{held_of_both, narrow}
+use Rattle.bw_column.proofs.column.Column.grown.Goals as goal
+
+pub moved-requires-clause-moved : goal.moved-requires-clause-moved
+moved-requires-clause-moved g c =
+    let own = c.args.self.now.values in
+    let cells = g.C.Cells.cells c.args.cells.now in
+    let merged = c.in_ok-entries.field-0 in
+    let stand : (x : ℤ) → (StandsIn c.in-Dictionary.own c.in_ok-stands.stands.items x ↔ Contains (known own) x) = rw c.entries-entries.ensures.is at c.in_ok-stands.ensures.stands in
+    let up : IsAscending c.in-Dictionary.own = c.entries-entries.ensures.ascending in
+    let put : IsUnion c.in-Dictionary.own c.in_ok-stands.stands.items c.args.ranked.now.entries.items merged.entries.items merged.moves.items merged.places.items = rw (c.entries-entries.ensures.is, c.deref.ensures.value, c.deref-2.ensures.value) at c.in_ok-entries.ensures in
+    let from : c.args.self.now.encoding ≡ by.Dictionary c.in-Dictionary.own = rw (← c.self.view_is) c.in-Dictionary.is in
+    let e : c.in_ok-encoding.encoding ≡ by.Dictionary merged.entries.items = c.in_ok-encoding.ensures ∙ ap by.Dictionary c.deref-3.ensures.value in
+    rw (from, e, c.deref-4.ensures.value) (moves_are c.in-Dictionary.own c.in_ok-stands.stands.items c.args.ranked.now.entries.items merged.entries.items merged.moves.items merged.places.items up put own cells stand c.requires.ranked.entries)
+
+pub moved-requires-clause-narrow : goal.moved-requires-clause-narrow
+moved-requires-clause-narrow g c =
+    let l = c.args.self.now.layout in
+    let own = c.args.self.now.values in
+    let cells = g.C.Cells.cells c.args.cells.now in
+    let merged = c.in_ok-entries.field-0 in
+    let stand : (x : ℤ) → (StandsIn c.in-Dictionary.own c.in_ok-stands.stands.items x ↔ Contains (known own) x) = rw c.entries-entries.ensures.is at c.in_ok-stands.ensures.stands in
+    let up : IsAscending c.in-Dictionary.own = c.entries-entries.ensures.ascending in
+    let put : IsUnion c.in-Dictionary.own c.in_ok-stands.stands.items c.args.ranked.now.entries.items merged.entries.items merged.moves.items merged.places.items = rw (c.entries-entries.ensures.is, c.deref.ensures.value, c.deref-2.ensures.value) at c.in_ok-entries.ensures in
+    let fits = union_fits c.in-Dictionary.own c.in_ok-stands.stands.items c.args.ranked.now.entries.items merged.entries.items merged.moves.items merged.places.items up put own cells stand c.requires.ranked.entries in
+    let e : c.in_ok-encoding.encoding ≡ by.Dictionary merged.entries.items = c.in_ok-encoding.ensures ∙ ap by.Dictionary c.deref-3.ensures.value in
+    rw e (narrow l (known (own ++ cells)) (by.Dictionary merged.entries.items) (held_of_both l own cells (known (own ++ cells)) refl c.len-held.ensures.held c.requires.held) fits)
+
+pub returns-clause-fits : goal.returns-clause-fits
+returns-clause-fits g c =
+    let own = c.args.self.now.values in
+    let cells = g.C.Cells.cells c.args.cells.now in
+    let merged = c.in_ok-entries.field-0 in
+    let stand : (x : ℤ) → (StandsIn c.in-Dictionary.own c.in_ok-stands.stands.items x ↔ Contains (known own) x) = rw c.entries-entries.ensures.is at c.in_ok-stands.ensures.stands in
+    let up : IsAscending c.in-Dictionary.own = c.entries-entries.ensures.ascending in
+    let put : IsUnion c.in-Dictionary.own c.in_ok-stands.stands.items c.args.ranked.now.entries.items merged.entries.items merged.moves.items merged.places.items = rw (c.entries-entries.ensures.is, c.deref.ensures.value, c.deref-2.ensures.value) at c.in_ok-entries.ensures in
+    let fits = union_fits c.in-Dictionary.own c.in_ok-stands.stands.items c.args.ranked.now.entries.items merged.entries.items merged.moves.items merged.places.items up put own cells stand c.requires.ranked.entries in
+    let e : c.in_ok-column.column.encoding ≡ by.Dictionary merged.entries.items = c.in_ok-column.ensures.encoding ∙ c.in_ok-encoding.ensures ∙ ap by.Dictionary c.deref-3.ensures.value in
+    rw e fits
+
+pub returns-clause-codes : goal.returns-clause-codes
+returns-clause-codes g c =
+    let own = c.args.self.now.values in
+    let cells = g.C.Cells.cells c.args.cells.now in
+    let merged = c.in_ok-entries.field-0 in
+    let stand : (x : ℤ) → (StandsIn c.in-Dictionary.own c.in_ok-stands.stands.items x ↔ Contains (known own) x) = rw c.entries-entries.ensures.is at c.in_ok-stands.ensures.stands in
+    let up : IsAscending c.in-Dictionary.own = c.entries-entries.ensures.ascending in
+    let put : IsUnion c.in-Dictionary.own c.in_ok-stands.stands.items c.args.ranked.now.entries.items merged.entries.items merged.moves.items merged.places.items = rw (c.entries-entries.ensures.is, c.deref.ensures.value, c.deref-2.ensures.value) at c.in_ok-entries.ensures in
+    let e : c.in_ok-column.column.encoding ≡ by.Dictionary merged.entries.items = c.in_ok-column.ensures.encoding ∙ c.in_ok-encoding.ensures ∙ ap by.Dictionary c.deref-3.ensures.value in
+    rw e (places_are c.in-Dictionary.own c.in_ok-stands.stands.items c.args.ranked.now.entries.items merged.entries.items merged.moves.items merged.places.items up put own cells stand c.requires.ranked.entries)

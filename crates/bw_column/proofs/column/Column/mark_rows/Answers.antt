@@ -1,0 +1,74 @@
+use Rattle.std.proofs.Common.{All, None, arith, drop, get_or, inl, inr, is_some, length, length-take-le, sym, take, ℕ, ◌+◌, ◌≡◌, ◌≤◌, ◌∙◌, ◌⊎◌}
+use Rattle.std.specs.Prelude.{◌↔◌}
+use Rattle.bw_mask.specs.Masks.{bit_of}
+use Rattle.bw_code.specs.Encodings.{IsEncoding}
+use Rattle.bw_code.specs.declared.encoding.Encoding.TheVariants as by
+use Rattle.bw_dictionary.specs.Merging.{StandsAt}
+use Rattle.bw_column.specs.Codes.{IsCoded, codes_for}
+use Rattle.bw_column.proofs.Standing.{HasCodeTo, marked_more, run_inside, stand_in}
+use Rattle.bw_column.proofs.column.Column.mark_rows.Goals as goal
+
+pub mark_standing-requires-clause-inside : goal.mark_standing-requires-clause-inside
+mark_standing-requires-clause-inside c =
+    let entries = c.args.entries.now in
+    let e = by.Dictionary entries in
+    let values = c.args.self.now.values in
+    let at = c.loop-at.at in
+    let n = c.min-n.result in
+    let i = c.loop-at.invariant in
+    let sound : IsEncoding e = rw c.requires.encoding at c.encoding-sound.ensures.sound in
+    let coded : All (IsCoded e) values = rw c.requires.encoding at c.encoding-sound.ensures.coded in
+    let inside : at + n ≤ length values = omega (arith, c.min-n.ensures, c.len-in-loop-at.ensures.count, i.at) in
+    let long : length (take n c.loop-at.list) ≡ n = length-take-le n c.loop-at.list (omega (arith, c.min-n.ensures, c.min-n.array_long)) in
+    let run : c.read_codes-present.new.codes ≡ take n (drop at (codes_for e values)) = rw (long, c.requires.encoding) at c.read_codes-present.ensures.codes in
+    let bits : (i : ℕ) → bit_of c.read_codes-present.result i ≡ is_some (get_or (take n (drop at values)) i None) = rw long at c.read_codes-present.ensures.present in
+    rw i.count (run_inside entries sound values coded at n c.read_codes-present.new.codes c.read_codes-present.result inside run bits)
+
+pub loop-at-init : goal.loop-at-init
+loop-at-init c = record {
+  at = omega arith;
+  count = c.requires.count;
+  marks = λ m. (λ h. absurd (c.requires.none m h), λ h. absurd (omega (arith, h.1)));
+}
+
+pub loop-at-preserved : goal.loop-at-preserved
+loop-at-preserved c =
+    let entries = c.args.entries.now in
+    let e = by.Dictionary entries in
+    let values = c.args.self.now.values in
+    let at = c.loop-at.at in
+    let n = c.min-n.result in
+    let i = c.loop-at.invariant in
+    let sound : IsEncoding e = rw c.requires.encoding at c.encoding-sound.ensures.sound in
+    let coded : All (IsCoded e) values = rw c.requires.encoding at c.encoding-sound.ensures.coded in
+    let inside : at + n ≤ length values = omega (arith, c.min-n.ensures, c.len-in-loop-at.ensures.count, i.at) in
+    let long : length (take n c.loop-at.list) ≡ n = length-take-le n c.loop-at.list (omega (arith, c.min-n.ensures, c.min-n.array_long)) in
+    let run : c.read_codes-present.new.codes ≡ take n (drop at (codes_for e values)) = rw (long, c.requires.encoding) at c.read_codes-present.ensures.codes in
+    let bits : (i : ℕ) → bit_of c.read_codes-present.result i ≡ is_some (get_or (take n (drop at values)) i None) = rw long at c.read_codes-present.ensures.present in
+    let more = marked_more e sound values coded at n c.read_codes-present.new.codes c.read_codes-present.result inside run bits in
+    record {
+      at = inside;
+      count = c.mark_standing.ensures.count ∙ i.count;
+      marks = λ m. (
+        λ h. (more m).1 (elim ((c.mark_standing.ensures.marks m).0 h) [
+          | inl was ↦ inl ((i.marks m).0 was)
+          | inr new ↦ inr new
+        ]),
+        λ h. (c.mark_standing.ensures.marks m).1 (elim ((more m).0 h) [
+          | inl was ↦ inl ((i.marks m).1 was)
+          | inr new ↦ inr new
+        ]),
+      );
+    }
+
+pub returns-clause-stands : goal.returns-clause-stands
+returns-clause-stands c =
+    let entries = c.args.entries.now in
+    let e = by.Dictionary entries in
+    let values = c.args.self.now.values in
+    let i = c.loop-at.invariant in
+    let sound : IsEncoding e = rw c.requires.encoding at c.encoding-sound.ensures.sound in
+    let coded : All (IsCoded e) values = rw c.requires.encoding at c.encoding-sound.ensures.coded in
+    let all : c.loop-at.at ≡ length values = omega (arith, c.loop-at-test.false, c.len.ensures.count, i.at) in
+    let marks : (m : ℕ) → (StandsAt c.loop-at.stands m ↔ HasCodeTo e values (length values) m) = rw all at i.marks in
+    stand_in entries sound values coded c.loop-at.stands marks

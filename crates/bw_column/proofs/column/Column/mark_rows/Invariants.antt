@@ -1,0 +1,17 @@
+use Rattle.std.proofs.Common.{length, ℕ, ◌-◌, ◌≡◌, ◌≤◌}
+use Rattle.std.specs.Prelude.{◌↔◌}
+use Rattle.bw_code.specs.declared.encoding.Encoding.TheVariants as by
+use Rattle.bw_dictionary.specs.Merging.{StandsAt}
+use Rattle.bw_column.proofs.Standing.{HasCodeTo}
+use Rattle.bw_column.proofs.column.Column.mark_rows.Given as goal
+
+-- the codes of the values so far are marked
+abbrev pub invariant-loop-at : goal.invariant-loop-at
+invariant-loop-at l = record {
+  at : l.at ≤ length l.self.values;
+  count : length l.stands ≡ length l.entries;
+  marks : (m : ℕ) → (StandsAt l.stands m ↔ HasCodeTo (by.Dictionary l.entries) l.self.values l.at m);
+}
+
+abbrev pub decreases-loop-at : goal.decreases-loop-at
+decreases-loop-at l = length l.self.values - l.at

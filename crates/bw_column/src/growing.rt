@@ -1,0 +1,142 @@
+//! A column whose dictionary takes in other values: the entries that some row still has are put together with the new ones, and
+//! each code moves to its new place.
+
+ghost use Rattle.std.specs.Prelude.{All, Contains, IfOk, None, drop, is_some, length, slice_index_or, take, ℕ, ℤ, ◌++◌, ◌+◌, ◌^◌, ◌↔◌, ◌≡◌, ◌≤◌};
+ghost use Rattle.bw_code.specs.Encodings.{AreCodes, IsFit, code_of, kind_of, width};
+ghost use Rattle.bw_code.specs.declared.encoding.Encoding.TheVariants as by;
+ghost use Rattle.bw_code.specs.declared.kind.Kind.TheVariants as kinds;
+ghost use Rattle.bw_mask.specs.Masks.{bit_of};
+ghost use Rattle.bw_column.specs.Codes.{codes_for};
+ghost use Rattle.bw_column.specs.Moves.{IsMoved};
+ghost use Rattle.bw_column.specs.Values.{IsNullOrHeld, known, widest};
+ghost use Rattle.bw_dictionary.specs.Merging.{StandsAt, StandsIn};
+ghost use Rattle.bw_dictionary.specs.Ranking.{AreRanked};
+
+use crate::column::Column;
+use bw_cells::Measured;
+use bw_code::Encoding;
+use bw_dictionary::{
+    MergedEntries, RankedCells, dictionary_of, mark_standing, merge_entries, move_codes,
+};
+use std::alloc::{AllocError, Global};
+
+/// A column in a dictionary that has other values, too.
+#[derive(Drop)]
+pub(crate) struct Grown {
+    pub(crate) column: Column,
+    /// The codes there of the other values, which ascend.
+    pub(crate) codes: Vec<u64>,
+}
+
+impl Column {
+    /// Fills `codes` with those of at most 64 rows from row `at` on, and answers which of them are not null.
+    #[tactic(auto, using(bw_code::proofs::Lists::made_len))]
+    fn read_codes(&self, at: usize, codes: &mut [u64]) -> u64
+        requires few { length codes.old ≤ 64 }
+        requires there { at + length codes.old ≤ length self.now.values }
+        ensures codes { codes.new ≡ take (length codes.old) (drop at (codes_for self.now.encoding self.now.values)) }
+        ensures present { (i : ℕ) → bit_of result i ≡ is_some (slice_index_or (take (length codes.old) (drop at self.now.values)) i None) }
+    {
+        self.codes.read(at, codes);
+        self.nonnull.bits(at, codes.len())
+    }
+
+    /// Marks the entries of its dictionary that some row has.
+    fn mark_rows(&self, entries: &[i64], stands: &mut [bool])
+        requires encoding { self.now.encoding ≡ by.Dictionary entries.now }
+        requires count { length stands.old ≡ length entries.now }
+        requires none { (m : ℕ) → StandsAt stands.old m → ⊥ }
+        ensures count { length stands.new ≡ length stands.old }
+        ensures stands { (x : ℤ) → (StandsIn entries.now stands.new x ↔ Contains (known self.now.values) x) }
+    {
+        let _sound = self.encoding();
+        let mut list = [0; 64];
+        let mut at = 0;
+        while at < self.len() {
+            let n = (self.len() - at).min(64);
+            let codes = &mut list[..n];
+            let present = self.read_codes(at, codes);
+            mark_standing(stands, codes, present);
+            at += n;
+        }
+    }
+
+    /// Which entries of its dictionary some row has.
+    fn standing(&self, alloc: Global, entries: &[i64]) -> Result<Vec<bool>, AllocError>
+        requires { self.now.encoding ≡ by.Dictionary entries.now }
+        ensures count { IfOk result (λ stands. length stands.items ≡ length entries.now) }
+        ensures stands { IfOk result (λ stands. (x : ℤ) → (StandsIn entries.now stands.items x ↔ Contains (known self.now.values) x)) }
+    {
+        let mut stands = Vec::from_elem(alloc, false, entries.len())?;
+        self.mark_rows(entries, &mut stands);
+        Ok(stands)
+    }
+
+    /// The same values in another dictionary, where the code of each is what the table has in the place of its code here, and
+    /// room for so many values more.
+    fn moved(
+        &self,
+        alloc: Global,
+        encoding: Encoding,
+        moves: &[u64],
+        more: usize,
+    ) -> Result<Column, AllocError>
+        requires moved { All (IsMoved self.now.encoding encoding moves.now) self.now.values }
+        requires narrow { width encoding ≤ widest self.now.layout }
+        requires few { length self.now.values + more ≤ 2 ^ 24 }
+        ensures values { IfOk result (λ c. c.values ≡ self.now.values) }
+        ensures layout { IfOk result (λ c. c.layout ≡ self.now.layout) }
+        ensures encoding { IfOk result (λ c. c.encoding ≡ encoding) }
+        ensures room { IfOk result (λ c. length self.now.values + more ≤ c.room) }
+    {
+        let _sound = self.encoding();
+        let _other_sound = encoding.width();
+        let mut column = Column::with_room(alloc, self.layout(), encoding, self.len() + more)?;
+        let mut list = [0; 64];
+        let mut at = 0;
+        while at < self.len() {
+            let n = (self.len() - at).min(64);
+            let codes = &mut list[..n];
+            let present = self.read_codes(at, codes);
+            move_codes(codes, present, moves);
+            column.extend_rows(codes, present);
+            at += n;
+        }
+        Ok(column)
+    }
+
+    /// The same values in a dictionary that has those of the cells, too, with room for so many values more.
+    pub(crate) fn grown<C: Measured>(
+        &self,
+        alloc: Global,
+        cells: &C,
+        ranked: &RankedCells,
+        more: usize,
+    ) -> Result<Grown, AllocError>
+        requires ranked { AreRanked (C.cells cells.now) ranked.now }
+        requires kind { kind_of self.now.encoding ≡ kinds.Dictionary }
+        requires held { All (IsNullOrHeld self.now.layout) (C.cells cells.now) }
+        requires few { length self.now.values + more ≤ 2 ^ 24 }
+        ensures values { IfOk result (λ g. g.column.values ≡ self.now.values) }
+        ensures layout { IfOk result (λ g. g.column.layout ≡ self.now.layout) }
+        ensures fits { IfOk result (λ g. IsFit (known (self.now.values ++ C.cells cells.now)) g.column.encoding) }
+        ensures kind { IfOk result (λ g. kind_of g.column.encoding ≡ kinds.Dictionary) }
+        ensures room { IfOk result (λ g. length self.now.values + more ≤ g.column.room) }
+        ensures codes { IfOk result (λ g. AreCodes (code_of g.column.encoding) ranked.now.entries.items g.codes.items) }
+    {
+        let _held = self.len();
+        let Encoding::Dictionary(own) = &self.encoding else {
+            unreachable!()
+        };
+        let entries = own.entries();
+        let stands = self.standing(alloc, entries)?;
+        let MergedEntries {
+            entries,
+            moves,
+            places: codes,
+        } = merge_entries(alloc, entries, &stands, &ranked.entries)?;
+        let encoding = dictionary_of(alloc, &entries)?;
+        let column = self.moved(alloc, encoding, &moves, more)?;
+        Ok(Grown { column, codes })
+    }
+}
