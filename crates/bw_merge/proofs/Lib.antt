@@ -1,0 +1,4 @@
+pub mod Ends
+pub mod RankExamples
+pub mod Ranked
+pub mod Sorting

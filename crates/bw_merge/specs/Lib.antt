@@ -1,0 +1,2 @@
+pub mod RankLaws
+pub mod Ranks
