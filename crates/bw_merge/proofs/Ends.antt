@@ -1,9 +1,9 @@
 -- The sum and the ends of two lists.
-use Rattle.std.proofs.Common.{Bool, List, None, Option, Some, [], ap, arith, cond, false, int_le, int_lt, length, refl, suc, sym, subst, true, zero, ℕ, ℤ, ◌+◌, ◌-◌, ◌+ℤ◌, ◌++◌, ◌≡◌, ◌<◌, ◌≤◌, ◌<ℤ◌, ◌≤ℤ◌, ◌∙◌, ◌∷◌}
+use Rattle.std.proofs.Common.{Bool, List, None, Option, Some, [], ap, arith, cond, false, int_le, length, refl, suc, sym, true, zero, ℤ, ◌-◌, ◌+ℤ◌, ◌++◌, ◌≡◌, ◌≤ℤ◌, ◌∙◌, ◌∷◌}
 use Rattle.std.specs.Int.{int_max, int_min}
 use Rattle.std.specs.List.{slice_get}
 use Rattle.std.proofs.lemmas.Int.{clamps, ints}
-use Rattle.bw_cells.specs.SetFunctions.{greatest, least, put_in, sorted, sum, total}
+use Rattle.bw_cells.specs.SetFunctions.{greatest, least, put_in, sorted, sum}
 use Rattle.bw_merge.proofs.Ranked.{length-sorted}
 use Rattle.bw_merge.proofs.Sorting.{AllFrom, Ascends, sorted-ascends}
 

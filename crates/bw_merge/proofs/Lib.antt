@@ -1,4 +1,7 @@
 pub mod Ends
+pub mod Grouped
+pub mod Items
+pub mod MergeExamples
 pub mod RankExamples
 pub mod Ranked
 pub mod Sorting

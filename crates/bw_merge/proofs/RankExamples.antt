@@ -1,5 +1,5 @@
 -- Worked examples of ranks and medians, computed by the definitions.
-use Rattle.std.proofs.Common.{List, Some, [], negsuc, pos, refl, ℕ, ℤ, ◌++◌, ◌≡◌, ◌∷◌}
+use Rattle.std.proofs.Common.{List, Some, [], negsuc, pos, refl, ℤ, ◌++◌, ◌≡◌, ◌∷◌}
 use Rattle.bw_cells.specs.SetFunctions.{median}
 use Rattle.bw_merge.specs.Ranks.{below, inside, up_to}
 

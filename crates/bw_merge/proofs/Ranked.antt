@@ -1,8 +1,7 @@
 -- The entry of a rank by counts.
-use Rattle.std.proofs.Common.{Bool, List, None, Option, Some, [], ap, arith, cond, drop, false, get_or, int_le, int_lt, length, length-append, pos, refl, suc, sym, subst, true, zero, ℕ, ℤ, ◌&&◌, ◌+◌, ◌-◌, ◌/◌, ◌++◌, ◌≡◌, ◌<◌, ◌≤◌, ◌<ℤ◌, ◌≤ℤ◌, ◌∙◌, ◌∷◌}
+use Rattle.std.proofs.Common.{Bool, List, Some, [], ap, arith, cond, false, get_or, int_le, int_lt, length, length-append, pos, refl, suc, sym, subst, true, zero, ℕ, ℤ, ◌&&◌, ◌+◌, ◌-◌, ◌/◌, ◌++◌, ◌≡◌, ◌<◌, ◌≤◌, ◌<ℤ◌, ◌≤ℤ◌, ◌∙◌, ◌∷◌}
 use Rattle.std.specs.Int.{int_max, int_min}
-use Rattle.std.specs.List.{Contains, count_by, filter, slice_get}
-use Rattle.std.specs.List.Sorted.{IsPermutation}
+use Rattle.std.specs.List.{Contains, filter, slice_get}
 use Rattle.std.proofs.lemmas.Int.{by_lt_z, clamps, ints}
 use Rattle.std.proofs.lemmas.List.Sorted.{Contains-permutation, IsPermutation-sym, length_permutation, sum_by-IsPermutation}
 use Rattle.std.proofs.lemmas.List.Sums.{count_by-le-length, sum_by-append, sum_by-cons, sum_by-le-sum_by}

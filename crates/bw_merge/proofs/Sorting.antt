@@ -1,5 +1,5 @@
 -- What sorting keeps, and that it ascends.
-use Rattle.std.proofs.Common.{Bool, List, [], ap, arith, cond, false, int_le, length, refl, sym, true, ℤ, ◌≡◌, ◌≤ℤ◌, ◌∷◌}
+use Rattle.std.proofs.Common.{Bool, List, [], arith, cond, false, int_le, refl, true, ℤ, ◌≡◌, ◌≤ℤ◌, ◌∷◌}
 use Rattle.std.specs.List.Sorted.{IsPermutation}
 use Rattle.std.proofs.lemmas.Int.{ints}
 use Rattle.std.proofs.lemmas.List.Sorted.{IsPermutation-cons, IsPermutation-middle, IsPermutation-refl, IsPermutation-trans}

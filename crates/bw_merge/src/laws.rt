@@ -1,5 +1,17 @@
-//! Laws on which it rests that one answer is made of the answers of several lists of rows.
+//! Laws on which it rests that one answer is made of the answers of several lists of rows. Each is of two lists; a merge
+//! of more is one merge after the other.
 
+ghost use Rattle.bw_merge.specs.GroupLaws.{
+  FirstGroupStays,
+  GroupItemsMerge,
+  GroupLinesMerge,
+  GroupedAnswersMerge,
+  GroupsMerge,
+  RowsOfValueFollow,
+  SecondGroupStays,
+  ValuesMerge,
+};
+ghost use Rattle.bw_merge.specs.ItemLaws.{AnswersMerge, ItemsMerge, LinesMerge};
 ghost use Rattle.bw_merge.specs.RankLaws.{
   BelowAddsUp,
   CountsGiveMedian,
@@ -16,6 +28,46 @@ ghost use Rattle.bw_merge.specs.RankLaws.{
   RanksHaveEntries,
   UpToAddsUp,
 };
+ghost use Rattle.bw_merge.specs.RowLaws.{AnswersFollow, FoundRowsFollow, LinesFollow};
+
+/// The rows that a condition finds in two lists, one after the other, are those that it finds in the first and then those
+/// in the second. So are the lines, and the whole answer, of a SELECT of columns.
+pub fn found_rows_follow()
+    ensures rows { FoundRowsFollow }
+    ensures lines { LinesFollow }
+    ensures answers { AnswersFollow }
+{}
+
+/// What COUNT, SUM, MIN or MAX says of two lists is the merge of what it says of each: counts and sums are added, the
+/// lesser is taken for MIN and the greater for MAX, and where one is NULL the other is taken. So is the line of a whole
+/// answer without groups.
+pub fn set_functions_merge()
+    ensures items { ItemsMerge }
+    ensures lines { LinesMerge }
+    ensures answers { AnswersMerge }
+{}
+
+/// The values of the groups of two lists are those of either's groups, each once, ascending, NULL last. The rows of a
+/// group are those of the first list's group of this value, and then those of the second's.
+pub fn groups_merge()
+    ensures values { ValuesMerge }
+    ensures rows { RowsOfValueFollow }
+    ensures groups { GroupsMerge }
+    ensures answers { GroupedAnswersMerge }
+{}
+
+/// What an item but a MEDIAN says of a group of two lists is the merge of what it says of the group in each. So are the
+/// lines of groups.
+pub fn items_of_groups_merge()
+    ensures items { GroupItemsMerge }
+    ensures lines { GroupLinesMerge }
+{}
+
+/// Where only one of two lists has a group of some value, this group is that of both, and so is what any item says of it.
+pub fn groups_of_one_list_stay()
+    ensures first { FirstGroupStays }
+    ensures second { SecondGroupStays }
+{}
 
 /// How many values of two lists are at most a number, or are less than it, is the sum of how many of each list are.
 pub fn counts_add_up()
@@ -45,8 +97,8 @@ pub fn medians_bound_the_median()
     ensures high { MedianIsNotAbove }
 {}
 
-/// The value of a rank lies in a range where fewer values than its rank are below the range, and its rank or more are at
-/// most the end of the range. Among the values of the range its rank is less by as many as are below the range.
+/// The value of a rank lies in a range where fewer values than its rank are below the range, and as many as its rank are
+/// at most the end of the range. Among the values of the range its rank is less by as many as are below the range.
 pub fn ranks_are_narrowed()
     ensures low { RankIsNotBelow }
     ensures high { RankIsNotAbove }

@@ -1,9 +1,10 @@
-//! Laws on which it rests that answers from parts of a table are merged.
+//! The laws on which it rests that answers from parts of a table are merged.
 #![tactic(auto)]
 
 mod laws;
 
 pub use laws::{
-    counts_add_up, entries_have_ranks, medians_are_by_counts, medians_bound_the_median,
-    ranks_are_narrowed,
+    counts_add_up, entries_have_ranks, found_rows_follow, groups_merge, groups_of_one_list_stay,
+    items_of_groups_merge, medians_are_by_counts, medians_bound_the_median, ranks_are_narrowed,
+    set_functions_merge,
 };
