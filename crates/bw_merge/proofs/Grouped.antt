@@ -1,6 +1,6 @@
 -- The groups of two lists.
-use Rattle.std.proofs.Common.{Bool, List, None, Option, Some, [], ap, append-nil, arith, cond, false, if◌then◌else◌, is_none, map, refl, suc, sym, true, ℕ, ℤ, ◌++◌, ◌||◌, ◌≡◌, ◌≢◌, ◌<ℤ◌, ◌≤ℤ◌, ◌∙◌, ◌∷◌}
-use Rattle.std.specs.List.{Contains, dedup, list_any}
+use Rattle.std.proofs.Common.{Bool, List, None, Option, Some, [], ap, append-nil, arith, cond, false, if◌then◌else◌, is_none, map, refl, suc, sym, true, ℕ, ℤ, ◌++◌, ◌||◌, ◌≡◌, ◌<ℤ◌, ◌≤ℤ◌, ◌∙◌, ◌∷◌}
+use Rattle.std.specs.List.{dedup, list_any}
 use Rattle.std.specs.Ordering.{int_eq}
 use Rattle.std.proofs.lemmas.Bool.{true≢false}
 use Rattle.std.proofs.lemmas.Int.{by_lt_z, ints}
@@ -8,16 +8,18 @@ use Rattle.std.proofs.lemmas.List.{map-append}
 use Rattle.std.proofs.lemmas.List.Elements.{filter-append, filter_map-append}
 use Rattle.std.proofs.lemmas.List.Folds.{list_any-append}
 use Rattle.bw_cells.specs.SetFunctions.{known, sorted}
-use Rattle.bw_sql.specs.Tree.{SelectTree}
 use Rattle.bw_sql.specs.declared.tree.SelectItem.{SelectItem}
 use Rattle.bw_sql.specs.declared.tree.SelectItem.TheVariants as item
-use Rattle.bw_model.specs.Condition.{found_rows}
 use Rattle.bw_model.specs.Groups.{Group, group_values, groups_by, is_same, rows_having}
-use Rattle.bw_model.specs.Select.{answer, lines_for, said_in, said_of, shown, shown_items}
+use Rattle.bw_model.specs.Select.{lines_for, said_in, shown, shown_items}
 use Rattle.bw_model.specs.Store.{Header, Row, Value, place_of, value_from}
+use Rattle.bw_model.specs.declared.answer.Cell.{Cell}
 use Rattle.bw_model.proofs.Rising.{Rises, RisesFrom, dedup-has, dedup-rises, has, has-sorted, sorted-ascends}
-use Rattle.bw_merge.specs.Merging.{group_in, is_median, line_of_group, merged, merged_groups, merged_line, rows_at, table_of}
-use Rattle.bw_merge.proofs.Items.{cells_merge, found_follow, items_merge}
+use Rattle.bw_merge.specs.GroupLaws.{FirstGroupStays, GroupItemsMerge, GroupLinesMerge, GroupedAnswersAreLines, GroupedAnswersMerge, HasNoGroup}
+use Rattle.bw_merge.specs.GroupLaws.{RowsOfValueFollow, SecondGroupStays, ValuesMerge}
+use Rattle.bw_merge.specs.Merging.{GroupLine, found_in, group_line, group_lines, group_of, group_of_both, is_median, line_at, line_of_both}
+use Rattle.bw_merge.specs.Merging.{merged, merged_groups, merged_line, merged_lines, rows_at}
+use Rattle.bw_merge.proofs.Items.{cells_merge, found_follow, items_merge, or_first, or_second}
 
 -- what rises is told by what it has
 
@@ -91,13 +93,13 @@ values_told values others same nulls =
     ap (λ zs. map Some zs ++ null_if (list_any is_none values)) (told_by (once values) (once others) (once_rises values) (once_rises others) (λ z. once_has values z ∙ same z ∙ sym (once_has others z)))
     ∙ ap (λ b. map Some (once others) ++ null_if b) nulls
 
+grouped : (a b c : Bool) → (a || (b || c)) ≡ ((a || b) || c)
+grouped true b c = refl
+grouped false b c = refl
+
 has-append : (z : ℤ) (xs ys : List ℤ) → has (xs ++ ys) z ≡ (has xs z || has ys z)
 has-append z [] ys = refl
 has-append z (x ∷ xs) ys = ap (λ b. int_eq z x || b) (has-append z xs ys) ∙ grouped (int_eq z x) (has xs z) (has ys z)
-  where
-    grouped : (a b c : Bool) → (a || (b || c)) ≡ ((a || b) || c)
-    grouped true b c = refl
-    grouped false b c = refl
 
 known-append : (values more : List Value) → known (values ++ more) ≡ known values ++ known more
 known-append values more = filter_map-append (λ value. value) values more
@@ -121,7 +123,7 @@ null_grouped values = null_shown (once values) (list_any is_none values)
 has_both : (values more : List Value) (z : ℤ) → has (known (values ++ more)) z ≡ (has (known values) z || has (known more) z)
 has_both values more z = ap (λ l. has l z) (known-append values more) ∙ has-append z (known values) (known more)
 
-pub values_merge : (values more : List Value) → group_values (values ++ more) ≡ group_values (group_values values ++ group_values more)
+pub values_merge : ValuesMerge
 values_merge values more =
     values_told (values ++ more) (group_values values ++ group_values more)
     (λ z.
@@ -136,7 +138,7 @@ values_merge values more =
 
 -- the rows of a value
 
-pub rows_follow : (place : Option ℕ) (value : Value) (rows more : List Row) → rows_having place value (rows ++ more) ≡ rows_having place value rows ++ rows_having place value more
+pub rows_follow : RowsOfValueFollow
 rows_follow place value rows more = filter-append (λ row. is_same (value_from row place) value) rows more
 
 -- whether a value is in a list
@@ -173,51 +175,69 @@ holds_grouped : (values : List Value) (v : Value) → holds (group_values values
 holds_grouped values None = holds_null (group_values values) ∙ null_grouped values ∙ sym (holds_null values)
 holds_grouped values (Some z) = holds_known (group_values values) z ∙ has_grouped values z ∙ sym (holds_known values z)
 
-or_first : (a b : Bool) → (a || b) ≡ false → a ≡ false
-or_first true b e = absurd cc
-or_first false b e = refl
+holds-append : (vs ws : List Value) (v : Value) → holds (vs ++ ws) v ≡ (holds vs v || holds ws v)
+holds-append [] ws v = refl
+holds-append (u ∷ vs) ws v = ap (λ b. is_same u v || b) (holds-append vs ws v) ∙ grouped (is_same u v) (holds vs v) (holds ws v)
 
-or_second : (a b : Bool) → (a || b) ≡ false → b ≡ false
-or_second true b e = absurd cc
-or_second false b e = e
+is_itself : (v : Value) → is_same v v ≡ true
+is_itself None = refl
+is_itself (Some x) = itself x
 
-each_same : {B : Type 0} (f g : Value → B) → ((v : Value) → f v ≡ g v) → (ws : List Value) → map f ws ≡ map g ws
-each_same f g same [] = refl
-each_same f g same (w ∷ ws) = ap (λ one. one ∷ map f ws) (same w) ∙ ap (λ l. g w ∷ l) (each_same f g same ws)
+each_same : {B : Type 0} (f g : Value → B) (ws : List Value) → ((v : Value) → holds ws v ≡ true → f v ≡ g v) → map f ws ≡ map g ws
+each_same f g [] same = refl
+each_same f g (w ∷ ws) same =
+    ap (λ one. one ∷ map f ws) (same w (ap (λ b. b || holds ws w) (is_itself w)))
+    ∙ ap (λ l. g w ∷ l) (each_same f g ws (λ v there. same v (or_right (is_same w v) (holds ws v) there)))
+  where
+    or_right : (a b : Bool) → b ≡ true → (a || b) ≡ true
+    or_right true b e = refl
+    or_right false b e = e
+
+map_twice : {A B C : Type 0} (f : B → C) (g : A → B) (xs : List A) → map f (map g xs) ≡ map (λ x. f (g x)) xs
+map_twice f g [] = refl
+map_twice f g (x ∷ xs) = ap (λ l. f (g x) ∷ l) (map_twice f g xs)
 
 module _ (place : Option ℕ) where
   abbrev values_of : List Row → List Value
   values_of rows = map (λ row. value_from row place) rows
 
+  abbrev of_value : List Row → Value → Group
+  of_value rows value = group_of value (rows_having place value rows)
+
   no_rows : (value : Value) (rows : List Row) → holds (values_of rows) value ≡ false → rows_having place value rows ≡ []
   no_rows value [] none = refl
   no_rows value (row ∷ rows) none =
-      ap (λ b. cond b (row ∷ rows_having place value rows) (rows_having place value rows)) (or_first (is_same (value_from row place) value) (holds (values_of rows) value) none)
-      ∙ no_rows value rows (or_second (is_same (value_from row place) value) (holds (values_of rows) value) none)
+      let first = or_first (is_same (value_from row place) value) (holds (values_of rows) value) none in
+      let later = or_second (is_same (value_from row place) value) (holds (values_of rows) value) none in
+      ap (λ b. cond b (row ∷ rows_having place value rows) (rows_having place value rows)) first ∙ no_rows value rows later
 
   -- the rows that groups of these values have for a value
-  at_values : (rows : List Row) (value : Value) (ws : List Value) → rows_at value (map (λ w. group_in place w rows) ws) ≡ cond (holds ws value) (rows_having place value rows) []
+  at_values : (rows : List Row) (value : Value) (ws : List Value)
+      → rows_at value (map (of_value rows) ws) ≡ cond (holds ws value) (rows_having place value rows) []
   at_values rows value [] = refl
   at_values rows value (w ∷ ws) = by (is_same w value) refl (at_values rows value ws)
     where
-      by : (b : Bool) → is_same w value ≡ b → rows_at value (map (λ u. group_in place u rows) ws) ≡ cond (holds ws value) (rows_having place value rows) []
-          → cond b (rows_having place w rows) (rows_at value (map (λ u. group_in place u rows) ws)) ≡ cond (b || holds ws value) (rows_having place value rows) []
+      by : (b : Bool) → is_same w value ≡ b → rows_at value (map (of_value rows) ws) ≡ cond (holds ws value) (rows_having place value rows) []
+          → cond b (rows_having place w rows) (rows_at value (map (of_value rows) ws)) ≡ cond (b || holds ws value) (rows_having place value rows) []
       by true e rest = ap (λ v. rows_having place v rows) (same_is w value e)
       by false e rest = rest
 
-  pub rows_at_groups : (rows : List Row) (value : Value) → rows_at value (groups_by place rows) ≡ rows_having place value rows
-  rows_at_groups rows value =
-      at_values rows value (group_values (values_of rows)) ∙ ap (λ b. cond b (rows_having place value rows) []) (holds_grouped (values_of rows) value) ∙ by (holds (values_of rows) value) refl
+  pub rows_at_groups : (value : Value) (rows : List Row) → rows_at value (groups_by place rows) ≡ rows_having place value rows
+  rows_at_groups value rows =
+      at_values rows value (group_values (values_of rows))
+      ∙ ap (λ b. cond b (rows_having place value rows) []) (holds_grouped (values_of rows) value)
+      ∙ by (holds (values_of rows) value) refl
     where
       by : (b : Bool) → holds (values_of rows) value ≡ b → cond b (rows_having place value rows) [] ≡ rows_having place value rows
       by true e = refl
       by false e = sym (no_rows value rows e)
 
-  values_again : (rows : List Row) (ws : List Value) → map (λ group. group.value) (map (λ w. group_in place w rows) ws) ≡ ws
+  values_again : (rows : List Row) (ws : List Value) → map (λ group. group.value) (map (of_value rows) ws) ≡ ws
   values_again rows [] = refl
   values_again rows (w ∷ ws) = ap (λ l. w ∷ l) (values_again rows ws)
 
-  values_of_groups : (rows more : List Row) → map (λ group. group.value) (groups_by place rows ++ groups_by place more) ≡ group_values (values_of rows) ++ group_values (values_of more)
+  values_of_groups : (rows more : List Row)
+      → map (λ group. group.value) (groups_by place rows ++ groups_by place more) ≡ group_values (values_of rows) ++ group_values (values_of more)
   values_of_groups rows more =
       map-append (λ group. group.value) (groups_by place rows) (groups_by place more)
       ∙ ap (λ front. front ++ map (λ group. group.value) (groups_by place more)) (values_again rows (group_values (values_of rows)))
@@ -225,38 +245,36 @@ module _ (place : Option ℕ) where
 
   pub groups_merge : (rows more : List Row) → groups_by place (rows ++ more) ≡ merged_groups (groups_by place rows) (groups_by place more)
   groups_merge rows more =
-      let both = λ (value : Value). let group : Group = record { value = value; rows = rows_at value (groups_by place rows) ++ rows_at value (groups_by place more) } in group in
-      each_same (λ value. group_in place value (rows ++ more)) both
-      (λ value.
-      ap (λ (there : List Row). let group : Group = record { value = value; rows = there } in group)
+      let groups = groups_by place rows in
+      let others = groups_by place more in
+      each_same (of_value (rows ++ more)) (group_of_both groups others) (group_values (values_of (rows ++ more)))
+      (λ value there.
+      ap (group_of value)
       (rows_follow place value rows more
-      ∙ ap (λ front. front ++ rows_having place value more) (sym (rows_at_groups rows value))
-      ∙ ap (λ back. rows_at value (groups_by place rows) ++ back) (sym (rows_at_groups more value))))
-      (group_values (values_of (rows ++ more)))
-      ∙ ap (map both) (ap group_values (map-append (λ row. value_from row place) rows more) ∙ values_merge (values_of rows) (values_of more) ∙ ap group_values (sym (values_of_groups rows more)))
+      ∙ ap (λ front. front ++ rows_having place value more) (sym (rows_at_groups value rows))
+      ∙ ap (λ back. rows_at value groups ++ back) (sym (rows_at_groups value more))))
+      ∙ ap (map (group_of_both groups others))
+      (ap group_values (map-append (λ row. value_from row place) rows more)
+      ∙ values_merge (values_of rows) (values_of more)
+      ∙ ap group_values (sym (values_of_groups rows more)))
 
-  -- a value that no group has
-  none_at : (value : Value) (groups : List Group) → ((group : Group) → Contains groups group → group.value ≢ value) → rows_at value groups ≡ []
-  none_at value [] none = refl
-  none_at value (group ∷ groups) none =
-      by (is_same group.value value) refl (none_at value groups (λ other there. none other (suc there.0, omega (arith, there.1), there.2)))
-    where
-      by : (b : Bool) → is_same group.value value ≡ b → rows_at value groups ≡ [] → cond b group.rows (rows_at value groups) ≡ []
-      by true e rest = absurd (none group (0, omega arith, refl) (same_is group.value value e))
-      by false e rest = rest
+-- a value that no group has
 
-  pub first_stays : (value : Value) (rows more : List Row) → ((group : Group) → Contains (groups_by place more) group → group.value ≢ value) → group_in place value (rows ++ more) ≡ group_in place value rows
-  first_stays value rows more none =
-      ap (λ (there : List Row). let group : Group = record { value = value; rows = there } in group)
-      (rows_follow place value rows more
-      ∙ ap (λ back. rows_having place value rows ++ back) (sym (rows_at_groups more value) ∙ none_at value (groups_by place more) none)
-      ∙ append-nil (rows_having place value rows))
+none_at : (groups : List Group) (value : Value) → HasNoGroup groups value → rows_at value groups ≡ []
+none_at [] value none = refl
+none_at (group ∷ groups) value none =
+    by (is_same group.value value) refl (none_at groups value (λ other there. none other (suc there.0, omega (arith, there.1), there.2)))
+  where
+    by : (b : Bool) → is_same group.value value ≡ b → rows_at value groups ≡ [] → cond b group.rows (rows_at value groups) ≡ []
+    by true e rest = absurd (none group (0, omega arith, refl) (same_is group.value value e))
+    by false e rest = rest
 
-  pub second_stays : (value : Value) (rows more : List Row) → ((group : Group) → Contains (groups_by place rows) group → group.value ≢ value) → group_in place value (rows ++ more) ≡ group_in place value more
-  second_stays value rows more none =
-      ap (λ (there : List Row). let group : Group = record { value = value; rows = there } in group)
-      (rows_follow place value rows more
-      ∙ ap (λ front. front ++ rows_having place value more) (sym (rows_at_groups rows value) ∙ none_at value (groups_by place rows) none))
+pub first_stays : FirstGroupStays
+first_stays groups others value none =
+    ap (group_of value) (ap (λ back. rows_at value groups ++ back) (none_at others value none) ∙ append-nil (rows_at value groups))
+
+pub second_stays : SecondGroupStays
+second_stays groups others value none = ap (λ front. group_of value (front ++ rows_at value others)) (none_at groups value none)
 
 -- what is said of a group
 
@@ -264,50 +282,101 @@ same_shown : (name : List ℕ) (value : Value) → shown value ≡ merged (item.
 same_shown name None = refl
 same_shown name (Some x) = refl
 
-said_again : (headers : List Header) (place : Option ℕ) (value : Value) (rows more : List Row) (it : SelectItem)
-    → is_median it ≡ false
-    → said_of headers (rows_having place value (rows ++ more)) it ≡ merged it (said_of headers (rows_having place value rows) it) (said_of headers (rows_having place value more) it)
-said_again headers place value rows more it free =
-    ap (λ (there : List Row). said_of headers there it) (rows_follow place value rows more) ∙ items_merge headers (rows_having place value rows) (rows_having place value more) it free
+pub group_items_merge : GroupItemsMerge
+group_items_merge headers value (item.Column name) free rows more = same_shown name value
+group_items_merge headers value item.CountRows free rows more = items_merge headers item.CountRows free rows more
+group_items_merge headers value (item.Function f name) free rows more = items_merge headers (item.Function f name) free rows more
 
-pub group_items_merge : (headers : List Header) (place : Option ℕ) (value : Value) (rows more : List Row) (it : SelectItem)
-    → is_median it ≡ false
-    → said_in headers (group_in place value (rows ++ more)) it ≡ merged it (said_in headers (group_in place value rows) it) (said_in headers (group_in place value more) it)
-group_items_merge headers place value rows more (item.Column name) free = same_shown name value
-group_items_merge headers place value rows more item.CountRows free =
-    said_again headers place value rows more item.CountRows free
-group_items_merge headers place value rows more (item.Function f name) free =
-    said_again headers place value rows more (item.Function f name) free
+-- lines of groups
 
-map_twice : {B : Type 0} (f : Group → B) (g : Value → Group) (ws : List Value) → map f (map g ws) ≡ map (λ w. f (g w)) ws
-map_twice f g [] = refl
-map_twice f g (w ∷ ws) = ap (λ l. f (g w) ∷ l) (map_twice f g ws)
+module _ (headers : List Header) (list : List SelectItem) where
+  abbrev line_for : Value → List Row → List Cell
+  line_for value rows = map (said_in headers (group_of value rows)) list
 
-pub group_lines_merge : (headers : List Header) (list : List SelectItem) (name : List ℕ) (rows more : List Row)
-    → list_any is_median list ≡ false
-    → lines_for headers list (Some name) (rows ++ more)
-    ≡ map
-    (λ value. merged_line list (line_of_group headers list (group_in (place_of headers name) value rows)) (line_of_group headers list (group_in (place_of headers name) value more)))
-    (group_values (map (λ row. value_from row (place_of headers name)) (rows ++ more)))
-group_lines_merge headers list name rows more free =
-    let place = place_of headers name in
-    map_twice (line_of_group headers list) (λ value. group_in place value (rows ++ more)) (group_values (map (λ row. value_from row place) (rows ++ more)))
-    ∙ each_same (λ value. line_of_group headers list (group_in place value (rows ++ more)))
-    (λ value. merged_line list (line_of_group headers list (group_in place value rows)) (line_of_group headers list (group_in place value more)))
-    (λ value.
-    cells_merge (said_in headers (group_in place value (rows ++ more))) (said_in headers (group_in place value rows)) (said_in headers (group_in place value more))
-    (λ it. group_items_merge headers place value rows more it) list free)
-    (group_values (map (λ row. value_from row place) (rows ++ more)))
+  abbrev lines_in : List Group → List GroupLine
+  lines_in groups = map (group_line headers list) groups
 
-pub grouped_answers_merge : (headers : List Header) (rows more : List Row) (query : SelectTree) (name : List ℕ)
-    → query.grouping ≡ Some name
-    → (answer (table_of headers (rows ++ more)) query).lines
-    ≡ map (line_of_group headers (shown_items headers query.items))
-    (merged_groups (groups_by (place_of headers name) (found_rows (table_of headers rows) query.condition)) (groups_by (place_of headers name) (found_rows (table_of headers more) query.condition)))
-grouped_answers_merge headers rows more query name grouped =
+  abbrev values_in : List Group → List Value
+  values_in groups = map (λ group. group.value) groups
+
+  -- the line that is found for a value, and the rows of its group
+  found_line : (value : Value) (groups : List Group)
+      → line_at value (lines_in groups) ≡ (if holds (values_in groups) value then Some (line_for value (rows_at value groups)) else None)
+  found_line value [] = refl
+  found_line value (group ∷ groups) = by (is_same group.value value) refl (found_line value groups)
+    where
+      by : (b : Bool) → is_same group.value value ≡ b
+          → line_at value (lines_in groups) ≡ (if holds (values_in groups) value then Some (line_for value (rows_at value groups)) else None)
+          → (if b then Some (line_for group.value group.rows) else line_at value (lines_in groups))
+          ≡ (if b || holds (values_in groups) value then Some (line_for value (if b then group.rows else rows_at value groups)) else None)
+      by true e rest = ap (λ v. Some (line_for v group.rows)) (same_is group.value value e)
+      by false e rest = rest
+
+  no_group : (value : Value) (groups : List Group) → holds (values_in groups) value ≡ false → rows_at value groups ≡ []
+  no_group value [] none = refl
+  no_group value (group ∷ groups) none =
+      let first = or_first (is_same group.value value) (holds (values_in groups) value) none in
+      let later = or_second (is_same group.value value) (holds (values_in groups) value) none in
+      ap (λ b. if b then group.rows else rows_at value groups) first ∙ no_group value groups later
+
+  module _ (free : list_any is_median list ≡ false) where
+    line_merges : (value : Value) (rows more : List Row) → line_for value (rows ++ more) ≡ merged_line list (line_for value rows) (line_for value more)
+    line_merges value rows more =
+        cells_merge (said_in headers (group_of value (rows ++ more))) (said_in headers (group_of value rows)) (said_in headers (group_of value more))
+        (λ it plain. group_items_merge headers value it plain rows more) list free
+
+    either_line : (value : Value) (groups others : List Group) (a b : Bool)
+        → holds (values_in groups) value ≡ a → holds (values_in others) value ≡ b → (a || b) ≡ true
+        → line_for value (rows_at value groups ++ rows_at value others)
+        ≡ line_of_both list (if a then Some (line_for value (rows_at value groups)) else None) (if b then Some (line_for value (rows_at value others)) else None)
+    either_line value groups others true true e f some = line_merges value (rows_at value groups) (rows_at value others)
+    either_line value groups others true false e f some =
+        ap (λ back. line_for value (rows_at value groups ++ back)) (no_group value others f) ∙ ap (line_for value) (append-nil (rows_at value groups))
+    either_line value groups others false true e f some = ap (λ front. line_for value (front ++ rows_at value others)) (no_group value groups e)
+    either_line value groups others false false e f some = absurd cc
+
+    the_line : (value : Value) (groups others : List Group) → holds (group_values (values_in (groups ++ others))) value ≡ true
+        → line_for value (rows_at value groups ++ rows_at value others) ≡ line_of_both list (line_at value (lines_in groups)) (line_at value (lines_in others))
+    the_line value groups others there =
+        let a = holds (values_in groups) value in
+        let b = holds (values_in others) value in
+        let some =
+        sym (holds-append (values_in groups) (values_in others) value)
+        ∙ ap (λ l. holds l value) (sym (map-append (λ group. group.value) groups others))
+        ∙ sym (holds_grouped (values_in (groups ++ others)) value)
+        ∙ there in
+        either_line value groups others a b refl refl some
+        ∙ ap (λ other. line_of_both list (if a then Some (line_for value (rows_at value groups)) else None) other) (sym (found_line value others))
+        ∙ ap (λ one. line_of_both list one (line_at value (lines_in others))) (sym (found_line value groups))
+
+    values_of_lines : (groups others : List Group) → values_in (groups ++ others) ≡ map (λ line. line.0) (lines_in groups ++ lines_in others)
+    values_of_lines groups others =
+        sym (map_twice (λ (line : GroupLine). line.0) (group_line headers list) (groups ++ others))
+        ∙ ap (map (λ (line : GroupLine). line.0)) (map-append (group_line headers list) groups others)
+
+    lines_of_groups : (groups others : List Group) → lines_in (merged_groups groups others) ≡ merged_lines list (lines_in groups) (lines_in others)
+    lines_of_groups groups others =
+        let line = λ (value : Value). let one : GroupLine = (value, line_of_both list (line_at value (lines_in groups)) (line_at value (lines_in others))) in one in
+        map_twice (group_line headers list) (group_of_both groups others) (group_values (values_in (groups ++ others)))
+        ∙ each_same (λ value. group_line headers list (group_of_both groups others value)) line (group_values (values_in (groups ++ others)))
+        (λ value there. ap (λ (cells : List Cell). let one : GroupLine = (value, cells) in one) (the_line value groups others there))
+        ∙ ap (λ values. map line (group_values values)) (values_of_lines groups others)
+
+pub group_lines_merge : GroupLinesMerge
+group_lines_merge headers list place rows more free =
+    ap (map (group_line headers list)) (groups_merge place rows more) ∙ lines_of_groups headers list free (groups_by place rows) (groups_by place more)
+
+pub answers_are_lines : GroupedAnswersAreLines
+answers_are_lines headers query name rows grouped =
     let list = shown_items headers query.items in
-    let one = found_rows (table_of headers rows) query.condition in
-    let two = found_rows (table_of headers more) query.condition in
-    ap (λ g. lines_for headers list g (found_rows (table_of headers (rows ++ more)) query.condition)) grouped
-    ∙ ap (lines_for headers list (Some name)) (found_follow headers rows more query.condition)
-    ∙ ap (map (line_of_group headers list)) (groups_merge (place_of headers name) one two)
+    let found = found_in headers query.condition rows in
+    ap (λ g. lines_for headers list g found) grouped
+    ∙ sym (map_twice (λ (line : GroupLine). line.1) (group_line headers list) (groups_by (place_of headers name) found))
+
+pub grouped_answers_merge : GroupedAnswersMerge
+grouped_answers_merge headers query name rows more free =
+    let list = shown_items headers query.items in
+    let one = found_in headers query.condition rows in
+    let two = found_in headers query.condition more in
+    ap (group_lines headers list (place_of headers name)) (found_follow headers query.condition rows more)
+    ∙ group_lines_merge headers list (place_of headers name) one two free

@@ -11,7 +11,7 @@ use Rattle.bw_model.specs.Select.{lines_for}
 use Rattle.bw_model.specs.Store.{Header, Row, Value}
 use Rattle.bw_model.specs.declared.answer.Cell.{Cell}
 use Rattle.bw_model.specs.declared.answer.Cell.TheVariants.{Null, Number}
-use Rattle.bw_merge.specs.Merging.{merged_groups, merged_line}
+use Rattle.bw_merge.specs.Merging.{GroupLine, group_lines, merged_groups, merged_line, merged_lines}
 
 abbrev a : List ℕ
 a = codes "A"
@@ -81,3 +81,31 @@ values_of_both = refl
 
 groups_of_both : groups_by (Some 0) (one ++ other) ≡ merged_groups (groups_by (Some 0) one) (groups_by (Some 0) other)
 groups_of_both = refl
+
+-- A, COUNT(*), SUM(B) .. GROUP BY A: 2 is in both, and each other value in one
+abbrev shown : List SelectItem
+shown = item.Column a ∷ item.CountRows ∷ item.Function function.Sum b ∷ []
+
+abbrev line : Value → Cell → Cell → Cell → GroupLine
+line value first second third = (value, first ∷ second ∷ third ∷ [])
+
+lines_of_one : group_lines headers shown (Some 0) one
+    ≡ line (of 1) (Number (pos 1)) (Number (pos 1)) Null
+    ∷ line (of 2) (Number (pos 2)) (Number (pos 1)) (Number (pos 10))
+    ∷ line None Null (Number (pos 1)) Null
+    ∷ []
+lines_of_one = refl
+
+lines_of_other : group_lines headers shown (Some 0) other
+    ≡ line (of 2) (Number (pos 2)) (Number (pos 1)) (Number (negsuc 2))
+    ∷ line (of 4) (Number (pos 4)) (Number (pos 1)) (Number (pos 7))
+    ∷ []
+lines_of_other = refl
+
+lines_of_both : merged_lines shown (group_lines headers shown (Some 0) one) (group_lines headers shown (Some 0) other)
+    ≡ line (of 1) (Number (pos 1)) (Number (pos 1)) Null
+    ∷ line (of 2) (Number (pos 2)) (Number (pos 2)) (Number (pos 7))
+    ∷ line (of 4) (Number (pos 4)) (Number (pos 1)) (Number (pos 7))
+    ∷ line None Null (Number (pos 1)) Null
+    ∷ []
+lines_of_both = refl

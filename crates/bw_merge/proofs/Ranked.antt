@@ -6,7 +6,9 @@ use Rattle.std.proofs.lemmas.Int.{by_lt_z, clamps, ints}
 use Rattle.std.proofs.lemmas.List.Sorted.{Contains-permutation, IsPermutation-sym, length_permutation, sum_by-IsPermutation}
 use Rattle.std.proofs.lemmas.List.Sums.{count_by-le-length, sum_by-append, sum_by-cons, sum_by-le-sum_by}
 use Rattle.std.proofs.lemmas.Option.{get_or_from_slice_get, slice_get-get_or, slice_get_within}
-use Rattle.bw_cells.specs.SetFunctions.{median, sorted}
+use Rattle.bw_cells.specs.SetFunctions.{sorted}
+use Rattle.bw_merge.specs.RankLaws.{BelowAddsUp, CountsGiveMedian, EntriesHaveRanks, MedianIsBetween, MedianIsByCounts, MedianIsOne, MedianIsThere}
+use Rattle.bw_merge.specs.RankLaws.{RankIsHeld, RankIsInside, RanksAreOfOne, RanksHaveEntries, UpToAddsUp}
 use Rattle.bw_merge.specs.Ranks.{HasRank, IsMedian, below, inside, up_to}
 use Rattle.bw_merge.proofs.Sorting.{AllFrom, Ascends, sorted-ascends, sorted-permutes}
 
@@ -16,7 +18,7 @@ one_if b = cond b 1 0
 up_to-cons : (v x : ℤ) (xs : List ℤ) → up_to v (x ∷ xs) ≡ one_if (int_le x v) + up_to v xs
 up_to-cons v x xs = sum_by-cons (λ y. one_if (int_le y v)) x xs
 
-pub up_to-append : (v : ℤ) (xs ys : List ℤ) → up_to v (xs ++ ys) ≡ up_to v xs + up_to v ys
+pub up_to-append : UpToAddsUp
 up_to-append v xs ys = sum_by-append (λ y. one_if (int_le y v)) xs ys
 
 up_to-sorted : (v : ℤ) (xs : List ℤ) → up_to v (sorted xs) ≡ up_to v xs
@@ -81,7 +83,7 @@ entry_least (x ∷ xs) (suc k) u v a e h =
     omega (arith, here, rest, more)
 
 -- an entry of the sorted values has its rank
-pub entry_has_rank : (values : List ℤ) (k : ℕ) (v : ℤ) → slice_get (sorted values) k ≡ Some v → HasRank values (k + 1) v
+pub entry_has_rank : EntriesHaveRanks
 entry_has_rank values k v e = record {
   there = Contains-permutation (sorted values) values v (IsPermutation-sym values (sorted values) (sorted-permutes values)) (k, slice_get_within (sorted values) k v e, get_or_from_slice_get (sorted values) k v v e);
   reached = let h = entry_reached (sorted values) k v (sorted-ascends values) e in let same = up_to-sorted v values in omega (arith, h, same);
@@ -92,14 +94,14 @@ not_less : (values : List ℤ) (rank : ℕ) (v w : ℤ) → HasRank values rank 
 not_less values rank v w a b = by_lt_z v w (λ less. let few = b.least v less in let many = a.reached in absurd (omega (arith, few, many))) (λ h. h)
 
 -- one value at most has a rank
-pub one_of_rank : (values : List ℤ) (rank : ℕ) (v w : ℤ) → HasRank values rank v → HasRank values rank w → v ≡ w
+pub one_of_rank : RanksAreOfOne
 one_of_rank values rank v w a b =
     let low = not_less values rank v w a b in
     let high = not_less values rank w v b a in
     omega (arith, ints, low, high)
 
 -- and it is the entry
-pub rank_has_entry : (values : List ℤ) (k : ℕ) (v : ℤ) → HasRank values (k + 1) v → slice_get (sorted values) k ≡ Some v
+pub rank_has_entry : RanksHaveEntries
 rank_has_entry values k v has =
     let few = count_by-le-length (λ x. int_le x v) values in
     let within : k < length (sorted values) = omega (arith, few, has.reached, length-sorted values) in
@@ -114,17 +116,20 @@ median_rank n some = omega (arith, some)
 some_there : (values : List ℤ) (v : ℤ) → Contains values v → 0 < length values
 some_there values v there = omega (arith, there.1)
 
-pub is_median : (values : List ℤ) (v : ℤ) → median values ≡ Some v → IsMedian values v
+pub is_median : MedianIsByCounts
 is_median values v e =
     let has = entry_has_rank values ((length values - 1) / 2) v e in
     subst (λ (r : ℕ). HasRank values r v) (median_rank (length values) (some_there values v has.there)) has
 
-pub only_median : (values : List ℤ) (v : ℤ) → IsMedian values v → median values ≡ Some v
+pub only_median : CountsGiveMedian
 only_median values v is =
     rank_has_entry values ((length values - 1) / 2) v (subst (λ (r : ℕ). HasRank values r v) (sym (median_rank (length values) (some_there values v is.there))) is)
 
+pub one_median : MedianIsOne
+one_median values v w is other = one_of_rank values ((length values + 1) / 2) v w is other
+
 -- values that aren't empty have a median
-pub some_median : (values : List ℤ) → 0 < length values → (v : ℤ) × IsMedian values v
+pub some_median : MedianIsThere
 some_median values some =
     let k = (length values - 1) / 2 in
     let within : k < length (sorted values) = omega (arith, some, length-sorted values) in
@@ -132,7 +137,7 @@ some_median values some =
     (v, is_median values v (slice_get-get_or (sorted values) k (pos 0) within))
 
 -- the median of two lists lies between those of each
-pub median_low : (xs ys : List ℤ) (a b m : ℤ) → IsMedian xs a → IsMedian ys b → IsMedian (xs ++ ys) m → int_min a b ≤ℤ m
+median_low : (xs ys : List ℤ) (a b m : ℤ) → IsMedian xs a → IsMedian ys b → IsMedian (xs ++ ys) m → int_min a b ≤ℤ m
 median_low xs ys a b m first second both =
     by_lt_z m (int_min a b)
     (λ less.
@@ -153,7 +158,7 @@ up_to-le u v xs h = sum_by-le-sum_by (λ x. one_if (int_le x u)) (λ x. one_if (
     by x true e = let le : x ≤ℤ u = grind (arith, ints, e) in let there = counted x v (omega (arith, ints, le, h)) in omega (arith, there)
     by x false e = omega arith
 
-pub median_high : (xs ys : List ℤ) (a b m : ℤ) → IsMedian xs a → IsMedian ys b → IsMedian (xs ++ ys) m → m ≤ℤ int_max a b
+median_high : (xs ys : List ℤ) (a b m : ℤ) → IsMedian xs a → IsMedian ys b → IsMedian (xs ++ ys) m → m ≤ℤ int_max a b
 median_high xs ys a b m first second both =
     let top = int_max a b in
     let one : a ≤ℤ top = omega (arith, ints, clamps) in
@@ -170,9 +175,12 @@ median_high xs ys a b m first second both =
     absurd (omega (arith, few, many, more, up, upper, sum, size)))
     (λ h. h)
 
+pub median_between : MedianIsBetween
+median_between values more a b m first second both = (median_low values more a b m first second both, median_high values more a b m first second both)
+
 -- a range that holds the value of a rank
 
-pub below-append : (v : ℤ) (xs ys : List ℤ) → below v (xs ++ ys) ≡ below v xs + below v ys
+pub below-append : BelowAddsUp
 below-append v xs ys = sum_by-append (λ y. one_if (int_lt y v)) xs ys
 
 up_to-below : (u v : ℤ) (xs : List ℤ) → u <ℤ v → up_to u xs ≤ below v xs
@@ -185,11 +193,11 @@ up_to-below u v xs h = sum_by-le-sum_by (λ x. one_if (int_le x u)) (λ x. one_i
     by x true e = let le : x ≤ℤ u = grind (arith, ints, e) in let there = less_counted x (omega (arith, ints, le, h)) in omega (arith, there)
     by x false e = omega arith
 
-pub rank_not_below : (values : List ℤ) (rank : ℕ) (v low : ℤ) → HasRank values rank v → below low values < rank → low ≤ℤ v
+rank_not_below : (values : List ℤ) (rank : ℕ) (v low : ℤ) → HasRank values rank v → below low values < rank → low ≤ℤ v
 rank_not_below values rank v low has few =
     by_lt_z v low (λ less. let h = up_to-below v low values less in let many = has.reached in absurd (omega (arith, h, many, few))) (λ h. h)
 
-pub rank_not_above : (values : List ℤ) (rank : ℕ) (v high : ℤ) → HasRank values rank v → rank ≤ up_to high values → v ≤ℤ high
+rank_not_above : (values : List ℤ) (rank : ℕ) (v high : ℤ) → HasRank values rank v → rank ≤ up_to high values → v ≤ℤ high
 rank_not_above values rank v high has many = by_lt_z high v (λ less. let few = has.least high less in absurd (omega (arith, many, few))) (λ h. h)
 
 below-cons : (v x : ℤ) (xs : List ℤ) → below v (x ∷ xs) ≡ one_if (int_lt x v) + below v xs
@@ -243,7 +251,7 @@ inside_itself : (low high v : ℤ) → low ≤ℤ v → v ≤ℤ high → is_ins
 inside_itself low high v above under = grind (arith, ints, above, under)
 
 -- the value of a rank has, among the values of a range that holds it, the rank less the number of those below the range
-pub rank_inside : (values : List ℤ) (rank : ℕ) (v low high : ℤ) → HasRank values rank v → below low values < rank → low ≤ℤ v → v ≤ℤ high → HasRank (inside low high values) (rank - below low values) v
+rank_inside : (values : List ℤ) (rank : ℕ) (v low high : ℤ) → HasRank values rank v → below low values < rank → low ≤ℤ v → v ≤ℤ high → HasRank (inside low high values) (rank - below low values) v
 rank_inside values rank v low high has few above under = record {
   there = contains_kept (is_inside low high) values v has.there.0 has.there.1 has.there.2 (inside_itself low high v above under);
   reached = let many = has.reached in let same = up_to-inside low high v values above under in omega (arith, many, same);
@@ -251,3 +259,10 @@ rank_inside values rank v low high has few above under = record {
       (λ out. let none = none_inside low high u values out in omega (arith, none, few))
       (λ not_under. let fewer = has.least u less in let same = up_to-inside low high u values not_under (omega (arith, ints, less, under)) in omega (arith, fewer, same, few));
 }
+
+pub rank_held : RankIsHeld
+rank_held values rank v low high has holds = (rank_not_below values rank v low has holds.0, rank_not_above values rank v high has holds.1)
+
+pub rank_within : RankIsInside
+rank_within values rank v low high has holds =
+    rank_inside values rank v low high has holds.0 (rank_not_below values rank v low has holds.0) (rank_not_above values rank v high has holds.1)

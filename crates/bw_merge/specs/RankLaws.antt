@@ -1,17 +1,20 @@
--- Laws of ranks and medians: what a median is by counts, and how it is found in several lists.
+-- Laws of ranks and medians: what a median is by counts, and where it lies in two lists.
 use Rattle.std.specs.Prelude.{List, Some, length, slice_get, ℕ, ℤ, ◌+◌, ◌++◌, ◌-◌, ◌<◌, ◌≡◌, ◌≤ℤ◌, ◌≤◌}
 use Rattle.std.specs.Int.{int_max, int_min}
 use Rattle.bw_cells.specs.SetFunctions.{median, sorted}
 use Rattle.bw_merge.specs.Ranks.{HasRank, IsMedian, below, inside, up_to}
 
--- of two lists, as many values are at most v, or less than v, as of both together
+-- the count of two lists is the sum of those of each
+abbrev pub AddsUp : (List ℤ → ℕ) → Type 0
+AddsUp count = (values more : List ℤ) → count (values ++ more) ≡ count values + count more
+
 abbrev pub UpToAddsUp : Type 0
-UpToAddsUp = (values more : List ℤ) (v : ℤ) → up_to v (values ++ more) ≡ up_to v values + up_to v more
+UpToAddsUp = (v : ℤ) → AddsUp (up_to v)
 
 abbrev pub BelowAddsUp : Type 0
-BelowAddsUp = (values more : List ℤ) (v : ℤ) → below v (values ++ more) ≡ below v values + below v more
+BelowAddsUp = (v : ℤ) → AddsUp (below v)
 
--- the sorted values have at place k, counted from 0, the value of rank k + 1, and no other value has this rank
+-- at place k, counted from 0, of the sorted values stands the value of rank k + 1, and no other value has this rank
 abbrev pub EntriesHaveRanks : Type 0
 EntriesHaveRanks = (values : List ℤ) (k : ℕ) (v : ℤ) → slice_get (sorted values) k ≡ Some v → HasRank values (k + 1) v
 
@@ -35,20 +38,19 @@ abbrev pub MedianIsThere : Type 0
 MedianIsThere = (values : List ℤ) → 0 < length values → (v : ℤ) × IsMedian values v
 
 -- the median of two lists lies between those of each
-abbrev pub MedianIsNotBelow : Type 0
-MedianIsNotBelow = (values more : List ℤ) (a b m : ℤ) → IsMedian values a → IsMedian more b → IsMedian (values ++ more) m → int_min a b ≤ℤ m
+abbrev pub MedianIsBetween : Type 0
+MedianIsBetween = (values more : List ℤ) (a b m : ℤ)
+    → IsMedian values a → IsMedian more b → IsMedian (values ++ more) m → (int_min a b ≤ℤ m) × (m ≤ℤ int_max a b)
 
-abbrev pub MedianIsNotAbove : Type 0
-MedianIsNotAbove = (values more : List ℤ) (a b m : ℤ) → IsMedian values a → IsMedian more b → IsMedian (values ++ more) m → m ≤ℤ int_max a b
+-- a range holds the value of a rank where fewer values than the rank are below it, and as many are at most its end
+abbrev pub HoldsRank : ℤ → ℤ → List ℤ → ℕ → Type 0
+HoldsRank low high values rank = (below low values < rank) × (rank ≤ up_to high values)
 
--- the value of a rank isn't less than low where fewer values are, and isn't above high where as many are at most high
-abbrev pub RankIsNotBelow : Type 0
-RankIsNotBelow = (values : List ℤ) (rank : ℕ) (v low : ℤ) → HasRank values rank v → below low values < rank → low ≤ℤ v
+abbrev pub RankIsHeld : Type 0
+RankIsHeld = (values : List ℤ) (rank : ℕ) (v low high : ℤ)
+    → HasRank values rank v → HoldsRank low high values rank → (low ≤ℤ v) × (v ≤ℤ high)
 
-abbrev pub RankIsNotAbove : Type 0
-RankIsNotAbove = (values : List ℤ) (rank : ℕ) (v high : ℤ) → HasRank values rank v → rank ≤ up_to high values → v ≤ℤ high
-
--- among the values of a range in which it lies, its rank is less by as many as lie below the range
+-- among the values of such a range its rank is less by as many as are below the range
 abbrev pub RankIsInside : Type 0
-RankIsInside = (values : List ℤ) (rank : ℕ) (v low high : ℤ) → HasRank values rank v → below low values < rank → low ≤ℤ v → v ≤ℤ high
-    → HasRank (inside low high values) (rank - below low values) v
+RankIsInside = (values : List ℤ) (rank : ℕ) (v low high : ℤ)
+    → HasRank values rank v → HoldsRank low high values rank → HasRank (inside low high values) (rank - below low values) v

@@ -5,7 +5,9 @@ ghost use Rattle.bw_merge.specs.GroupLaws.{
   FirstGroupStays,
   GroupItemsMerge,
   GroupLinesMerge,
+  GroupedAnswersAreLines,
   GroupedAnswersMerge,
+  GroupsHaveRows,
   GroupsMerge,
   RowsOfValueFollow,
   SecondGroupStays,
@@ -16,14 +18,12 @@ ghost use Rattle.bw_merge.specs.RankLaws.{
   BelowAddsUp,
   CountsGiveMedian,
   EntriesHaveRanks,
+  MedianIsBetween,
   MedianIsByCounts,
-  MedianIsNotAbove,
-  MedianIsNotBelow,
   MedianIsOne,
   MedianIsThere,
+  RankIsHeld,
   RankIsInside,
-  RankIsNotAbove,
-  RankIsNotBelow,
   RanksAreOfOne,
   RanksHaveEntries,
   UpToAddsUp,
@@ -47,26 +47,29 @@ pub fn set_functions_merge()
     ensures answers { AnswersMerge }
 {}
 
-/// The values of the groups of two lists are those of either's groups, each once, ascending, NULL last. The rows of a
-/// group are those of the first list's group of this value, and then those of the second's.
+/// The groups of two lists: their values are those of either's groups, each once, ascending, NULL last, and the rows of
+/// each are those of the first list's group of this value and then those of the second's.
 pub fn groups_merge()
     ensures values { ValuesMerge }
     ensures rows { RowsOfValueFollow }
     ensures groups { GroupsMerge }
-    ensures answers { GroupedAnswersMerge }
-{}
-
-/// What an item but a MEDIAN says of a group of two lists is the merge of what it says of the group in each. So are the
-/// lines of groups.
-pub fn items_of_groups_merge()
-    ensures items { GroupItemsMerge }
-    ensures lines { GroupLinesMerge }
+    ensures have { GroupsHaveRows }
 {}
 
 /// Where only one of two lists has a group of some value, this group is that of both, and so is what any item says of it.
 pub fn groups_of_one_list_stay()
     ensures first { FirstGroupStays }
     ensures second { SecondGroupStays }
+{}
+
+/// What an item but a MEDIAN says of a group of two lists is the merge of what it says of the group's rows in each. So the
+/// lines of groups, and whole answers to a SELECT with GROUP BY, are merged by value: a line for each value of either,
+/// ascending, NULL last, which is the merge of both lines, or the one line where only one has the value.
+pub fn lines_of_groups_merge()
+    ensures items { GroupItemsMerge }
+    ensures lines { GroupLinesMerge }
+    ensures shown { GroupedAnswersAreLines }
+    ensures answers { GroupedAnswersMerge }
 {}
 
 /// How many values of two lists are at most a number, or are less than it, is the sum of how many of each list are.
@@ -93,14 +96,12 @@ pub fn medians_are_by_counts()
 
 /// The median of two lists lies between the lesser and the greater of the medians of each.
 pub fn medians_bound_the_median()
-    ensures low { MedianIsNotBelow }
-    ensures high { MedianIsNotAbove }
+    ensures { MedianIsBetween }
 {}
 
 /// The value of a rank lies in a range where fewer values than its rank are below the range, and as many as its rank are
 /// at most the end of the range. Among the values of the range its rank is less by as many as are below the range.
 pub fn ranks_are_narrowed()
-    ensures low { RankIsNotBelow }
-    ensures high { RankIsNotAbove }
+    ensures held { RankIsHeld }
     ensures inside { RankIsInside }
 {}

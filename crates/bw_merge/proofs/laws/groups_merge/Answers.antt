@@ -1,4 +1,4 @@
-use Rattle.bw_merge.proofs.Grouped.{grouped_answers_merge, groups_merge, rows_follow, values_merge}
+use Rattle.bw_merge.proofs.Grouped.{groups_merge, rows_at_groups, rows_follow, values_merge}
 use Rattle.bw_merge.proofs.laws.groups_merge.Goals as goal
 
 pub returns-clause-values : goal.returns-clause-values
@@ -10,5 +10,5 @@ returns-clause-rows c = rows_follow
 pub returns-clause-groups : goal.returns-clause-groups
 returns-clause-groups c = groups_merge
 
-pub returns-clause-answers : goal.returns-clause-answers
-returns-clause-answers c = grouped_answers_merge
+pub returns-clause-have : goal.returns-clause-have
+returns-clause-have c = rows_at_groups

@@ -1,5 +1,4 @@
-use Rattle.std.specs.Prelude.{length, ◌+◌, ◌/◌}
-use Rattle.bw_merge.proofs.Ranked.{is_median, one_of_rank, only_median, some_median}
+use Rattle.bw_merge.proofs.Ranked.{is_median, one_median, only_median, some_median}
 use Rattle.bw_merge.proofs.laws.medians_are_by_counts.Goals as goal
 
 pub returns-clause-is : goal.returns-clause-is
@@ -9,7 +8,7 @@ pub returns-clause-only : goal.returns-clause-only
 returns-clause-only c = only_median
 
 pub returns-clause-one : goal.returns-clause-one
-returns-clause-one c = λ values v w is other. one_of_rank values ((length values + 1) / 2) v w is other
+returns-clause-one c = one_median
 
 pub returns-clause-there : goal.returns-clause-there
 returns-clause-there c = some_median
