@@ -1,3 +1,4 @@
+pub mod CountLaws
 pub mod GroupLaws
 pub mod ItemLaws
 pub mod Merging

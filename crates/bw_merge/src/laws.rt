@@ -1,6 +1,7 @@
 //! Laws on which it rests that one answer is made of the answers of several lists of rows. Each is of two lists; a merge
 //! of more is one merge after the other.
 
+ghost use Rattle.bw_merge.specs.CountLaws.{AndNarrows, RowsBelowAreCounted, RowsInsideAreFound, RowsOfGroupAreFound, RowsUpToAreCounted};
 ghost use Rattle.bw_merge.specs.GroupLaws.{
   FirstGroupStays,
   GroupItemsMerge,
@@ -104,4 +105,15 @@ pub fn medians_bound_the_median()
 pub fn ranks_are_narrowed()
     ensures held { RankIsHeld }
     ensures inside { RankIsInside }
+{}
+
+/// Counts are asked by conditions more: `a AND b` finds what `b` finds among the rows that `a` finds; `column <= v` and
+/// `column < v` find as many rows as there are values that are at most v, or less; `column BETWEEN low AND high` finds the
+/// rows of the values of a range; and `column = v` or `column IS NULL` finds the rows of a group.
+pub fn counts_are_asked()
+    ensures narrows { AndNarrows }
+    ensures up_to { RowsUpToAreCounted }
+    ensures below { RowsBelowAreCounted }
+    ensures inside { RowsInsideAreFound }
+    ensures group { RowsOfGroupAreFound }
 {}
