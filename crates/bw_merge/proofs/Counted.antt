@@ -1,28 +1,26 @@
 -- What conditions find, counted by values.
-use Rattle.std.proofs.Common.{Bool, List, None, Option, Some, [], ap, arith, cond, false, int_le, int_lt, is_none, length, map, refl, suc, sym, true, ℕ, ℤ}
-use Rattle.std.proofs.Common.{◌&&◌, ◌+◌, ◌≡◌, ◌∙◌, ◌∷◌}
-use Rattle.std.specs.List.{count_by, filter}
+use Rattle.std.proofs.Common.{Bool, List, None, Some, [], ap, arith, cond, false, int_le, int_lt, is_none, length, map, refl}
+use Rattle.std.proofs.Common.{suc, sym, true, ℤ}
+use Rattle.std.proofs.Common.{◌&&◌, ◌≡◌, ◌∙◌, ◌∷◌}
+use Rattle.std.specs.List.{filter}
 use Rattle.std.specs.Ordering.{int_cmp, is_eq}
 use Rattle.std.specs.declared.cmp.Ordering.{Ordering}
 use Rattle.std.specs.declared.cmp.Ordering.TheVariants.{Equal, Greater, Less}
 use Rattle.std.proofs.lemmas.Int.{ints}
 use Rattle.std.proofs.lemmas.List.Elements.{filter_agree}
-use Rattle.std.proofs.lemmas.List.Sums.{length-filter, sum_by-cons}
+use Rattle.std.proofs.lemmas.List.Sums.{length-filter}
 use Rattle.bw_cells.specs.SetFunctions.{known}
 use Rattle.bw_mask.specs.Truth.{and_of, is_value, truth_of_bool}
 use Rattle.bw_mask.specs.declared.truth_value.TruthValue.{TruthValue}
 use Rattle.bw_mask.specs.declared.truth_value.TruthValue.TheVariants.{False, True, Unknown}
-use Rattle.bw_lex.specs.declared.token.CompareOp.{CompareOp}
 use Rattle.bw_lex.specs.declared.token.CompareOp.TheVariants.{Eq, Ge, Le, Lt}
-use Rattle.bw_sql.specs.Tree.{ConditionTree, ConditionTrees, between, comparison, each_of, more}
-use Rattle.bw_sql.specs.declared.tree.Operand.TheVariants.{Column, Constant}
+use Rattle.bw_sql.specs.Tree.{between, comparison, each_of, more}
+use Rattle.bw_sql.specs.declared.tree.Operand.TheVariants.{Column}
 use Rattle.bw_model.specs.Condition.{compared, each_truth, is_found, lies_between, order_meets, truth_at}
 use Rattle.bw_model.specs.Groups.{is_same}
-use Rattle.bw_model.specs.Store.{Header, Row, Value, place_of, value_from}
+use Rattle.bw_model.specs.Store.{Row, Value, place_of, value_from}
 use Rattle.bw_merge.specs.CountLaws.{AndNarrows, RowsBelowAreCounted, RowsInsideAreFound, RowsOfGroupAreFound, RowsUpToAreCounted}
 use Rattle.bw_merge.specs.CountLaws.{has_value, number, values_of}
-use Rattle.bw_merge.specs.Merging.{found_in}
-use Rattle.bw_merge.specs.Ranks.{below, inside, up_to}
 
 both_true : (a b : TruthValue) → is_value (and_of a b) True ≡ (is_value a True && is_value b True)
 both_true True b = refl
@@ -44,7 +42,8 @@ module _ {A : Type 0} (p q r : A → Bool) (both : (x : A) → r x ≡ (p x && q
 
 pub and_narrows : AndNarrows
 and_narrows headers part parts rows =
-    filtered_twice (is_found headers (Some part)) (is_found headers (Some (each_of parts))) (is_found headers (Some (each_of (more part parts))))
+    filtered_twice (is_found headers (Some part)) (is_found headers (Some (each_of parts)))
+    (is_found headers (Some (each_of (more part parts))))
     (λ row. both_true (truth_at headers row part) (each_truth headers row parts)) rows
 
 truth_true : (b : Bool) → is_value (truth_of_bool b) True ≡ b
@@ -88,21 +87,25 @@ found_below : (v : ℤ) (value : Value) → is_value (compared Lt value (Some v)
 found_below v None = refl
 found_below v (Some x) = truth_true (order_meets Lt (int_cmp x v)) ∙ meets_lt x v
 
-found_inside : (low high : ℤ) (value : Value) → is_value (lies_between value (Some low) (Some high)) True ≡ test_of (λ x. int_le low x && int_le x high) value
+found_inside : (low high : ℤ) (value : Value) → is_value (lies_between value (Some low) (Some high)) True
+    ≡ test_of (λ x. int_le low x && int_le x high) value
 found_inside low high None = refl
 found_inside low high (Some x) =
     both_true (truth_of_bool (order_meets Ge (int_cmp x low))) (truth_of_bool (order_meets Le (int_cmp x high)))
-    ∙ ap (λ b. b && is_value (truth_of_bool (order_meets Le (int_cmp x high))) True) (truth_true (order_meets Ge (int_cmp x low)) ∙ meets_ge x low)
+    ∙ ap (λ b. b && is_value (truth_of_bool (order_meets Le (int_cmp x high))) True)
+    (truth_true (order_meets Ge (int_cmp x low)) ∙ meets_ge x low)
     ∙ ap (λ b. int_le low x && b) (truth_true (order_meets Le (int_cmp x high)) ∙ meets_le x high)
 
 -- rows by a test of a value of theirs
 module _ (value : Row → Value) (test : ℤ → Bool) (is : Row → Bool) (same : (row : Row) → is row ≡ test_of test (value row)) where
   kept_values : (rows : List Row) → known (map value (filter is rows)) ≡ filter test (known (map value rows))
   kept_values [] = refl
-  kept_values (row ∷ rows) = ap (λ b. known (map value (cond b (row ∷ filter is rows) (filter is rows)))) (same row) ∙ by (value row) refl (kept_values rows)
+  kept_values (row ∷ rows) = ap (λ b. known (map value (cond b (row ∷ filter is rows) (filter is rows)))) (same row)
+      ∙ by (value row) refl (kept_values rows)
     where
       other : (x : ℤ) (b : Bool) → value row ≡ Some x → known (map value (filter is rows)) ≡ filter test (known (map value rows))
-          → known (map value (cond b (row ∷ filter is rows) (filter is rows))) ≡ cond b (x ∷ filter test (known (map value rows))) (filter test (known (map value rows)))
+          → known (map value (cond b (row ∷ filter is rows) (filter is rows)))
+          ≡ cond b (x ∷ filter test (known (map value rows))) (filter test (known (map value rows)))
       other x true e rest = ap (λ w. known (w ∷ map value (filter is rows))) e ∙ ap (λ l. x ∷ l) rest
       other x false e rest = rest
 
@@ -114,10 +117,12 @@ module _ (value : Row → Value) (test : ℤ → Bool) (is : Row → Bool) (same
   -- no row is found whose value is null
   kept_length : (rows : List Row) → length (filter is rows) ≡ length (filter test (known (map value rows)))
   kept_length [] = refl
-  kept_length (row ∷ rows) = ap (λ b. length (cond b (row ∷ filter is rows) (filter is rows))) (same row) ∙ by (value row) (kept_length rows)
+  kept_length (row ∷ rows) = ap (λ b. length (cond b (row ∷ filter is rows) (filter is rows))) (same row)
+      ∙ by (value row) (kept_length rows)
     where
       other : (x : ℤ) (b : Bool) → length (filter is rows) ≡ length (filter test (known (map value rows)))
-          → length (cond b (row ∷ filter is rows) (filter is rows)) ≡ length (cond b (x ∷ filter test (known (map value rows))) (filter test (known (map value rows))))
+          → length (cond b (row ∷ filter is rows) (filter is rows))
+          ≡ length (cond b (x ∷ filter test (known (map value rows))) (filter test (known (map value rows))))
       other x true rest = ap suc rest
       other x false rest = rest
 
@@ -129,13 +134,15 @@ module _ (value : Row → Value) (test : ℤ → Bool) (is : Row → Bool) (same
 pub up_to_counted : RowsUpToAreCounted
 up_to_counted headers name v rows =
     let value = λ (row : Row). value_from row (place_of headers name) in
-    kept_length value (λ x. int_le x v) (is_found headers (Some (comparison (Column name) Le (number v)))) (λ row. found_up_to v (value row)) rows
+    kept_length value (λ x. int_le x v) (is_found headers (Some (comparison (Column name) Le (number v))))
+    (λ row. found_up_to v (value row)) rows
     ∙ length-filter (λ x. int_le x v) (values_of headers name rows)
 
 pub below_counted : RowsBelowAreCounted
 below_counted headers name v rows =
     let value = λ (row : Row). value_from row (place_of headers name) in
-    kept_length value (λ x. int_lt x v) (is_found headers (Some (comparison (Column name) Lt (number v)))) (λ row. found_below v (value row)) rows
+    kept_length value (λ x. int_lt x v) (is_found headers (Some (comparison (Column name) Lt (number v))))
+    (λ row. found_below v (value row)) rows
     ∙ length-filter (λ x. int_lt x v) (values_of headers name rows)
 
 pub inside_found : RowsInsideAreFound

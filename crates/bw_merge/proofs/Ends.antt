@@ -1,5 +1,6 @@
 -- The sum and the ends of two lists.
-use Rattle.std.proofs.Common.{Bool, List, None, Option, Some, [], ap, arith, cond, false, int_le, length, refl, suc, sym, true, zero, ℤ, ◌-◌, ◌+ℤ◌, ◌++◌, ◌≡◌, ◌≤ℤ◌, ◌∙◌, ◌∷◌}
+use Rattle.std.proofs.Common.{Bool, List, None, Option, Some, [], ap, arith, cond, false, int_le, length, refl, suc, sym, true, zero, ℤ}
+use Rattle.std.proofs.Common.{◌-◌, ◌+ℤ◌, ◌++◌, ◌≡◌, ◌≤ℤ◌, ◌∙◌, ◌∷◌}
 use Rattle.std.specs.Int.{int_max, int_min}
 use Rattle.std.specs.List.{slice_get}
 use Rattle.std.proofs.lemmas.Int.{clamps, ints}
@@ -17,17 +18,21 @@ joined-none : (f : ℤ → ℤ → ℤ) (a : Option ℤ) → joined f a None ≡
 joined-none f None = refl
 joined-none f (Some x) = refl
 
-joined_assoc : (f : ℤ → ℤ → ℤ) → ((x y z : ℤ) → f (f x y) z ≡ f x (f y z)) → (x : ℤ) (b c : Option ℤ) → joined f (Some x) (joined f b c) ≡ joined f (joined f (Some x) b) c
+joined_assoc : (f : ℤ → ℤ → ℤ)
+    → ((x y z : ℤ) → f (f x y) z ≡ f x (f y z))
+    → (x : ℤ) (b c : Option ℤ) → joined f (Some x) (joined f b c) ≡ joined f (joined f (Some x) b) c
 joined_assoc f assoc x None c = refl
 joined_assoc f assoc x (Some y) None = refl
 joined_assoc f assoc x (Some y) (Some z) = ap Some (sym (assoc x y z))
 
 -- what is found by one value after the other is joined over lists
-module _ (f : ℤ → ℤ → ℤ) (assoc : (x y z : ℤ) → f (f x y) z ≡ f x (f y z)) (of : List ℤ → Option ℤ) (none : of [] ≡ None) (more : (x : ℤ) (xs : List ℤ) → of (x ∷ xs) ≡ joined f (Some x) (of xs)) where
+module _ (f : ℤ → ℤ → ℤ) (assoc : (x y z : ℤ) → f (f x y) z ≡ f x (f y z)) (of : List ℤ → Option ℤ) (none : of [] ≡ None)
+    (more : (x : ℤ) (xs : List ℤ) → of (x ∷ xs) ≡ joined f (Some x) (of xs)) where
   pub of_both : (xs ys : List ℤ) → of (xs ++ ys) ≡ joined f (of xs) (of ys)
   of_both [] ys = ap (λ a. joined f a (of ys)) (sym none)
   of_both (x ∷ xs) ys =
-      more x (xs ++ ys) ∙ ap (joined f (Some x)) (of_both xs ys) ∙ joined_assoc f assoc x (of xs) (of ys) ∙ ap (λ a. joined f a (of ys)) (sym (more x xs))
+      more x (xs ++ ys) ∙ ap (joined f (Some x)) (of_both xs ys) ∙ joined_assoc f assoc x (of xs) (of ys)
+      ∙ ap (λ a. joined f a (of ys)) (sym (more x xs))
 
 sum_more : (x : ℤ) (xs : List ℤ) → sum (x ∷ xs) ≡ joined ◌+ℤ◌ (Some x) (sum xs)
 sum_more x [] = ap Some (omega (arith, ints))
@@ -82,11 +87,13 @@ put_greatest : (x : ℤ) (xs : List ℤ) → Ascends xs → last (put_in x xs) �
 put_greatest x [] a = refl
 put_greatest x (y ∷ ys) a = by (int_le x y) refl (put_greatest x ys a.1)
   where
-    after : (zs : List ℤ) → y ≤ℤ x → Ascends zs → last (put_in x zs) ≡ joined int_max (Some x) (last zs) → last (put_in x zs) ≡ joined int_max (Some x) (last (y ∷ zs))
+    after : (zs : List ℤ) → y ≤ℤ x → Ascends zs → last (put_in x zs) ≡ joined int_max (Some x) (last zs)
+        → last (put_in x zs) ≡ joined int_max (Some x) (last (y ∷ zs))
     after [] h b rest = ap Some (omega (arith, ints, clamps, h))
     after (z ∷ zs) h b rest = rest
 
-    by : (b : Bool) → int_le x y ≡ b → last (put_in x ys) ≡ joined int_max (Some x) (last ys) → last (cond b (x ∷ y ∷ ys) (y ∷ put_in x ys)) ≡ joined int_max (Some x) (last (y ∷ ys))
+    by : (b : Bool) → int_le x y ≡ b → last (put_in x ys) ≡ joined int_max (Some x) (last ys)
+        → last (cond b (x ∷ y ∷ ys) (y ∷ put_in x ys)) ≡ joined int_max (Some x) (last (y ∷ ys))
     by true e rest = let le : x ≤ℤ y = grind (arith, ints, e) in sym (max_last x y ys le a.0 a.1)
     by false e rest = let le : y ≤ℤ x = grind (arith, ints, e) in last_put x y ys ∙ after ys le a.1 rest
 
@@ -94,7 +101,8 @@ greatest_last : (xs : List ℤ) → greatest xs ≡ last (sorted xs)
 greatest_last xs = ap (λ n. slice_get (sorted xs) (n - 1)) (sym (length-sorted xs)) ∙ at_end (sorted xs)
 
 greatest_more : (x : ℤ) (xs : List ℤ) → greatest (x ∷ xs) ≡ joined int_max (Some x) (greatest xs)
-greatest_more x xs = greatest_last (x ∷ xs) ∙ put_greatest x (sorted xs) (sorted-ascends xs) ∙ ap (joined int_max (Some x)) (sym (greatest_last xs))
+greatest_more x xs = greatest_last (x ∷ xs) ∙ put_greatest x (sorted xs) (sorted-ascends xs)
+    ∙ ap (joined int_max (Some x)) (sym (greatest_last xs))
 
 pub greatest_of_both : (xs ys : List ℤ) → greatest (xs ++ ys) ≡ joined int_max (greatest xs) (greatest ys)
 greatest_of_both = of_both int_max (λ x y z. omega (arith, ints, clamps)) greatest refl greatest_more

@@ -1,5 +1,6 @@
 -- The groups of two lists.
-use Rattle.std.proofs.Common.{Bool, List, None, Option, Some, [], ap, append-nil, arith, cond, false, if◌then◌else◌, is_none, map, refl, suc, sym, true, ℕ, ℤ, ◌++◌, ◌||◌, ◌≡◌, ◌<ℤ◌, ◌≤ℤ◌, ◌∙◌, ◌∷◌}
+use Rattle.std.proofs.Common.{Bool, List, None, Option, Some, [], ap, append-nil, arith, cond, false, if◌then◌else◌, is_none, map, refl}
+use Rattle.std.proofs.Common.{suc, sym, true, ℕ, ℤ, ◌++◌, ◌||◌, ◌≡◌, ◌<ℤ◌, ◌≤ℤ◌, ◌∙◌, ◌∷◌}
 use Rattle.std.specs.List.{dedup, list_any}
 use Rattle.std.specs.Ordering.{int_eq}
 use Rattle.std.proofs.lemmas.Bool.{true≢false}
@@ -15,7 +16,8 @@ use Rattle.bw_model.specs.Select.{lines_for, said_in, shown, shown_items}
 use Rattle.bw_model.specs.Store.{Header, Row, Value, place_of, value_from}
 use Rattle.bw_model.specs.declared.answer.Cell.{Cell}
 use Rattle.bw_model.proofs.Rising.{Rises, RisesFrom, dedup-has, dedup-rises, has, has-sorted, sorted-ascends}
-use Rattle.bw_merge.specs.GroupLaws.{FirstGroupStays, GroupItemsMerge, GroupLinesMerge, GroupedAnswersAreLines, GroupedAnswersMerge, HasNoGroup}
+use Rattle.bw_merge.specs.GroupLaws.{FirstGroupStays, GroupItemsMerge, GroupLinesMerge, GroupedAnswersAreLines, GroupedAnswersMerge}
+use Rattle.bw_merge.specs.GroupLaws.{HasNoGroup}
 use Rattle.bw_merge.specs.GroupLaws.{RowsOfValueFollow, SecondGroupStays, ValuesMerge}
 use Rattle.bw_merge.specs.Merging.{GroupLine, found_in, group_line, group_lines, group_of, group_of_both, is_median, line_at, line_of_both}
 use Rattle.bw_merge.specs.Merging.{merged, merged_groups, merged_line, merged_lines, rows_at}
@@ -88,9 +90,13 @@ once_has values z = dedup-has z (sorted (known values)) ∙ has-sorted z (known 
 abbrev null_if : Bool → List Value
 null_if b = if b then None ∷ [] else []
 
-values_told : (values others : List Value) → ((z : ℤ) → has (known values) z ≡ has (known others) z) → list_any is_none values ≡ list_any is_none others → group_values values ≡ group_values others
+values_told : (values others : List Value)
+    → ((z : ℤ) → has (known values) z ≡ has (known others) z)
+    → list_any is_none values ≡ list_any is_none others → group_values values ≡ group_values others
 values_told values others same nulls =
-    ap (λ zs. map Some zs ++ null_if (list_any is_none values)) (told_by (once values) (once others) (once_rises values) (once_rises others) (λ z. once_has values z ∙ same z ∙ sym (once_has others z)))
+    ap (λ zs. map Some zs ++ null_if (list_any is_none values))
+    (told_by (once values) (once others) (once_rises values) (once_rises others)
+    (λ z. once_has values z ∙ same z ∙ sym (once_has others z)))
     ∙ ap (λ b. map Some (once others) ++ null_if b) nulls
 
 grouped : (a b c : Bool) → (a || (b || c)) ≡ ((a || b) || c)
@@ -217,8 +223,10 @@ module _ (place : Option ℕ) where
   at_values rows value [] = refl
   at_values rows value (w ∷ ws) = by (is_same w value) refl (at_values rows value ws)
     where
-      by : (b : Bool) → is_same w value ≡ b → rows_at value (map (of_value rows) ws) ≡ cond (holds ws value) (rows_having place value rows) []
-          → cond b (rows_having place w rows) (rows_at value (map (of_value rows) ws)) ≡ cond (b || holds ws value) (rows_having place value rows) []
+      by : (b : Bool) → is_same w value ≡ b → rows_at value (map (of_value rows) ws)
+          ≡ cond (holds ws value) (rows_having place value rows) []
+          → cond b (rows_having place w rows) (rows_at value (map (of_value rows) ws))
+          ≡ cond (b || holds ws value) (rows_having place value rows) []
       by true e rest = ap (λ v. rows_having place v rows) (same_is w value e)
       by false e rest = rest
 
@@ -237,7 +245,8 @@ module _ (place : Option ℕ) where
   values_again rows (w ∷ ws) = ap (λ l. w ∷ l) (values_again rows ws)
 
   values_of_groups : (rows more : List Row)
-      → map (λ group. group.value) (groups_by place rows ++ groups_by place more) ≡ group_values (values_of rows) ++ group_values (values_of more)
+      → map (λ group. group.value) (groups_by place rows ++ groups_by place more)
+      ≡ group_values (values_of rows) ++ group_values (values_of more)
   values_of_groups rows more =
       map-append (λ group. group.value) (groups_by place rows) (groups_by place more)
       ∙ ap (λ front. front ++ map (λ group. group.value) (groups_by place more)) (values_again rows (group_values (values_of rows)))
@@ -306,7 +315,8 @@ module _ (headers : List Header) (list : List SelectItem) where
   found_line value (group ∷ groups) = by (is_same group.value value) refl (found_line value groups)
     where
       by : (b : Bool) → is_same group.value value ≡ b
-          → line_at value (lines_in groups) ≡ (if holds (values_in groups) value then Some (line_for value (rows_at value groups)) else None)
+          → line_at value (lines_in groups)
+          ≡ (if holds (values_in groups) value then Some (line_for value (rows_at value groups)) else None)
           → (if b then Some (line_for group.value group.rows) else line_at value (lines_in groups))
           ≡ (if b || holds (values_in groups) value then Some (line_for value (if b then group.rows else rows_at value groups)) else None)
       by true e rest = ap (λ v. Some (line_for v group.rows)) (same_is group.value value e)
@@ -320,23 +330,29 @@ module _ (headers : List Header) (list : List SelectItem) where
       ap (λ b. if b then group.rows else rows_at value groups) first ∙ no_group value groups later
 
   module _ (free : list_any is_median list ≡ false) where
-    line_merges : (value : Value) (rows more : List Row) → line_for value (rows ++ more) ≡ merged_line list (line_for value rows) (line_for value more)
+    line_merges : (value : Value) (rows more : List Row) → line_for value (rows ++ more)
+        ≡ merged_line list (line_for value rows) (line_for value more)
     line_merges value rows more =
-        cells_merge (said_in headers (group_of value (rows ++ more))) (said_in headers (group_of value rows)) (said_in headers (group_of value more))
+        cells_merge (said_in headers (group_of value (rows ++ more))) (said_in headers (group_of value rows))
+        (said_in headers (group_of value more))
         (λ it plain. group_items_merge headers value it plain rows more) list free
 
     either_line : (value : Value) (groups others : List Group) (a b : Bool)
         → holds (values_in groups) value ≡ a → holds (values_in others) value ≡ b → (a || b) ≡ true
         → line_for value (rows_at value groups ++ rows_at value others)
-        ≡ line_of_both list (if a then Some (line_for value (rows_at value groups)) else None) (if b then Some (line_for value (rows_at value others)) else None)
+        ≡ line_of_both list (if a then Some (line_for value (rows_at value groups)) else None)
+        (if b then Some (line_for value (rows_at value others)) else None)
     either_line value groups others true true e f some = line_merges value (rows_at value groups) (rows_at value others)
     either_line value groups others true false e f some =
-        ap (λ back. line_for value (rows_at value groups ++ back)) (no_group value others f) ∙ ap (line_for value) (append-nil (rows_at value groups))
-    either_line value groups others false true e f some = ap (λ front. line_for value (front ++ rows_at value others)) (no_group value groups e)
+        ap (λ back. line_for value (rows_at value groups ++ back)) (no_group value others f)
+        ∙ ap (line_for value) (append-nil (rows_at value groups))
+    either_line value groups others false true e f some =
+        ap (λ front. line_for value (front ++ rows_at value others)) (no_group value groups e)
     either_line value groups others false false e f some = absurd cc
 
     the_line : (value : Value) (groups others : List Group) → holds (group_values (values_in (groups ++ others))) value ≡ true
-        → line_for value (rows_at value groups ++ rows_at value others) ≡ line_of_both list (line_at value (lines_in groups)) (line_at value (lines_in others))
+        → line_for value (rows_at value groups ++ rows_at value others)
+        ≡ line_of_both list (line_at value (lines_in groups)) (line_at value (lines_in others))
     the_line value groups others there =
         let a = holds (values_in groups) value in
         let b = holds (values_in others) value in
@@ -346,25 +362,31 @@ module _ (headers : List Header) (list : List SelectItem) where
         ∙ sym (holds_grouped (values_in (groups ++ others)) value)
         ∙ there in
         either_line value groups others a b refl refl some
-        ∙ ap (λ other. line_of_both list (if a then Some (line_for value (rows_at value groups)) else None) other) (sym (found_line value others))
+        ∙ ap (λ other. line_of_both list (if a then Some (line_for value (rows_at value groups)) else None) other)
+        (sym (found_line value others))
         ∙ ap (λ one. line_of_both list one (line_at value (lines_in others))) (sym (found_line value groups))
 
-    values_of_lines : (groups others : List Group) → values_in (groups ++ others) ≡ map (λ line. line.0) (lines_in groups ++ lines_in others)
+    values_of_lines : (groups others : List Group) → values_in (groups ++ others)
+        ≡ map (λ line. line.0) (lines_in groups ++ lines_in others)
     values_of_lines groups others =
         sym (map_twice (λ (line : GroupLine). line.0) (group_line headers list) (groups ++ others))
         ∙ ap (map (λ (line : GroupLine). line.0)) (map-append (group_line headers list) groups others)
 
-    lines_of_groups : (groups others : List Group) → lines_in (merged_groups groups others) ≡ merged_lines list (lines_in groups) (lines_in others)
+    lines_of_groups : (groups others : List Group) → lines_in (merged_groups groups others)
+        ≡ merged_lines list (lines_in groups) (lines_in others)
     lines_of_groups groups others =
-        let line = λ (value : Value). let one : GroupLine = (value, line_of_both list (line_at value (lines_in groups)) (line_at value (lines_in others))) in one in
+        let line = λ (value : Value). let one : GroupLine =
+        (value, line_of_both list (line_at value (lines_in groups)) (line_at value (lines_in others))) in one in
         map_twice (group_line headers list) (group_of_both groups others) (group_values (values_in (groups ++ others)))
-        ∙ each_same (λ value. group_line headers list (group_of_both groups others value)) line (group_values (values_in (groups ++ others)))
+        ∙ each_same (λ value. group_line headers list (group_of_both groups others value)) line
+        (group_values (values_in (groups ++ others)))
         (λ value there. ap (λ (cells : List Cell). let one : GroupLine = (value, cells) in one) (the_line value groups others there))
         ∙ ap (λ values. map line (group_values values)) (values_of_lines groups others)
 
 pub group_lines_merge : GroupLinesMerge
 group_lines_merge headers list place rows more free =
-    ap (map (group_line headers list)) (groups_merge place rows more) ∙ lines_of_groups headers list free (groups_by place rows) (groups_by place more)
+    ap (map (group_line headers list)) (groups_merge place rows more)
+    ∙ lines_of_groups headers list free (groups_by place rows) (groups_by place more)
 
 pub answers_are_lines : GroupedAnswersAreLines
 answers_are_lines headers query name rows grouped =

@@ -99,7 +99,8 @@ or_second true b e = absurd cc
 or_second false b e = e
 
 module _ (both one two : SelectItem → Cell) (merge : (it : SelectItem) → is_median it ≡ false → both it ≡ merged it (one it) (two it)) where
-  pub cells_merge : (list : List SelectItem) → list_any is_median list ≡ false → map both list ≡ merged_line list (map one list) (map two list)
+  pub cells_merge : (list : List SelectItem) → list_any is_median list ≡ false → map both list
+      ≡ merged_line list (map one list) (map two list)
   cells_merge [] free = refl
   cells_merge (it ∷ list) free =
       ap (λ cell. cell ∷ map both list) (merge it (or_first (is_median it) (list_any is_median list) free))

@@ -69,7 +69,8 @@ merged_of_both : merged_line items of_one of_other ≡ of_both
 merged_of_both = refl
 
 -- a list whose values are all NULL changes counts of rows alone, and of two such lists SUM, MIN and MAX are NULL
-with_nulls : lines_for headers items None (nulls ++ other) ≡ merged_line items (Number (pos 1) ∷ Number (pos 0) ∷ Null ∷ Null ∷ Null ∷ []) of_other ∷ []
+with_nulls : lines_for headers items None (nulls ++ other)
+    ≡ merged_line items (Number (pos 1) ∷ Number (pos 0) ∷ Null ∷ Null ∷ Null ∷ []) of_other ∷ []
 with_nulls = refl
 
 nulls_alone : lines_for headers items None (nulls ++ nulls) ≡ (Number (pos 2) ∷ Number (pos 0) ∷ Null ∷ Null ∷ Null ∷ []) ∷ []

@@ -1,5 +1,6 @@
 -- The entry of a rank by counts.
-use Rattle.std.proofs.Common.{Bool, List, Some, [], ap, arith, cond, false, get_or, int_le, int_lt, length, length-append, pos, refl, suc, sym, subst, true, zero, ℕ, ℤ, ◌&&◌, ◌+◌, ◌-◌, ◌/◌, ◌++◌, ◌≡◌, ◌<◌, ◌≤◌, ◌<ℤ◌, ◌≤ℤ◌, ◌∙◌, ◌∷◌}
+use Rattle.std.proofs.Common.{Bool, List, Some, [], ap, arith, cond, false, get_or, int_le, int_lt, length, length-append, pos, refl}
+use Rattle.std.proofs.Common.{suc, sym, subst, true, zero, ℕ, ℤ, ◌&&◌, ◌+◌, ◌-◌, ◌/◌, ◌++◌, ◌≡◌, ◌<◌, ◌≤◌, ◌<ℤ◌, ◌≤ℤ◌, ◌∙◌, ◌∷◌}
 use Rattle.std.specs.Int.{int_max, int_min}
 use Rattle.std.specs.List.{Contains, filter, slice_get}
 use Rattle.std.proofs.lemmas.Int.{by_lt_z, clamps, ints}
@@ -7,7 +8,8 @@ use Rattle.std.proofs.lemmas.List.Sorted.{Contains-permutation, IsPermutation-sy
 use Rattle.std.proofs.lemmas.List.Sums.{count_by-le-length, sum_by-append, sum_by-cons, sum_by-le-sum_by}
 use Rattle.std.proofs.lemmas.Option.{get_or_from_slice_get, slice_get-get_or, slice_get_within}
 use Rattle.bw_cells.specs.SetFunctions.{sorted}
-use Rattle.bw_merge.specs.RankLaws.{BelowAddsUp, CountsGiveMedian, EntriesHaveRanks, MedianIsBetween, MedianIsByCounts, MedianIsOne, MedianIsThere}
+use Rattle.bw_merge.specs.RankLaws.{BelowAddsUp, CountsGiveMedian, EntriesHaveRanks, MedianIsBetween, MedianIsByCounts, MedianIsOne}
+use Rattle.bw_merge.specs.RankLaws.{MedianIsThere}
 use Rattle.bw_merge.specs.RankLaws.{RankIsHeld, RankIsInside, RanksAreOfOne, RanksHaveEntries, UpToAddsUp}
 use Rattle.bw_merge.specs.Ranks.{HasRank, IsMedian, below, inside, up_to}
 use Rattle.bw_merge.proofs.Sorting.{AllFrom, Ascends, sorted-ascends, sorted-permutes}
@@ -85,13 +87,17 @@ entry_least (x ∷ xs) (suc k) u v a e h =
 -- an entry of the sorted values has its rank
 pub entry_has_rank : EntriesHaveRanks
 entry_has_rank values k v e = record {
-  there = Contains-permutation (sorted values) values v (IsPermutation-sym values (sorted values) (sorted-permutes values)) (k, slice_get_within (sorted values) k v e, get_or_from_slice_get (sorted values) k v v e);
-  reached = let h = entry_reached (sorted values) k v (sorted-ascends values) e in let same = up_to-sorted v values in omega (arith, h, same);
-  least = λ u low. let h = entry_least (sorted values) k u v (sorted-ascends values) e low in let same = up_to-sorted u values in omega (arith, h, same);
+  there = Contains-permutation (sorted values) values v (IsPermutation-sym values (sorted values) (sorted-permutes values))
+      (k, slice_get_within (sorted values) k v e, get_or_from_slice_get (sorted values) k v v e);
+  reached = let h = entry_reached (sorted values) k v (sorted-ascends values) e in let same = up_to-sorted v values in
+      omega (arith, h, same);
+  least = λ u low. let h = entry_least (sorted values) k u v (sorted-ascends values) e low in let same = up_to-sorted u values in
+      omega (arith, h, same);
 }
 
 not_less : (values : List ℤ) (rank : ℕ) (v w : ℤ) → HasRank values rank v → HasRank values rank w → w ≤ℤ v
-not_less values rank v w a b = by_lt_z v w (λ less. let few = b.least v less in let many = a.reached in absurd (omega (arith, few, many))) (λ h. h)
+not_less values rank v w a b =
+    by_lt_z v w (λ less. let few = b.least v less in let many = a.reached in absurd (omega (arith, few, many))) (λ h. h)
 
 -- one value at most has a rank
 pub one_of_rank : RanksAreOfOne
@@ -123,7 +129,8 @@ is_median values v e =
 
 pub only_median : CountsGiveMedian
 only_median values v is =
-    rank_has_entry values ((length values - 1) / 2) v (subst (λ (r : ℕ). HasRank values r v) (sym (median_rank (length values) (some_there values v is.there))) is)
+    rank_has_entry values ((length values - 1) / 2) v
+    (subst (λ (r : ℕ). HasRank values r v) (sym (median_rank (length values) (some_there values v is.there))) is)
 
 pub one_median : MedianIsOne
 one_median values v w is other = one_of_rank values ((length values + 1) / 2) v w is other
@@ -176,7 +183,8 @@ median_high xs ys a b m first second both =
     (λ h. h)
 
 pub median_between : MedianIsBetween
-median_between values more a b m first second both = (median_low values more a b m first second both, median_high values more a b m first second both)
+median_between values more a b m first second both =
+    (median_low values more a b m first second both, median_high values more a b m first second both)
 
 -- a range that holds the value of a rank
 
@@ -190,7 +198,8 @@ up_to-below u v xs h = sum_by-le-sum_by (λ x. one_if (int_le x u)) (λ x. one_i
     less_counted x l = grind (arith, ints, l)
 
     by : (x : ℤ) (b : Bool) → int_le x u ≡ b → one_if b ≤ one_if (int_lt x v)
-    by x true e = let le : x ≤ℤ u = grind (arith, ints, e) in let there = less_counted x (omega (arith, ints, le, h)) in omega (arith, there)
+    by x true e = let le : x ≤ℤ u = grind (arith, ints, e) in let there = less_counted x (omega (arith, ints, le, h)) in
+        omega (arith, there)
     by x false e = omega arith
 
 rank_not_below : (values : List ℤ) (rank : ℕ) (v low : ℤ) → HasRank values rank v → below low values < rank → low ≤ℤ v
@@ -198,7 +207,8 @@ rank_not_below values rank v low has few =
     by_lt_z v low (λ less. let h = up_to-below v low values less in let many = has.reached in absurd (omega (arith, h, many, few))) (λ h. h)
 
 rank_not_above : (values : List ℤ) (rank : ℕ) (v high : ℤ) → HasRank values rank v → rank ≤ up_to high values → v ≤ℤ high
-rank_not_above values rank v high has many = by_lt_z high v (λ less. let few = has.least high less in absurd (omega (arith, many, few))) (λ h. h)
+rank_not_above values rank v high has many =
+    by_lt_z high v (λ less. let few = has.least high less in absurd (omega (arith, many, few))) (λ h. h)
 
 below-cons : (v x : ℤ) (xs : List ℤ) → below v (x ∷ xs) ≡ one_if (int_lt x v) + below v xs
 below-cons v x xs = sum_by-cons (λ y. one_if (int_lt y v)) x xs
@@ -210,7 +220,8 @@ kept : (u x : ℤ) (rest : List ℤ) (b : Bool) → up_to u (cond b (x ∷ rest)
 kept u x rest true = up_to-cons u x rest
 kept u x rest false = omega arith
 
-inside_one : (low high u x : ℤ) → low ≤ℤ u → u ≤ℤ high → one_if (int_le x u) ≡ one_if (int_lt x low) + cond (is_inside low high x) (one_if (int_le x u)) 0
+inside_one : (low high u x : ℤ) → low ≤ℤ u → u ≤ℤ high → one_if (int_le x u)
+    ≡ one_if (int_lt x low) + cond (is_inside low high x) (one_if (int_le x u)) 0
 inside_one low high u x above under = grind (arith, ints, above, under)
 
 up_to-inside : (low high u : ℤ) (xs : List ℤ) → low ≤ℤ u → u ≤ℤ high → up_to u xs ≡ below low xs + up_to u (inside low high xs)
@@ -251,13 +262,15 @@ inside_itself : (low high v : ℤ) → low ≤ℤ v → v ≤ℤ high → is_ins
 inside_itself low high v above under = grind (arith, ints, above, under)
 
 -- the value of a rank has, among the values of a range that holds it, the rank less the number of those below the range
-rank_inside : (values : List ℤ) (rank : ℕ) (v low high : ℤ) → HasRank values rank v → below low values < rank → low ≤ℤ v → v ≤ℤ high → HasRank (inside low high values) (rank - below low values) v
+rank_inside : (values : List ℤ) (rank : ℕ) (v low high : ℤ) → HasRank values rank v → below low values < rank → low ≤ℤ v → v ≤ℤ high
+    → HasRank (inside low high values) (rank - below low values) v
 rank_inside values rank v low high has few above under = record {
   there = contains_kept (is_inside low high) values v has.there.0 has.there.1 has.there.2 (inside_itself low high v above under);
   reached = let many = has.reached in let same = up_to-inside low high v values above under in omega (arith, many, same);
   least = λ u less. by_lt_z u low
       (λ out. let none = none_inside low high u values out in omega (arith, none, few))
-      (λ not_under. let fewer = has.least u less in let same = up_to-inside low high u values not_under (omega (arith, ints, less, under)) in omega (arith, fewer, same, few));
+      (λ not_under. let fewer = has.least u less in let same =
+      up_to-inside low high u values not_under (omega (arith, ints, less, under)) in omega (arith, fewer, same, few));
 }
 
 pub rank_held : RankIsHeld
@@ -265,4 +278,5 @@ rank_held values rank v low high has holds = (rank_not_below values rank v low h
 
 pub rank_within : RankIsInside
 rank_within values rank v low high has holds =
-    rank_inside values rank v low high has holds.0 (rank_not_below values rank v low has holds.0) (rank_not_above values rank v high has holds.1)
+    rank_inside values rank v low high has holds.0 (rank_not_below values rank v low has holds.0)
+    (rank_not_above values rank v high has holds.1)

@@ -11,11 +11,13 @@ put-permutes x (y ∷ ys) = by (int_le x y) (put-permutes x ys)
   where
     by : (b : Bool) → IsPermutation (x ∷ ys) (put_in x ys) → IsPermutation (x ∷ y ∷ ys) (cond b (x ∷ y ∷ ys) (y ∷ put_in x ys))
     by true same = IsPermutation-refl (x ∷ y ∷ ys)
-    by false same = IsPermutation-trans (x ∷ y ∷ ys) (y ∷ x ∷ ys) (y ∷ put_in x ys) (IsPermutation-middle (x ∷ []) y ys) (IsPermutation-cons y (x ∷ ys) (put_in x ys) same)
+    by false same = IsPermutation-trans (x ∷ y ∷ ys) (y ∷ x ∷ ys) (y ∷ put_in x ys) (IsPermutation-middle (x ∷ []) y ys)
+        (IsPermutation-cons y (x ∷ ys) (put_in x ys) same)
 
 pub sorted-permutes : (xs : List ℤ) → IsPermutation xs (sorted xs)
 sorted-permutes [] = IsPermutation-refl []
-sorted-permutes (x ∷ xs) = IsPermutation-trans (x ∷ xs) (x ∷ sorted xs) (put_in x (sorted xs)) (IsPermutation-cons x xs (sorted xs) (sorted-permutes xs)) (put-permutes x (sorted xs))
+sorted-permutes (x ∷ xs) = IsPermutation-trans (x ∷ xs) (x ∷ sorted xs) (put_in x (sorted xs))
+    (IsPermutation-cons x xs (sorted xs) (sorted-permutes xs)) (put-permutes x (sorted xs))
 
 -- no entry is below x
 abbrev pub AllFrom : ℤ → List ℤ → Type 0

@@ -7,7 +7,8 @@ use Rattle.bw_model.specs.Groups.{Group, group_values, groups_by, rows_having}
 use Rattle.bw_model.specs.Select.{said_in, shown_items}
 use Rattle.bw_model.specs.Store.{Header, Row, Value, place_of}
 use Rattle.bw_merge.specs.ItemLaws.{Merges}
-use Rattle.bw_merge.specs.Merging.{GroupLine, found_in, group_lines, group_of, group_of_both, is_median, lines_of, merged_groups, merged_lines, rows_at}
+use Rattle.bw_merge.specs.Merging.{GroupLine, found_in, group_lines, group_of, group_of_both, is_median, lines_of, merged_groups}
+use Rattle.bw_merge.specs.Merging.{merged_lines, rows_at}
 use Rattle.bw_merge.specs.RowLaws.{Follows}
 
 -- the values of the groups of two lists are those of either's groups, each once, ascending, NULL last
@@ -49,11 +50,13 @@ GroupItemsMerge = (headers : List Header) (value : Value) (item : SelectItem)
 abbrev pub GroupLinesMerge : Type 0
 GroupLinesMerge = (headers : List Header) (list : List SelectItem) (place : Option ℕ) (rows more : List Row)
     → list_any is_median list ≡ false
-    → group_lines headers list place (rows ++ more) ≡ merged_lines list (group_lines headers list place rows) (group_lines headers list place more)
+    → group_lines headers list place (rows ++ more)
+    ≡ merged_lines list (group_lines headers list place rows) (group_lines headers list place more)
 
 -- the lines by value of the groups that a SELECT with GROUP BY answers
 abbrev pub answered : List Header → SelectTree → List ℕ → List Row → List GroupLine
-answered headers query name rows = group_lines headers (shown_items headers query.items) (place_of headers name) (found_in headers query.condition rows)
+answered headers query name rows =
+    group_lines headers (shown_items headers query.items) (place_of headers name) (found_in headers query.condition rows)
 
 -- its answer has these lines
 abbrev pub GroupedAnswersAreLines : Type 0

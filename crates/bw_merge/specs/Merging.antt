@@ -88,4 +88,5 @@ line_of_both list None None = []
 -- a line for each value of either, ascending, NULL last
 abbrev pub merged_lines : List SelectItem → List GroupLine → List GroupLine → List GroupLine
 merged_lines list lines others =
-    map (λ value. (value, line_of_both list (line_at value lines) (line_at value others))) (group_values (map (λ line. line.0) (lines ++ others)))
+    map (λ value. (value, line_of_both list (line_at value lines) (line_at value others)))
+    (group_values (map (λ line. line.0) (lines ++ others)))
