@@ -1,6 +1,6 @@
 -- What is found in two lists of rows, and what items say of them.
-use Rattle.std.proofs.Common.{Bool, List, None, Option, Some, [], ap, false, if◌then◌else◌, length-append, map, pos, refl, sym, true, ℕ, ℤ}
-use Rattle.std.proofs.Common.{◌+ℤ◌, ◌++◌, ◌||◌, ◌≡◌, ◌∙◌, ◌∷◌}
+use Rattle.std.proofs.Common.{Bool, List, None, Option, Some, [], ap, append-nil, false, if◌then◌else◌, length-append, map, pos}
+use Rattle.std.proofs.Common.{refl, sym, true, ℕ, ℤ, ◌+ℤ◌, ◌++◌, ◌||◌, ◌≡◌, ◌∙◌, ◌∷◌}
 use Rattle.std.specs.Int.{int_max, int_min}
 use Rattle.std.specs.List.{list_any}
 use Rattle.std.proofs.lemmas.List.{map-append}
@@ -12,13 +12,14 @@ use Rattle.bw_sql.specs.declared.tree.SelectItem.TheVariants as item
 use Rattle.bw_sql.specs.declared.tree.SetFunction.{SetFunction}
 use Rattle.bw_sql.specs.declared.tree.SetFunction.TheVariants as function
 use Rattle.bw_model.specs.Condition.{is_found}
+use Rattle.bw_model.specs.Refusals.{first_that_holds, over, select_tests}
 use Rattle.bw_model.specs.Select.{columns_in, folded, has_functions, line_of, lines_for, said_of, shown, shown_items}
 use Rattle.bw_model.specs.Store.{Header, Row, Value, place_of, value_from}
 use Rattle.bw_model.specs.declared.answer.Cell.{Cell}
 use Rattle.bw_model.specs.declared.answer.Cell.TheVariants.{Number}
 use Rattle.bw_merge.specs.ItemLaws.{AnswersMerge, ItemsMerge, LinesMerge}
 use Rattle.bw_merge.specs.Merging.{found_in, is_median, lines_of, merged, merged_line, merging}
-use Rattle.bw_merge.specs.RowLaws.{AnswersFollow, FoundRowsFollow, LinesFollow}
+use Rattle.bw_merge.specs.RowLaws.{AnswersFollow, FirstAnswers, FoundRowsFollow, LinesFollow, RefusedAlike, SecondAnswers}
 use Rattle.bw_merge.proofs.Ends.{greatest_of_both, joined, least_of_both, sum_of_both}
 
 -- rows
@@ -58,6 +59,25 @@ answers_follow headers query none plain rows more =
     ∙ lines_follow headers list plain one two
     ∙ ap (λ front. front ++ lines_for headers list None two) (sym (ungrouped headers rows query none))
     ∙ ap (λ back. lines_of headers query rows ++ back) (sym (ungrouped headers more query none))
+
+-- any select, by the rows that it finds
+pub first_answers : FirstAnswers
+first_answers headers query rows more none =
+    ap (lines_for headers (shown_items headers query.items) query.grouping)
+    (found_follow headers query.condition rows more
+    ∙ ap (λ back. found_in headers query.condition rows ++ back) none
+    ∙ append-nil (found_in headers query.condition rows))
+
+pub second_answers : SecondAnswers
+second_answers headers query rows more none =
+    ap (lines_for headers (shown_items headers query.items) query.grouping)
+    (found_follow headers query.condition rows more ∙ ap (λ front. front ++ found_in headers query.condition more) none)
+
+pub refused_alike : RefusedAlike
+refused_alike query store other table more first second same =
+    ap (λ there. first_that_holds (over there (λ t. select_tests query t.headers))) first
+    ∙ ap (λ headers. first_that_holds (select_tests query headers)) same
+    ∙ sym (ap (λ there. first_that_holds (over there (λ t. select_tests query t.headers))) second)
 
 -- set functions
 

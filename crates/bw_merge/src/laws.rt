@@ -29,7 +29,7 @@ ghost use Rattle.bw_merge.specs.RankLaws.{
   RanksHaveEntries,
   UpToAddsUp,
 };
-ghost use Rattle.bw_merge.specs.RowLaws.{AnswersFollow, FoundRowsFollow, LinesFollow};
+ghost use Rattle.bw_merge.specs.RowLaws.{AnswersFollow, FirstAnswers, FoundRowsFollow, LinesFollow, RefusedAlike, SecondAnswers};
 
 /// The rows that a condition finds in two lists, one after the other, are those that it finds in the first and then those
 /// in the second. So are the lines, and the whole answer, of a SELECT of columns.
@@ -37,6 +37,17 @@ pub fn found_rows_follow()
     ensures rows { FoundRowsFollow }
     ensures lines { LinesFollow }
     ensures answers { AnswersFollow }
+{}
+
+/// Where a condition finds nothing in one of two lists, any SELECT answers of both what it answers of the other.
+pub fn unfound_rows_change_nothing()
+    ensures first { FirstAnswers }
+    ensures second { SecondAnswers }
+{}
+
+/// A SELECT is refused alike over tables of the same columns, whatever their rows are.
+pub fn selects_are_refused_alike()
+    ensures { RefusedAlike }
 {}
 
 /// What COUNT, SUM, MIN or MAX says of two lists is the merge of what it says of each: counts and sums are added, the

@@ -20,7 +20,7 @@ _LAST_LINE = b"rows "
 # What parts say of set functions: the cells of each group by the group's value, in the order of the items. Without
 # grouping all rows are the group (). A median is a pair of ends between which it lies.
 Groups = dict[Any, list[Any]]
-# Or the bytes of a refusal, which is the same for all parts.
+# Or the bytes of a refusal, which is the same for all parts (law selects_are_refused_alike).
 Folded = Union[Groups, bytes]
 
 
