@@ -1,8 +1,10 @@
 """The exact median of several parts, by rounds of counts.
 
-The lower median of n values is the least value at or below which lie half of them, rounded up (law: MEDIAN BY COUNTS).
-So it is found by counts alone, which add up: it lies between the least and the greatest of the parts' own medians, and
-each round leaves a part of that range. Each round checks that the range still holds the median.
+The lower median of n values is the least value at or below which lie half of them, rounded up (law
+medians_are_by_counts). So it is found by counts alone, which add up (counts_add_up) and are asked by a condition more
+(counts_are_asked): it lies between the least and the greatest of the parts' own medians (medians_bound_the_median), and
+each round leaves a part of that range. Each round checks that the range still holds the median (ranks_are_narrowed).
+The laws are proved in the crate bw_merge.
 """
 
 from __future__ import annotations
@@ -68,7 +70,8 @@ class Search:
         return self._select.narrowed(self._column, *self._terms, f"{self._column} BETWEEN {self.low} AND {self.high}")
 
     def pick(self, values: list[int]) -> None:
-        """Takes all values of the range, of which one is the median."""
+        """Takes all values of the range, of which one is the median: that of its rank less the number of values below
+        the range (laws ranks_are_narrowed and entries_have_ranks)."""
         if len(values) != self.inside:
             raise InternalError("the values of a median's range aren't as many as were counted")
         self.low = self.high = sorted(values)[self._rank - self._below - 1]

@@ -1,7 +1,8 @@
 """What several parts answer together, by what each of them answers.
 
-Each merge rests on a law over the definitions of set functions: what they say of the rows of two lists, one after the
-other, by what they say of each list. The laws are named where they are used; none of them is proved yet.
+Each merge rests on a law over the definitions of the language: what is said of the rows of two lists, one after the
+other, by what is said of each list. The laws are named where they are used, and proved in the crate bw_merge. That this
+code merges as they say is tested.
 """
 
 from __future__ import annotations
@@ -19,13 +20,13 @@ _LAST_LINE = b"rows "
 # What parts say of set functions: the cells of each group by the group's value, in the order of the items. Without
 # grouping all rows are the group (). A median is a pair of ends between which it lies.
 Groups = dict[Any, list[Any]]
-# Or the bytes of a refusal, which is the same for all parts.
+# Or the bytes of a refusal, which is the same for all parts (law selects_are_refused_alike).
 Folded = Union[Groups, bytes]
 
 
 def joined(replies: Sequence[bytes]) -> bytes:
-    """The reply to a SELECT of columns. Law: the found rows of two lists, one after the other, are those of the first
-    and then those of the second (FOUND ROWS OF TWO LISTS)."""
+    """The reply to a SELECT of columns. Law found_rows_follow: the found rows of two lists, one after the other, are
+    those of the first and then those of the second, and so are the lines of an answer."""
     header = replies[0][: replies[0].index(b"\n") + 1]
     ends = [reply.rindex(_LAST_LINE) for reply in replies]
     count = sum(int(reply[end + len(_LAST_LINE) :]) for reply, end in zip(replies, ends))
@@ -53,8 +54,9 @@ def groups_of(reply: bytes, items: Sequence[Item], is_grouped: bool) -> Folded:
 
 
 def folded(found: Iterable[Folded], items: Sequence[Item]) -> Folded:
-    """What several parts, or folds of parts, say together. Law: a group of two lists, one after the other, is the group
-    of its value in each, put together; groups are ascending, that of NULL last (GROUPS OF TWO LISTS)."""
+    """What several parts, or folds of parts, say together. Laws groups_merge and lines_of_groups_merge: a group of two
+    lists, one after the other, is the groups of its value in each, put together, and its line is the merge of both
+    lines. Law groups_of_one_list_stay: where one list alone has a group of the value, it is the group of both."""
     together: Groups = {}
     for groups in found:
         if isinstance(groups, bytes):
@@ -68,10 +70,9 @@ def folded(found: Iterable[Folded], items: Sequence[Item]) -> Folded:
 def both(item: Item, one: Any, other: Any) -> Any:
     """What an item says of two lists of rows, by what it says of each.
 
-    Laws: COUNT and SUM of two lists are the sums of those of each, where SUM is NULL only if both are (COUNTS ADD UP,
-    SUMS ADD UP); MIN and MAX are the least and the greatest of those of each that aren't NULL (ENDS OF TWO LISTS). The
-    lower median of two lists lies between the lower medians of each (MEDIANS BOUND THE MEDIAN): fewer than half of each
-    list's values are below its own, and half of them or more are not above it.
+    Law set_functions_merge: COUNT and SUM of two lists are the sums of those of each, MIN and MAX the lesser and the
+    greater, and where one is NULL the other is taken. Law medians_bound_the_median: the lower median of two lists lies
+    between the lower medians of each; so it lies between the ends of what holds those.
     """
     if one is None or other is None:
         return other if one is None else one
@@ -83,7 +84,7 @@ def both(item: Item, one: Any, other: Any) -> Any:
 
 
 def in_order(groups: Groups) -> list[Any]:
-    """The values of groups as an answer has them: ascending, NULL last."""
+    """The values of groups as an answer has them: ascending, NULL last (law groups_merge)."""
     return sorted(groups, key=lambda value: (value is None, 0 if value is None else value))
 
 

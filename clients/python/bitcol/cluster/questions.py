@@ -137,8 +137,9 @@ class Questions:
                 search.pick([value for reply in replies for (value,) in read(reply).rows()])
 
     def _asked_groups(self, condition: str | None) -> list[tuple[Group, list[int]]]:
-        """The groups that are asked, and which parts of each: those in which a row may be found. Where there is none,
-        one part is asked, since the program is to judge the statement."""
+        """The groups that are asked, and which parts of each: those in which a row may be found. The others change no
+        answer (law unfound_rows_change_nothing). Where there is none, one part is asked, since the program is to judge
+        the statement."""
         asked = []
         for group in self.groups:
             which = [place for place, part in enumerate(group.parts) if may_be_met(condition, part.ends)]
