@@ -1,5 +1,5 @@
 -- A dictionary that takes in other values: its entries, and the codes there.
-use Rattle.std.proofs.Common.{Bool, List, None, Option, Some, ap, arith, get_or, inl, inr, length, map, pos, refl, sym, ℕ, ℤ, ◌++◌, ◌<◌, ◌≡◌, ◌∙◌, ◌⊎◌}
+use Rattle.std.proofs.Common.{Bool, List, None, Option, Some, ap, arith, get_or, inl, inr, length, map, pos, refl, sym, ℕ, ℤ, ◌++◌, ◌<◌, ◌≡◌, ◌∙◌}
 use Rattle.std.specs.List.{All}
 use Rattle.std.specs.Prelude.{Contains, unwrap_or, ◌↔◌}
 use Rattle.std.proofs.lemmas.List.{get_or-map, get_or_default, length-map}
@@ -10,7 +10,7 @@ use Rattle.bw_code.specs.Encodings.{AreCodes, AreDistinct, HasCode, IsFit, code_
 use Rattle.bw_code.specs.declared.encoding.Encoding.{Encoding}
 use Rattle.bw_code.specs.declared.encoding.Encoding.TheVariants as by
 use Rattle.bw_code.specs.declared.kind.Kind.TheVariants as kinds
-use Rattle.bw_code.proofs.Entries.{entry_at, entry_is}
+use Rattle.bw_code.proofs.Entries.{entry_at}
 use Rattle.bw_code.proofs.Lists.{made_is}
 use Rattle.bw_dictionary.specs.Merging.{IsUnion, StandsIn}
 use Rattle.bw_dictionary.specs.Moving.{moved_place}

@@ -1,12 +1,12 @@
 -- Which codes the rows of a column have, and where these move.
-use Rattle.std.proofs.Common.{Bool, List, None, Option, Some, ap, arith, drop, get_or, if◌then◌else◌, inl, inr, is_some, length, length-drop, length-take, map, pos, refl, sym, take, true, ℕ, ℤ, ◌+◌, ◌-◌, ◌<◌, ◌≡◌, ◌≤◌, ◌∙◌, ◌⊎◌}
+use Rattle.std.proofs.Common.{Bool, List, None, Option, Some, ap, arith, drop, get_or, if◌then◌else◌, inl, inr, is_some, length, length-drop, length-take, pos, refl, sym, take, true, ℕ, ℤ, ◌+◌, ◌-◌, ◌<◌, ◌≡◌, ◌≤◌, ◌∙◌, ◌⊎◌}
 use Rattle.std.specs.List.{All}
 use Rattle.std.specs.Prelude.{Contains, unwrap_or, ◌↔◌}
 use Rattle.std.proofs.lemmas.Bool.{cases_lt}
 use Rattle.std.proofs.lemmas.List.{get_or-map, get_or_default, length-map}
 use Rattle.bw_mask.specs.Masks.{bit_of}
 use Rattle.bw_cells.proofs.Known.{known_at}
-use Rattle.bw_code.specs.Encodings.{IsEncoding, code_of}
+use Rattle.bw_code.specs.Encodings.{IsEncoding}
 use Rattle.bw_code.specs.declared.encoding.Encoding.{Encoding}
 use Rattle.bw_code.specs.declared.encoding.Encoding.TheVariants as by
 use Rattle.bw_code.proofs.Codes.{coded as coded_by}

@@ -1,5 +1,5 @@
 -- Places of cells that move by a table.
-use Rattle.std.proofs.Common.{List, None, Option, Some, ap, arith, drop, false, get_or, if◌then◌else◌, is_some, length, length-drop, length-take, map, pos, refl, sym, take, true, true≢false, ℕ, ℤ, ◌+◌, ◌<◌, ◌≡◌, ◌≤◌, ◌∙◌}
+use Rattle.std.proofs.Common.{List, None, Option, Some, ap, arith, drop, get_or, if◌then◌else◌, is_some, length, length-drop, length-take, map, pos, refl, sym, take, true, true≢false, ℕ, ℤ, ◌+◌, ◌<◌, ◌≡◌, ◌≤◌, ◌∙◌}
 use Rattle.std.specs.Prelude.{unwrap_or}
 use Rattle.std.proofs.lemmas.List.{get_or-map, get_or_default, length-map}
 use Rattle.bw_mask.specs.Masks.{bit_of}

@@ -1,10 +1,10 @@
 -- Ascending lists with the same members are one.
 use Rattle.std.proofs.Common.{List, [], ap, arith, get_or, length, pos, refl, suc, zero, sym, ℕ, ℤ, ◌<ℤ◌, ◌<◌, ◌≡◌, ◌∙◌, ◌∷◌}
 use Rattle.std.specs.Prelude.{Contains, ◌↔◌}
-use Rattle.std.proofs.lemmas.Int.{by_lt_z, ints}
+use Rattle.std.proofs.lemmas.Int.{ints}
 use Rattle.std.proofs.lemmas.List.{get_or_default}
 use Rattle.bw_code.specs.Ascending.{IsAscending}
-use Rattle.bw_code.specs.Encodings.{AreDistinct, IsFit, kind_of}
+use Rattle.bw_code.specs.Encodings.{IsFit, kind_of}
 use Rattle.bw_code.specs.declared.encoding.Encoding.{Encoding}
 use Rattle.bw_code.specs.declared.encoding.Encoding.TheVariants as by
 use Rattle.bw_code.specs.declared.kind.Kind.TheVariants as kind
@@ -36,8 +36,8 @@ one_list [] (y ∷ ys) up down same = let none = (same y).1 (0, omega arith, ref
 one_list (x ∷ xs) [] up down same = let none = (same x).0 (0, omega arith, refl) in absurd (omega (arith, none.1))
 one_list (x ∷ xs) (y ∷ ys) up down same =
     let first : x ≡ y = first_or_rest y x ys ((same x).0 (0, omega arith, refl)) (λ e. sym e)
-        (λ above. first_or_rest x y xs ((same y).1 (0, omega arith, refl)) (λ e. e)
-          (λ other. let a = first_below y x ys down above in let b = first_below x y xs up other in absurd (omega (arith, ints, a, b)))) in
+    (λ above. first_or_rest x y xs ((same y).1 (0, omega arith, refl)) (λ e. e)
+    (λ other. let a = first_below y x ys down above in let b = first_below x y xs up other in absurd (omega (arith, ints, a, b)))) in
     let rest = one_list xs ys (rest_ascends x xs up) (rest_ascends y ys down) (λ z. (
       λ h. first_or_rest y z ys ((same z).0 (in_rest x z xs h)) (λ e. let less = first_below x z xs up h in absurd (omega (arith, ints, less, first, e))) (λ it. it),
       λ h. first_or_rest x z xs ((same z).1 (in_rest y z ys h)) (λ e. let less = first_below y z ys down h in absurd (omega (arith, ints, less, first, e))) (λ it. it),

@@ -93,7 +93,7 @@ fn overwritten<R: Abort + AllocGlobal>(
 }
 
 /// The column with one value in the chosen rows.
-fn filled<R: Abort + AllocGlobal>(
+pub(crate) fn filled<R: Abort + AllocGlobal>(
     rt: &R,
     mut column: Column,
     places: &Mask,

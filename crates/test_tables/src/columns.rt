@@ -87,7 +87,11 @@ fn see_offset<R: Abort + AllocGlobal>(
 }
 
 /// The column with these values after its own.
-fn appended<R: Abort + AllocGlobal>(rt: &R, mut column: Column, values: &[Option<i64>]) -> Column {
+pub(crate) fn appended<R: Abort + AllocGlobal>(
+    rt: &R,
+    mut column: Column,
+    values: &[Option<i64>],
+) -> Column {
     check_values(rt, values, column.layout());
     assert!(rt; column.len() <= 200_000 && values.len() <= 200_000);
     let prepared = column

@@ -11,6 +11,8 @@ mod changes;
 #[cfg(test)]
 mod columns;
 #[cfg(test)]
+mod dictionaries;
+#[cfg(test)]
 mod examples;
 #[cfg(test)]
 mod harness;

@@ -1,4 +1,4 @@
-use Rattle.std.proofs.Common.{All, ap, is_some, refl, sym, true≢false, ◌≡◌, ◌∙◌}
+use Rattle.std.proofs.Common.{All, ap, is_some, refl, sym, true≢false, ◌∙◌}
 use Rattle.std.specs.Prelude.{Contains}
 use Rattle.bw_code.specs.Encodings.{AreCodes, entry_code}
 use Rattle.bw_code.specs.declared.encoding.Encoding.TheVariants as by
@@ -10,8 +10,7 @@ pub returns-in_default-2-clause-all : goal.returns-in_default-2-clause-all
 returns-in_default-2-clause-all g c =
     let cells = g.C.Cells.cells c.args.cells.now in
     let d = c.in-Dictionary.dictionary in
-    let new = c.args.ranked.now.entries.items in
-    (
+    let new = c.args.ranked.now.entries.items in (
       λ it. absurd (true≢false (sym it)),
       λ coded.
           let here : All (IsCoded (by.Dictionary d)) cells = rw c.in-Dictionary.is at coded in
@@ -23,8 +22,7 @@ pub returns-clause-all : goal.returns-clause-all
 returns-clause-all g c =
     let cells = g.C.Cells.cells c.args.cells.now in
     let d = c.in-Dictionary.dictionary in
-    let new = c.args.ranked.now.entries.items in
-    (
+    let new = c.args.ranked.now.entries.items in (
       λ it.
           let all : All (Contains d) new = rw (c.entries.ensures.is, c.deref.ensures.value) at (c.in_ok-table.ensures.all.0 (ap is_some c.in-Some.is)) in
           rw c.in-Dictionary.is (cells_coded cells new c.requires.ranked.entries d all),

@@ -1,6 +1,4 @@
-use Rattle.std.proofs.Common.{All}
 use Rattle.bw_code.specs.declared.encoding.Encoding.TheVariants as by
-use Rattle.bw_column.specs.Codes.{IsCoded}
 use Rattle.bw_column.specs.Values.{known}
 use Rattle.bw_column.proofs.Known.{all_coded}
 use Rattle.bw_column.proofs.Narrow.{known_held, narrow}

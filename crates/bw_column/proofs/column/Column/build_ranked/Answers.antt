@@ -1,5 +1,4 @@
-use Rattle.std.proofs.Common.{All, ap, ◌≡◌, ◌∙◌}
-use Rattle.bw_code.specs.Encodings.{IsFit}
+use Rattle.std.proofs.Common.{ap, ◌≡◌, ◌∙◌}
 use Rattle.bw_code.specs.declared.encoding.Encoding.TheVariants as by
 use Rattle.bw_column.specs.Values.{known}
 use Rattle.bw_column.proofs.Grown.{distinct_coded}

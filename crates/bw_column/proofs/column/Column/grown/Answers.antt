@@ -1,7 +1,6 @@
-use Rattle.std.proofs.Common.{List, ap, length, refl, sym, ℕ, ℤ, ◌++◌, ◌≡◌, ◌∙◌}
+use Rattle.std.proofs.Common.{ap, refl, ℤ, ◌++◌, ◌≡◌, ◌∙◌}
 use Rattle.std.specs.Prelude.{Contains, ◌↔◌}
 use Rattle.bw_code.specs.Ascending.{IsAscending}
-use Rattle.bw_code.specs.Encodings.{AreDistinct, IsFit}
 use Rattle.bw_code.specs.declared.encoding.Encoding.TheVariants as by
 use Rattle.bw_dictionary.specs.Merging.{IsUnion, StandsIn}
 use Rattle.bw_column.specs.Values.{known}

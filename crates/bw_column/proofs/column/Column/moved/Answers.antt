@@ -1,13 +1,12 @@
-use Rattle.std.proofs.Common.{All, List, None, Option, ap, arith, drop, get_or, is_some, length, length-take-le, sym, take, ℕ, ℤ, ◌++◌, ◌+◌, ◌≡◌, ◌≤◌, ◌∙◌}
+use Rattle.std.proofs.Common.{All, None, ap, arith, drop, get_or, is_some, length, length-take-le, take, ℕ, ◌++◌, ◌+◌, ◌≡◌, ◌≤◌, ◌∙◌}
 use Rattle.bw_mask.specs.Masks.{bit_of}
-use Rattle.bw_code.specs.Encodings.{IsEncoding}
 use Rattle.bw_code.proofs.Lists.{part_over}
-use Rattle.bw_column.specs.Codes.{IsCoded, codes_for}
+use Rattle.bw_column.specs.Codes.{codes_for}
 use Rattle.bw_column.specs.Values.{IsNullOrHeld}
 use Rattle.bw_column.proofs.Blocks.{are_row_codes, rows, rows_are_values}
 use Rattle.bw_column.proofs.Held.{all_storable}
 use Rattle.bw_column.proofs.Pieces.{all_here}
-use Rattle.bw_column.proofs.Standing.{codes_moved, many, moves_inside, values_coded}
+use Rattle.bw_column.proofs.Standing.{codes_moved, moves_inside, values_coded}
 use Rattle.bw_column.proofs.column.Column.moved.Goals as goal
 
 pub move_codes-requires-clause-inside : goal.move_codes-requires-clause-inside

@@ -1,12 +1,10 @@
-use Rattle.std.proofs.Common.{All, refl, subst, sym, ◌++◌}
+use Rattle.std.proofs.Common.{refl, ◌++◌}
 use Rattle.std.proofs.lemmas.List.Elements.{filter_map-append}
-use Rattle.bw_code.specs.Encodings.{IsFit}
 use Rattle.bw_code.specs.Fittings.{AreEnds}
 use Rattle.bw_code.specs.declared.encoding.Encoding.TheVariants as by
 use Rattle.bw_column.specs.Values.{known}
 use Rattle.bw_column.proofs.Known.{both_coded}
 use Rattle.bw_column.proofs.Narrow.{held_of_both, narrow}
-use Rattle.bw_column.proofs.column.Column.offset_with.Given.{Over}
 use Rattle.bw_column.proofs.column.Column.offset_with.Goals as goal
 
 pub returns-clause-fits : goal.returns-clause-fits

@@ -1,6 +1,6 @@
 use Rattle.std.proofs.Common.{ap, drop, length, nat_lt, rules, take, ◌&&◌, ◌+◌, ◌≡◌, ◌∙◌}
 use Rattle.bw_mask.specs.Masks.{row_at}
-use Rattle.bw_column.specs.Codes.{codes_for, values_from}
+use Rattle.bw_column.specs.Codes.{values_from}
 use Rattle.bw_column.specs.Storing.{list_of}
 use Rattle.bw_column.proofs.Bases.{present_part}
 use Rattle.bw_column.proofs.Rows.{known_rows}

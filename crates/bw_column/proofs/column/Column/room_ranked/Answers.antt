@@ -1,5 +1,4 @@
-use Rattle.std.proofs.Common.{All, ap, arith, is_some, length, map, refl, sym, true, true≢false, ◌++◌, ◌≡◌, ◌∙◌}
-use Rattle.bw_code.specs.Encodings.{AreCodes, code_of}
+use Rattle.std.proofs.Common.{All, ap, arith, is_some, map, refl, sym, true, true≢false, ◌++◌, ◌≡◌, ◌∙◌}
 use Rattle.bw_dictionary.specs.Moving.{moved_place}
 use Rattle.bw_column.specs.Codes.{IsCoded}
 use Rattle.bw_column.specs.Values.{known}
@@ -15,8 +14,8 @@ returns-clause-prepared g c =
     let column = c.in_ok-column.field-0.column in
     let list = known (own.values ++ cells) in
     let none : All (IsCoded own.encoding) cells → ⊥ = λ all.
-        let it : is_some c.in_ok-codes.field-0 ≡ true = c.in_ok-codes.ensures.all.1 (rw (← c.self.view_is) at all) in
-        true≢false (sym it ∙ ap is_some c.in_default.is) in
+    let it : is_some c.in_ok-codes.field-0 ≡ true = c.in_ok-codes.ensures.all.1 (rw (← c.self.view_is) at all) in
+    true≢false (sym it ∙ ap is_some c.in_default.is) in
     let codes : c.in_ok-codes-2.field-0.items ≡ map (moved_place c.in_ok-column.field-0.codes.items c.in_ok-ranked.ranked.entries.items) cells = rw c.deref.ensures.value at c.in_ok-codes-2.ensures in
     let coded = (both_coded column.encoding own.values cells list refl (fit_coded list column.encoding grown.ensures.kind grown.ensures.fits)).1 in
     record {

@@ -1,8 +1,6 @@
-use Rattle.std.proofs.Common.{Bool, List, ap, arith, drop, false, get_or, length, refl, replicate, suc, sym, take, true, true≢false, zero, ℕ, ℤ, ◌++◌, ◌≡◌, ◌∙◌}
-use Rattle.std.specs.Prelude.{Contains, ◌↔◌}
+use Rattle.std.proofs.Common.{ap, arith, drop, false, get_or, length, refl, replicate, suc, sym, take, true≢false, zero, ℕ, ◌++◌, ◌≡◌, ◌∙◌}
 use Rattle.std.proofs.Math.Seq.{take-append_seam}
-use Rattle.bw_dictionary.specs.Merging.{StandsAt, StandsIn}
-use Rattle.bw_column.specs.Values.{known}
+use Rattle.bw_dictionary.specs.Merging.{StandsAt}
 use Rattle.bw_column.proofs.column.Column.standing.Goals as goal
 
 none : (n m : ℕ) → get_or (replicate n false) m false ≡ false

@@ -1,0 +1,215 @@
+//! Dictionaries of columns against a sort of the values: as they are built, as they grow, and as they lose values.
+
+use crate::changes::filled;
+use crate::columns::{appended, check_value, column_of, see_values};
+use crate::random::LAYOUTS;
+use bw_code::{Encoding, Kind, Layout};
+use bw_column::Column;
+use bw_mask::Mask;
+use std::process::Abort;
+
+/// More rows than two words have.
+const ROWS: usize = 150;
+
+/// How the values of a column lie.
+#[derive(Clone, Copy, Debug)]
+enum Lie {
+    /// Near each other.
+    Dense,
+    /// Few, and far apart.
+    FarApart,
+    /// Each once, from the greatest to the least.
+    Distinct,
+    /// At both ends of what the layout holds.
+    Ends,
+    /// One value alone.
+    One,
+    /// No value.
+    Nulls,
+}
+
+const LIES: [Lie; 6] = [
+    Lie::Dense,
+    Lie::FarApart,
+    Lie::Distinct,
+    Lie::Ends,
+    Lie::One,
+    Lie::Nulls,
+];
+
+/// The least and the greatest integer of a layout.
+fn ends_of(layout: Layout) -> (i64, i64) {
+    match layout {
+        Layout::H => (-2_147_483_648, 2_147_483_647),
+        Layout::P | Layout::V | Layout::S => (i64::MIN, i64::MAX),
+    }
+}
+
+/// The value of a row; NULL in each ninth.
+fn value_at(layout: Layout, lie: Lie, row: usize) -> Option<i64> {
+    if row % 9 == 4 {
+        return None;
+    }
+    let number = row.wrapping_mul(37) % 101;
+    let (least, greatest) = ends_of(layout);
+    match lie {
+        Lie::Dense => Some(number as i64 - 50),
+        Lie::FarApart => Some((number % 5) as i64 * 500_000_009 - 1_000_000_000),
+        Lie::Distinct => Some(1_000_000 - (row % 1_000) as i64 * 7),
+        Lie::Ends => Some(if row % 2 == 0 { least } else { greatest }),
+        Lie::One => Some(-7),
+        Lie::Nulls => None,
+    }
+}
+
+fn values_of<R: Abort + AllocGlobal>(rt: &R, layout: Layout, lie: Lie) -> Vec<Option<i64>> {
+    let mut values = Vec::new(rt.alloc());
+    for row in 0..ROWS {
+        values.push(value_at(layout, lie, row)).expect(rt, "memory");
+    }
+    values
+}
+
+/// The values that are not NULL, each once, ascending: by a sort.
+fn distinct_values<R: Abort + AllocGlobal>(rt: &R, values: &[Option<i64>]) -> Vec<i64> {
+    let mut list = Vec::new(rt.alloc());
+    for value in values {
+        if let Some(x) = value {
+            list.push(*x).expect(rt, "memory");
+        }
+    }
+    list.sort_unstable();
+    list.dedup();
+    list
+}
+
+/// Sees that a column has a dictionary of just these values.
+fn see_entries<R: Abort + AllocGlobal>(rt: &R, column: &Column, values: &[Option<i64>]) {
+    let wanted = distinct_values(rt, values);
+    match column.encoding() {
+        Encoding::Dictionary(dictionary) => {
+            assert!(rt; dictionary.entries() == wanted.as_slice());
+        }
+        Encoding::Offset(_) => panic!(rt; "an offset"),
+    }
+}
+
+/// Each of these values after the others.
+fn both<R: Abort + AllocGlobal>(
+    rt: &R,
+    values: &[Option<i64>],
+    more: &[Option<i64>],
+) -> Vec<Option<i64>> {
+    let mut all = Vec::new(rt.alloc());
+    for value in values {
+        all.push(*value).expect(rt, "memory");
+    }
+    for value in more {
+        all.push(*value).expect(rt, "memory");
+    }
+    all
+}
+
+fn check_built<R: Abort + AllocGlobal>(rt: &R, layout: Layout, lie: Lie) {
+    let values = values_of(rt, layout, lie);
+    let column = column_of(rt, &values, layout, Kind::Dictionary);
+    see_entries(rt, &column, &values);
+    see_values(rt, &column, &values);
+}
+
+fn check_grown<R: Abort + AllocGlobal>(
+    rt: &R,
+    layout: Layout,
+    values: &[Option<i64>],
+    more: &[Option<i64>],
+) {
+    let column = column_of(rt, values, layout, Kind::Dictionary);
+    let column = appended(rt, column, more);
+    let all = both(rt, values, more);
+    see_entries(rt, &column, &all);
+    see_values(rt, &column, &all);
+}
+
+#[test]
+fn dictionaries_are_built(rt: HostRuntime) {
+    for layout in LAYOUTS {
+        for lie in LIES {
+            check_built(&rt, layout, lie);
+        }
+    }
+}
+
+#[test]
+fn dictionaries_take_in_others(rt: HostRuntime) {
+    for layout in LAYOUTS {
+        for lie in LIES {
+            for other in LIES {
+                let values = values_of(&rt, layout, lie);
+                check_grown(&rt, layout, &values, &values_of(&rt, layout, other));
+            }
+        }
+    }
+}
+
+/// Below all, between them, above all, at each place, and none that is new.
+const NEW_VALUES: [[Option<i64>; 3]; 6] = [
+    [Some(-1), None, Some(-1)],
+    [Some(25), Some(15), Some(25)],
+    [Some(41), None, None],
+    [Some(35), Some(-5), Some(99)],
+    [Some(10), Some(40), Some(10)],
+    [None, None, None],
+];
+
+#[test]
+fn dictionaries_take_in_few(rt: HostRuntime) {
+    let values = [Some(40), Some(10), None, Some(20), Some(30), Some(10)];
+    for layout in LAYOUTS {
+        check_grown(&rt, layout, &[], &values);
+        for more in NEW_VALUES {
+            check_grown(&rt, layout, &values, &more);
+        }
+    }
+}
+
+/// So many numbers from 0 on.
+fn numbers<R: Abort + AllocGlobal>(rt: &R, count: usize) -> Vec<Option<i64>> {
+    let mut values = Vec::new(rt.alloc());
+    for i in 0..count {
+        values.push(Some(i as i64)).expect(rt, "memory");
+    }
+    values
+}
+
+#[test]
+fn dictionaries_cross_a_width(rt: HostRuntime) {
+    for layout in LAYOUTS {
+        for count in [1, 2, 4, 256] {
+            check_grown(&rt, layout, &numbers(&rt, count), &[Some(-1)]);
+        }
+    }
+}
+
+/// The column with one value in all rows, which has a code already.
+fn flattened<R: Abort + AllocGlobal>(rt: &R, column: Column, value: Option<i64>) -> Column {
+    check_value(rt, value, column.layout());
+    let all = Mask::filled(rt.alloc(), column.len(), true).expect(rt, "memory");
+    assert!(rt; all.len() == column.len());
+    filled(rt, column, &all, value)
+}
+
+/// An entry that no row has any more stays until others come, and is gone with them.
+#[test]
+fn dictionaries_lose_values(rt: HostRuntime) {
+    for layout in LAYOUTS {
+        let values = numbers(&rt, 300);
+        let column = column_of(&rt, &values, layout, Kind::Dictionary);
+        let column = flattened(&rt, column, Some(7));
+        see_entries(&rt, &column, &values);
+        let column = appended(&rt, column, &[Some(1_000), None]);
+        see_entries(&rt, &column, &[Some(7), Some(1_000)]);
+        let column = flattened(&rt, column, None);
+        let column = appended(&rt, column, &[Some(5)]);
+        see_entries(&rt, &column, &[Some(5)]);
+    }
+}
