@@ -196,6 +196,8 @@ class Shell:
 
     def _show(self, reply: Reply) -> None:
         """Shows an answer: all of it to a pipe, and in a terminal no more rows than the limit."""
+        if reply.is_units:
+            reply = Reply.of_rows(("UNITS",), [(reply.count,)])
         if not reply.headings:
             self.console.remark("ok" if reply.count is None else f"ok, {counted(reply.count, 'row')}")
             return
