@@ -52,6 +52,8 @@ def _of_argument(command: Command, place: int, word: str, catalog: Catalog) -> l
     argument = command.arguments[place]
     if argument is Argument.FILE:
         return files(word)
+    if argument is Argument.WORK:
+        return [*(choice for choice in chosen_words(argument) if choice.startswith(word)), *files(word)]
     if argument is Argument.TABLE:
         return _matching(word, catalog.columns)
     if argument is Argument.COLUMN:
