@@ -24,8 +24,9 @@ from .workload import Work
 LAYOUTS = (Layout.V, Layout.H, Layout.S, Layout.P)
 KINDS = (Kind.OFFSET, Kind.DICTIONARY)
 # Each choice is tried so often, in turns with the others, and a SELECT is run so often each time: as often as these
-# seconds hold, within these bounds.
-TURNS = 2
+# seconds hold, within these bounds. Each turn begins elsewhere, so that no choice meets each time when the machine is
+# slow.
+TURNS = 3
 SECONDS = 0.02
 FEWEST, MOST = 3, 50
 # What takes up to so many times as long as the quickest counts as being as quick.
@@ -146,14 +147,15 @@ class Advisor:
         column, works = header.name, self._works_on(header.name)
         self._tell(f"column {headers.index(header) + 1} of {len(headers)}")
         values = copy.call(lambda session: values_of(session, self._table, column))
-        standing = Choice(header.layout, header.kind)
+        standing, choices = Choice(header.layout, header.kind), choices_for(header)
         found: dict[Choice, Figures] = {}
-        for _ in range(TURNS):
-            for choice in choices_for(header):
+        for turn in range(TURNS):
+            first = turn * len(choices) // TURNS
+            for choice in choices[first:] + choices[:first]:
                 _execute(copy, f"REBUILD {self._table} ({column} {choice.words})")
                 found[choice] = _measured(copy, works).or_quicker(found.get(choice))
         _execute(copy, f"REBUILD {self._table} ({column} {standing.words})")
-        trials = [_trial(column, choice, figures, values) for choice, figures in found.items()]
+        trials = [_trial(column, choice, found[choice], values) for choice in choices]
         return Columns(trials, standing, best_of(trials, standing))
 
 

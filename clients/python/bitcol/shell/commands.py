@@ -168,7 +168,7 @@ _ALL = [
         ".advise",
         (Argument.TABLE, Argument.WORK),
         1,
-        "try layouts on a copy, by the SELECTs of this session or of a file; apply sends the REBUILD",
+        "advise on layouts, by the SELECTs so far or in a file; apply sends it",
         _advise,
     ),
     Command(
