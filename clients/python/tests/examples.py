@@ -8,14 +8,17 @@ import re
 import shlex
 import subprocess
 import sys
-from collections.abc import Iterator
+from collections.abc import Iterable, Iterator
+from dataclasses import dataclass
 from pathlib import Path
 from typing import Any
 
+import bitcol
 from tests.terminal import IN_TEXT, MORE, PROMPT, SECONDS, Terminal, environment, erased
 
 FENCE = re.compile(
-    r"(?:\*(?P<file>[\w. ]+)\*:\n\n)?^```(?P<kind>csv|console|python)\n(?P<body>.*?)^```$", re.MULTILINE | re.DOTALL
+    r"(?:\*(?P<file>[\w. ]+)\*:\n\n)?^```(?P<kind>csv|sql|console|python)\n(?P<body>.*?)^```$",
+    re.MULTILINE | re.DOTALL,
 )
 PROMPTS = (PROMPT, MORE, IN_TEXT)
 COLUMNS = 72
@@ -23,6 +26,13 @@ COLUMNS = 72
 _SECONDS = re.compile(r"^\d+\.\d{3} s$", re.MULTILINE)
 _MICROSECONDS = re.compile(r"\b\d+ microseconds\b")
 _HEADING = "MICROSECONDS"
+
+
+def taken(text: str, examples: Iterable[Example]) -> str:
+    """The text of a document with its examples as they are now."""
+    for example in examples:
+        text = text.replace(example.before, example.now)
+    return text
 
 
 def runs_of(body: str) -> Iterator[tuple[str, str]]:
@@ -47,28 +57,54 @@ def without_times(text: str) -> str:
     return "\n".join(lines)
 
 
+@dataclass(frozen=True)
+class Example:
+    """A fence of a document: the line that it begins on, its commands with their outputs, and these as they are now. Of
+    Python, what is wrong stands in place of it."""
+
+    line: int
+    before: str
+    now: str
+
+    @property
+    def is_right(self) -> bool:
+        """Whether it is as before, but for times."""
+        return without_times(self.before) == without_times(self.now)
+
+
 class Room:
     """A folder in which the examples of a document are run, in their order."""
 
     def __init__(self, folder: Path) -> None:
-        """The folder is there. Variables and histories of its shells lie beside it."""
+        """The folder is there. The program and the histories of its shells lie beside it."""
         self._folder = folder
         self._names: dict[str, Any] = {}
+        programs = folder.parent / "bin"
+        programs.mkdir()
+        (programs / "bitcol").symlink_to(os.path.abspath(bitcol.find_program()))
+        self._path = f"{programs}{os.pathsep}{os.environ.get('PATH', '')}"
 
-    def write(self, name: str, content: str) -> None:
-        """Makes a file that a document shows."""
-        (self._folder / name).write_text(content, encoding="utf-8")
+    def examples(self, text: str) -> Iterator[Example]:
+        """Runs the examples of a document. The files that it shows with their names are made."""
+        for fence in FENCE.finditer(text):
+            line, body = text.count("\n", 0, fence.start("body")), fence["body"]
+            if fence["file"]:
+                (self._folder / fence["file"]).write_text(body, encoding="utf-8")
+            elif fence["kind"] == "console":
+                yield Example(line, body, self._rerun(body))
+            elif fence["kind"] == "python":
+                yield Example(line, body, self._python_faults(body, f"line {line}") or body)
 
-    def rerun(self, body: str) -> str:
+    def _rerun(self, body: str) -> str:
         """A fence of commands of the system's shell, with what they write now in place of what they wrote."""
-        return "".join(f"$ {command}\n{self.output(command, output)}" for command, output in runs_of(body))
+        return "".join(f"$ {command}\n{self._output(command, output)}" for command, output in runs_of(body))
 
-    def output(self, command: str, output: str) -> str:
+    def _output(self, command: str, output: str) -> str:
         """What a command writes. It is typed into where its output has prompts."""
         is_typed = any(line.startswith(PROMPT) for line in output.splitlines())
         return self._typed(command, output) if is_typed else self._piped(command)
 
-    def python_faults(self, body: str, place: str) -> str:
+    def _python_faults(self, body: str, place: str) -> str:
         """What is wrong with the examples in a fence of Python, which share their names with those before."""
         test = doctest.DocTestParser().get_doctest(body, self._names, place, place, 0)
         told: list[str] = []
@@ -90,7 +126,7 @@ class Room:
             stdin=subprocess.DEVNULL,
             text=True,
             cwd=self._folder,
-            env=environment(self._folder.parent),
+            env=environment(self._folder.parent, PATH=self._path),
             timeout=SECONDS,
             check=False,
         )

@@ -9,7 +9,7 @@ import os
 import unittest
 from pathlib import Path
 
-from tests.examples import FENCE, Room, runs_of, without_times
+from tests.examples import Room, runs_of, taken, without_times
 from tests.terminal import ShellTestCase
 
 PAGE = Path(__file__).resolve().parent.parent / "SHELL.md"
@@ -17,20 +17,15 @@ PAGE = Path(__file__).resolve().parent.parent / "SHELL.md"
 
 class Page(ShellTestCase):
     def test_examples(self) -> None:
-        room, text, commands = Room(self.folder), PAGE.read_text(encoding="utf-8"), 0
-        for fence in FENCE.finditer(text):
-            if fence["kind"] == "csv":
-                room.write(fence["file"], fence["body"])
-                continue
-            commands += len(list(runs_of(fence["body"])))
-            found = room.rerun(fence["body"])
-            if os.environ.get("BITCOL_TAKE"):
-                text = text.replace(fence["body"], found)
-            else:
-                self.assertEqual(without_times(found), without_times(fence["body"]))
-        self.assertGreater(commands, 10)
+        text = PAGE.read_text(encoding="utf-8")
+        examples = Room(self.folder).examples(text)
         if os.environ.get("BITCOL_TAKE"):
-            PAGE.write_text(text, encoding="utf-8")
+            PAGE.write_text(taken(text, examples), encoding="utf-8")
+        commands = 0
+        for example in examples:
+            commands += len(list(runs_of(example.before)))
+            self.assertEqual(without_times(example.now), without_times(example.before))
+        self.assertTrue(commands > 10 or "BITCOL_TAKE" in os.environ)
 
 
 class Times(unittest.TestCase):
