@@ -158,6 +158,9 @@ class Completions(unittest.TestCase):
 
     def test_commands(self) -> None:
         self.check("", ".t", ".tables", ".timer")
+        self.check("", ".a", ".advise")
+        self.check(".advise ", "VI", "VISITS")
+        self.check(".advise visits ", "app", "apply")
         self.check(".mode ", "", "table", "csv", "json", "md", "line")
         self.check(".mo ", "j", "json")
         self.check(".export ", "V", "VISITS")
