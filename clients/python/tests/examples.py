@@ -22,10 +22,12 @@ FENCE = re.compile(
 )
 PROMPTS = (PROMPT, MORE, IN_TEXT)
 COLUMNS = 72
-# What is measured differs from run to run: seconds, and microseconds in sentences and in columns.
+# What is measured differs from run to run: seconds, microseconds in sentences and in columns, and what is advised.
 _SECONDS = re.compile(r"^\d+\.\d{3} s$", re.MULTILINE)
 _MICROSECONDS = re.compile(r"\b\d+ microseconds\b")
+_REBUILD = re.compile(r"^(REBUILD \w+)( \(.*\))?: \d+ units, ", re.MULTILINE)
 _HEADING = "MICROSECONDS"
+_NOTE = re.compile(r"(-+|(, )?advised|\s+)$")
 
 
 def taken(text: str, examples: Iterable[Example]) -> str:
@@ -43,14 +45,14 @@ def runs_of(body: str) -> Iterator[tuple[str, str]]:
 
 
 def without_times(text: str) -> str:
-    """The text with nothing in place of times that were measured."""
-    text = _MICROSECONDS.sub("microseconds", _SECONDS.sub("s", text))
+    """The text with nothing in place of times that were measured, and of what is advised because of these."""
+    text = _REBUILD.sub(r"\1: ", _MICROSECONDS.sub("microseconds", _SECONDS.sub("s", text)))
     lines, place = [], None
     for line in text.split("\n"):
         if _HEADING in line:
             place = line.index(_HEADING)
         elif place is not None and not line[place : place + len(_HEADING)].strip("0123456789- "):
-            line = line[:place] + line[place + len(_HEADING) :]
+            line = (line[:place] + _NOTE.sub("", line[place + len(_HEADING) :])).rstrip()
         else:
             place = None
         lines.append(line)

@@ -23,12 +23,10 @@ from .workload import Work
 
 LAYOUTS = (Layout.V, Layout.H, Layout.S, Layout.P)
 KINDS = (Kind.OFFSET, Kind.DICTIONARY)
-# Each choice is tried so often, in turns with the others, and a SELECT is run so often each time: as often as these
-# seconds hold, within these bounds. Each turn begins elsewhere, so that no choice meets each time when the machine is
-# slow.
-TURNS = 3
-SECONDS = 0.02
-FEWEST, MOST = 3, 50
+# Each choice is tried in turns with the others, so that no choice alone meets each time when the machine is slow: as
+# often as these seconds hold, within these bounds. In a turn each SELECT is run so often, by the same rule.
+TURNS_SECONDS, FEWEST_TURNS, MOST_TURNS = 2.0, 3, 12
+RUNS_SECONDS, FEWEST_RUNS, MOST_RUNS = 0.01, 3, 20
 # What takes up to so many times as long as the quickest counts as being as quick.
 AS_QUICK = 1.25
 
@@ -125,7 +123,7 @@ class Advisor:
         """All SELECTs on the table as it stands, and on its copy as it is now, in turns."""
         self._tell("all together")
         standing = rebuilt = None
-        for _ in range(TURNS):
+        for _ in _turns():
             standing = _measured(self._store, self._works).or_quicker(standing)
             rebuilt = _measured(copy, self._works).or_quicker(rebuilt)
         assert standing and rebuilt
@@ -149,8 +147,8 @@ class Advisor:
         values = copy.call(lambda session: values_of(session, self._table, column))
         standing, choices = Choice(header.layout, header.kind), choices_for(header)
         found: dict[Choice, Figures] = {}
-        for turn in range(TURNS):
-            first = turn * len(choices) // TURNS
+        for turn in _turns():
+            first = turn * FEWEST_TURNS % len(choices)
             for choice in choices[first:] + choices[:first]:
                 _execute(copy, f"REBUILD {self._table} ({column} {choice.words})")
                 found[choice] = _measured(copy, works).or_quicker(found.get(choice))
@@ -215,10 +213,19 @@ def _units(statement: str, session: Session) -> int:
 
 def _quickest(store: Store, statement: str) -> float:
     """The seconds of the quickest of several runs."""
-    runs = [store.call(partial(_seconds, statement))]
-    while len(runs) < FEWEST or (sum(runs) < SECONDS and len(runs) < MOST):
+    runs: list[float] = []
+    while len(runs) < FEWEST_RUNS or (sum(runs) < RUNS_SECONDS and len(runs) < MOST_RUNS):
         runs.append(store.call(partial(_seconds, statement)))
     return min(runs)
+
+
+def _turns() -> Iterator[int]:
+    """The numbers of turns."""
+    start = time.monotonic()
+    for turn in range(MOST_TURNS):
+        if turn >= FEWEST_TURNS and time.monotonic() - start > TURNS_SECONDS:
+            return
+        yield turn
 
 
 def _seconds(statement: str, session: Session) -> float:
