@@ -256,11 +256,20 @@ class Undisturbed(ShellTestCase):
             self.assertLess(time.monotonic(), limit, "the copy's program goes on")
             time.sleep(0.05)
 
+    def test_the_end_of_the_program(self) -> None:
+        """It is no end of the copy, and another one is started."""
+        self.shell.press(".advise t\n")
+        self.wait_for_copy()
+        os.kill(int(self.first), signal.SIGKILL)
+        said = self.shell.wait_for(PROMPT)
+        self.assertIn("error: the program was killed by SIGKILL; its tables are gone\n", said)
+        self.assertIn("another program was started, and it has no tables\n", said)
+
     def test_the_end_of_the_copy(self) -> None:
         self.shell.press(".advise t\n")
         os.kill(self.wait_for_copy(), signal.SIGKILL)
         said = self.shell.wait_for(PROMPT)
-        self.assertIn("error: the copy of T: the program was killed by SIGKILL; its tables are gone. T itself is", said)
+        self.assertIn("error: the copy of T: the program was killed by SIGKILL; its tables are gone; T itself is", said)
         self.assert_as_before()
 
 

@@ -11,8 +11,9 @@ import time
 from collections.abc import Callable, Iterator, Sequence
 from dataclasses import dataclass
 from functools import partial
+from typing import Any
 
-from ..errors import ProgramEnded
+from ..errors import ProgramEnded, Refused
 from ..session import Session
 from ..table_file import ColumnHeader, Kind, Layout, headers_of
 from .fault import Fault
@@ -20,6 +21,9 @@ from .lengths import cells_that_fit, check_length
 from .sizes import Values, values_of
 from .store import Store
 from .workload import Work
+
+# A call of a store: what a job with its session gives.
+Call = Callable[[Callable[[Session], Any]], Any]
 
 LAYOUTS = (Layout.V, Layout.H, Layout.S, Layout.P)
 KINDS = (Kind.OFFSET, Kind.DICTIONARY)
@@ -104,7 +108,7 @@ class Advisor:
 
     def advice(self) -> Advice:
         """Measures all. Refused where a SELECT is, or the table can't be saved; a Fault where there is no room for a
-        copy, or its program ends."""
+        copy, or anything becomes of it."""
         for work in self._works:
             self._store.call(partial(check_length, statement=work.statement, most=cells_that_fit()))
         data = self._store.call(self._bytes)
@@ -119,12 +123,12 @@ class Advisor:
             standing, rebuilt = self._compared(copy)
         return Advice(columns, standing, rebuild, rebuilt)
 
-    def _compared(self, copy: Store) -> tuple[Figures, Figures]:
+    def _compared(self, copy: Call) -> tuple[Figures, Figures]:
         """All SELECTs on the table as it stands, and on its copy as it is now, in turns."""
         self._tell("all together")
         standing = rebuilt = None
         for _ in _turns():
-            standing = _measured(self._store, self._works).or_quicker(standing)
+            standing = _measured(self._store.call, self._works).or_quicker(standing)
             rebuilt = _measured(copy, self._works).or_quicker(rebuilt)
         assert standing and rebuilt
         return standing, rebuilt
@@ -140,11 +144,11 @@ class Advisor:
         """The SELECTs that read a column."""
         return [work for work in self._works if column in work.words]
 
-    def _tried(self, copy: Store, header: ColumnHeader, headers: Sequence[ColumnHeader]) -> Columns:
+    def _tried(self, copy: Call, header: ColumnHeader, headers: Sequence[ColumnHeader]) -> Columns:
         """Tries each layout and kind of a column, and leaves it as it stands."""
         column, works = header.name, self._works_on(header.name)
         self._tell(f"column {headers.index(header) + 1} of {len(headers)}")
-        values = copy.call(lambda session: values_of(session, self._table, column))
+        values = copy(partial(values_of, table=self._table, column=column))
         standing, choices = Choice(header.layout, header.kind), choices_for(header)
         found: dict[Choice, Figures] = {}
         for turn in _turns():
@@ -180,30 +184,36 @@ def _trial(column: str, choice: Choice, figures: Figures, values: Values) -> Tri
 
 
 @contextlib.contextmanager
-def _copy(store: Store, table: str, data: bytes) -> Iterator[Store]:
-    """A store of its own with this table alone, which is gone when the context ends. Its end is no end of the other."""
+def _copy(store: Store, table: str, data: bytes) -> Iterator[Call]:
+    """The calls of a store of its own with this table alone, which is gone when the context ends. They raise a Fault
+    where a statement is refused there, or its program ends, which is no end of the other."""
     copy = store.another()
     copy.on_wait = store.on_wait
+
+    def call(job: Callable[[Session], Any]) -> Any:
+        try:
+            return copy.call(job)
+        except (ProgramEnded, Refused) as fault:
+            raise Fault(f"the copy of {table}: {fault}; {table} itself is as it was") from None
+
     try:
-        copy.call(lambda session: session.put_table(table, data))
-        yield copy
-    except ProgramEnded as fault:
-        raise Fault(f"the copy of {table}: {fault}. {table} itself is as it was") from None
+        call(lambda session: session.put_table(table, data))
+        yield call
     finally:
         # What is still carried out there is waited for by nobody.
         copy.close(0)
 
 
-def _execute(store: Store, statement: str) -> None:
-    store.call(lambda session: session.execute(statement))
+def _execute(call: Call, statement: str) -> None:
+    call(lambda session: session.execute(statement))
 
 
-def _measured(store: Store, works: Sequence[Work]) -> Figures:
+def _measured(call: Call, works: Sequence[Work]) -> Figures:
     """What these SELECTs take in a store as it is."""
     units, seconds = 0, 0.0
     for work in works:
-        units += work.times * store.call(partial(_units, work.statement))
-        seconds += work.times * _quickest(store, work.statement)
+        units += work.times * call(partial(_units, work.statement))
+        seconds += work.times * _quickest(call, work.statement)
     return Figures(units, seconds)
 
 
@@ -211,11 +221,11 @@ def _units(statement: str, session: Session) -> int:
     return session.execute(f"STATS {statement}").count or 0
 
 
-def _quickest(store: Store, statement: str) -> float:
+def _quickest(call: Call, statement: str) -> float:
     """The seconds of the quickest of several runs."""
     runs: list[float] = []
     while len(runs) < FEWEST_RUNS or (sum(runs) < RUNS_SECONDS and len(runs) < MOST_RUNS):
-        runs.append(store.call(partial(_seconds, statement)))
+        runs.append(call(partial(_seconds, statement)))
     return min(runs)
 
 
@@ -231,5 +241,5 @@ def _turns() -> Iterator[int]:
 def _seconds(statement: str, session: Session) -> float:
     """From the moment when a statement is sent to the last byte of its answer."""
     start = time.perf_counter()
-    session.answers([statement])
+    session.execute(statement)
     return time.perf_counter() - start
