@@ -1,18 +1,18 @@
 #!/usr/bin/env python3
-"""Runs the scripts of the documents through the program.
+"""Runs the examples of the documents through the program.
 
     check_examples.py [--take] [PROGRAM]    PROGRAM is crates/bitcol/out/bitcol if it isn't named
 
-In a reference an example is a fence of SQL that is followed by a fence of text, with no other fence of SQL between them: the program
+An example is a fence of SQL that is followed by a fence of text, with no other fence of SQL between them: the program
 has to write this text for this script. Each is run by itself, in a copy of the folder examples/, to which a fence of
 CSV adds the file whose name stands before it in italics. So is each script there that has its output next to it
 (NAME.sql, NAME.out).
 
-In a guide (docs/GUIDE.md) an example is a fence of commands after `$ `, whose outputs follow them, or of Python with
-`>>>`. Commands are those of the system's shell, among them `bitcol` and `python3 -m bitcol`; what follows a prompt of
-bitcol's shell is typed there. All examples of a guide are run in their order, in one folder, where a fence that has a
-file's name before it in italics makes this file. Times aren't compared. With --take the outputs are written into the
-guide as they are now, in place of being compared.
+In a guide (docs/GUIDE.md) an example is instead a fence of commands after `$ `, whose outputs follow them, or of Python
+with `>>>`. Commands are those of the system's shell, among them `bitcol` and `python3 -m bitcol`; what follows a prompt
+of bitcol's shell is typed there. All examples of a guide are run in their order, in one folder, where a fence that has
+a file's name before it in italics makes this file. Times aren't compared, nor is what the shell advises because of
+them. With --take the outputs are written into the guide as they are now, in place of being compared.
 
 It prints file:line and the difference for each example that gets other replies, and exits with 1 if there is any.
 """

@@ -111,7 +111,7 @@ class Choices(unittest.TestCase):
         self.assertEqual(len(choices_for(ColumnHeader("A", Layout.V, Kind.OFFSET))), 8)
 
     def test_the_smallest_of_the_quick_ones(self) -> None:
-        first, second, third = Choice(Layout.V, Kind.OFFSET), Choice(Layout.S, Kind.OFFSET), Choice(Layout.P, Kind.OFFSET)
+        first, second, third = (Choice(layout, Kind.OFFSET) for layout in (Layout.V, Layout.S, Layout.P))
 
         def best(*figures: tuple[float, int], standing: Choice = first) -> Choice:
             choices = zip((first, second, third), figures)

@@ -93,8 +93,8 @@ class Advice:
 
     @property
     def is_worthwhile(self) -> bool:
-        """Whether the REBUILD is advised. One that changes no layout and no kind is where fewer units are read after it,
-        and any other unless it is slower."""
+        """Whether the REBUILD is advised: if it changes no layout and no kind, where fewer units are read after it, else
+        unless it is slower."""
         if any(tried.best != tried.standing for tried in self.columns):
             return self.rebuilt.seconds <= AS_QUICK * self.standing.seconds
         return self.rebuilt.units < self.standing.units

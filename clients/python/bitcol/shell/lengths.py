@@ -94,8 +94,8 @@ def check_length(session: Session, statement: str, most: int) -> None:
     if rows * width > most:
         may_have = "has" if not selection.grouping or rows <= most else "may have"
         raise Fault(
-            f"the answer {may_have} {rows} rows of {width} columns, which is {rows * width} cells, and there is room for"
-            f" {most}: choose fewer columns or rows, or SAVE the table"
+            f"the answer {may_have} {rows} rows of {width} columns, which is {rows * width} cells, and there is room"
+            f" for {most}: choose fewer columns or rows, or SAVE the table"
         )
 
 
