@@ -1,17 +1,24 @@
 #!/usr/bin/env python3
-"""Runs the scripts of the documents through the program.
+"""Runs the examples of the documents through the program.
 
-    check_examples.py [PROGRAM]     PROGRAM is crates/bitcol/out/bitcol if it isn't named
+    check_examples.py [--take] [PROGRAM]    PROGRAM is crates/bitcol/out/bitcol if it isn't named
 
 An example is a fence of SQL that is followed by a fence of text, with no other fence of SQL between them: the program
 has to write this text for this script. Each is run by itself, in a copy of the folder examples/, to which a fence of
 CSV adds the file whose name stands before it in italics. So is each script there that has its output next to it
 (NAME.sql, NAME.out).
 
+In a guide (docs/GUIDE.md) an example is instead a fence of commands after `$ `, whose outputs follow them, or of Python
+with `>>>`. Commands are those of the system's shell, among them `bitcol` and `python3 -m bitcol`; what follows a prompt
+of bitcol's shell is typed there. All examples of a guide are run in their order, in one folder, where a fence that has
+a file's name before it in italics makes this file. Times aren't compared, nor is what the shell advises because of
+them. With --take the outputs are written into the guide as they are now, in place of being compared.
+
 It prints file:line and the difference for each example that gets other replies, and exits with 1 if there is any.
 """
 
 import difflib
+import os
 import re
 import shutil
 import subprocess
@@ -22,6 +29,10 @@ from pathlib import Path
 
 ROOT = Path(__file__).resolve().parent.parent
 EXAMPLES = ROOT / "examples"
+GUIDES = [ROOT / "docs/GUIDE.md"]
+# What runs the examples of guides is a part of the tests of the Python client, whose shell they use.
+CLIENT = ROOT / "clients/python"
+TAKE = "--take"
 FENCE = re.compile(r"(?:\*(?P<file>[\w.]+)\*:\n\n)?^```(?P<language>\w*)\n(?P<body>.*?)^```$", re.MULTILINE | re.DOTALL)
 
 
@@ -79,13 +90,39 @@ def is_right(program, example):
     return found == example.output
 
 
+def guide_examples(guide, takes):
+    """Of each example of a guide whether it is right, which is told where it isn't."""
+    sys.path.insert(0, str(CLIENT))
+    from tests.examples import Room, taken, without_times
+
+    text = guide.read_text(encoding="utf-8")
+    with tempfile.TemporaryDirectory(prefix="bitcol-guide-") as name:
+        folder = Path(name).resolve() / "work"
+        folder.mkdir()
+        examples = list(Room(folder).examples(text))
+    if takes:
+        guide.write_text(taken(text, examples), encoding="utf-8")
+        return [True] * len(examples)
+    for example in examples:
+        if not example.is_right:
+            print(f"{guide.relative_to(ROOT)}:{example.line}: another output")
+            lines = (without_times(output).splitlines(True) for output in (example.before, example.now))
+            print("".join(difflib.unified_diff(*lines, "document", "now")))
+    return [example.is_right for example in examples]
+
+
 def main(words):
-    program = Path(words[0] if words else ROOT / "crates/bitcol/out/bitcol").resolve()
+    takes = words[:1] == [TAKE]
+    named = words[1:] if takes else words
+    program = Path(named[0] if named else ROOT / "crates/bitcol/out/bitcol").resolve()
     if not program.exists():
         sys.exit(f"{program} isn't there: build it by rt run in crates/bitcol")
-    documents = [*ROOT.glob("*.md"), *ROOT.glob("docs/*.md"), *ROOT.glob("crates/*/README.md")]
-    examples = [example for document in sorted(documents) for example in examples_of(document)]
-    told = [is_right(program, example) for example in [*examples, *scripts_with_output()]]
+    os.environ["BITCOL"] = str(program)
+    told = [right for guide in GUIDES for right in guide_examples(guide, takes)]
+    if not takes:
+        documents = {*ROOT.glob("*.md"), *ROOT.glob("docs/*.md"), *ROOT.glob("crates/*/README.md")} - {*GUIDES}
+        examples = [example for document in sorted(documents) for example in examples_of(document)]
+        told += [is_right(program, example) for example in [*examples, *scripts_with_output()]]
     print(f"{len(told)} examples, {told.count(False)} with other replies")
     return 0 if all(told) else 1
 

@@ -7,7 +7,7 @@ heading and no row begins with a small letter, so the first line tells the kind,
 from __future__ import annotations
 
 import json
-from collections.abc import Iterator
+from collections.abc import Iterator, Sequence
 from typing import Any, Union
 
 from .errors import InterfaceError, ProgrammingError, Refused, refusal
@@ -17,7 +17,6 @@ from .optional import numpy_module, pandas_module
 Cell = Union[int, str, None]
 Row = tuple[Any, ...]
 
-# `units` is the reply of a statement that a later program may have; an older one never writes it.
 _ONE_LINE = (b"ok", b"error ", b"units ")
 _LAST_LINE = b"\nrows "
 # Bytes of rows that are read at a time where an answer isn't wanted as a whole.
@@ -64,11 +63,12 @@ class ReplyBuffer:
 class Reply:
     """What a statement was answered.
 
-    `count` is the n of `ok n` or `rows n`, and None where there is none. `headings` has a heading for each column of
-    an answer with rows, and is empty otherwise. `refusal` is the exception of a refused statement, or None.
+    `count` is the n of `ok n`, `rows n` or `units n`, and None where there is none. `headings` has a heading for each
+    column of an answer with rows, and is empty otherwise. `is_units` says whether it is `units n`, the reply to a
+    STATS. `refusal` is the exception of a refused statement, or None.
     """
 
-    __slots__ = ("_body", "_cells", "_index", "count", "headings", "refusal")
+    __slots__ = ("_body", "_cells", "_index", "count", "headings", "is_units", "refusal")
 
     def __init__(
         self,
@@ -76,13 +76,22 @@ class Reply:
         headings: tuple[str, ...] = (),
         body: bytes = b"",
         refusal: Refused | None = None,
+        is_units: bool = False,
     ) -> None:
         self.count = count
         self.headings = headings
+        self.is_units = is_units
         self.refusal = refusal
         self._body = body
         self._cells: list[Any] | None = None
         self._index: LineIndex | None = None
+
+    @classmethod
+    def of_rows(cls, headings: tuple[str, ...], rows: Sequence[Row]) -> Reply:
+        """An answer of these rows that the program didn't write."""
+        made = cls(len(rows), headings)
+        made._cells = [cell for row in rows for cell in row]
+        return made
 
     def rows(self) -> list[Row]:
         """All rows, a tuple each, NULL as None. InterfaceError where the answer has no rows to show."""
@@ -207,7 +216,8 @@ class Reply:
             return f"<Reply {self.refusal}>"
         if self.headings:
             return f"<Reply {','.join(self.headings)}: rows {self.count}>"
-        return "<Reply ok>" if self.count is None else f"<Reply ok {self.count}>"
+        word = "units" if self.is_units else "ok"
+        return f"<Reply {word}>" if self.count is None else f"<Reply {word} {self.count}>"
 
 
 def reply_of(data: bytes) -> Reply:
@@ -218,7 +228,7 @@ def reply_of(data: bytes) -> Reply:
         number, _, text = data[len(b"error ") : -1].partition(b": ")
         return Reply(refusal=refusal(int(number), text.decode()))
     if data.startswith(b"units "):
-        return Reply(int(data[len(b"units ") : -1]))
+        return Reply(int(data[len(b"units ") : -1]), is_units=True)
     first, last = data.index(b"\n"), data.rindex(_LAST_LINE)
     headings = tuple(data[:first].decode().split(","))
     return Reply(int(data[last + len(_LAST_LINE) : -1]), headings, data[first + 1 : last + 1])

@@ -28,6 +28,16 @@ IN_TEXT = "     '> "
 COLUMNS = 100
 SECONDS = 30
 _ESCAPES = re.compile(r"\x1b\[[0-9;?]*[A-Za-z]")
+_NO_COLOURS = re.compile(r"\x1b\[[0-9;?]*[A-Za-ln-z]")
+# Once the returns are left out, this is how a line is erased.
+_ERASING = "\x1b[K"
+
+
+def erased(text: str, keeps_colours: bool = False) -> str:
+    """What of a terminal's text is left to see, without its escapes, or with those of colours: progress lines are
+    erased from their start."""
+    lines = "\n".join(line.rpartition(_ERASING)[2] for line in text.split("\n"))
+    return (_NO_COLOURS if keeps_colours else _ESCAPES).sub("", lines)
 
 
 def environment(folder: Path, **variables: str) -> dict[str, str]:

@@ -3,7 +3,7 @@
 import unittest
 
 import bitcol
-from bitcol.reply import ReplyBuffer, reply_of
+from bitcol.reply import Reply, ReplyBuffer, reply_of
 
 REPLIES = (
     b"ok\n",
@@ -13,6 +13,7 @@ REPLIES = (
     b"ROWS\nrows 0\n",
     b"TABLE,COLUMNS,ROWS\nT,1,0\nrows 1\n",
     b"SUM(A)\nNULL\nrows 1\n",
+    b"units 36\n",
 )
 
 
@@ -33,6 +34,18 @@ class Meaning(unittest.TestCase):
         self.assertIsNone(reply_of(b"ok\n").count)
         self.assertEqual(reply_of(b"ok 16777216\n").count, 16777216)
         self.assertEqual(reply_of(b"ok 0\n").count, 0)
+        self.assertFalse(reply_of(b"ok 3\n").is_units)
+
+    def test_units(self) -> None:
+        reply = reply_of(b"units 18446744073709551615\n")
+        self.assertEqual((reply.count, reply.is_units, reply.headings, len(reply)), (2**64 - 1, True, (), 0))
+        self.assertEqual(repr(reply), "<Reply units 18446744073709551615>")
+
+    def test_rows_that_no_program_wrote(self) -> None:
+        reply = Reply.of_rows(("A", "NOTE"), [(1, "x"), (None, "")])
+        self.assertEqual((reply.rows(), reply.first_rows(1), len(reply)), ([(1, "x"), (None, "")], [(1, "x")], 2))
+        self.assertEqual("".join(reply.lines("NULL")), "1,x\nNULL,\n")
+        self.assertEqual(list(Reply.of_rows(("A",), [])), [])
 
     def test_rows_and_columns(self) -> None:
         reply = reply_of(b"A,B\n1,NULL\n-2,5\nrows 2\n")

@@ -32,7 +32,23 @@ class Lengths(SessionTestCase):
         parts = selection_of("SELECT a -- ;\nFROM t WHERE a = 1; -- FROM u")
         assert parts is not None
         self.assertEqual(parts.counting, "SELECT COUNT(*) FROM t WHERE a = 1")
-        for statement in ("TABLES", "DELETE FROM t", "SELECT a", "SELECT a WHERE b FROM t", "", "'SELECT a FROM t'"):
+        parts = selection_of("SELECT a -- GROUP\nFROM t WHERE b = 1 -- ;\ngroup BY a; TABLES")
+        assert parts is not None
+        self.assertEqual(parts.by_group, "SELECT COUNT(*) FROM t WHERE b = 1 -- ;\ngroup BY a")
+        self.assertEqual(parts.without_rows, "SELECT a -- GROUP\nFROM t \nWHERE 1 = 0 group BY a")
+        parts = selection_of("SELECT a FROM t GROUP BY a")
+        assert parts is not None
+        self.assertEqual((parts.source, parts.condition, parts.grouping), ("FROM t ", "", "GROUP BY a"))
+        for statement in (
+            "TABLES",
+            "DELETE FROM t",
+            "SELECT a",
+            "SELECT a WHERE b FROM t",
+            "SELECT a FROM t GROUP BY a WHERE b = 1",
+            "STATS SELECT a FROM t",
+            "",
+            "'SELECT a FROM t'",
+        ):
             self.assertIsNone(selection_of(statement), statement)
 
     def test_answers_at_the_limit_and_past_it(self) -> None:
@@ -54,6 +70,23 @@ class Lengths(SessionTestCase):
             check_length(self.session, "SELECT * FROM t", 20)
         with self.assertRaisesRegex(Fault, "21 rows of 1 columns"):
             check_length(self.session, "SELECT a FROM u WHERE a > 77", 20)
+
+    def test_groups(self) -> None:
+        self.session.write_table("t", {"a": range(12), "b": [place // 2 for place in range(12)]})
+        for statement in (
+            "SELECT b, COUNT(*), SUM(a) FROM t GROUP BY b",
+            "SELECT a, COUNT(*) FROM t WHERE b < 5 GROUP BY a",
+            "SELECT nothing FROM t GROUP BY nothing",
+            "SELECT * FROM t GROUP BY a",
+        ):
+            check_length(self.session, statement, 20)
+        with self.assertRaisesRegex(Fault, "the answer has 12 rows of 2 columns, which is 24 cells"):
+            check_length(self.session, "SELECT a, COUNT(*) FROM t GROUP BY a", 20)
+        with self.assertRaisesRegex(Fault, "the answer has 6 rows of 4 columns, which is 24 cells"):
+            check_length(self.session, "SELECT b, b, b, b FROM t GROUP BY b", 20)
+        # There may be no room to count the groups.
+        with self.assertRaisesRegex(Fault, "the answer may have 12 rows of 2 columns, which is 24 cells"):
+            check_length(self.session, "SELECT b, COUNT(*) FROM t GROUP BY b", 11)
 
     def test_no_more_than_a_limit_on_processes(self) -> None:
         limits = (100 * CELL_BYTES, resource.RLIM_INFINITY)

@@ -1,73 +1,40 @@
-"""The shell's page: each of its examples is run, in their order, in one folder."""
+"""The shell's page: each of its examples is run, in their order, in one folder.
+
+With the variable BITCOL_TAKE the page's outputs are written anew, as they are now.
+"""
 
 from __future__ import annotations
 
-import re
-import shlex
-import subprocess
-import sys
+import os
 import unittest
-from collections.abc import Iterator
 from pathlib import Path
 
-from tests.terminal import IN_TEXT, MORE, PROMPT, SECONDS, ShellTestCase, environment
+from tests.examples import Room, runs_of, taken, without_times
+from tests.terminal import ShellTestCase
 
 PAGE = Path(__file__).resolve().parent.parent / "SHELL.md"
-FENCE = re.compile(
-    r"(?:\*(?P<file>[\w. ]+)\*:\n\n)?^```(?P<kind>csv|console)\n(?P<body>.*?)^```$", re.MULTILINE | re.DOTALL
-)
-PROMPTS = (PROMPT, MORE, IN_TEXT)
-COLUMNS = 72
-
-
-def runs_of(body: str) -> Iterator[tuple[str, str]]:
-    """The commands of a fence, and what each writes."""
-    for run in re.split(r"^\$ ", body, flags=re.MULTILINE)[1:]:
-        command, _, output = run.partition("\n")
-        yield command, output
 
 
 class Page(ShellTestCase):
     def test_examples(self) -> None:
+        text = PAGE.read_text(encoding="utf-8")
+        examples = Room(self.folder).examples(text)
+        if os.environ.get("BITCOL_TAKE"):
+            PAGE.write_text(taken(text, examples), encoding="utf-8")
         commands = 0
-        for fence in FENCE.finditer(PAGE.read_text(encoding="utf-8")):
-            if fence["kind"] == "csv":
-                self.write(fence["file"], fence["body"])
-                continue
-            for command, output in runs_of(fence["body"]):
-                is_typed = any(line.startswith(PROMPT) for line in output.splitlines())
-                run = self.typed_output if is_typed else self.piped_output
-                self.assertEqual(run(command, output), output, command)
-                commands += 1
-        self.assertGreater(commands, 10)
+        for example in examples:
+            commands += len(list(runs_of(example.before)))
+            self.assertEqual(without_times(example.now), without_times(example.before))
+        self.assertTrue(commands > 10 or "BITCOL_TAKE" in os.environ)
 
-    def piped_output(self, command: str, _: str) -> str:
-        """What a command of the system's shell writes to standard output and to standard error."""
-        ended = subprocess.run(
-            ["sh", "-c", command.replace("python3", shlex.quote(sys.executable))],
-            stdout=subprocess.PIPE,
-            stderr=subprocess.STDOUT,
-            stdin=subprocess.DEVNULL,
-            text=True,
-            cwd=self.folder,
-            env=environment(self.folder.parent),
-            timeout=SECONDS,
-            check=False,
-        )
-        return ended.stdout
 
-    def typed_output(self, command: str, output: str) -> str:
-        """What a terminal shows where the lines are typed that stand after prompts in the output."""
-        words = shlex.split(command)
-        self.assertEqual(words[:3], ["python3", "-m", "bitcol"])
-        terminal = self.start_terminal(*words[3:], COLUMNS=str(COLUMNS))
-        shown = ""
-        for line in output.splitlines():
-            prompt = next(filter(line.startswith, PROMPTS), None)
-            if prompt is not None:
-                shown += terminal.wait_for(prompt) + prompt
-                terminal.press(line[len(prompt) :] + "\n")
-        return shown + terminal.rest()
+class Times(unittest.TestCase):
+    def test_what_was_measured_is_left_out(self) -> None:
+        first = "a: 3 units, 120 microseconds\nA  MICROSECONDS  B\n-  ------------  -\nT            12  1\n0.012 s\n"
+        second = "a: 3 units, 7 microseconds\nA  MICROSECONDS  B\n-  ------------  -\nT             9  1\n1.000 s\n"
+        self.assertEqual(without_times(first), without_times(second))
+        for before, after in (("3 units", "4 units"), ("T  ", "U  "), ("  1\n", "  2\n")):
+            self.assertNotEqual(without_times(first), without_times(second.replace(before, after)))
 
 
 if __name__ == "__main__":

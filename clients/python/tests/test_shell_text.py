@@ -146,7 +146,8 @@ class Completions(unittest.TestCase):
         self.check("", "sel", "select")
         self.check("DROP ", "TA", "TABLE", "TABLES")
         self.check("CREATE TABLE t (a ", "bi", "bigint")
-        self.assertNotIn("GROUP", WORDS)
+        self.check("SELECT a FROM t ", "gr", "group")
+        self.check("", "ST", "STATS")
 
     def test_tables_and_columns(self) -> None:
         self.check("SELECT * FROM ", "", "SITES", "VISITS")
@@ -157,6 +158,9 @@ class Completions(unittest.TestCase):
 
     def test_commands(self) -> None:
         self.check("", ".t", ".tables", ".timer")
+        self.check("", ".a", ".advise")
+        self.check(".advise ", "VI", "VISITS")
+        self.check(".advise visits ", "app", "apply")
         self.check(".mode ", "", "table", "csv", "json", "md", "line")
         self.check(".mo ", "j", "json")
         self.check(".export ", "V", "VISITS")

@@ -34,7 +34,9 @@ class Page(BrowserTestCase):
         self.run_script("SELECT day, seconds FROM visits WHERE seconds > 20 OR seconds IS NULL")
         self.assertEqual(self.cells(), [["1", "30"], ["1", "NULL"], ["2", "45"]])
         self.assertIn("3 rows", self.text("#answer-size"))
-        self.assertRegex(self.text("#replies li"), r"SELECT day, seconds FROM .*\n+3 rows \d+\.\d\d ms")
+        self.assertRegex(self.text("#replies li"), r"SELECT day, seconds FROM .*\n+3 rows \d+\.\d\d ms 5 units Show$")
+        self.run_script("STATS SELECT day FROM visits WHERE seconds > 20")
+        self.assertRegex(self.text("#replies li"), r"^STATS SELECT .*\n+5 units \d+\.\d\d ms$")
         self.run_script("SELECT nothing FROM visits")
         self.assertRegex(self.text("#replies li"), r"^SELECT nothing FROM visits\n+error 22: no such column$")
         # The error left the answer as it was.

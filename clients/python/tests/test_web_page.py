@@ -13,8 +13,8 @@ import unittest
 from pathlib import Path
 
 from bitcol.web import answers, routes, server
+from tests.examples import FENCE, runs_of
 from tests.terminal import SECONDS, ShellTestCase, environment
-from tests.test_shell_page import FENCE, runs_of
 
 PAGE = Path(__file__).resolve().parent.parent / "WEB.md"
 ADDRESS = re.compile(r"http://127\.0\.0\.1:\d+/[\w-]{32}/")

@@ -152,10 +152,16 @@ class LongAnswers(unittest.TestCase):
     def test_a_full_table_of_four_columns_is_answered(self) -> None:
         tables = b"TABLE,COLUMNS,ROWS\nT,4,%d\nrows 1\n" % FULL
         rows = b"A,A,A,A\n" + b"1,2,3,4\n" * 3 + b"rows 3\n"
-        workspace = self.workspace(b"A,A,A,A\nrows 0\n", tables, rows)
+        workspace = self.workspace(b"A,A,A,A\nrows 0\n", tables, rows, b"units 7\n")
         (outcome,) = workspace.run("SELECT a, a, a, a FROM t")
-        self.assertEqual((outcome.error, outcome.answer), (None, 1))
+        self.assertEqual((outcome.error, outcome.answer, outcome.units), (None, 1, 7))
         self.assertEqual(workspace.answers.get(1).lines_at(2, 1), "1,2,3,4\n")
+
+    def test_a_program_that_knows_no_units(self) -> None:
+        tables = b"TABLE,COLUMNS,ROWS\nT,1,1\nrows 1\n"
+        workspace = self.workspace(b"A\nrows 0\n", tables, b"A\n1\nrows 1\n", b"error 10: syntax error\n")
+        (outcome,) = workspace.run("SELECT a FROM t")
+        self.assertEqual((outcome.error, outcome.answer, outcome.units), (None, 1, None))
 
     def test_one_of_five_is_refused_before_it_is_asked_for(self) -> None:
         tables = b"TABLE,COLUMNS,ROWS\nT,5,%d\nrows 1\n" % FULL

@@ -133,6 +133,7 @@ class Statements(WebTestCase):
             "SELECT a FROM t WHERE a < 3;;\n\n  SELECT ';' FROM t; SELECT b, a FROM t WHERE b > 1;\nTABLES"
         )
         seconds = [outcome.pop("seconds", None) for outcome in outcomes]
+        units = [outcome.pop("units", None) for outcome in outcomes]
         self.assertEqual(
             outcomes,
             [
@@ -164,8 +165,20 @@ class Statements(WebTestCase):
         )
         self.assertEqual([found is None for found in seconds], [False, False, False, True, False, False])
         self.assertTrue(all(0 < found < SECONDS for found in seconds if found is not None))
+        self.assertEqual(units, [None, None, 3, None, 2, None])
         lines = [server.get("rows", answer=number, first=0, count=9).text for number in (1, 2, 3)]
         self.assertEqual(lines, ["-1\n", "2,NULL\n3,-1\n", "T,2,3\n"])
+
+    def test_units(self) -> None:
+        """Ten planes in the segment of 512, and four in the three others."""
+        server = self.start(self.table("t", {"a": range(1000)}))
+        (first, second, third) = server.run(
+            "-- all\nSELECT COUNT(*) FROM t;STATS SELECT a FROM t WHERE a < 512 -- half\n;"
+            "SELECT a FROM t WHERE a < 512 GROUP BY a"
+        )
+        self.assertEqual((first["units"], first["rows"]), (0, 1))
+        self.assertEqual([second[name] for name in ("units", "rows", "headings", "answer")], [22, None, [], None])
+        self.assertEqual((third["units"], third["rows"]), (22, 512))
 
     def test_scripts_that_are_none(self) -> None:
         server = self.start()

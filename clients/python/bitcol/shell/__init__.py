@@ -8,6 +8,8 @@
     console       where answers, remarks and errors go
     render, plot  answers as tables, CSV, JSON, Markdown and lines, and as charts
     lengths       how long an answer will be, before it is asked for
+    units         how much the condition of a SELECT reads
+    advisor       layouts that suit the SELECTs: advice measures, workload has the SELECTs, sizes the bytes
     importing     tables of files: csv_import, sqlite_import, names, types
     exporting     files of tables
     terminal      lines that are typed, their history and completion

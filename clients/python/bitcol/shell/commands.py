@@ -9,6 +9,7 @@ from dataclasses import dataclass
 from enum import Enum
 from typing import TYPE_CHECKING
 
+from .advisor import APPLY, advise
 from .exporting import export_table
 from .fault import Fault
 from .plot import Chart
@@ -28,6 +29,7 @@ class Argument(Enum):
     MODE = "|".join(mode.value for mode in Mode)
     CHART = "|".join(chart.value for chart in Chart)
     SWITCH = "on|off"
+    WORK = f"FILE|{APPLY}"
 
 
 @dataclass(frozen=True)
@@ -67,8 +69,8 @@ def command_words() -> list[str]:
 
 
 def chosen_words(argument: Argument) -> list[str]:
-    """The words that this argument is one of, or none where it may be any."""
-    return argument.value.split("|") if "|" in argument.value else []
+    """The words that this argument is one of, or none where it may be any. Those in capitals stand for others."""
+    return [word for word in argument.value.split("|") if word.islower()] if "|" in argument.value else []
 
 
 def perform(shell: Shell, line: str) -> None:
@@ -91,6 +93,10 @@ def _choice(argument: Argument, word: str) -> str:
     if word not in chosen_words(argument):
         raise Fault(f"{word!r} is none of {', '.join(chosen_words(argument))}")
     return word
+
+
+def _advise(shell: Shell, words: Sequence[str]) -> None:
+    advise(shell, words[0], os.path.expanduser(words[1]) if len(words) > 1 else None)
 
 
 def _export(shell: Shell, words: Sequence[str]) -> None:
@@ -158,6 +164,13 @@ def _timer(shell: Shell, words: Sequence[str]) -> None:
 
 
 _ALL = [
+    Command(
+        ".advise",
+        (Argument.TABLE, Argument.WORK),
+        1,
+        "advise on layouts, by the SELECTs so far or in a file; apply sends it",
+        _advise,
+    ),
     Command(
         ".export",
         (Argument.TABLE, Argument.FILE),

@@ -12,9 +12,8 @@ from itertools import chain
 from ..script import RESERVED
 from .commands import Argument, Command, chosen_words, command_of, command_words, words_of
 
-# Reserved words that no statement has yet, and words of statements that aren't reserved.
-_NOT_YET = {"BY", "GROUP"}
-WORDS = sorted(RESERVED - _NOT_YET | {"DICTIONARY", "HEADER", "LOAD", "OFFSET", "REBUILD", "SAVE", "TABLES"})
+# Reserved words, and words of statements that aren't reserved.
+WORDS = sorted(RESERVED | {"DICTIONARY", "HEADER", "LOAD", "OFFSET", "REBUILD", "SAVE", "STATS", "TABLES"})
 # After these a table's name stands.
 _BEFORE_TABLES = {"FROM", "INTO", "LOAD", "REBUILD", "SAVE", "TABLE", "UPDATE"}
 _WORD = re.compile(r"[A-Za-z]\w*")
@@ -53,6 +52,8 @@ def _of_argument(command: Command, place: int, word: str, catalog: Catalog) -> l
     argument = command.arguments[place]
     if argument is Argument.FILE:
         return files(word)
+    if argument is Argument.WORK:
+        return [*(choice for choice in chosen_words(argument) if choice.startswith(word)), *files(word)]
     if argument is Argument.TABLE:
         return _matching(word, catalog.columns)
     if argument is Argument.COLUMN:

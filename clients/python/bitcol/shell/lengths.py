@@ -24,21 +24,38 @@ _PIECE = re.compile(r"'[^']*'|--[^\n]*|;|[A-Za-z]\w*")
 
 @dataclass(frozen=True)
 class Selection:
-    """A SELECT in three parts: `SELECT ..`, `FROM table`, and the condition, which may be empty."""
+    """A SELECT in four parts: `SELECT ..`, `FROM table`, and what may be empty, the condition and `GROUP BY column`."""
 
     items: str
     source: str
-    condition: str
+    condition: str = ""
+    grouping: str = ""
 
     @property
     def without_rows(self) -> str:
-        """A SELECT with the same headings and no row. What stands before may end with a comment."""
-        return f"{self.items}{self.source}\nWHERE 1 = 0"
+        """A SELECT with the same headings and no row, or one of set functions. What stands before may end with a
+        comment."""
+        return f"{self.items}{self.source}\nWHERE 1 = 0{self.grouping and ' '}{self.grouping}"
 
     @property
     def counting(self) -> str:
-        """A SELECT of the number of its rows."""
+        """A SELECT of the number of the rows that it finds."""
         return f"SELECT COUNT(*) {self.source}{self.condition}"
+
+    @property
+    def by_group(self) -> str:
+        """A SELECT with a cell for each of its groups."""
+        return f"{self.counting}{self.grouping}"
+
+    @property
+    def has_functions(self) -> bool:
+        """Whether it asks for set functions."""
+        return "(" in _PIECE.sub("", self.items)
+
+    @property
+    def is_one_row(self) -> bool:
+        """Whether its answer is one row, whatever it finds."""
+        return self.has_functions and not self.grouping
 
 
 def selection_of(statement: str) -> Selection | None:
@@ -49,15 +66,17 @@ def selection_of(statement: str) -> Selection | None:
     starts = dict(reversed(words))
     if not words or words[0][0] != "SELECT" or "FROM" not in starts:
         return None
-    source, condition = starts["FROM"], starts.get("WHERE", len(statement))
-    if condition < source:
+    grouping = starts.get("GROUP", len(statement))
+    source, condition = starts["FROM"], starts.get("WHERE", grouping)
+    if not source <= condition <= grouping:
         return None
-    return Selection(statement[:source], statement[source:condition], statement[condition:])
+    parts = statement[:source], statement[source:condition], statement[condition:grouping], statement[grouping:]
+    return Selection(*parts)
 
 
 def cells_that_fit() -> int:
     """How many cells an answer may have now: those for which there is memory."""
-    return _available_bytes() // CELL_BYTES
+    return available_bytes() // CELL_BYTES
 
 
 def check_length(session: Session, statement: str, most: int) -> None:
@@ -67,24 +86,29 @@ def check_length(session: Session, statement: str, most: int) -> None:
         return
     try:
         width = len(session.execute(selection.without_rows).headings)
-        if width * max(table.rows for table in session.tables()) <= most:
+        if selection.is_one_row or width * max(table.rows for table in session.tables()) <= most:
             return
-        rows = session.execute(selection.counting).scalar()
+        rows = _rows_of(session, selection, width, most)
     except Refused:
         return
-    if rows * width > most and not _is_one_row(selection):
+    if rows * width > most:
+        may_have = "has" if not selection.grouping or rows <= most else "may have"
         raise Fault(
-            f"the answer has {rows} rows of {width} columns, which is {rows * width} cells, and there is room for {most}: "
-            "choose fewer columns or rows, or SAVE the table"
+            f"the answer {may_have} {rows} rows of {width} columns, which is {rows * width} cells, and there is room"
+            f" for {most}: choose fewer columns or rows, or SAVE the table"
         )
 
 
-def _is_one_row(selection: Selection) -> bool:
-    """Whether it is one of set functions."""
-    return "(" in _PIECE.sub("", selection.items)
+def _rows_of(session: Session, selection: Selection, width: int, most: int) -> int:
+    """The number of rows of an answer. Its groups are counted where they may be too many for these cells, unless there
+    may be no room for one cell of each: then it is that of the rows that are found, which are no fewer."""
+    found: int = session.execute(selection.counting).scalar()
+    if selection.grouping and found <= most < found * width:
+        return len(session.execute(selection.by_group))
+    return found
 
 
-def _available_bytes() -> int:
+def available_bytes() -> int:
     """The memory that a process can have now: what the system says, and no more than a limit on processes."""
     try:
         found = _AVAILABLE.search(Path("/proc/meminfo").read_text(encoding="ascii"))

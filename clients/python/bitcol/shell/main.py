@@ -41,18 +41,18 @@ def main(words: Sequence[str] | None = None) -> int:
     if isinstance(sys.stdin, io.TextIOWrapper):
         # What is typed and isn't UTF-8 is refused where it is used. A line ends where the language says so.
         sys.stdin.reconfigure(errors="surrogateescape", newline="\n")
-    return run_on_console(partial(_run, options))
+    return run_on_store(partial(_run, options))
 
 
-def run_on_console(run: Callable[[Console], Status]) -> Status:
-    """Runs this on a console of the standard streams, and gives its status, or that of what ended it: an interrupt, or
-    output that can't be written."""
+def run_on_store(run: Callable[[Store, Console], Status]) -> Status:
+    """Runs this over a store, on a console of the standard streams, and gives its status, or that of what ended it: a
+    store that can't be started, which the console tells, an interrupt, or output that can't be written."""
     if sys.stdout is None or sys.stderr is None:
         # Whoever closes one of them doesn't want to hear of it.
         return Status.FAILED
     console = Console(_buffered(sys.stdout), _buffered(sys.stderr))
     try:
-        status = run(console)
+        status = _opened(run, console)
         console.out.flush()
         return status
     except KeyboardInterrupt:
@@ -64,6 +64,16 @@ def run_on_console(run: Callable[[Console], Status]) -> Status:
         _drop_output()
         console.fault(f"error: writing failed: {reason_of(fault)}")
         return Status.FAILED
+
+
+def _opened(run: Callable[[Store, Console], Status], console: Console) -> Status:
+    """Runs this over a store, which it closes, and gives its status, or FAILED where there can be no store."""
+    try:
+        store = Store()
+    except OperationalError as fault:
+        console.fault(f"error: {fault}")
+        return Status.FAILED
+    return run(store, console)
 
 
 def _buffered(stream: TextIO) -> TextIO:
@@ -95,10 +105,7 @@ def _parser() -> argparse.ArgumentParser:
     return parser
 
 
-def _run(options: argparse.Namespace, console: Console) -> Status:
-    store = open_store(console)
-    if store is None:
-        return Status.FAILED
+def _run(options: argparse.Namespace, store: Store, console: Console) -> Status:
     is_typed = options.command is None and sys.stdin is not None and sys.stdin.isatty() and console.is_terminal
     shell = Shell(store, console, Settings(_mode(options, console)), is_typed)
     try:
@@ -118,15 +125,6 @@ def _run(options: argparse.Namespace, console: Console) -> Status:
     if not shell.has_store:
         return Status.FAILED
     return Status.REFUSED if shell.failures and not is_typed else Status.DONE
-
-
-def open_store(console: Console) -> Store | None:
-    """A store, or None where it can't be started, and then the console says why."""
-    try:
-        return Store()
-    except OperationalError as fault:
-        console.fault(f"error: {fault}")
-        return None
 
 
 def leave(store: Store) -> None:

@@ -2,6 +2,7 @@
 
 from __future__ import annotations
 
+import re
 from collections.abc import Callable, Iterable, Iterator, Sequence
 from enum import Enum
 from itertools import chain, count
@@ -11,6 +12,7 @@ from ..reply import Reply, Row
 from .console import PLAIN, Style
 
 NULL = "NULL"
+_BLANKS = re.compile(r" +$", re.MULTILINE)
 
 
 class Mode(Enum):
@@ -66,11 +68,14 @@ def _table(headings: Sequence[str], batches: _Rows, style: Style) -> Iterator[st
     widths = list(map(len, headings))
     for rows in batches:
         widths = list(map(max, widths, map(_width, zip(*rows)))) if rows else widths
-    template = "  ".join(f"%{'-' if is_text else ''}{width}s" for is_text, width in zip(batches.texts(), widths))
+    texts = batches.texts()
+    template = "  ".join(f"%{'-' if is_text else ''}{width}s" for is_text, width in zip(texts, widths))
     yield f"{style.heading}{(template % tuple(headings)).rstrip()}{style.end}\n"
     yield "  ".join("-" * width for width in widths) + "\n"
     for rows in batches:
-        yield _formatted(template + "\n", rows, f"{style.null}{NULL}{style.end}")
+        lines = _formatted(template + "\n", rows, f"{style.null}{NULL}{style.end}")
+        # Texts that stand last leave blanks behind them.
+        yield _BLANKS.sub("", lines) if texts[-1] else lines
 
 
 def _csv(headings: Sequence[str], batches: _Rows, _: Style) -> Iterator[str]:

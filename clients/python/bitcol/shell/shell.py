@@ -23,6 +23,7 @@ from .plot import Canvas, Chart, drawn
 from .render import Mode, counted, rendered
 from .statements import Pending, StatementBuffer
 from .store import Store
+from .workload import History
 
 # Rows that a terminal shows if nothing else is said.
 ROW_LIMIT = 40
@@ -53,6 +54,9 @@ class Shell:
         self.failures = 0
         self.is_ended = False
         self.has_store = True
+        self.history = History()
+        # The REBUILD that is advised for a table.
+        self.advised: dict[str, str] = {}
         self._is_interactive = is_interactive
         self._answer: Reply | None = None
         self._catalog: Catalog | None = None
@@ -105,9 +109,10 @@ class Shell:
         """Carries out a statement, and shows its answer. A Fault where there is no memory for the answer."""
         # Also one that is left may be carried out.
         self._catalog = None
-        with self._waiting("waiting"):
+        with self.waiting("waiting"):
             reply, seconds = self.store.call(partial(_timed, statement))
-        self._show(reply)
+        self.history.add(statement)
+        self.show(reply, self.settings.limit)
         if self.settings.timer:
             self.console.note(f"{seconds:.3f} s")
 
@@ -177,6 +182,7 @@ class Shell:
 
     def _restart(self) -> None:
         self._catalog = None
+        self.advised.clear()
         try:
             self.store.restart()
         except OperationalError as fault:
@@ -187,20 +193,22 @@ class Shell:
 
     def _import(self, job: Import) -> None:
         self._catalog = None
-        with self._waiting(job.label) as progress:
+        with self.waiting(job.label) as progress:
             imported = job.run(progress.tell)
         for note in imported.notes:
             self.console.note(f"{job.label}: {note}")
         if self._is_interactive:
             self.console.remark(f"{imported.table}: {counted(imported.rows, 'row')}")
 
-    def _show(self, reply: Reply) -> None:
-        """Shows an answer: all of it to a pipe, and in a terminal no more rows than the limit."""
+    def show(self, reply: Reply, limit: int | None) -> None:
+        """Shows an answer: all of it to a pipe, and in a terminal no more rows than the limit, if there is one."""
+        if reply.is_units:
+            reply = Reply.of_rows(("UNITS",), [(reply.count,)])
         if not reply.headings:
             self.console.remark("ok" if reply.count is None else f"ok, {counted(reply.count, 'row')}")
             return
         self._answer = reply
-        limit = self.settings.limit if self.console.is_terminal else None
+        limit = limit if self.console.is_terminal else None
         self.console.write(rendered(reply, self.settings.mode, limit, self.console.style))
         if limit is not None and len(reply) > limit:
             self.console.remark(f".. {counted(len(reply) - limit, 'row')} more")
@@ -208,7 +216,7 @@ class Shell:
             self.console.remark(counted(len(reply), "row"))
 
     @contextlib.contextmanager
-    def _waiting(self, label: str) -> Iterator[Progress]:
+    def waiting(self, label: str) -> Iterator[Progress]:
         """A progress line that goes on while the store is waited for."""
         with self.console.progress(label) as progress:
             self.store.on_wait = progress.tell

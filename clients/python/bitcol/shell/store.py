@@ -64,6 +64,10 @@ class Store:
         self._jobs.put((future, job))
         return future
 
+    def another(self) -> Store:
+        """Another store beside this one, with no tables. Raises what the constructor does."""
+        return Store(self._open_session)
+
     def restart(self) -> None:
         """Another session, with no tables, where the program of this one ended. Raises what the constructor does."""
         self._session = self._open_session()

@@ -13,8 +13,9 @@ from ..errors import ProgramEnded
 from ..shell.console import Console
 from ..shell.fault import Fault, reason_of
 from ..shell.importing import split_word
-from ..shell.main import Status, leave, open_store, run_on_console
+from ..shell.main import Status, leave, run_on_store
 from ..shell.render import counted
+from ..shell.store import Store
 from .server import PageServer
 from .workspace import Workspace
 
@@ -23,7 +24,7 @@ GREATEST_PORT = 65_535
 
 def main(words: Sequence[str]) -> int:
     """Serves the page as these words say, until an interrupt, and gives the status."""
-    return run_on_console(partial(_run, _parser().parse_intermixed_args(words)))
+    return run_on_store(partial(_run, _parser().parse_intermixed_args(words)))
 
 
 def _parser() -> argparse.ArgumentParser:
@@ -49,10 +50,7 @@ def _port(word: str) -> int:
     return int(word)
 
 
-def _run(options: argparse.Namespace, console: Console) -> Status:
-    store = open_store(console)
-    if store is None:
-        return Status.FAILED
+def _run(options: argparse.Namespace, store: Store, console: Console) -> Status:
     try:
         _serve(Workspace(store), options, console)
         return Status.DONE

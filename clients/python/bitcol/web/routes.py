@@ -115,10 +115,11 @@ def _outcome(outcome: Outcome) -> dict[str, Any]:
         return {**found, "error": outcome.error}
     return {
         **found,
-        "rows": outcome.reply.count,
+        "rows": None if outcome.reply.is_units else outcome.reply.count,
         "headings": outcome.reply.headings,
         "answer": outcome.answer,
         "seconds": outcome.seconds,
+        "units": outcome.units,
     }
 
 

@@ -29,23 +29,25 @@ from ..shell.lengths import cells_that_fit, check_length
 from ..shell.shell import types_by_table
 from ..shell.statements import Statement, StatementBuffer
 from ..shell.store import Store
+from ..shell.units import units_of
 from ..table_file import HEADERS_BYTES, ColumnHeader, headers_of
 from .answers import ANSWER_CELLS, Answers
 
 TOO_LONG = "the answer is too long for the memory of this process"
 # What begins a statement that changes no table.
-_READING = ("SELECT", "TABLES", "SAVE")
+_READING = ("SELECT", "STATS", "TABLES", "SAVE")
 
 
 @dataclass(frozen=True)
 class Outcome:
-    """What became of a statement: the reply, with the number under which it is kept if it has rows, and the seconds
-    that it took; or an error."""
+    """What became of a statement: the reply, with the number under which it is kept if it has rows, the seconds that it
+    took, and of a SELECT or a STATS the units that the condition reads; or an error."""
 
     statement: Statement
     reply: Reply | None = None
     answer: int | None = None
     seconds: float | None = None
+    units: int | None = None
     error: str | None = None
 
 
@@ -190,14 +192,15 @@ class Workspace:
     def _carried_out(self, store: Store, statement: Statement) -> Outcome:
         """What becomes of a statement that isn't refused."""
 
-        def carry_out(session: Session) -> tuple[Reply, float]:
+        def carry_out(session: Session) -> tuple[Reply, float, int | None]:
             check_length(session, statement.text, min(ANSWER_CELLS, cells_that_fit()))
             start = time.perf_counter()
             reply = session.execute(statement.text)
-            return reply, time.perf_counter() - start
+            seconds = time.perf_counter() - start
+            return reply, seconds, reply.count if reply.is_units else units_of(session, statement.text)
 
-        reply, seconds = store.call(carry_out)
-        return Outcome(statement, reply, self.answers.keep(reply) if reply.headings else None, seconds)
+        reply, seconds, units = store.call(carry_out)
+        return Outcome(statement, reply, self.answers.keep(reply) if reply.headings else None, seconds, units)
 
     @contextlib.contextmanager
     def _taking_turns(self) -> Iterator[Store]:

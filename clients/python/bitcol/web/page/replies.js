@@ -38,6 +38,10 @@ export class Replies {
     const said = make("p", { className: "said" }, make("span", {}, reply(outcome)));
     said.append(" ", make("span", { className: "time" }, time(outcome.seconds)));
     if (outcome.answer !== null) {
+      if (outcome.units !== null) {
+        const title = "What the condition reads, as STATS counts it";
+        said.append(" ", make("span", { className: "time", title }, counted(outcome.units, "unit")));
+      }
       const button = make("button", { type: "button" }, "Show");
       button.setAttribute("aria-label", `Show the answer to ${outcome.statement}`);
       button.addEventListener("click", () => this.show(outcome, true));
@@ -52,7 +56,7 @@ function time(seconds) {
 }
 
 function reply(outcome) {
-  if (outcome.rows === null) return "ok";
+  if (outcome.rows === null) return outcome.units === null ? "ok" : counted(outcome.units, "unit");
   const rows = counted(outcome.rows, "row");
   return outcome.answer === null ? `ok, ${rows}` : rows;
 }

@@ -1,0 +1,89 @@
+"""The SELECTs that somebody runs on a table: those of this session, or those of a file."""
+
+from __future__ import annotations
+
+import re
+from collections.abc import Iterable, Iterator
+from dataclasses import dataclass
+
+from ..script import RESERVED
+from .lengths import Selection, selection_of
+from .statements import Pending, StatementBuffer
+
+# SELECTs of a session that are remembered: those that came first go first.
+MOST_REMEMBERED = 1_000
+_COMMENT = re.compile(r"--[^\n]*")
+_OPERAND = re.compile(r"\(\s*([A-Z]\w*)\s*\)")
+_WORD = re.compile(r"[A-Z]\w*")
+
+
+@dataclass(frozen=True)
+class Work:
+    """A SELECT in one line, how often it is run, and the words that may be columns which it reads to find rows, to
+    compute set functions and to make groups. Columns that it shows alone are none of them."""
+
+    statement: str
+    times: int
+    words: frozenset[str]
+
+
+class History:
+    """The SELECTs that were answered."""
+
+    def __init__(self) -> None:
+        self._times: dict[str, int] = {}
+
+    def add(self, statement: str) -> None:
+        """Remembers a statement that was answered, if it is a SELECT."""
+        if selection_of(statement) is None:
+            return
+        text = _in_one_line(statement)
+        self._times[text] = self._times.get(text, 0) + 1
+        if len(self._times) > MOST_REMEMBERED:
+            del self._times[next(iter(self._times))]
+
+    def of(self, table: str) -> list[Work]:
+        """Those on the table of this name that read columns."""
+        return works_of(self._times, table)
+
+
+def history_of(lines: Iterable[str]) -> History:
+    """The SELECTs of a file's lines. Commands and other statements are left out."""
+    history = History()
+    for statement in _statements(lines):
+        history.add(statement)
+    return history
+
+
+def works_of(times: dict[str, int], table: str) -> list[Work]:
+    """The SELECTs on this table that read columns, of SELECTs in one line each and how often they are run."""
+    works = []
+    for statement, count in times.items():
+        selection = selection_of(statement)
+        if selection is not None and _WORD.findall(selection.source.upper())[1:] == [table]:
+            words = _words_of(selection)
+            if words:
+                works.append(Work(statement, count, words))
+    return works
+
+
+def _statements(lines: Iterable[str]) -> Iterator[str]:
+    buffer = StatementBuffer()
+    for line in lines:
+        if buffer.pending is Pending.NOTHING and line.lstrip().startswith("."):
+            buffer.skip()
+            continue
+        yield from (statement.text for statement in buffer.add(line.removesuffix("\n")))
+    last = buffer.finish()
+    if last is not None:
+        yield last.text
+
+
+def _in_one_line(statement: str) -> str:
+    """The SELECT without comments and with one blank between words: it has no texts."""
+    return " ".join(_COMMENT.sub(" ", statement).split())
+
+
+def _words_of(selection: Selection) -> frozenset[str]:
+    read = f"{selection.condition} {selection.grouping}".upper()
+    return frozenset([*_WORD.findall(read), *_OPERAND.findall(selection.items.upper())]) - RESERVED

@@ -1,0 +1,153 @@
+"""The examples of documents: the commands in their fences are run, and what they write is compared or taken."""
+
+from __future__ import annotations
+
+import doctest
+import os
+import re
+import shlex
+import subprocess
+import sys
+from collections.abc import Iterable, Iterator
+from dataclasses import dataclass
+from pathlib import Path
+from typing import Any
+
+import bitcol
+from tests.terminal import IN_TEXT, MORE, PROMPT, SECONDS, Terminal, environment, erased
+
+FENCE = re.compile(
+    r"(?:\*(?P<file>[\w. ]+)\*:\n\n)?^```(?P<kind>csv|sql|console|python)\n(?P<body>.*?)^```$",
+    re.MULTILINE | re.DOTALL,
+)
+PROMPTS = (PROMPT, MORE, IN_TEXT)
+COLUMNS = 72
+# What is measured differs from run to run: seconds, microseconds in sentences and in columns, and what is advised.
+_SECONDS = re.compile(r"^\d+\.\d{3} s$", re.MULTILINE)
+_MICROSECONDS = re.compile(r"\b\d+ microseconds\b")
+_REBUILD = re.compile(r"^(REBUILD \w+)( \(.*\))?: \d+ units, ", re.MULTILINE)
+_HEADING = "MICROSECONDS"
+_NOTE = re.compile(r"(-+|(, )?advised|\s+)$")
+
+
+def taken(text: str, examples: Iterable[Example]) -> str:
+    """The text of a document with its examples as they are now."""
+    for example in examples:
+        text = text.replace(example.before, example.now)
+    return text
+
+
+def runs_of(body: str) -> Iterator[tuple[str, str]]:
+    """The commands of a fence, and what each writes."""
+    for run in re.split(r"^\$ ", body, flags=re.MULTILINE)[1:]:
+        command, _, output = run.partition("\n")
+        yield command, output
+
+
+def without_times(text: str) -> str:
+    """The text with nothing in place of times that were measured, and of what is advised because of these."""
+    text = _REBUILD.sub(r"\1: ", _MICROSECONDS.sub("microseconds", _SECONDS.sub("s", text)))
+    lines, place = [], None
+    for line in text.split("\n"):
+        if _HEADING in line:
+            place = line.index(_HEADING)
+        elif place is not None and not line[place : place + len(_HEADING)].strip("0123456789- "):
+            line = (line[:place] + _NOTE.sub("", line[place + len(_HEADING) :])).rstrip()
+        else:
+            place = None
+        lines.append(line)
+    return "\n".join(lines)
+
+
+@dataclass(frozen=True)
+class Example:
+    """A fence of a document: the line that it begins on, its commands with their outputs, and these as they are now. Of
+    Python, what is wrong stands in place of it."""
+
+    line: int
+    before: str
+    now: str
+
+    @property
+    def is_right(self) -> bool:
+        """Whether it is as before, but for times."""
+        return without_times(self.before) == without_times(self.now)
+
+
+class Room:
+    """A folder in which the examples of a document are run, in their order."""
+
+    def __init__(self, folder: Path) -> None:
+        """The folder is there. The program and the histories of its shells lie beside it."""
+        self._folder = folder
+        self._names: dict[str, Any] = {}
+        programs = folder.parent / "bin"
+        programs.mkdir()
+        (programs / "bitcol").symlink_to(os.path.abspath(bitcol.find_program()))
+        self._path = f"{programs}{os.pathsep}{os.environ.get('PATH', '')}"
+
+    def examples(self, text: str) -> Iterator[Example]:
+        """Runs the examples of a document. The files that it shows with their names are made."""
+        for fence in FENCE.finditer(text):
+            line, body = text.count("\n", 0, fence.start("body")), fence["body"]
+            if fence["file"]:
+                (self._folder / fence["file"]).write_text(body, encoding="utf-8")
+            elif fence["kind"] == "console":
+                yield Example(line, body, self._rerun(body))
+            elif fence["kind"] == "python":
+                yield Example(line, body, self._python_faults(body, f"line {line}") or body)
+
+    def _rerun(self, body: str) -> str:
+        """A fence of commands of the system's shell, with what they write now in place of what they wrote."""
+        return "".join(f"$ {command}\n{self._output(command, output)}" for command, output in runs_of(body))
+
+    def _output(self, command: str, output: str) -> str:
+        """What a command writes. It is typed into where its output has prompts."""
+        is_typed = any(line.startswith(PROMPT) for line in output.splitlines())
+        return self._typed(command, output) if is_typed else self._piped(command)
+
+    def _python_faults(self, body: str, place: str) -> str:
+        """What is wrong with the examples in a fence of Python, which share their names with those before."""
+        test = doctest.DocTestParser().get_doctest(body, self._names, place, place, 0)
+        told: list[str] = []
+        before = os.getcwd()
+        os.chdir(self._folder)
+        try:
+            doctest.DocTestRunner(verbose=False).run(test, out=told.append, clear_globs=False)
+        finally:
+            os.chdir(before)
+        self._names = test.globs
+        return "".join(told)
+
+    def _piped(self, command: str) -> str:
+        """What a command of the system's shell writes to standard output and to standard error."""
+        ended = subprocess.run(
+            ["sh", "-c", command.replace("python3", shlex.quote(sys.executable))],
+            stdout=subprocess.PIPE,
+            stderr=subprocess.STDOUT,
+            stdin=subprocess.DEVNULL,
+            text=True,
+            cwd=self._folder,
+            env=environment(self._folder.parent, PATH=self._path),
+            timeout=SECONDS,
+            check=False,
+        )
+        return ended.stdout
+
+    def _typed(self, command: str, output: str) -> str:
+        """What a terminal shows where the lines are typed that stand after prompts in the output."""
+        words = shlex.split(command)
+        if words[:3] != ["python3", "-m", "bitcol"]:
+            raise ValueError(f"no shell to type into: {command}")
+        terminal = Terminal(self._folder, words[3:], environment(self._folder.parent, COLUMNS=str(COLUMNS)))
+        try:
+            terminal.keeps_escapes = True
+            shown = ""
+            for line in output.splitlines():
+                prompt = next(filter(line.startswith, PROMPTS), None)
+                if prompt is not None:
+                    shown += terminal.wait_for(prompt) + prompt
+                    terminal.press(line[len(prompt) :] + "\n")
+            return erased(shown + terminal.rest())
+        finally:
+            terminal.kill()
