@@ -1,6 +1,6 @@
 //! The least and the greatest of some values.
 
-ghost use Rattle.std.specs.Prelude.{◌++◌, ◌<◌, ◌∷◌, List, [], ℤ, length};
+ghost use Rattle.std.specs.Prelude.{◌<◌, length};
 ghost use Rattle.bw_code.specs.Encodings.{IsGreatest, IsLeast};
 ghost use Rattle.bw_code.specs.Fittings.{AreEnds};
 
@@ -34,20 +34,4 @@ pub(crate) fn ends_of(values: &[i64]) -> Option<Ends>
         return None;
     }
     Some(ends_of_some(values))
-}
-
-/// The ends of one value more than those of which the ends are known.
-pub(crate) fn ends_with(ends: Option<Ends>, x: i64) -> Option<Ends>
-    ensures { (values : List ℤ) → AreEnds values ends → AreEnds (values ++ x ∷ []) result }
-{
-    match ends {
-        None => Some(Ends {
-            least: x,
-            greatest: x,
-        }),
-        Some(Ends { least, greatest }) => Some(Ends {
-            least: least.min(x),
-            greatest: greatest.max(x),
-        }),
-    }
 }

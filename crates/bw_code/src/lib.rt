@@ -6,7 +6,6 @@ mod compare;
 mod dictionary;
 mod encoding;
 mod ends;
-mod fitting;
 mod header;
 mod kind;
 mod lanes;
@@ -32,7 +31,6 @@ pub use compare::{CmpOp, CodeTest};
 pub use dictionary::Dictionary;
 pub use encoding::{Encoding, fit};
 pub use ends::Ends;
-pub use fitting::Fitting;
 pub use header::Header;
 pub use kind::{ColumnType, Kind, Layout};
 pub use laws::{

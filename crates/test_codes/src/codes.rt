@@ -3,7 +3,7 @@
 
 use crate::seen::{see, see_at};
 use bw_code::CmpOp::{Eq, Ge, Gt, Le, Lt, Ne};
-use bw_code::{CmpOp, CodeTest, Encoding, Fitting, Kind, fit};
+use bw_code::{CmpOp, CodeTest, Encoding, Kind, fit};
 use std::process::Abort;
 
 const NONE: CodeTest = CodeTest::None;
@@ -145,20 +145,9 @@ const EMPTY_TESTS: [(CmpOp, CodeTest); 6] = [
 
 const MANY_VALUES: [i64; 4] = [40, -2, 7, 40];
 
-/// The encoding that fits the values, which are given one after the other.
-fn fitted_one_by_one<R: Abort + AllocGlobal>(rt: &R, values: &[i64], kind: Kind) -> Encoding {
-    let mut fitting = Fitting::new(rt.alloc(), kind, 0).expect(rt, "memory");
-    for x in values {
-        fitting.tell(*x).expect(rt, "memory");
-    }
-    fitting.encoding(rt.alloc()).expect(rt, "memory")
-}
-
-/// The encoding that fits the values, which is the same where they are given one after the other.
+/// The encoding that fits the values.
 fn fitted<R: Abort + AllocGlobal>(rt: &R, values: &[i64], kind: Kind) -> Encoding {
-    let encoding = fit(rt.alloc(), values, kind).expect(rt, "memory");
-    assert!(rt; encoding == fitted_one_by_one(rt, values, kind));
-    encoding
+    fit(rt.alloc(), values, kind).expect(rt, "memory")
 }
 
 /// The value that the code of a value stands for.
