@@ -1,7 +1,7 @@
 #!/usr/bin/env python3
 """Refuses each growth of memory in turn, over scripts that use every statement, and checks what bitcol answers.
 
-    python3 bench/refused_growths.py
+    python3 evidence/refused_growths.py
 
 The program runs with a small library in front of the C library's `malloc` and `realloc` that refuses the N-th call, N from 1 until a run
 makes none. Each run has to end in want of memory with nothing written, or with error 90 in place of one reply, and all others those to
@@ -18,7 +18,7 @@ import tempfile
 from dataclasses import dataclass, replace
 from pathlib import Path
 
-from common import built
+from common import Progress, built
 
 LIBRARY = r"""
 #define _GNU_SOURCE
@@ -286,9 +286,14 @@ def main():
         source.write_text(LIBRARY)
         subprocess.run(["cc", "-shared", "-fPIC", "-O1", "-o", library, source, "-ldl"], check=True)
         program = Program(library, Path(folder) / "note")
-        for name, statements in (SCRIPTS | WORKED).items():
+        scripts = SCRIPTS | WORKED
+        progress = Progress("refused growths", 2 * len(scripts))
+        for name, statements in scripts.items():
             for stop in (False, True):
+                progress.clear()
                 check(program, name, statements, stop)
+                progress.step()
+        progress.clear()
     check_address_space()
 
 

@@ -5,8 +5,8 @@ A clause of a lower call is made to say nothing (`THING ≡ THING`), in a copy, 
 above must not be proved any more: so it gets its answer through the lower call, and not past it. Prove the crates first, by
 `rt all check` at the top: the copy goes on from what that kept, and each strike takes 15 to 90 seconds.
 
-    python3 bench/strikes.py [WORD ..]      only the strikes whose upper call has one of the words in its name
-    python3 bench/strikes.py --names        proves nothing: whether each clause and each upper call is still where it is said to be
+    python3 evidence/strikes.py [WORD ..]      only the strikes whose upper call has one of the words in its name
+    python3 evidence/strikes.py --names        proves nothing: whether each clause and each upper call is still there
 """
 
 import re
@@ -17,9 +17,8 @@ import tempfile
 from dataclasses import dataclass
 from pathlib import Path
 
-from common import HERE
+from common import TOP, Progress
 
-TOP = HERE.parent
 LAYOUTS = ("bw_vertical", "bw_horizontal", "bw_byteslice")
 
 
@@ -217,6 +216,7 @@ def main():
         for name in ("crates.txt", "HANDLES"):
             shutil.copy(TOP / name, Path(room) / name)
         subprocess.run(["git", "init", "-q", room], check=True)
+        progress = Progress("strikes", len(chosen))
         for tried in chosen:
             kept = {}
             for clause in tried.clauses:
@@ -225,8 +225,11 @@ def main():
             for file, text in kept.items():
                 file.write_text(text, encoding="utf-8")
             clauses = ", ".join(f"{it.function} {it.name}".strip() for it in tried.clauses)
+            progress.clear()
             print(f"{tried.upper} without {clauses}: {'refused' if refused else 'NOT SHOWN'}: {said}", flush=True)
+            progress.step()
             failed += not refused
+        progress.clear()
     sys.exit(f"{failed} not shown" if failed else 0)
 
 
