@@ -60,14 +60,14 @@ def spoil(generator: Random, fields: list[str]) -> None:
 
 
 def table_file(generator: Random, values: list[Value]) -> tuple[list[ColumnDef], bytes]:
-    """A table file of either version, which now and then has a fault, and the columns that it has without one."""
+    """A table file of either version and its columns; now and then one with a fault, which has none."""
     version = generator.choice([1, 2, 2])
     names = generator.sample(NAMES, generator.choice([1, 1, 2, 3]))
     columns = [definition(generator, name, version) for name in names]
     rows = generator.choice([0, 1, 2, 3, 7, 8, 9, 64, 65, 257 if generator.random() < 0.2 else 10])
     cells = [[cell_of(generator, column.type, values) for _ in range(rows)] for column in columns]
     data = write_table(columns, cells, version)
-    return columns, damaged(generator, data) if generator.random() < 0.4 else data
+    return ([], damaged(generator, data)) if generator.random() < 0.4 else (columns, data)
 
 
 def definition(generator: Random, name: str, version: int) -> ColumnDef:

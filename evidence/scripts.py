@@ -1,26 +1,30 @@
 """Random scripts, through the program and through the model: both have to answer the same and leave the same files."""
 
 from collections import Counter
-from collections.abc import Iterator
+from collections.abc import Iterable, Iterator
 from concurrent.futures import ProcessPoolExecutor, as_completed
 from dataclasses import dataclass, field, replace
 from random import Random
 
 from common import Progress
-from model import Ended, Folder, run_script
+from model import Ended, Folder, Store, answer, run_script
 from program import Program
 from writer import Script, Writer
 
-CHUNK = 200  # scripts that a worker runs before it tells of them
+CHUNK = 100  # scripts that one run of the program goes through
 SHOWN_BYTES = 2_000
+FOLDERS = {"folder"}
+
+# Ends what a script may have left open: a comment, a text and a part.
+SEPARATOR = b"\n-- '\n;"
 
 
 @dataclass
 class Told:
-    """What some scripts came to: how many were run, the first line of each reply, and the differences."""
+    """What some scripts came to: how many there were, of each kind how many replies, and the differences."""
 
     scripts: int = 0
-    replies: Counter = field(default_factory=Counter)
+    replies: Counter[str] = field(default_factory=Counter)
     differences: list[str] = field(default_factory=list)
 
     def add(self, other: "Told") -> None:
@@ -32,22 +36,36 @@ class Told:
 
 def script_of(seed: int, number: int) -> Script:
     """The script of this number."""
-    return Writer(Random(f"{seed}:{number}")).script()
+    return Writer(Random(f"{seed}:{number}"), number).script()
 
 
 def by_model(script: Script) -> Ended:
     """What the model answers."""
-    return run_script(script.text, Folder(dict(script.files), set(script.folders)), script.stops)
+    return run_script(script.text, Folder(dict(script.files), FOLDERS), script.stops)
 
 
 def by_program(program: Program, script: Script) -> Ended:
     """What the program answers."""
-    return program.run(script.text, script.files, script.folders, script.stops)
+    return program.run(script.text, script.files, FOLDERS, script.stops)
 
 
 def differs(program: Program, script: Script) -> bool:
     """Whether the program and the model answer the script otherwise."""
     return by_program(program, script) != by_model(script)
+
+
+def joined(scripts: Iterable[Script]) -> tuple[Script, Ended]:
+    """One script of all these, each of which begins with no tables, and what the model answers."""
+    store, statements, output = Store(Folder({}, FOLDERS)), [], []
+    files: dict[str, bytes] = {}
+    for script in scripts:
+        files |= script.files
+        store.folder.files |= script.files
+        output.append(answer(store, script.text + SEPARATOR)[0])
+        drops = "".join(f"DROP TABLE {name};\n" for name in store.tables).encode()
+        output.append(answer(store, drops)[0])
+        statements.append(script.text + SEPARATOR + drops)
+    return Script(statements, files), Ended(b"".join(output), 0, store.folder.files)
 
 
 def shrunk(program: Program, script: Script) -> Script:
@@ -77,16 +95,28 @@ def difference(program: Program, script: Script, place: str) -> str:
     return "\n".join(lines)
 
 
+def differences(program: Program, seed: int, scripts: dict[int, Script], whole: Script) -> list[str]:
+    """The scripts that are answered otherwise by themselves, or else all of them in one."""
+    alone = {number: script for number, script in scripts.items() if differs(program, script)}
+    if not alone:
+        return [difference(program, whole, f"seed {seed}, scripts {min(scripts)} to {max(scripts)} in one")]
+    return [difference(program, script, f"seed {seed}, script {number}") for number, script in alone.items()]
+
+
 def run_chunk(path: str, seed: int, numbers: range) -> Told:
     """What the scripts of these numbers come to."""
-    told, program = Told(), Program.at(path)
-    for number in numbers:
-        script = script_of(seed, number)
-        model = by_model(script)
-        told.scripts += 1
+    scripts = {number: script_of(seed, number) for number in numbers}
+    together = {number: script for number, script in scripts.items() if not script.is_alone}
+    told, program = Told(len(scripts)), Program.at(path)
+    whole, model = joined(together.values())
+    told.replies.update(kinds_of(model.output))
+    if by_program(program, whole) != model:
+        told.differences += differences(program, seed, together, whole)
+    for number in scripts.keys() - together.keys():
+        model = by_model(scripts[number])
         told.replies.update(kinds_of(model.output))
-        if by_program(program, script) != model:
-            told.differences.append(difference(program, script, f"seed {seed}, script {number}"))
+        if by_program(program, scripts[number]) != model:
+            told.differences.append(difference(program, scripts[number], f"seed {seed}, script {number}"))
     program.close()
     return told
 
@@ -94,15 +124,15 @@ def run_chunk(path: str, seed: int, numbers: range) -> Told:
 def kinds_of(output: bytes) -> Iterator[str]:
     """Of each reply what it is: ok, rows, units, or an error of a number."""
     for line in output.decode().splitlines():
-        words = line.split()
-        if words[0] in ("ok", "rows", "units") or words[0] == "error":
-            yield f"error {words[1].rstrip(':')}" if words[0] == "error" else words[0]
+        word, _, rest = line.partition(" ")
+        if word in ("ok", "rows", "units", "error"):
+            yield f"error {rest[:2]}" if word == "error" else word
 
 
-def run_scripts(path: str, seed: int, count: int, jobs: int, first: int = 0) -> Told:
+def run_scripts(path: str, seed: int, count: int, jobs: int) -> Told:
     """Runs so many scripts, by so many workers."""
     told, progress = Told(), Progress("scripts", -(-count // CHUNK))
-    chunks = [range(at, min(at + CHUNK, first + count)) for at in range(first, first + count, CHUNK)]
+    chunks = [range(at, min(at + CHUNK, count)) for at in range(0, count, CHUNK)]
     with ProcessPoolExecutor(jobs) as workers:
         waiting = [workers.submit(run_chunk, path, seed, numbers) for numbers in chunks]
         for done in as_completed(waiting):

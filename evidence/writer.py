@@ -10,7 +10,7 @@ from spelling import broken, joined, last_part, odd_parts
 TABLE_NAMES = ["t", "u", "v", "tables", "stats"]
 COLUMN_NAMES = ["a", "b", "c", "d", "v", "h", "header", "x_1"]
 MISSING = ["nowhere", "z"]
-FILE_NAMES = ["'one.table'", "'two''s.table'", "'é;x.table'", "'folder/in.table'"]
+FILE_NAMES = ["'{}.table'", "'{}''s.table'", "'é;{}.table'", "'folder/{}.table'"]
 BAD_PATHS = ["'missing.csv'", "'no_folder/f.table'", "'folder'"]
 RELATIONS = ["=", "<>", "!=", "<", "<=", ">", ">="]
 FUNCTIONS = ["COUNT", "SUM", "MIN", "MAX", "MEDIAN"]
@@ -19,14 +19,15 @@ ENDS = [-(2**31), 2**31 - 1, -(2**63), 2**63 - 1, 2**31, -(2**31) - 1, 2**32, -1
 Tokens = list[str]
 
 
-@dataclass
+@dataclass(frozen=True)
 class Script:
-    """A script by its statements, which end with `;` but for the last one, the files that it finds, and the words to run it."""
+    """A script by its statements, each with its `;`, and the files that it finds. Some have to be run by themselves: those
+    with --stop, and those with a last part that no `;` closes."""
 
     statements: list[bytes]
     files: dict[str, bytes]
-    folders: set[str]
-    stops: bool
+    stops: bool = False
+    is_alone: bool = False
 
     @property
     def text(self) -> bytes:
@@ -38,6 +39,7 @@ class Writer:
     """Writes a random script. It keeps in mind which tables and columns there are if nothing is refused."""
 
     generator: Random
+    number: int  # which begins the names of its files, so that no two scripts share one
     tables: dict[str, list[ColumnDef]] = field(default_factory=dict)
     saved: dict[str, list[ColumnDef]] = field(default_factory=dict)
     files: dict[str, bytes] = field(default_factory=dict)
@@ -51,9 +53,10 @@ class Writer:
         statements += [self.insert()]
         while len(statements) < count:
             statements.append(self.statement())
-        if self.chance(0.08):
+        ends_open, stops = self.chance(0.01), self.chance(0.01)
+        if ends_open:
             statements.append(last_part(self.generator))
-        return Script(statements, self.files, {"folder"}, self.chance(0.12))
+        return Script(statements, self.files, stops, ends_open or stops)
 
     def chance(self, share: float) -> bool:
         return self.generator.random() < share
@@ -74,6 +77,8 @@ class Writer:
         """A statement of any kind, or what is none."""
         if self.chance(0.02):
             return odd_parts(self.generator)
+        if not self.tables and self.chance(0.7):
+            return self.create()
         kinds = {
             self.select: 26,
             self.insert: 16,
@@ -97,7 +102,7 @@ class Writer:
 
     def table(self) -> tuple[str, list[ColumnDef]]:
         """A table and its columns, which now and then isn't there."""
-        if not self.tables or self.chance(0.02):
+        if not self.tables or self.chance(0.01):
             return self.one(*MISSING, *TABLE_NAMES), [ColumnDef("A", Type.INTEGER, Layout.V, Coding.OFFSET)]
         name = self.one(*self.tables)
         return name, self.tables[name]
@@ -163,7 +168,7 @@ class Writer:
             named = self.generator.sample(columns, self.generator.randint(1, len(columns)))
             names = [[self.column([column])] for column in named] + [[named[0].name]] * self.chance(0.03)
             tokens += ["(", *self.listed(names), ")"]
-        count = self.one(1, 2, 3, 5, 9, self.one(31, 33, 64, 65, 250, 300, 520) if self.chance(0.25) else 7)
+        count = self.one(1, 2, 3, 5, 9, self.one(31, 33, 64, 65, 250, 300, 520) if self.chance(0.08) else 7)
         rows = [self.tuple(named) for _ in range(count)]
         return self.spelled([*tokens, "VALUES", *self.listed(rows)])
 
@@ -233,7 +238,7 @@ class Writer:
         if self.chance(0.06):
             file = self.one(*BAD_PATHS)
         else:
-            file = f"'{len(self.files)}.csv'"
+            file = f"'{self.number}_{len(self.files)}.csv'"
             fitting = [value for value in self.values if all(column.type.takes(value) for column in columns)]
             values = self.values if self.chance(0.05) else fitting or [None]
             self.files[file[1:-1]] = csv_file(self.generator, len(columns), values)
@@ -241,7 +246,9 @@ class Writer:
 
     def save(self) -> bytes:
         name, columns = self.table()
-        file = self.one(*BAD_PATHS[1:]) if self.chance(0.06) else self.one(*FILE_NAMES)
+        if self.chance(0.06):
+            return self.spelled(["SAVE", name, "TO", self.one(*BAD_PATHS[1:])])
+        file = self.one(*FILE_NAMES).format(self.number)
         self.saved[file] = columns
         return self.spelled(["SAVE", name, "TO", file])
 
@@ -253,9 +260,12 @@ class Writer:
         if self.saved and self.chance(0.6):
             file = self.one(*self.saved)
         else:
-            file = f"'{len(self.files)}.table'"
-            self.saved[file], self.files[file[1:-1]] = table_file(self.generator, self.values)
-        self.tables.setdefault(name, self.saved[file])
+            file = f"'{self.number}_{len(self.files)}.table'"
+            columns, self.files[file[1:-1]] = table_file(self.generator, self.values)
+            if columns:
+                self.saved[file] = columns
+        if file in self.saved:
+            self.tables.setdefault(name, self.saved[file])
         return self.spelled(["OPEN", name, "FROM", file])
 
     def where(self, columns: list[ColumnDef]) -> Tokens:

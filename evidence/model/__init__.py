@@ -11,7 +11,7 @@ of it comes from the program. It is made to be read beside the documents, and no
     encodings  codes of values                           units           what a condition reads
 """
 
-from model.script import Ended, run_script
+from model.script import Ended, answer, run_script
 from model.store import Folder, Store
 
-__all__ = ["Ended", "Folder", "Store", "run_script"]
+__all__ = ["Ended", "Folder", "Store", "answer", "run_script"]

@@ -27,32 +27,32 @@ class Parser:
     """Reads tokens from the first on."""
 
     def __init__(self, tokens: list[Token]) -> None:
-        self.tokens, self.at = [*tokens, END, END], 0
+        self.tokens, self.at = [*tokens, END], 0
 
-    def token(self, ahead: int = 0) -> Token:
-        """The next token, or one behind it."""
-        return self.tokens[self.at + ahead]
+    def token(self) -> Token:
+        """The next token."""
+        return self.tokens[self.at]
 
-    def is_next(self, *spellings: str) -> bool:
-        """Whether the next tokens are these words and symbols."""
-        tokens = self.tokens[self.at : self.at + len(spellings)]
-        return all(
-            token.kind in (Kind.WORD, Kind.SYMBOL) and token.value == spelling
-            for token, spelling in zip(tokens, spellings, strict=False)
-        )
+    def is_next(self, spelling: str) -> bool:
+        """Whether the next token is this word or symbol."""
+        return self.tokens[self.at].value == spelling
 
     def eat(self, *spellings: str) -> bool:
         """Goes behind the words and symbols if they are next."""
-        there = self.is_next(*spellings)
-        self.at += there * len(spellings)
-        return there
+        at = self.at
+        for spelling in spellings:
+            if self.tokens[at].value != spelling:
+                return False
+            at += 1
+        self.at = at
+        return True
 
     def expect(self, *spellings: str) -> None:
         """Goes behind the words and symbols, which have to be next."""
         if not self.eat(*spellings):
             raise Refusal(10)
 
-    def take(self, kind: Kind) -> str | int:
+    def take(self, kind: Kind) -> str | int | bytes:
         """The value of the next token, which has to be of this kind."""
         token = self.token()
         if token.kind is not kind:
@@ -200,7 +200,7 @@ class Parser:
         """`name word text`."""
         name = self.name()
         self.expect(word)
-        return name, self.take(Kind.TEXT)
+        return name, self.take(Kind.TEXT).decode("utf-8")
 
     def condition(self) -> tree.Condition:
         terms = [self.term()]

@@ -24,19 +24,24 @@ class Ended:
 
 def run_script(script: bytes, folder: Folder, stops: bool = False) -> Ended:
     """Runs a script over the files of a folder, which it may change."""
-    store, answers, status = Store(folder), [], 0
+    output, status = answer(Store(folder), script, stops)
+    return Ended(output, status, folder.files)
+
+
+def answer(store: Store, script: bytes, stops: bool = False) -> tuple[bytes, int]:
+    """The replies to a script over the tables of a store, and the status."""
+    answers = []
     for part in parts_of(script):
         try:
-            answers.append(answer(store, part))
+            answers.append(reply(store, part))
         except Refusal as refusal:
             answers.append(replies.refused(refusal))
             if stops:
-                status = 1
-                break
-    return Ended(b"".join(answers), status, store.folder.files)
+                return b"".join(answers), 1
+    return b"".join(answers), 0
 
 
-def answer(store: Store, part: Part) -> bytes:
+def reply(store: Store, part: Part) -> bytes:
     """The reply to a part; raises what it is refused by."""
     refuse_if(len(part.text) > LONGEST_PART, 11)
     refuse_if(not part.is_closed, 10)

@@ -1,8 +1,8 @@
 """The tokens of a part, or the fault of its first token that is bad or over a limit."""
 
 import re
-from dataclasses import dataclass
 from enum import Enum, auto
+from typing import NamedTuple
 
 from model.refusals import Refusal, refuse_if
 
@@ -16,12 +16,12 @@ RESERVED = frozenset(
     MAX MEDIAN MIN NOT NULL OPEN OR SELECT SET SUM TABLE TO TRUE UNKNOWN UPDATE USING VALUES WHERE WITH""".split()
 )
 
+NOTHING = re.compile(rb"(?:[\t\n\r ]++|--[^\n]*+)*+")
 SPELLING = re.compile(
-    rb"""(?P<nothing> [\t\n\r ]+ | --[^\n]* )
-    | (?P<WORD>   [A-Za-z][A-Za-z0-9_]* )
-    | (?P<NUMBER> [0-9]+ (?![A-Za-z0-9_]) )
-    | (?P<TEXT>   '[^']*(?:''[^']*)*' )
-    | (?P<SYMBOL> <> | != | <= | >= | [(),*+=<>-] )
+    rb"""(?P<WORD> [A-Za-z][A-Za-z0-9_]* )
+    | (?P<NUMBER>  [0-9]+ (?![A-Za-z0-9_]) )
+    | (?P<TEXT>    '[^']*(?:''[^']*)*' )
+    | (?P<SYMBOL>  <> | != | <= | >= | [(),*+=<>-] )
     """,
     re.VERBOSE,
 )
@@ -37,12 +37,12 @@ class Kind(Enum):
     END = auto()
 
 
-@dataclass(frozen=True, slots=True)
-class Token:
-    """A token. A word is in upper case; a text is without its quotes, with one quote for each doubled one."""
+class Token(NamedTuple):
+    """A token. The value of a word is in upper case, that of a number an integer, and that of a text bytes: those between its
+    quotes, with one quote for each doubled one. So no two tokens of different kinds have one value."""
 
     kind: Kind
-    value: str | int
+    value: str | int | bytes
 
     @property
     def is_name(self) -> bool:
@@ -56,48 +56,50 @@ END = Token(Kind.END, "")
 def tokens_of(text: bytes) -> list[Token]:
     """All tokens of a part; error 10, 12 or 13 by the first that is bad or over its limit."""
     tokens: list[Token] = []
-    at = depth = 0
+    depth, at = 0, NOTHING.match(text).end()
     while at < len(text):
         found = SPELLING.match(text, at)
         if found is None:
             raise Refusal(10)
-        at = found.end()
-        if found.lastgroup == "nothing":
-            continue
-        token = token_of(Kind[found.lastgroup], found[0], after=tokens[-1] if tokens else END)
-        if token.kind is Kind.SYMBOL:
-            refuse_if(token.value == "(" and depth > DEEPEST, 12)
-            depth += (token.value == "(") - (token.value == ")")
+        token = READERS[found.lastgroup](found[0], tokens)
+        if token.value == "(":
+            refuse_if(depth > DEEPEST, 12)
+            depth += 1
+        elif token.value == ")":
+            depth -= 1
         tokens.append(token)
+        at = NOTHING.match(text, found.end()).end()
     return tokens
 
 
-def token_of(kind: Kind, spelling: bytes, after: Token) -> Token:
-    """The token of this spelling, which follows another one."""
-    match kind:
-        case Kind.WORD:
-            refuse_if(len(spelling) > LONGEST_WORD, 10)
-            return Token(kind, spelling.decode("ascii").upper())
-        case Kind.NUMBER:
-            return Token(kind, number_of(spelling, after))
-        case Kind.TEXT:
-            return Token(kind, text_of(spelling[1:-1].replace(b"''", b"'")))
-        case _:
-            return Token(kind, spelling.decode("ascii"))
+def word_of(spelling: bytes, _: list[Token]) -> Token:
+    """The word of this spelling, of at most 128 bytes."""
+    refuse_if(len(spelling) > LONGEST_WORD, 10)
+    return Token(Kind.WORD, spelling.decode("ascii").upper())
 
 
-def number_of(digits: bytes, after: Token) -> int:
+def number_of(digits: bytes, before: list[Token]) -> Token:
     """The number of these digits, which may be greater by one behind a `-`."""
-    limit = GREATEST_NUMBER + (after == Token(Kind.SYMBOL, "-"))
+    limit = GREATEST_NUMBER + (bool(before) and before[-1].value == "-")
     digits = digits.lstrip(b"0") or b"0"
     refuse_if(len(digits) > len(str(limit)) or int(digits) > limit, 13)
-    return int(digits)
+    return Token(Kind.NUMBER, int(digits))
 
 
-def text_of(content: bytes) -> str:
-    """The text of this content, which is UTF-8 of 1 to 255 bytes without the byte 0."""
+def text_of(spelling: bytes, _: list[Token]) -> Token:
+    """The text of this spelling: UTF-8 of 1 to 255 bytes without the byte 0."""
+    content = spelling[1:-1].replace(b"''", b"'")
     refuse_if(not 1 <= len(content) <= LONGEST_TEXT or b"\0" in content, 10)
     try:
-        return content.decode("utf-8")
+        content.decode("utf-8")
     except UnicodeDecodeError:
         raise Refusal(10) from None
+    return Token(Kind.TEXT, content)
+
+
+def symbol_of(spelling: bytes, _: list[Token]) -> Token:
+    """The symbol of this spelling."""
+    return Token(Kind.SYMBOL, spelling.decode("ascii"))
+
+
+READERS = {"WORD": word_of, "NUMBER": number_of, "TEXT": text_of, "SYMBOL": symbol_of}
