@@ -2,6 +2,8 @@
 
 import sys
 import time
+from collections import Counter
+from dataclasses import dataclass, field
 from pathlib import Path
 
 TOP = Path(__file__).resolve().parent.parent
@@ -39,3 +41,18 @@ class Progress:
         """Takes the line away, so that something else can be printed."""
         if self.shows:
             print("\r\x1b[K", end="", file=sys.stderr, flush=True)
+
+
+@dataclass
+class Told:
+    """What a piece of the work came to: how many checks, of each kind of reply how many, and the differences."""
+
+    count: int = 0
+    replies: Counter[str] = field(default_factory=Counter)
+    differences: list[str] = field(default_factory=list)
+
+    def add(self, other: "Told") -> None:
+        """Adds what another piece came to."""
+        self.count += other.count
+        self.replies.update(other.replies)
+        self.differences += other.differences

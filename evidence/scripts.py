@@ -1,12 +1,11 @@
 """Random scripts, through the program and through the model: both have to answer the same and leave the same files."""
 
-from collections import Counter
 from collections.abc import Iterable, Iterator
 from concurrent.futures import ProcessPoolExecutor, as_completed
-from dataclasses import dataclass, field, replace
+from dataclasses import replace
 from random import Random
 
-from common import Progress
+from common import Progress, Told
 from model import Ended, Folder, Store, answer, run_script
 from program import Program
 from writer import Script, Writer
@@ -17,21 +16,6 @@ FOLDERS = {"folder"}
 
 # Ends what a script may have left open: a comment, a text and a part.
 SEPARATOR = b"\n-- '\n;"
-
-
-@dataclass
-class Told:
-    """What some scripts came to: how many there were, of each kind how many replies, and the differences."""
-
-    scripts: int = 0
-    replies: Counter[str] = field(default_factory=Counter)
-    differences: list[str] = field(default_factory=list)
-
-    def add(self, other: "Told") -> None:
-        """Adds what other scripts came to."""
-        self.scripts += other.scripts
-        self.replies.update(other.replies)
-        self.differences += other.differences
 
 
 def script_of(seed: int, number: int) -> Script:

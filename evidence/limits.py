@@ -1,0 +1,5 @@
+from scripts import Told
+
+
+def run(*_):
+    return Told()
