@@ -8,8 +8,8 @@
     relations   what holds of the answers of any right store, over tables that cross the segments of each layout
     peers       the same SELECTs in sqlite3, and in PostgreSQL where `psql` comes to a server
 
-PATH is crates/bitcol/out/bitcol if it isn't named. A difference is printed with the seed and the number of its script, and
-with as few statements as still show it. The last line counts; the status is 1 if anything differs.
+PATH is crates/bitcol/out/bitcol if it isn't named. A difference is printed with the seed and the number of its script,
+and with as few statements as still show it. The last line counts; the status is 1 if anything differs.
 """
 
 import argparse

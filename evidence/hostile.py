@@ -1,10 +1,11 @@
 #!/usr/bin/env python3
-"""Runs scripts and files that are made to hurt, at three sizes, with a stack of 256 KiB, and prints the processor time for each byte.
+"""Runs scripts and files that are made to hurt, at three sizes, with a small stack, and prints the time for each byte.
 
     python3 evidence/hostile.py
 
-Each has to end as it should, and its time to grow as its bytes do. Table files that claim the most columns and rows and have
-few bytes have to be refused as such in little memory. Build bitcol first, by `rt run` in crates/bitcol.
+The stack has 256 KiB. Each has to end as it should, and its processor time to grow as its bytes do. Table files that
+claim the most columns and rows and have few bytes have to be refused as such in little memory. Build bitcol first, by
+`rt run` in crates/bitcol.
 """
 
 import os
@@ -99,7 +100,7 @@ CASES = {
 
 
 def claims(version, header):
-    """Table files of this version that claim 64 columns and 16,777,216 rows, and little after it, by what follows the claim."""
+    """Table files of this version that claim the most columns and rows, and have little after it, by what that is."""
     front = f"BITCOL{chr(version)}\0" + "\x40\0" + "\0\0\0\x01"
     headers = front + "".join(header.replace("A", f"A{number:02}") for number in range(64))
     return {"nothing": front, "64 headers": headers, "64 headers and a column": headers + "\0" * MEGABYTE}

@@ -1,7 +1,8 @@
-"""The same SELECTs in sqlite3, and in PostgreSQL where `psql` comes to a server: rows, set functions and groups have to agree.
+"""The same SELECTs in sqlite3, and in PostgreSQL where `psql` comes to a server.
 
-Conditions are written for the others with parentheses around each part, and rows and groups are put in order there. Values
-stay so small that no sum leaves 64 bits. sqlite3 has no MEDIAN, and PostgreSQL's is percentile_disc(0.5).
+Rows, set functions and groups have to agree. Conditions are written for the others with parentheses around each part,
+and rows and groups are put in order there. Values stay so small that no sum leaves 64 bits. sqlite3 has no MEDIAN, and
+PostgreSQL's is percentile_disc(0.5).
 """
 
 import shutil
@@ -133,7 +134,8 @@ class SmallAsker(Asker):
     def question(self, columns: list[ColumnDef], has_median: bool) -> Question:
         """A SELECT of columns, of set functions or of groups."""
         condition = " ".join(self.condition(columns, self.one(0, 1, 1, 2, 3)))
-        functions = [f"{function}({name})" for function in ("COUNT", "SUM", "MIN", "MAX") for name in "ab"] + ["COUNT(*)"]
+        functions = [f"{function}({name})" for function in ("COUNT", "SUM", "MIN", "MAX") for name in "ab"]
+        functions += ["COUNT(*)"]
         functions += ["MEDIAN(a)", "MEDIAN(b)"] if has_median else []
         match self.generator.randrange(3):
             case 0:
@@ -150,7 +152,8 @@ def compare(program: Program, peer: Peer, generator: Random) -> tuple[int, list[
     asker.values = asker.some_values()
     layouts = [generator.choice(list(Layout)) for _ in range(2)]
     kinds = [(layout, Type.INTEGER if layout is Layout.H else Type.BIGINT) for layout in layouts]
-    columns = [ColumnDef(name, kind, layout, generator.choice(list(Coding))) for name, (layout, kind) in zip("AB", kinds)]
+    codings = [generator.choice(list(Coding)) for _ in kinds]
+    columns = [ColumnDef(name, *it) for name, it in zip("AB", zip((kind for _, kind in kinds), layouts, codings))]
     rows = []
     for number in range(generator.choice(ROWS)):
         cells = [generator.choice(asker.values) for _ in columns]

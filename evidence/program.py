@@ -28,7 +28,7 @@ class Program:
         shutil.rmtree(self.room, ignore_errors=True)
 
     def run(self, script: bytes, files: dict[str, bytes], folders: set[str], stops: bool = False) -> Ended:
-        """What a run over the script leaves. What it writes to standard error counts as output, since it is to write nothing."""
+        """What a run over the script leaves. Nothing is to be on standard error, so what is there counts as output."""
         for folder in folders:
             (self.room / folder).mkdir()
         for name, data in files.items():

@@ -1,4 +1,4 @@
-"""What holds of the answers of any right store, whatever the rows are, over tables that cross the segments of each layout.
+"""What holds of the answers of any right store, over tables that cross the segments of each layout.
 
     parts      a condition is true, false or unknown at each row, and at no row two of these; NOT exchanges two of them
     folds      set functions, and groups, are those of the rows that are shown
@@ -28,7 +28,7 @@ GROUP_FOLDS = "a, COUNT(*), COUNT(b), SUM(b), MIN(b), MAX(b), MEDIAN(b)"
 
 @dataclass(frozen=True)
 class Shape:
-    """A table: the layout, kind and type of its column A, and how many rows it has. B has another layout now and then."""
+    """A table by the layout, kind and type of its column A and its number of rows."""
 
     layout: Layout
     coding: Coding
@@ -71,10 +71,10 @@ def filled(shape: Shape, generator: Random) -> Filled:
     """A table T of this shape: columns A and B, and the number of each row in C. Some rows are deleted again."""
     asker = Asker(generator, 0)
     asker.values = asker.some_values()
-    other = Layout.S if generator.random() < 0.3 else shape.layout
+    other = generator.choice([shape.layout, shape.layout, Layout.S, Layout.V])
     columns = [
         ColumnDef("A", shape.type, shape.layout, shape.coding),
-        ColumnDef("B", shape.type, other if other.holds(shape.type) else Layout.V, generator.choice([*Coding, shape.coding])),
+        ColumnDef("B", shape.type, other, generator.choice([*Coding, shape.coding])),
     ]
     definitions = ", ".join(" ".join(asker.column_def(column)) for column in columns)
     cells = [[cell_of(generator, shape.type, asker.values) for _ in columns] for _ in range(shape.rows)]

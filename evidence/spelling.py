@@ -1,11 +1,11 @@
-"""How random scripts are spelled: blanks, comments and cases between the same tokens, and what is no statement at all."""
+"""How random scripts are spelled: blanks, comments and cases, and what is no statement at all."""
 
 from random import Random
 
 SEPARATORS = [" "] * 30 + ["  ", "\n", "\t", "\r\n", " -- a comment; of 'words'\n", "--\n", "\n\n "]
-WORDS = """AND BETWEEN BIGINT BY COUNT CREATE DELETE DICTIONARY DROP FALSE FROM GROUP H HEADER IN INSERT INT INTEGER INTO IS
-    LOAD MAX MEDIAN MIN NOT NULL OFFSET OPEN OR P REBUILD S SAVE SELECT SET STATS SUM TABLE TABLES TO TRUE UNKNOWN UPDATE
-    USING V VALUES WHERE WITH a b t u""".split()
+WORDS = """AND BETWEEN BIGINT BY COUNT CREATE DELETE DICTIONARY DROP FALSE FROM GROUP H HEADER IN INSERT INT INTEGER
+    INTO IS LOAD MAX MEDIAN MIN NOT NULL OFFSET OPEN OR P REBUILD S SAVE SELECT SET STATS SUM TABLE TABLES TO TRUE UNKNOWN
+    UPDATE USING V VALUES WHERE WITH a b t u""".split()
 SYMBOLS = ["(", ")", ",", "*", "+", "-", "=", "<>", "!=", "<", "<=", ">", ">=", "'t.table'", "'", ";", "7", "00", "1x"]
 ODD_BYTES = [b"\0", b"\x7f", b"\xc3", b"\xc3\xa9", b"\xff", b"!", b"#", b"_", b'"', b"\x0b", b"\x0c", b"\xa0"]
 LONGEST_PART = 65_536
@@ -16,13 +16,18 @@ def joined(generator: Random, tokens: list[str]) -> bytes:
     parts = [generator.choice(["", "", "", "\n", " "])]
     is_loud = generator.random() < 0.5
     for before, token in zip(["", *tokens], tokens, strict=False):
-        must_part = before[-1:].isalnum() and token[:1].isalnum() or before[-1:] == "_" or token[:1] == "_"
-        must_part = must_part or before[-1:] == token[:1] and token[:1] in ("-", "'") or before + token in ("<=", ">=", "<>")
-        if before and (must_part or generator.random() < 0.7):
+        if before and (must_part(before, token) or generator.random() < 0.7):
             parts.append(generator.choice(SEPARATORS))
         parts.append(token if token.startswith("'") else in_case(generator, token, is_loud))
     parts.append(generator.choice(["", "", "", " ", "\n", " -- the end\n"]))
     return ("".join(parts) + ";").encode()
+
+
+def must_part(before: str, token: str) -> bool:
+    """Whether the two would be another token, or begin a comment, without a blank between them."""
+    ends = before[-1:], token[:1]
+    are_words = all(end.isalnum() for end in ends) or "_" in ends
+    return are_words or ends in (("-", "-"), ("'", "'")) or before + token in ("<=", ">=", "<>")
 
 
 def in_case(generator: Random, token: str, is_loud: bool) -> str:
@@ -100,5 +105,14 @@ def odd_parts(generator: Random) -> bytes:
 def last_part(generator: Random) -> bytes:
     """What stands after the last `;`."""
     return generator.choice(
-        [b"TABLES", b"SELECT a FROM t", b"-- ;", b"  \n", b"'", b"'never; closed", b"(" * 70, b" " * LONGEST_PART + b"x"]
+        [
+            b"TABLES",
+            b"SELECT a FROM t",
+            b"-- ;",
+            b"  \n",
+            b"'",
+            b"'never; closed",
+            b"(" * 70,
+            b" " * LONGEST_PART + b"x",
+        ]
     )

@@ -3,9 +3,10 @@
 
     python3 evidence/test_model.py
 
-An example is a script and its output, as docs/check_examples.py finds them in the documents and in examples/. The model has
-to write this output for this script, the numbers of STATS included. The worked table files of docs/TABLE_FILE.md have to be
-written and read as they stand there, and each change of them that the document calls refused has to be refused.
+An example is a script and its output, as docs/check_examples.py finds them in the documents and in examples/. The
+model has to write this output for this script, the numbers of STATS included. The worked table files of
+docs/TABLE_FILE.md have to be written and read as they stand there, and each change of them that the document calls
+refused has to be refused.
 """
 
 import re

@@ -1,4 +1,4 @@
-"""Random scripts: every statement, type, layout and kind, right and refused, over tables that the writer keeps in mind."""
+"""Random scripts: every statement, type, layout and kind, over tables that the writer keeps in mind."""
 
 from dataclasses import dataclass, field
 from random import Random
@@ -21,8 +21,10 @@ Tokens = list[str]
 
 @dataclass(frozen=True)
 class Script:
-    """A script by its statements, each with its `;`, and the files that it finds. Some have to be run by themselves: those
-    with --stop, and those with a last part that no `;` closes."""
+    """A script by its statements, each with its `;`, and the files that it finds.
+
+    Some have to be run by themselves: those with --stop, and those with a last part that no `;` closes.
+    """
 
     statements: list[bytes]
     files: dict[str, bytes]
@@ -71,7 +73,8 @@ class Writer:
         count = self.one(2, 4, 10, 40)
         values: list[Value] = [middle + self.generator.randint(-spread // 2, spread) for _ in range(count)]
         values = [value if -(2**63) <= value < 2**63 else 0 for value in values]
-        return values + [None] * self.one(0, 1, count // 3) + (self.generator.sample(ENDS, 2) if self.chance(0.2) else [])
+        nulls = [None] * self.one(0, 1, count // 3)
+        return values + nulls + (self.generator.sample(ENDS, 2) if self.chance(0.2) else [])
 
     def statement(self) -> bytes:
         """A statement of any kind, or what is none."""
@@ -212,7 +215,8 @@ class Writer:
             one_of = [self.function(columns), self.function(columns), [grouping]]
             items = [self.one(*one_of) for _ in range(self.one(1, 2, 3))]
             items = [["*"]] if self.chance(0.02) else items
-            return ["SELECT", *self.listed(items + [[self.column(columns)]] * self.chance(0.03)), *tail, "GROUP", "BY", grouping]
+            items += [[self.column(columns)]] * self.chance(0.03)
+            return ["SELECT", *self.listed(items), *tail, "GROUP", "BY", grouping]
         if self.chance(0.35):
             items = [self.function(columns) for _ in range(self.one(1, 2, 6))] + [[grouping]] * self.chance(0.03)
             return ["SELECT", *self.listed(items), *tail]

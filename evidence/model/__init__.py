@@ -1,7 +1,7 @@
 """A model of the language: tables are lists of rows, and everything is done row by row.
 
-It is written from docs/LANGUAGE.md and docs/TABLE_FILE.md, and where STATS counts, from docs/STATS.md and docs/LAYOUTS.md. Nothing
-of it comes from the program. It is made to be read beside the documents, and not to be quick:
+It is written from docs/LANGUAGE.md and docs/TABLE_FILE.md, and where STATS counts, from docs/STATS.md and
+docs/LAYOUTS.md. Nothing of it comes from the program. It is made to be read beside the documents, and not to be quick:
 
     parts      where a script is cut                     tree, grammar   what a statement is
     tokens     the tokens of a part                      conditions      truth in three values

@@ -38,8 +38,11 @@ class Kind(Enum):
 
 
 class Token(NamedTuple):
-    """A token. The value of a word is in upper case, that of a number an integer, and that of a text bytes: those between its
-    quotes, with one quote for each doubled one. So no two tokens of different kinds have one value."""
+    """A token, of which the value tells the kind.
+
+    The value of a word is in upper case, that of a number an integer, and that of a text the bytes between its quotes,
+    with one quote for each doubled one.
+    """
 
     kind: Kind
     value: str | int | bytes
