@@ -5,6 +5,7 @@
 
     scripts     N random scripts (2,000 if none are named), through the program and through the model of evidence/model
     limits      what a random script hardly meets: the words of the command line, and limits on tables, rows and files
+    counts      large tables, through the program and the model: what STATS counts at the seams of segments
     relations   what holds of the answers of any right store, over tables that cross the segments of each layout
     peers       the same SELECTs in sqlite3, and in PostgreSQL where `psql` comes to a server
 
@@ -16,6 +17,7 @@ import argparse
 import sys
 from collections.abc import Callable
 
+import counts
 import limits
 import peers
 import relations
@@ -36,6 +38,7 @@ def run_random(options: argparse.Namespace) -> Told:
 PARTS: dict[str, tuple[str, Callable[[argparse.Namespace], Told]]] = {
     "scripts": ("random scripts", run_random),
     "limits": ("scripts at limits", lambda options: limits.run(options.program)),
+    "counts": ("scripts over large tables", lambda options: counts.run(options.program, options.seed)),
     "relations": ("relations", lambda options: relations.run(options.program, options.seed)),
     "peers": ("SELECTs beside others", lambda options: peers.run(options.program, options.seed)),
 }
@@ -54,14 +57,14 @@ def options_of(words: list[str]) -> argparse.Namespace:
 
 def main(words: list[str]) -> int:
     options = options_of(words)
-    counts, differences = [], 0
+    told_of, differences = [], 0
     for part in options.only:
         name, run = PARTS[part]
         told = run(options)
         differences += len(told.differences)
-        counts.append(f"{told.count:,} {name}")
-        print(f"{counts[-1]}, {len(told.differences)} differences", flush=True)
-    print(f"seed {options.seed}: {', '.join(counts)}; {differences} differences")
+        told_of.append(f"{told.count:,} {name}")
+        print(f"{told_of[-1]}, {len(told.differences)} differences", flush=True)
+    print(f"seed {options.seed}: {', '.join(told_of)}; {differences} differences")
     return 1 if differences else 0
 
 
