@@ -7,6 +7,10 @@ from program import Program
 Line = tuple[int | None, ...]
 
 
+class Unanswered(Exception):
+    """The program ended otherwise than with a right reply to each statement."""
+
+
 def replies_of(output: str) -> Iterator[str]:
     """The replies that an output consists of. A reply of several lines ends with `rows n`."""
     lines: list[str] = []
@@ -26,10 +30,10 @@ def ask(program: Program, statements: Sequence[str], files: dict[str, bytes] | N
     ended = program.run(script.encode(), files or {}, set())
     replies = list(replies_of(ended.output.decode()))
     if ended.status != 0 or len(replies) != len(statements):
-        raise RuntimeError(f"status {ended.status}, {len(replies)} replies to {len(statements)} statements")
+        raise Unanswered(f"status {ended.status}, {len(replies)} replies to {len(statements)} statements")
     for statement, reply in zip(statements, replies, strict=True):
         if reply.startswith("error"):
-            raise RuntimeError(f"{reply}: {statement}")
+            raise Unanswered(f"{reply}: {statement}")
     return replies
 
 

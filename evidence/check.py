@@ -16,6 +16,7 @@ and with as few statements as still show it. The last line counts; the status is
 import argparse
 import sys
 from collections.abc import Callable
+from pathlib import Path
 
 import counts
 import limits
@@ -57,6 +58,8 @@ def options_of(words: list[str]) -> argparse.Namespace:
 
 def main(words: list[str]) -> int:
     options = options_of(words)
+    if not Path(options.program).exists():
+        sys.exit(f"{options.program} isn't there: build it by rt run in crates/bitcol, or name another by --program")
     told_of, differences = [], 0
     for part in options.only:
         name, run = PARTS[part]

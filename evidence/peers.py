@@ -12,7 +12,7 @@ from collections.abc import Sequence
 from dataclasses import dataclass
 from random import Random
 
-from answers import Line, ask, lines_of
+from answers import Line, Unanswered, ask, lines_of
 from common import Progress, Told
 from model import tree
 from model.grammar import Parser
@@ -178,7 +178,10 @@ def run(path: str, seed: int) -> Told:
     told, program, progress = Told(), Program.at(path), Progress("peers", TABLES * len(peers))
     for peer in peers:
         for number in range(TABLES):
-            count, differences = compare(program, peer, Random(f"peers {seed}:{number}"))
+            try:
+                count, differences = compare(program, peer, Random(f"peers {seed}:{number}"))
+            except Unanswered as fault:
+                count, differences = QUESTIONS, [str(fault)]
             told.count += count
             for difference in differences:
                 progress.clear()

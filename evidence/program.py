@@ -8,7 +8,7 @@ from pathlib import Path
 
 from model import Ended
 
-SECONDS = 120
+SECONDS = 600
 
 
 @dataclass
@@ -34,12 +34,14 @@ class Program:
         for name, data in files.items():
             (self.room / name).write_bytes(data)
         words = [self.path, "--stop"] if stops else [self.path]
-        ended = subprocess.run(words, cwd=self.room, input=script, capture_output=True, timeout=SECONDS, check=False)
+        try:
+            ended = subprocess.run(
+                words, cwd=self.room, input=script, capture_output=True, timeout=SECONDS, check=False
+            )
+            output, status = ended.stdout + ended.stderr, ended.returncode
+        except subprocess.TimeoutExpired:
+            output, status = b"no end in time\n", -1
         left = {str(path.relative_to(self.room)): path.read_bytes() for path in self.room.rglob("*") if path.is_file()}
         for path in self.room.iterdir():
             shutil.rmtree(path) if path.is_dir() else path.unlink()
-        return Ended(ended.stdout + ended.stderr, ended.returncode, left)
-
-    def output(self, script: str) -> str:
-        """The replies to a script that needs no files."""
-        return self.run(script.encode(), {}, set()).output.decode()
+        return Ended(output, status, left)

@@ -11,7 +11,7 @@ from collections.abc import Callable, Iterator
 from dataclasses import dataclass
 from random import Random
 
-from answers import Line, ask, lines_of
+from answers import Line, Unanswered, ask, lines_of
 from common import Progress, Told
 from made_files import cell_of
 from model.tree import Coding, ColumnDef, Layout, Type, Value
@@ -185,7 +185,16 @@ def gone(program: Program, table: Filled) -> Iterator[str]:
             yield f"after DELETE WHERE {condition} TABLES counts other rows"
 
 
-RELATIONS: tuple[Callable[[Program, Filled], Iterator[str]], ...] = (parts, folds, kept, gone)
+Relation = Callable[[Program, Filled], Iterator[str]]
+RELATIONS: tuple[Relation, ...] = (parts, folds, kept, gone)
+
+
+def faults_of(relation: Relation, program: Program, table: Filled) -> Iterator[str]:
+    """The faults of a relation, or that there are no answers to hold it against."""
+    try:
+        yield from relation(program, table)
+    except Unanswered as fault:
+        yield f"{relation.__name__}: {fault}"
 
 
 def run(path: str, seed: int) -> Told:
@@ -196,7 +205,7 @@ def run(path: str, seed: int) -> Told:
         table = filled(shape, Random(f"relations {seed}:{number}"))
         for relation in RELATIONS:
             told.count += 1
-            for fault in relation(program, table):
+            for fault in faults_of(relation, program, table):
                 progress.clear()
                 told.differences.append(f"seed {seed}, table {number} ({shape}): {fault}")
                 print(told.differences[-1], flush=True)
