@@ -57,6 +57,7 @@ def options_of(words: list[str]) -> argparse.Namespace:
 
 
 def main(words: list[str]) -> int:
+    """Runs the parts that are asked for, and gives the status."""
     options = options_of(words)
     if not Path(options.program).exists():
         sys.exit(f"{options.program} isn't there: build it by rt run in crates/bitcol, or name another by --program")

@@ -129,6 +129,7 @@ class SmallAsker(Asker):
     """A writer of SELECTs over values whose sums stay below 2^63."""
 
     def some_values(self) -> list[Value]:
+        """Values whose sums stay below 2^63."""
         return [value if value is None else max(-GREATEST, min(GREATEST, value)) for value in super().some_values()]
 
     def question(self, columns: list[ColumnDef], has_median: bool) -> Question:

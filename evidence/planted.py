@@ -10,7 +10,7 @@ the program. The status is 1 if a bug was never seen.
 
 import re
 import sys
-from collections.abc import Callable
+from collections.abc import Callable, Iterable
 from itertools import chain
 from unittest.mock import patch
 
@@ -47,7 +47,7 @@ def null_first(rows: list, name: str) -> list:
     return sorted(groups, key=lambda group: group[0][name] is not None)
 
 
-def live_codes(table: store.Table, column: store.Column, values) -> None:
+def live_codes(table: store.Table, column: store.Column, values: Iterable[tree.Value]) -> None:
     """Codes that are made anew for the live rows alone."""
     new = {value for value in values if value is not None}
     if not all(map(column.encoding.has_code, new)):
@@ -115,6 +115,7 @@ def seen_after(runs: list, plant: Callable) -> int | None:
 
 
 def main(words: list[str]) -> int:
+    """Plants each bug, and gives the status."""
     cases = int(words[0]) if words else CASES
     runs, missed = right_runs(cases), 0
     for name, (place, attribute, wrong) in BUGS.items():

@@ -43,9 +43,11 @@ class Asker(Writer):
     """A writer of conditions that names no columns but those that are there."""
 
     def column(self, columns: list[ColumnDef]) -> str:
+        """One of these columns."""
         return self.one(*columns).name
 
     def literal(self, value: Value) -> Tokens:
+        """The tokens of a value, which is one of 64 bits."""
         return super().literal(value if value is None else max(-(2**63), min(2**63 - 1, value)))
 
 

@@ -69,6 +69,7 @@ def worked_files() -> Iterator[bool]:
 
 
 def main() -> int:
+    """Makes all checks, and gives the status."""
     documents = [Path(TOP / name) for name in DOCUMENTS]
     examples = [example for document in documents for example in examples_of(document)]
     told = [is_right(example) for example in [*examples, *scripts_with_output()]]

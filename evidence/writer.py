@@ -2,6 +2,7 @@
 
 from dataclasses import dataclass, field
 from random import Random
+from typing import TypeVar
 
 from made_files import csv_file, definition, table_file
 from model.tree import Coding, ColumnDef, Layout, Type, Value
@@ -17,6 +18,7 @@ FUNCTIONS = ["COUNT", "SUM", "MIN", "MAX", "MEDIAN"]
 ENDS = [-(2**31), 2**31 - 1, -(2**63), 2**63 - 1, 2**31, -(2**31) - 1, 2**32, -1, 0, 1]
 
 Tokens = list[str]
+Choice = TypeVar("Choice")
 
 
 @dataclass(frozen=True)
@@ -33,6 +35,7 @@ class Script:
 
     @property
     def text(self) -> bytes:
+        """The script's bytes."""
         return b"".join(self.statements)
 
 
@@ -61,9 +64,11 @@ class Writer:
         return Script(statements, self.files, stops, ends_open or stops)
 
     def chance(self, share: float) -> bool:
+        """Whether something comes that comes in this share of cases."""
         return self.generator.random() < share
 
-    def one(self, *choices):
+    def one(self, *choices: Choice) -> Choice:
+        """One of these."""
         return self.generator.choice(choices)
 
     def some_values(self) -> list[Value]:
@@ -134,6 +139,7 @@ class Writer:
         return [token for tokens in lists for token in [",", *tokens]][1:]
 
     def create(self) -> bytes:
+        """A CREATE TABLE, hardly ever of too many columns, a column twice, or a BIGINT in layout H."""
         name = self.one(*TABLE_NAMES)
         wide = self.one(64, 65, 65) if self.chance(0.004) else 0
         names = [f"w{place}" for place in range(wide)] or self.generator.sample(COLUMN_NAMES, self.one(1, 2, 2, 3, 4))
@@ -156,14 +162,17 @@ class Writer:
         return [column.name, word, *using, *kind]
 
     def drop(self) -> bytes:
+        """A DROP TABLE."""
         name, _ = self.table()
         self.tables.pop(name, None)
         return self.spelled(["DROP", "TABLE", name])
 
     def tables_listed(self) -> bytes:
+        """A TABLES."""
         return self.spelled(["TABLES"])
 
     def insert(self) -> bytes:
+        """An INSERT of a few rows, now and then of some hundred, with a list of columns or without."""
         name, columns = self.table()
         named = columns
         tokens = ["INSERT", "INTO", name]
@@ -183,6 +192,7 @@ class Writer:
         return ["(", *self.listed(cells), ")"]
 
     def update(self) -> bytes:
+        """An UPDATE of one column or two."""
         name, columns = self.table()
         targets = self.generator.sample(columns, self.one(1, 1, min(2, len(columns))))
         targets += targets[:1] * self.chance(0.02)
@@ -196,14 +206,17 @@ class Writer:
         return self.literal(self.one(*ENDS) if self.chance(0.08) else self.value(target.type))
 
     def delete(self) -> bytes:
+        """A DELETE, nearly always with a condition."""
         name, columns = self.table()
         where = self.where(columns) if self.chance(0.95) else []
         return self.spelled(["DELETE", "FROM", name, *where])
 
     def select(self) -> bytes:
+        """A SELECT."""
         return self.spelled(self.select_tokens())
 
     def stats(self) -> bytes:
+        """A STATS."""
         return self.spelled(["STATS", *self.select_tokens()])
 
     def select_tokens(self) -> Tokens:
@@ -228,6 +241,7 @@ class Writer:
         return ["COUNT", "(", "*", ")"] if self.chance(0.2) else [self.one(*FUNCTIONS), "(", self.column(columns), ")"]
 
     def rebuild(self) -> bytes:
+        """A REBUILD with choices for some columns."""
         name, columns = self.table()
         choices = []
         for place in self.generator.sample(range(len(columns)), self.one(0, 0, 1, min(2, len(columns)))):
@@ -238,6 +252,7 @@ class Writer:
         return self.spelled(["REBUILD", name, *(["(", *self.listed(choices), ")"] if choices else [])])
 
     def load(self) -> bytes:
+        """A LOAD of a file that is made for it, or of none."""
         name, columns = self.table()
         if self.chance(0.06):
             file = self.one(*BAD_PATHS)
@@ -249,6 +264,7 @@ class Writer:
         return self.spelled(["LOAD", name, "FROM", file, *(["WITH", "HEADER"] if self.chance(0.4) else [])])
 
     def save(self) -> bytes:
+        """A SAVE to one of the script's files, or to where none can be made."""
         name, columns = self.table()
         if self.chance(0.06):
             return self.spelled(["SAVE", name, "TO", self.one(*BAD_PATHS[1:])])
@@ -257,6 +273,7 @@ class Writer:
         return self.spelled(["SAVE", name, "TO", file])
 
     def open(self) -> bytes:
+        """An OPEN of a table that was saved, of a file that is made for it, or of none."""
         name = self.one(*[it for it in TABLE_NAMES if it not in self.tables] or TABLE_NAMES)
         if self.chance(0.05):
             name, file = self.one(*TABLE_NAMES), self.one(*BAD_PATHS, *(f"'{file}'" for file in self.files))
@@ -273,6 +290,7 @@ class Writer:
         return self.spelled(["OPEN", name, "FROM", file])
 
     def where(self, columns: list[ColumnDef]) -> Tokens:
+        """A WHERE, or none."""
         return ["WHERE", *self.condition(columns, self.one(0, 0, 1, 2, 3))] if self.chance(0.85) else []
 
     def condition(self, columns: list[ColumnDef], depth: int) -> Tokens:
@@ -300,6 +318,7 @@ class Writer:
         return tokens[1:]
 
     def operand(self, columns: list[ColumnDef]) -> Tokens:
+        """An operand of a predicate: most often a column."""
         return [self.column(columns)] if self.chance(0.85) else self.constant()
 
     def constant(self) -> Tokens:

@@ -1,7 +1,7 @@
 """The truth of a condition at a row: True, False or None, which is unknown."""
 
 import operator
-from collections.abc import Iterator, Mapping
+from collections.abc import Iterable, Iterator, Mapping
 
 from model import tree
 from model.tree import Truth, Value
@@ -58,13 +58,13 @@ def not_of(inner: Truth) -> Truth:
     return None if inner is None else not inner
 
 
-def and_of(parts) -> Truth:
+def and_of(parts: Iterable[Truth]) -> Truth:
     """AND of all parts: false if one is, else unknown if one is, else true."""
     found = list(parts)
     return False if False in found else None if None in found else True
 
 
-def or_of(parts) -> Truth:
+def or_of(parts: Iterable[Truth]) -> Truth:
     """OR of all parts: true if one is, else unknown if one is, else false."""
     found = list(parts)
     return True if True in found else None if None in found else False

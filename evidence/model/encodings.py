@@ -30,9 +30,11 @@ class Offset:
         return self.base + 2**self.width - 1
 
     def has_code(self, value: int) -> bool:
+        """Whether the value has a code."""
         return self.base <= value <= self.top
 
     def code(self, value: int) -> int:
+        """The code of a value that has one."""
         return value - self.base
 
     def ends(self, relation: str, constant: int) -> Ends:
@@ -55,13 +57,16 @@ class Dictionary:
 
     @property
     def width(self) -> int:
+        """How many bits a code has."""
         return width_of(max(0, len(self.entries) - 1))
 
     def has_code(self, value: int) -> bool:
+        """Whether the value has a code."""
         place = bisect_left(self.entries, value)
         return place < len(self.entries) and self.entries[place] == value
 
     def code(self, value: int) -> int:
+        """The code of a value that has one."""
         return bisect_left(self.entries, value)
 
     def ends(self, relation: str, constant: int) -> Ends:

@@ -61,6 +61,7 @@ class Parser:
         return token.value
 
     def name(self) -> str:
+        """A name: a word that isn't reserved."""
         if not self.token().is_name:
             raise Refusal(10)
         return self.take(Kind.WORD)
@@ -105,15 +106,18 @@ class Parser:
         return self.one_of(readers)()
 
     def create_table(self) -> tree.CreateTable:
+        """`CREATE TABLE name ( coldef {, coldef} )`, behind its first word."""
         self.expect("TABLE")
         return tree.CreateTable(self.name(), self.in_parentheses(self.column_def))
 
     def column_def(self) -> tree.ColumnDef:
+        """`name (INTEGER | INT | BIGINT) [USING layout] [kind]`."""
         name, column_type = self.name(), self.one_of(TYPES)
         layout = self.layout() if self.eat("USING") else tree.Layout.V
         return tree.ColumnDef(name, column_type, layout, self.coding() or tree.Coding.OFFSET)
 
     def layout(self) -> tree.Layout:
+        """`P | V | H | S`."""
         return self.one_of(tree.Layout.__members__)
 
     def coding(self) -> tree.Coding | None:
@@ -121,10 +125,12 @@ class Parser:
         return next((coding for coding in tree.Coding if self.eat(coding.name)), None)
 
     def drop_table(self) -> tree.DropTable:
+        """`DROP TABLE name`, behind its first word."""
         self.expect("TABLE")
         return tree.DropTable(self.name())
 
     def insert(self) -> tree.Insert:
+        """`INSERT INTO name [( name {, name} )] VALUES tuple {, tuple}`, behind its first word."""
         self.expect("INTO")
         table = self.name()
         columns = self.in_parentheses(self.name) if self.is_next("(") else None
@@ -141,11 +147,13 @@ class Parser:
         return sign * self.take(Kind.NUMBER)
 
     def update(self) -> tree.Update:
+        """`UPDATE name SET set {, set} [WHERE cond]`, behind its first word."""
         table = self.name()
         self.expect("SET")
         return tree.Update(table, self.listed(self.set), self.where())
 
     def set(self) -> tuple[str, tree.Operand]:
+        """`name = source`."""
         name = self.name()
         self.expect("=")
         return name, self.operand()
@@ -155,17 +163,21 @@ class Parser:
         return tree.Name(self.name()) if self.token().is_name else self.value()
 
     def where(self) -> tree.Condition | None:
+        """`[WHERE cond]`."""
         return self.condition() if self.eat("WHERE") else None
 
     def delete(self) -> tree.Delete:
+        """`DELETE FROM name [WHERE cond]`, behind its first word."""
         self.expect("FROM")
         return tree.Delete(self.name(), self.where())
 
     def stats(self) -> tree.Select:
+        """`STATS SELECT ..`, behind its first word."""
         self.expect("SELECT")
         return self.select(counts=True)
 
     def select(self, counts: bool = False) -> tree.Select:
+        """`SELECT items FROM name [WHERE cond] [GROUP BY name]`, behind its first word."""
         items = None if self.eat("*") else self.listed(self.item)
         self.expect("FROM")
         table, where = self.name(), self.where()
@@ -173,6 +185,7 @@ class Parser:
         return tree.Select(table, items, where, group_by, counts)
 
     def item(self) -> tree.Item:
+        """`name | COUNT ( * ) | function ( name )`."""
         if self.eat("COUNT", "(", "*", ")"):
             return tree.Item(None, tree.Function.COUNT)
         if self.token().is_name:
@@ -184,15 +197,18 @@ class Parser:
         return tree.Item(column, function)
 
     def rebuild(self) -> tree.Rebuild:
+        """`REBUILD name [( choice {, choice} )]`, behind its first word."""
         table = self.name()
         return tree.Rebuild(table, self.in_parentheses(self.choice) if self.is_next("(") else ())
 
     def choice(self) -> tree.Choice:
+        """`name USING layout [kind]`."""
         name = self.name()
         self.expect("USING")
         return tree.Choice(name, self.layout(), self.coding())
 
     def load(self) -> tree.Load:
+        """`LOAD name FROM text [WITH HEADER]`, behind its first word."""
         table, file = self.name_and_file("FROM")
         return tree.Load(table, file, self.eat("WITH", "HEADER"))
 
@@ -203,21 +219,25 @@ class Parser:
         return name, self.take(Kind.TEXT).decode("utf-8")
 
     def condition(self) -> tree.Condition:
+        """`term {OR term}`."""
         terms = [self.term()]
         while self.eat("OR"):
             terms.append(self.term())
         return terms[0] if len(terms) == 1 else tree.Or(tuple(terms))
 
     def term(self) -> tree.Condition:
+        """`factor {AND factor}`."""
         factors = [self.factor()]
         while self.eat("AND"):
             factors.append(self.factor())
         return factors[0] if len(factors) == 1 else tree.And(tuple(factors))
 
     def factor(self) -> tree.Condition:
+        """`[NOT] test`."""
         return tree.Not(self.test()) if self.eat("NOT") else self.test()
 
     def test(self) -> tree.Condition:
+        """`primary [IS [NOT] truth]`."""
         condition = self.primary()
         if not self.eat("IS"):
             return condition
@@ -226,6 +246,7 @@ class Parser:
         return tree.Not(tested) if is_not else tested
 
     def primary(self) -> tree.Condition:
+        """`( cond ) | predicate`."""
         if not self.eat("("):
             return self.predicate()
         condition = self.condition()
@@ -233,6 +254,7 @@ class Parser:
         return condition
 
     def predicate(self) -> tree.Condition:
+        """A comparison, or an operand with BETWEEN, IN or IS NULL behind it."""
         operand = self.operand()
         if self.eat("IS"):
             is_not = self.eat("NOT")

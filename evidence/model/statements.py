@@ -30,6 +30,7 @@ def found(table: Table, where: tree.Condition | None) -> list[Slot]:
 
 
 def create_table(store: Store, it: tree.CreateTable) -> bytes:
+    """CREATE TABLE: 21; 23; 24; 60."""
     refuse_if(it.table in store.tables, 21)
     require_once(column.name for column in it.columns)
     refuse_if(len(it.columns) > MOST_COLUMNS or len(store.tables) >= MOST_TABLES, 24)
@@ -39,17 +40,20 @@ def create_table(store: Store, it: tree.CreateTable) -> bytes:
 
 
 def drop_table(store: Store, it: tree.DropTable) -> bytes:
+    """DROP TABLE: 20."""
     store.table(it.table)
     del store.tables[it.table]
     return replies.OK
 
 
 def tables(store: Store, _: tree.Tables) -> bytes:
+    """TABLES, which is never refused."""
     lines = [(name, len(table.columns), len(table.rows())) for name, table in store.tables.items()]
     return replies.listed(("TABLE", "COLUMNS", "ROWS"), lines)
 
 
 def insert(store: Store, it: tree.Insert) -> bytes:
+    """INSERT: 20; 22 and 23 for the list of columns; 25; 26; 28."""
     table = store.table(it.table)
     names = table.names if it.columns is None else it.columns
     table.require(names)
@@ -63,6 +67,7 @@ def insert(store: Store, it: tree.Insert) -> bytes:
 
 
 def update(store: Store, it: tree.Update) -> bytes:
+    """UPDATE: 20; 22; 23; 24; 26 for a literal; 26 for a value of another column."""
     table = store.table(it.table)
     table.require(name for name, _ in it.sets)
     table.require(source.name for _, source in it.sets if isinstance(source, tree.Name))
@@ -82,6 +87,7 @@ def update(store: Store, it: tree.Update) -> bytes:
 
 
 def delete(store: Store, it: tree.Delete) -> bytes:
+    """DELETE: 20; 22; 24."""
     table = store.table(it.table)
     table.require(names_of(it.where))
     refuse_if(longest_list(it.where) > LONGEST_LIST, 24)
@@ -92,6 +98,7 @@ def delete(store: Store, it: tree.Delete) -> bytes:
 
 
 def select(store: Store, it: tree.Select) -> bytes:
+    """SELECT, also behind STATS: 20; 22; 24; 27."""
     table = store.table(it.table)
     items = [tree.Item(name) for name in table.names] if it.items is None else it.items
     table.require(item.column for item in items if item.column is not None)
@@ -153,6 +160,7 @@ def folded(function: tree.Function, values: list[int]) -> tree.Value:
 
 
 def rebuild(store: Store, it: tree.Rebuild) -> bytes:
+    """REBUILD: 20; 22; 23; 60."""
     table = store.table(it.table)
     table.require(choice.name for choice in it.choices)
     require_once(choice.name for choice in it.choices)
@@ -165,6 +173,7 @@ def rebuild(store: Store, it: tree.Rebuild) -> bytes:
 
 
 def load(store: Store, it: tree.Load) -> bytes:
+    """LOAD: 20; 40; 46; the first of 42, 43 and 26 by record and field; 28."""
     table = store.table(it.table)
     data = store.folder.read(it.file)
     rows = rows_of_file(data, [column.type for column in table.columns], it.has_header)
@@ -174,6 +183,7 @@ def load(store: Store, it: tree.Load) -> bytes:
 
 
 def save(store: Store, it: tree.Save) -> bytes:
+    """SAVE: 20; 46; 41."""
     table = store.table(it.table)
     definitions = [tree.ColumnDef(it.name, it.type, it.layout, it.coding) for it in table.columns]
     columns = [[row[name] for row in table.rows()] for name in table.names]
@@ -183,6 +193,7 @@ def save(store: Store, it: tree.Save) -> bytes:
 
 
 def open_table(store: Store, it: tree.Open) -> bytes:
+    """OPEN: 21; 24; 40; 46; 44."""
     refuse_if(it.table in store.tables, 21)
     refuse_if(len(store.tables) >= MOST_TABLES, 24)
     definitions, columns = read_table(store.folder.read(it.file))

@@ -49,6 +49,7 @@ class Table:
 
     @property
     def names(self) -> list[str]:
+        """The names of the columns, in order."""
         return [column.name for column in self.columns]
 
     def rows(self) -> list[Cells]:

@@ -5,7 +5,7 @@ The bits of a plane are one integer, whose bit i is that of row i.
 
 import re
 import struct
-from collections.abc import Sequence
+from collections.abc import Iterable, Sequence
 
 from model.refusals import refuse_if
 from model.store import MOST_COLUMNS, MOST_ROWS
@@ -135,7 +135,7 @@ def frame_of(cells: Cells) -> tuple[int, int]:
     return (min(values), max(1, (max(values) - min(values)).bit_length())) if values else (0, 1)
 
 
-def bit_bytes(bits) -> bytes:
+def bit_bytes(bits: Iterable[int]) -> bytes:
     """The bytes of a bit for each row."""
     digits = "".join("1" if bit else "0" for bit in bits)
     return int(digits[::-1] or "0", 2).to_bytes(bytes_of(len(digits)), "little")

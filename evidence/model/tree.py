@@ -152,22 +152,28 @@ class Item:
 
 @dataclass(frozen=True, slots=True)
 class CreateTable:
+    """A CREATE TABLE, and the columns that it makes."""
+
     table: str
     columns: tuple[ColumnDef, ...]
 
 
 @dataclass(frozen=True, slots=True)
 class DropTable:
+    """A DROP TABLE."""
+
     table: str
 
 
 @dataclass(frozen=True, slots=True)
 class Tables:
-    pass
+    """A TABLES."""
 
 
 @dataclass(frozen=True, slots=True)
 class Insert:
+    """An INSERT. Its columns are None where it has no list of them."""
+
     table: str
     columns: tuple[str, ...] | None
     tuples: tuple[tuple[Value, ...], ...]
@@ -175,6 +181,8 @@ class Insert:
 
 @dataclass(frozen=True, slots=True)
 class Update:
+    """An UPDATE: of each column that it sets, the name and the right side."""
+
     table: str
     sets: tuple[tuple[str, Operand], ...]
     where: Condition | None
@@ -182,6 +190,8 @@ class Update:
 
 @dataclass(frozen=True, slots=True)
 class Delete:
+    """A DELETE."""
+
     table: str
     where: Condition | None
 
@@ -199,12 +209,16 @@ class Select:
 
 @dataclass(frozen=True, slots=True)
 class Rebuild:
+    """A REBUILD."""
+
     table: str
     choices: tuple[Choice, ...]
 
 
 @dataclass(frozen=True, slots=True)
 class Load:
+    """A LOAD."""
+
     table: str
     file: str
     has_header: bool
@@ -212,12 +226,16 @@ class Load:
 
 @dataclass(frozen=True, slots=True)
 class Save:
+    """A SAVE."""
+
     table: str
     file: str
 
 
 @dataclass(frozen=True, slots=True)
 class Open:
+    """An OPEN."""
+
     table: str
     file: str
 
