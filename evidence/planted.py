@@ -4,22 +4,26 @@
     python3 evidence/planted.py [CASES]     tries so many scripts at most, 2,000 if none are named
 
 Behind the random scripts come some over tables of more than a segment (counts.py). Where a planted bug changes a reply
-or a file, the same bug in the program would be a difference. So this shows what the scripts of check.py can see, without
-the program. The status is 1 if a bug was never seen.
+or a file, the same bug in the program would be a difference. So this shows what the scripts of check.py can see,
+without the program. The status is 1 if a bug was never seen.
 """
 
 import re
 import sys
-from collections.abc import Callable, Iterable
+from collections.abc import Iterable
+from contextlib import AbstractContextManager
 from itertools import chain
 from unittest.mock import patch
 
 from common import Progress
-from model import conditions, csvfile, encodings, parts, replies, script, statements, store, tokens, tree, units
-from model.tree import Function, Layout
 from counts import script_over
+from model import Ended, conditions, csvfile, encodings, parts, replies, script, statements, store, tokens, tree, units
+from model.tree import Function, Layout
 from relations import shapes
 from scripts import by_model, script_of
+from writer import Script
+
+Run = tuple[Script, Ended]
 
 CASES = 2_000
 SEED = 1
@@ -41,7 +45,7 @@ def upper_median(function: Function, values: list[int]) -> tree.Value:
     return values[len(values) // 2] if function is Function.MEDIAN and values else RIGHT_FOLDS(function, values)
 
 
-def null_first(rows: list, name: str) -> list:
+def null_first(rows: list[store.Cells], name: str) -> list[list[store.Cells]]:
     """Groups with that of NULL first."""
     groups = RIGHT_GROUPS(rows, name)
     return sorted(groups, key=lambda group: group[0][name] is not None)
@@ -90,19 +94,19 @@ BUGS: dict[str, tuple[object, str, object]] = {
 }
 
 
-def right_runs(cases: int) -> list:
+def right_runs(cases: int) -> list[Run]:
     """Random scripts and scripts over large tables, and what the model makes of them."""
     large = [(number, shape) for number, shape in enumerate(shapes()) if 256 < shape.rows < 1_000]
     progress, runs = Progress("scripts", cases + len(large)), []
     scripts = (script_of(SEED, number) for number in range(cases))
-    for script in chain(scripts, (script_over(shape, SEED, number) for number, shape in large)):
-        runs.append((script, by_model(script)))
+    for case in chain(scripts, (script_over(shape, SEED, number) for number, shape in large)):
+        runs.append((case, by_model(case)))
         progress.step()
     progress.clear()
     return runs
 
 
-def seen_after(runs: list, plant: Callable) -> int | None:
+def seen_after(runs: list[Run], plant: AbstractContextManager) -> int | None:
     """How many scripts it takes to see a planted bug, if it is seen."""
     with plant:
         for number, (case, right) in enumerate(runs, 1):

@@ -3,9 +3,9 @@
 from random import Random
 
 SEPARATORS = [" "] * 30 + ["  ", "\n", "\t", "\r\n", " -- a comment; of 'words'\n", "--\n", "\n\n "]
-WORDS = """AND BETWEEN BIGINT BY COUNT CREATE DELETE DICTIONARY DROP FALSE FROM GROUP H HEADER IN INSERT INT INTEGER
-    INTO IS LOAD MAX MEDIAN MIN NOT NULL OFFSET OPEN OR P REBUILD S SAVE SELECT SET STATS SUM TABLE TABLES TO TRUE UNKNOWN
-    UPDATE USING V VALUES WHERE WITH a b t u""".split()
+WORDS = """AND BETWEEN BIGINT BY COUNT CREATE DELETE DICTIONARY DROP FALSE FROM GROUP H HEADER IN INSERT INT
+    INTEGER INTO IS LOAD MAX MEDIAN MIN NOT NULL OFFSET OPEN OR P REBUILD S SAVE SELECT SET STATS SUM TABLE
+    TABLES TO TRUE UNKNOWN UPDATE USING V VALUES WHERE WITH a b t u""".split()
 SYMBOLS = ["(", ")", ",", "*", "+", "-", "=", "<>", "!=", "<", "<=", ">", ">=", "'t.table'", "'", ";", "7", "00", "1x"]
 ODD_BYTES = [b"\0", b"\x7f", b"\xc3", b"\xc3\xa9", b"\xff", b"!", b"#", b"_", b'"', b"\x0b", b"\x0c", b"\xa0"]
 LONGEST_PART = 65_536
