@@ -1,5 +1,6 @@
 """Random scripts, through the program and through the model: both have to answer the same and leave the same files."""
 
+import signal
 from collections.abc import Iterable, Iterator
 from concurrent.futures import ProcessPoolExecutor, as_completed
 from dataclasses import replace
@@ -114,17 +115,25 @@ def kinds_of(output: bytes) -> Iterator[str]:
 
 
 def run_scripts(path: str, seed: int, count: int, jobs: int) -> Told:
-    """Runs so many scripts, by so many workers."""
+    """Runs so many scripts, by so many workers. What is broken off by the keyboard tells of those that were run."""
     told, progress = Told(), Progress("scripts", -(-count // CHUNK))
     chunks = [range(at, min(at + CHUNK, count)) for at in range(0, count, CHUNK)]
-    with ProcessPoolExecutor(jobs) as workers:
+    with ProcessPoolExecutor(jobs, initializer=signal.signal, initargs=(signal.SIGINT, signal.SIG_IGN)) as workers:
         waiting = [workers.submit(run_chunk, path, seed, numbers) for numbers in chunks]
-        for done in as_completed(waiting):
-            found = done.result()
-            told.add(found)
-            if found.differences:
-                progress.clear()
-                print("\n\n".join(found.differences), flush=True)
-            progress.step(f"{len(told.differences)} differences")
+        try:
+            for done in as_completed(waiting):
+                add_chunk(told, done.result(), progress)
+        except KeyboardInterrupt:
+            workers.shutdown(wait=False, cancel_futures=True)
+            print("\nbroken off")
     progress.clear()
     return told
+
+
+def add_chunk(told: Told, found: Told, progress: Progress) -> None:
+    """Adds what some scripts came to, and prints their differences."""
+    told.add(found)
+    if found.differences:
+        progress.clear()
+        print("\n\n".join(found.differences), flush=True)
+    progress.step(f"{len(told.differences)} differences")
