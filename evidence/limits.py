@@ -183,13 +183,17 @@ def check_large(program: Program, it: Large) -> str | None:
     for name, start, piece, times in it.files:
         Path(program.room / name).write_text(start + piece * times)
     script = "".join(f"{statement};\n" for statement in it.statements).encode()
-    ended = subprocess.run(
-        [program.path], cwd=program.room, input=script, capture_output=True, check=False, timeout=SECONDS
-    )
+    try:
+        ended = subprocess.run(
+            [program.path], cwd=program.room, input=script, capture_output=True, check=False, timeout=SECONDS
+        )
+        found = (ended.stdout + ended.stderr).decode()
+    except subprocess.TimeoutExpired:
+        found = f"no end within {SECONDS} seconds"
     for path in program.room.iterdir():
         path.unlink()
     wanted = "".join(f"{reply}\n" for reply in it.replies)
-    return None if ended.stdout.decode() == wanted else f"{it.name}: {ended.stdout.decode()!r} in place of {wanted!r}"
+    return None if found == wanted else f"{it.name}: {found!r} in place of {wanted!r}"
 
 
 def run(path: str) -> Told:
