@@ -7,8 +7,8 @@
 Of each .md file it looks up
 - each link: the file, and the heading where the link has an anchor;
 - each piece of inline code that looks like a name: an identifier, a path, a file name or a call. An identifier has to
-  stand in the sources (crates/*/src, specs and proofs, bench, clients, examples and the scripts in docs), comments
-  left out;
+  stand in the sources (crates/*/src, specs and proofs, bench, evidence, clients, examples and the scripts in docs),
+  comments left out;
 - that no line outside of code fences is longer than 120 characters, table rows included.
 Code fences are left alone, and so are names in capitals, which are SQL. README.md and docs/THEOREM.md have to agree
 with the closure of RunsTo: its counts, and each of its files.
@@ -25,7 +25,7 @@ from pathlib import Path
 ROOT = Path(__file__).resolve().parent.parent
 LONGEST_LINE = 120
 PRUNED = {".git", "out", "__pycache__", "must-fail"}
-SOURCES = ("crates/*/src", "crates/*/specs", "crates/*/proofs", "bench", "clients", "examples", "docs")
+SOURCES = ("crates/*/src", "crates/*/specs", "crates/*/proofs", "bench", "evidence", "clients", "examples", "docs")
 SOURCE_KINDS = {".rt", ".antt", ".py", ".sql", ".c", ".h", ".rs"}
 FILE_KINDS = {"rt", "antt", "py", "md", "sql", "out", "csv", "svg", "txt", "toml", "json", "c", "h", "rs"}
 

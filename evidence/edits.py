@@ -3,10 +3,10 @@
 
     python3 evidence/edits.py [CRATE ..]      only those of these crates
 
-`rt ci` tries the edits in `crates/NAME/must-fail/`. Those in `evidence/edits/NAME/` show what another edit shows, or turn a
-getter, a constructor or a clone; they have the same form, and their `file:` counts from the crate. Each is tried by `rt ci`
-itself, on a copy of the tree in which they take the place of the gate's own. What the gate proved on this machine is not
-proved again, so run `rt ci` before: then all of them take about half an hour on four processors.
+`rt ci` tries the edits in `crates/NAME/must-fail/`. Those in `evidence/edits/NAME/` show what another edit shows, or
+turn a getter, a constructor or a clone; they have the same form, and their `file:` counts from the crate. Each is tried
+by `rt ci` itself, on a copy of the tree in which they take the place of the gate's own. What the gate proved on this
+machine is not proved again, so run `rt ci` before: then all of them take about half an hour on four processors.
 
 The last line says how many were refused. The exit status is 0 where all were.
 """

@@ -1,12 +1,12 @@
 #!/usr/bin/env python3
 """Strikes clauses, one at a time, and shows that the call above can't do without them.
 
-A clause of a lower call is made to say nothing (`THING ≡ THING`), in a copy, and what proved it is taken out. Then the call
-above must not be proved any more: so it gets its answer through the lower call, and not past it. Prove the crates first, by
-`rt all check` at the top: the copy goes on from what that kept, and each strike takes 15 to 90 seconds.
+A clause of a lower call is made to say nothing (`THING ≡ THING`), in a copy, and what proved it is taken out. Then the
+call above must not be proved any more: so it gets its answer through the lower call, and not past it. Prove the crates
+first, by `rt all check` at the top: the copy goes on from what that kept, and each strike takes 15 to 90 seconds.
 
-    python3 bench/strikes.py [WORD ..]      only the strikes whose upper call has one of the words in its name
-    python3 bench/strikes.py --names        proves nothing: whether each clause and each upper call is still where it is said to be
+    python3 evidence/strikes.py [WORD ..]      only the strikes whose upper call has one of the words in its name
+    python3 evidence/strikes.py --names        proves nothing: whether each clause and each upper call is still there
 """
 
 import re
@@ -17,15 +17,14 @@ import tempfile
 from dataclasses import dataclass
 from pathlib import Path
 
-from common import HERE
+from common import TOP, Progress
 
-TOP = HERE.parent
 LAYOUTS = ("bw_vertical", "bw_horizontal", "bw_byteslice")
 
 
 @dataclass
 class Clause:
-    """A clause of a function's contract, what it comes to be about, and the crates whose proofs answer it (its own if none is given)."""
+    """A clause of a function's contract, what it comes to be about, and the crates whose proofs answer it."""
 
     file: str
     function: str
@@ -42,7 +41,8 @@ class Clause:
         start = text.index(f"ensures {self.name} {{" if self.name else "ensures {", at)
         end = re.compile(r" \};?\n").search(text, start).end()
         closing = text[start:end].rstrip("\n").endswith(";")
-        words = "ensures " + (f"{self.name} " if self.name else "") + f"{{ {self.thing} ≡ {self.thing} }}" + ";" * closing + "\n"
+        name = f"{self.name} " if self.name else ""
+        words = f"ensures {name}{{ {self.thing} ≡ {self.thing} }}{';' * closing}\n"
         return text[:start] + words + text[end:]
 
 
@@ -90,6 +90,11 @@ def of_column(function, file="compare.rt", name="truth", thing="truth.new"):
     return Clause(f"bw_column/src/{file}", function, name, thing)
 
 
+def rows_of(function, file):
+    """The rows that a call of columns gives."""
+    return of_column(function, file, "rows", "out.new")
+
+
 def with_its_own(function):
     """A comparison into a truth that is there, and the same in a truth of its own, which is proved by it."""
     return of_column(f"{function}_in"), of_column(function, "compare_anew.rt", thing="result")
@@ -126,11 +131,14 @@ STRIKES = [
     Strike("bw_column::column_planes::add_beside", (of_addition("reads", "A.reads a.new"),)),
     Strike("bw_column::column_planes::add_beside", (of_addition("other_reads", "B.reads b.new"),)),
     Strike("bw_column::column_planes::add_planes", (of_column("add_beside", "column_planes.rt", "rows", "out.new"),)),
-    Strike("bw_column::column::Column::compare_sums", (of_column("add_planes", "column_planes.rt", "rows", "out.new"),)),
-    Strike("bw_column::column::Column::compare_known", (of_column("compare_codes", "pair_codes.rt", "rows", "out.new"),)),
-    Strike("bw_column::column::Column::compare_known", (of_column("compare_sums", "pair_codes.rt", "rows", "out.new"),)),
+    Strike("bw_column::column::Column::compare_sums", (rows_of("add_planes", "column_planes.rt"),)),
+    Strike("bw_column::column::Column::compare_known", (rows_of("compare_codes", "pair_codes.rt"),)),
+    Strike("bw_column::column::Column::compare_known", (rows_of("compare_sums", "pair_codes.rt"),)),
     Strike("bw_column::column::Column::split_by_column", (of_column("compare_known", "pairs.rt", "rows", "out.new"),)),
-    Strike("bw_column::column::Column::compare_column_in", (of_column("split_by_column", "pairs.rt", "trues", "trues.new"),)),
+    Strike(
+        "bw_column::column::Column::compare_column_in",
+        (of_column("split_by_column", "pairs.rt", "trues", "trues.new"),),
+    ),
     Strike("bw_column::storage::Codes::get", (of_every_column("get", "code", "result"),)),
     Strike("bw_column::column::Column::get", (of_column("get", "storage.rt", "code", "result"),)),
     Strike("bw_column::storage::Codes::plane", (of_every_column("plane", "rows", "out.new"),)),
@@ -198,7 +206,8 @@ def what_is_gone():
                 yield f"{clause.file}: {clause.function} {clause.name}".rstrip()
         crate, module, *_, call = tried.upper.split("::")
         source = TOP / "crates" / crate / "src"
-        texts = [file.read_text(encoding="utf-8") for file in source.rglob("*.rt" if module == "column" else f"{module}.rt")]
+        files = source.rglob("*.rt" if module == "column" else f"{module}.rt")
+        texts = [file.read_text(encoding="utf-8") for file in files]
         if not any(re.search(rf"\bfn {call}\b", text) for text in texts):
             yield tried.upper
 
@@ -217,6 +226,7 @@ def main():
         for name in ("crates.txt", "HANDLES"):
             shutil.copy(TOP / name, Path(room) / name)
         subprocess.run(["git", "init", "-q", room], check=True)
+        progress = Progress("strikes", len(chosen))
         for tried in chosen:
             kept = {}
             for clause in tried.clauses:
@@ -225,8 +235,11 @@ def main():
             for file, text in kept.items():
                 file.write_text(text, encoding="utf-8")
             clauses = ", ".join(f"{it.function} {it.name}".strip() for it in tried.clauses)
+            progress.clear()
             print(f"{tried.upper} without {clauses}: {'refused' if refused else 'NOT SHOWN'}: {said}", flush=True)
+            progress.step()
             failed += not refused
+        progress.clear()
     sys.exit(f"{failed} not shown" if failed else 0)
 
 

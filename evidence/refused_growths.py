@@ -1,12 +1,12 @@
 #!/usr/bin/env python3
 """Refuses each growth of memory in turn, over scripts that use every statement, and checks what bitcol answers.
 
-    python3 bench/refused_growths.py
+    python3 evidence/refused_growths.py
 
-The program runs with a small library in front of the C library's `malloc` and `realloc` that refuses the N-th call, N from 1 until a run
-makes none. Each run has to end in want of memory with nothing written, or with error 90 in place of one reply, and all others those to
-the script without that statement; with `--stop` it ends behind the error. The files that are left have to be those of that script, too. Build bitcol
-first, by `rt run` in crates/bitcol; it needs a C compiler.
+The program runs with a small library in front of the C library's `malloc` and `realloc` that refuses the N-th call, N
+from 1 until a run makes none. Each run has to end out of memory with nothing written, or with error 90 in place of one
+reply, and all others those to the script without that statement; with `--stop` it ends behind the error. The files that
+are left have to be those of that script, too. Build bitcol first, by `rt run` in crates/bitcol; it needs a C compiler.
 """
 
 import itertools
@@ -18,7 +18,7 @@ import tempfile
 from dataclasses import dataclass, replace
 from pathlib import Path
 
-from common import built
+from common import Progress, built
 
 LIBRARY = r"""
 #define _GNU_SOURCE
@@ -143,7 +143,12 @@ WORKED = {
         "SELECT a FROM t WHERE NOT (a < 2);",
         "SELECT a FROM t WHERE (a < 2) IS UNKNOWN;",
     ],
-    "two columns exchanged": [TWO_COLUMNS, "INSERT INTO t VALUES (1, 2), (NULL, 5);", "UPDATE t SET a = b, b = a;", "SELECT * FROM t;"],
+    "two columns exchanged": [
+        TWO_COLUMNS,
+        "INSERT INTO t VALUES (1, 2), (NULL, 5);",
+        "UPDATE t SET a = b, b = a;",
+        "SELECT * FROM t;",
+    ],
     "a wider value": [
         "CREATE TABLE t (a INT);",
         "INSERT INTO t VALUES (1), (2), (3);",
@@ -157,8 +162,21 @@ WORKED = {
         "REBUILD t (a USING H);",
         "SELECT COUNT(*) FROM t WHERE NOT a IS NULL;",
     ],
-    "rows of a file": [TWO_COLUMNS, "LOAD t FROM 'marked.csv';", "SELECT * FROM t;", "LOAD t FROM 'marked.csv' WITH HEADER;", "LOAD t FROM 'faulty.csv';"],
-    "a table and its file": [*ONE_COLUMN, "SAVE t TO 'f';", "OPEN u FROM 'f';", "SELECT a FROM u;", "TABLES;", "OPEN v FROM 'rows.csv';"],
+    "rows of a file": [
+        TWO_COLUMNS,
+        "LOAD t FROM 'marked.csv';",
+        "SELECT * FROM t;",
+        "LOAD t FROM 'marked.csv' WITH HEADER;",
+        "LOAD t FROM 'faulty.csv';",
+    ],
+    "a table and its file": [
+        *ONE_COLUMN,
+        "SAVE t TO 'f';",
+        "OPEN u FROM 'f';",
+        "SELECT a FROM u;",
+        "TABLES;",
+        "OPEN v FROM 'rows.csv';",
+    ],
     "a column and another": [
         "CREATE TABLE t (a INT USING V, b INT USING S DICTIONARY);",
         "INSERT INTO t VALUES (5, 5), (-3, 4), (NULL, 1), (7, NULL);",
@@ -172,7 +190,13 @@ WORKED = {
         "SELECT MEDIAN(a), SUM(a), COUNT(a), MIN(a), MAX(a) FROM t;",
         "SELECT MIN(a), MEDIAN(a) FROM t WHERE a > 2;",
     ],
-    "a cut in a name": ["CREATE TABLE t (a INTEGER);", "-- one; two\nSAVE t TO 'x;y';", "SELECT a FROM t;", "TABLES" + " " * 65_530 + ";", "TABLES" + " " * 65_531 + ";"],
+    "a cut in a name": [
+        "CREATE TABLE t (a INTEGER);",
+        "-- one; two\nSAVE t TO 'x;y';",
+        "SELECT a FROM t;",
+        "TABLES" + " " * 65_530 + ";",
+        "TABLES" + " " * 65_531 + ";",
+    ],
     "no such table": ["DROP TABLE t;", "TABLES;"],
     "the ends of both types": [
         "CREATE TABLE t (a BIGINT, b INTEGER);",
@@ -216,9 +240,12 @@ class Program:
             for name, data in FILES.items():
                 (Path(folder) / name).write_bytes(data)
             self.note.unlink(missing_ok=True)
-            surroundings = {**os.environ, "LD_PRELOAD": self.library, "REFUSED": str(refused), "REFUSED_NOTE": str(self.note)}
+            told = {"LD_PRELOAD": self.library, "REFUSED": str(refused), "REFUSED_NOTE": str(self.note)}
             command = [self.program, "--stop"] if stop else [self.program]
-            ended = subprocess.run(command, input="\n".join(statements).encode(), cwd=folder, env=surroundings, capture_output=True, timeout=60)
+            script, surroundings = "\n".join(statements).encode(), {**os.environ, **told}
+            ended = subprocess.run(
+                command, input=script, cwd=folder, env=surroundings, capture_output=True, timeout=60, check=False
+            )
             files = {path.name: path.read_bytes() for path in Path(folder).iterdir()}
             return Ended(ended.stdout, ended.stderr, ended.returncode, self.note.exists(), files)
 
@@ -229,7 +256,7 @@ class Program:
 
 
 def allowed(program, statements, stop):
-    """What a run may leave in which one growth was refused: error 90 for a statement, and else what the others alone write."""
+    """What a run with one refused growth may leave: error 90 for a statement, and else what the others alone write."""
     for place, others in enumerate(statements[:place] + statements[place + 1 :] for place in range(len(statements))):
         replies = program.replies(others)
         replies.insert(place, WANT)
@@ -255,18 +282,28 @@ def check(program, name, statements, stop):
         elif ended.status == usual.status and ended.left() == usual.left():
             usual_replies += 1
         else:
-            sys.exit(f"{name}, growth {refused} refused: status {ended.status}, {ended.output!r}, {ended.error!r}, files {ended.files!r}")
-    print(f"{name:20} {'with --stop' if stop else '':11} {wants:4} replies of want, {nothing:3} runs that wrote nothing, {usual_replies:3} as if it had been given")
+            told = f"status {ended.status}, {ended.output!r}, {ended.error!r}, files {ended.files!r}"
+            sys.exit(f"{name}, growth {refused} refused: {told}")
+    counts = f"{wants:4} error 90, {nothing:3} runs that wrote nothing, {usual_replies:3} as if it had been given"
+    print(f"{name:20} {'with --stop' if stop else '':11} {counts}")
 
 
 def check_address_space():
-    """Fills a table under a limit on the address space: each INSERT adds its rows or wants memory, and what follows is answered over those added."""
+    """Fills a table under a limit on the address space: each INSERT adds its rows or is out of memory.
+
+    What follows is answered over the rows that were added.
+    """
     fill = "INSERT INTO t VALUES " + ",".join(f"({i}, {-i})" for i in range(4_000)) + ";"
     count = "SELECT COUNT(*), SUM(a), SUM(b) FROM t;"
     create = "CREATE TABLE t (a INT USING P, b INT USING V);"
     script = "\n".join([create, *[fill] * 2_000, count, "DROP TABLE t;", create, fill, count])
     ended = subprocess.run(
-        [built("bitcol")], input=script.encode(), capture_output=True, timeout=600, preexec_fn=lambda: resource.setrlimit(resource.RLIMIT_AS, (ADDRESS_SPACE,) * 2)
+        [built("bitcol")],
+        input=script.encode(),
+        capture_output=True,
+        timeout=600,
+        check=False,
+        preexec_fn=lambda: resource.setrlimit(resource.RLIMIT_AS, (ADDRESS_SPACE,) * 2),
     )
     replies = ended.stdout.splitlines(keepends=True)
     fills, rest = replies[1:2_001], replies[2_001:]
@@ -276,8 +313,10 @@ def check_address_space():
     alone = b"4000,%d,%d\n" % (one, -one)
     wanted = [heading, whole, b"rows 1\n", b"ok\n", b"ok\n", b"ok 4000\n", heading, alone, b"rows 1\n"]
     if ended.returncode != 0 or added + wants != 2_000 or wants == 0 or rest != wanted:
-        sys.exit(f"{ADDRESS_SPACE // 2**20} MB of address space: status {ended.returncode}, {added} added, {wants} wants, {rest!r}")
-    print(f"{ADDRESS_SPACE // 2**20} MB of address space: {added} statements added their rows, {wants} wanted memory")
+        told = f"status {ended.returncode}, {added} added, {wants} out of memory, {rest!r}"
+        sys.exit(f"{ADDRESS_SPACE // 2**20} MB of address space: {told}")
+    megabytes = ADDRESS_SPACE // 2**20
+    print(f"{megabytes} MB of address space: {added} statements added their rows, {wants} were out of memory")
 
 
 def main():
@@ -286,9 +325,14 @@ def main():
         source.write_text(LIBRARY)
         subprocess.run(["cc", "-shared", "-fPIC", "-O1", "-o", library, source, "-ldl"], check=True)
         program = Program(library, Path(folder) / "note")
-        for name, statements in (SCRIPTS | WORKED).items():
+        scripts = SCRIPTS | WORKED
+        progress = Progress("refused growths", 2 * len(scripts))
+        for name, statements in scripts.items():
             for stop in (False, True):
+                progress.clear()
                 check(program, name, statements, stop)
+                progress.step()
+        progress.clear()
     check_address_space()
 
 

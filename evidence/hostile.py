@@ -1,10 +1,11 @@
 #!/usr/bin/env python3
-"""Runs scripts and files that are made to hurt, at three sizes, with a stack of 256 KiB, and prints the processor time for each byte.
+"""Runs scripts and files that are made to hurt, at three sizes, with a small stack, and prints the time for each byte.
 
-    python3 bench/hostile.py
+    python3 evidence/hostile.py
 
-Each has to end as it should, and its time to grow as its bytes do. Table files that claim the most columns and rows and have
-few bytes have to be refused as such in little memory. Build bitcol first, by `rt run` in crates/bitcol.
+The stack has 256 KiB. Each has to end as it should, and its processor time to grow as its bytes do. Table files that
+claim the most columns and rows and have few bytes have to be refused as such in little memory. Build bitcol first, by
+`rt run` in crates/bitcol.
 """
 
 import os
@@ -14,7 +15,7 @@ import sys
 import tempfile
 from pathlib import Path
 
-from common import MEGABYTE, built
+from common import MEGABYTE, Progress, built
 
 STACK = 256 * 1024
 LITTLE_MEMORY = 64 * MEGABYTE
@@ -99,7 +100,7 @@ CASES = {
 
 
 def claims(version, header):
-    """Table files of this version that claim 64 columns and 16,777,216 rows, and little after it, by what follows the claim."""
+    """Table files of this version that claim the most columns and rows, and have little after it, by what that is."""
     front = f"BITCOL{chr(version)}\0" + "\x40\0" + "\0\0\0\x01"
     headers = front + "".join(header.replace("A", f"A{number:02}") for number in range(64))
     return {"nothing": front, "64 headers": headers, "64 headers and a column": headers + "\0" * MEGABYTE}
@@ -137,10 +138,14 @@ def seconds(program, script, files, replies, limits=small_stack):
 
 def main():
     program = built("bitcol")
+    progress = Progress("hostile", sum(map(len, CLAIMS.values())) + len(CASES) * len(SIZES))
     for version, files in CLAIMS.items():
         for after, file in files.items():
             seconds(program, "OPEN t FROM 'f';\n", {"f": file}, [NOT_TABLE], little_memory)
-            print(f"a claim of version {version}, with {after} behind it: refused in {LITTLE_MEMORY // MEGABYTE} MB", flush=True)
+            progress.clear()
+            memory = f"{LITTLE_MEMORY // MEGABYTE} MB"
+            print(f"a claim of version {version}, with {after} behind it: refused in {memory}", flush=True)
+            progress.step()
     for name, case in CASES.items():
         figures = []
         for size in SIZES:
@@ -148,7 +153,10 @@ def main():
             length = len(script) + sum(map(len, files.values()))
             time = seconds(program, script, files, replies)
             figures.append(f"{time / length * 1e9:7.2f}")
-        print(f"{name:24} ns a byte at {', '.join(f'{size // MEGABYTE} MB' for size in SIZES)}: {' '.join(figures)}", flush=True)
+            progress.step(name)
+        progress.clear()
+        sizes = ", ".join(f"{size // MEGABYTE} MB" for size in SIZES)
+        print(f"{name:24} ns a byte at {sizes}: {' '.join(figures)}", flush=True)
 
 
 if __name__ == "__main__":
