@@ -2,6 +2,7 @@ CREATE TABLE visits (day INT, seconds INTEGER USING H DICTIONARY);
 LOAD visits FROM 'visits.csv' WITH HEADER;              -- all of its rows, or none
 LOAD visits FROM 'broken.csv' WITH HEADER;              -- its last line is 3,half
 SELECT COUNT(*), COUNT(seconds), SUM(seconds), MIN(seconds), MEDIAN(seconds) FROM visits WHERE day < 3;
+SELECT day, COUNT(*), SUM(seconds) FROM visits GROUP BY day;    -- a report by day
 SELECT * FROM visits WHERE NOT seconds > 30;            -- NULL > 30 is unknown, and so is its NOT
 SELECT * FROM visits WHERE (seconds > 30) IS NOT FALSE; -- true or unknown
 INSERT INTO visits VALUES (4, 99999999999);             -- refused, and nothing is kept of it
