@@ -1,0 +1,90 @@
+"""One running bitcol, to which statements are handed one by one: processor time and memory of each, and its reply."""
+
+import os
+import re
+import subprocess
+import sys
+import time
+from pathlib import Path
+from types import TracebackType
+
+from common import DATA, built
+
+# The last line of a reply. A heading is in upper case, and a row of numbers and NULL.
+ENDS = re.compile(rb"^(?:ok|error |rows |units )[^\n]*\n", re.MULTILINE)
+# Of a longer answer only its end is kept.
+KEPT = 1 << 22
+
+
+class Program:
+    """A process of bitcol, which ends with the block that it is opened for."""
+
+    def __init__(self, folder: Path = DATA) -> None:
+        folder.mkdir(exist_ok=True)
+        self.child = subprocess.Popen([built("bitcol")], cwd=folder, stdin=subprocess.PIPE, stdout=subprocess.PIPE, bufsize=0)
+        # The clock of the processor time of another process.
+        self.clock = (~self.child.pid << 3) | 2
+
+    def __enter__(self) -> "Program":
+        return self
+
+    def __exit__(self, kind: type[BaseException] | None, fault: BaseException | None, trace: TracebackType | None) -> None:
+        assert self.child.stdin
+        self.child.stdin.close()
+        self.child.kill()
+        self.child.wait()
+
+    def replies(self, count: int) -> bytes:
+        """So many replies, as they are written."""
+        assert self.child.stdout
+        answered, rest, found = b"", b"", 0
+        while found < count:
+            piece = os.read(self.child.stdout.fileno(), 1 << 18)
+            if not piece:
+                sys.exit("bitcol ended")
+            rest += piece
+            whole = rest.rfind(b"\n") + 1
+            found += len(ENDS.findall(rest[:whole]))
+            answered, rest = (answered + rest[:whole])[-KEPT:], rest[whole:]
+        return answered
+
+    def ask(self, statement: str, times: int = 1) -> tuple[float, str]:
+        """The processor seconds of a statement that is answered so often, for each time, and the last of its replies."""
+        assert self.child.stdin
+        before = time.clock_gettime(self.clock)
+        self.child.stdin.write(f"{statement};\n".encode() * times)
+        answered = self.replies(times)
+        took = (time.clock_gettime(self.clock) - before) / times
+        if b"error" in answered:
+            sys.exit(f"bitcol refuses {statement[:200]}: {answered[-200:].decode()}")
+        ends = [match.end() for match in ENDS.finditer(answered)]
+        return took, answered[ends[-2] if len(ends) > 1 else 0 :].decode()
+
+    def do(self, *statements: str) -> None:
+        """Statements that are not timed."""
+        for statement in statements:
+            self.ask(statement)
+
+    def least(self, statement: str, rounds: int, times: int = 1) -> tuple[float, str]:
+        """The least processor time of a statement in some rounds, and its reply."""
+        asked = [self.ask(statement, times) for _ in range(rounds)]
+        return min(took for took, _ in asked), asked[-1][1]
+
+    def memory(self, line: str) -> int:
+        """Bytes of memory that the kernel tells in this line of the process's status."""
+        status = Path(f"/proc/{self.child.pid}/status").read_text()
+        found = re.search(rf"^{line}:\s+(\d+) kB$", status, re.MULTILINE)
+        return int(found[1]) * 1024 if found else 0
+
+    def peak(self, statement: str) -> int:
+        """How many bytes a statement takes at its peak, beyond what the process held before it."""
+        Path(f"/proc/{self.child.pid}/clear_refs").write_text("5")
+        before = self.memory("VmRSS")
+        self.ask(statement)
+        return max(self.memory("VmHWM") - before, 0)
+
+
+def rows_of(reply: str) -> list[tuple[str, ...]]:
+    """The rows of a reply to a SELECT."""
+    lines = reply.splitlines()
+    return [tuple(line.split(",")) for line in lines[1:-1]]
