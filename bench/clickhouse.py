@@ -104,6 +104,8 @@ class ClickHouse:
             self.command = [*command, "--port", str(self.server.port)]
             self.server.wait(self.command)
             self.fill()
+        answer, _ = self.run("SELECT NOT (NULL AND 0) FORMAT CSV")
+        self.is_three_valued = answer == ["1\n"]
 
     def fill(self) -> None:
         subprocess.run([*self.command, "--query", f"CREATE TABLE t ({self.fields}) ENGINE = Memory"], check=True)
@@ -127,9 +129,9 @@ class ClickHouse:
         return done.stdout.split(f'"{MARK}"\n'), seconds
 
     def round(self, queries: "Iterable[Query]") -> "dict[str, Taken]":
-        from stores import Taken
+        from stores import Taken, shortened
 
-        asked = list(queries)
+        asked = [query for query in queries if self.is_three_valued or not getattr(query, "is_three_valued", False)]
         begin = ["SET max_threads = 1"]
         if not self.server:
             begin.append("CREATE TABLE t ENGINE = Memory AS SELECT * FROM source")
@@ -139,7 +141,8 @@ class ClickHouse:
         took = seconds[-2 * len(asked) :: 2]
         if len(took) != len(asked):
             sys.exit("ClickHouse tells other times than those of the queries")
-        return {query.title: Taken(spent, cells(text)) for query, text, spent in zip(asked, answers, took)}
+        answered = zip(asked, answers, took)
+        return {query.title: Taken(spent, shortened(query, cells(text))) for query, text, spent in answered}
 
     def close(self) -> None:
         if self.server:

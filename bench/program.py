@@ -12,8 +12,7 @@ from common import DATA, built
 
 # The last line of a reply. A heading is in upper case, and a row of numbers and NULL.
 ENDS = re.compile(rb"^(?:ok|error |rows |units )[^\n]*\n", re.MULTILINE)
-# Of a longer answer only its end is kept.
-KEPT = 1 << 22
+FAULT = re.compile(rb"^error [^\n]*", re.MULTILINE)
 
 
 class Program:
@@ -37,7 +36,8 @@ class Program:
     def replies(self, count: int) -> bytes:
         """So many replies, as they are written."""
         assert self.child.stdout
-        answered, rest, found = b"", b"", 0
+        lines: list[bytes] = []
+        rest, found = b"", 0
         while found < count:
             piece = os.read(self.child.stdout.fileno(), 1 << 18)
             if not piece:
@@ -45,8 +45,9 @@ class Program:
             rest += piece
             whole = rest.rfind(b"\n") + 1
             found += len(ENDS.findall(rest[:whole]))
-            answered, rest = (answered + rest[:whole])[-KEPT:], rest[whole:]
-        return answered
+            lines.append(rest[:whole])
+            rest = rest[whole:]
+        return b"".join(lines)
 
     def ask(self, statement: str, times: int = 1) -> tuple[float, str]:
         """The processor seconds of a statement that is answered so often, for each time, and the last of its replies."""
@@ -55,10 +56,10 @@ class Program:
         self.child.stdin.write(f"{statement};\n".encode() * times)
         answered = self.replies(times)
         took = (time.clock_gettime(self.clock) - before) / times
-        if b"error" in answered:
-            sys.exit(f"bitcol refuses {statement[:200]}: {answered[-200:].decode()}")
-        ends = [match.end() for match in ENDS.finditer(answered)]
-        return took, answered[ends[-2] if len(ends) > 1 else 0 :].decode()
+        if fault := FAULT.search(answered):
+            sys.exit(f"bitcol refuses {statement[:200]}: {fault[0].decode()}")
+        begins = [0, *(match.end() for match in ENDS.finditer(answered))]
+        return took, answered[begins[-2] :].decode()
 
     def do(self, *statements: str) -> None:
         """Statements that are not timed."""

@@ -9,6 +9,7 @@ import sqlite3
 import subprocess
 import sys
 import time
+import zlib
 from collections.abc import Callable, Iterable, Iterator
 from dataclasses import dataclass
 from pathlib import Path
@@ -66,6 +67,20 @@ class Query:
 
 
 @dataclass(frozen=True)
+class Written(Query):
+    """A query that has a text of its own, which all stores of SQL understand."""
+
+    text: str = ""
+    # Whether it shows so many rows that a checksum of them is compared.
+    is_long: bool = False
+    # Whether its answer rests on NULL AND FALSE being FALSE, which old versions of ClickHouse take for NULL.
+    is_three_valued: bool = False
+
+    def sql(self, ordered: bool = False) -> str:
+        return self.text
+
+
+@dataclass(frozen=True)
 class Columns:
     """A table: its CSV files, and its columns with their types, INT or BIGINT."""
 
@@ -111,8 +126,11 @@ class Bitcol:
         self.loading: float | None = sum(self.program.ask(f"LOAD t FROM '{path}'")[0] for path in columns.files)
 
     def round(self, queries: Iterable[Query]) -> dict[str, Taken]:
-        asked = {query.title: self.program.ask(query.sql()) for query in queries}
-        return {title: Taken(took, rows_of(reply)) for title, (took, reply) in asked.items()}
+        found = {}
+        for query in queries:
+            took, reply = self.program.ask(query.sql())
+            found[query.title] = Taken(took, shortened(query, rows_of(reply)))
+        return found
 
     def close(self) -> None:
         self.program.__exit__(None, None, None)
@@ -120,6 +138,13 @@ class Bitcol:
 
 def texts(rows: Iterable[Iterable[object]]) -> Answer:
     return [tuple("NULL" if cell is None else str(cell) for cell in row) for row in rows]
+
+
+def shortened(query: Query, rows: Answer) -> Answer:
+    """The rows; of a long answer their number and a checksum."""
+    if not getattr(query, "is_long", False):
+        return rows
+    return [(str(len(rows)), str(zlib.crc32("\n".join(map(",".join, rows)).encode())))]
 
 
 class Sqlite:
@@ -136,13 +161,14 @@ class Sqlite:
         self.base.executemany(f"INSERT INTO t VALUES ({', '.join('?' * len(columns.types))})", columns.records())
         self.base.execute("COMMIT")
 
-    def ask(self, words: str) -> Taken:
+    def ask(self, query: Query) -> Taken:
         start = time.process_time()
-        rows = self.base.execute(words).fetchall()
-        return Taken(time.process_time() - start, texts(rows))
+        rows = self.base.execute(query.sql(ordered=True)).fetchall()
+        took = time.process_time() - start
+        return Taken(took, shortened(query, texts(rows)))
 
     def round(self, queries: Iterable[Query]) -> dict[str, Taken]:
-        return {query.title: self.ask(query.sql(ordered=True)) for query in queries}
+        return {query.title: self.ask(query) for query in queries}
 
     def close(self) -> None:
         self.base.close()

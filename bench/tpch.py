@@ -114,8 +114,8 @@ def main() -> None:
             store.close()
     for name, queries in parts.items():
         tell(report, name, queries, found, columns.rows, missing)
-    cells = [figure(store.loading / columns.rows * 1e9) if store.loading else "" for store in stores]
-    report.table("workload-loads", "LOAD of all rows, ns a row", [store.name for store in stores], [cells])
+    loads = {store.name: store.loading / columns.rows * 1e9 for store in stores if store.loading}
+    report.table("workload-loads", "LOAD of all rows, ns a row", [*loads], [[figure(cost) for cost in loads.values()]])
     report.finish()
 
 
