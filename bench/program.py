@@ -52,14 +52,21 @@ class Program:
     def ask(self, statement: str, times: int = 1) -> tuple[float, str]:
         """The processor seconds of a statement that is answered so often, for each time, and the last of its replies."""
         assert self.child.stdin
-        before = time.clock_gettime(self.clock)
+        before = self.seconds()
         self.child.stdin.write(f"{statement};\n".encode() * times)
         answered = self.replies(times)
-        took = (time.clock_gettime(self.clock) - before) / times
+        took = (self.seconds() - before) / times
         if fault := FAULT.search(answered):
             sys.exit(f"bitcol refuses {statement[:200]}: {fault[0].decode()}")
         begins = [0, *(match.end() for match in ENDS.finditer(answered))]
         return took, answered[begins[-2] :].decode()
+
+    def seconds(self) -> float:
+        """The processor time so far. It is read while the process waits: while it leaves a processor its clock lags."""
+        status = Path(f"/proc/{self.child.pid}/stat")
+        while status.read_text().rsplit(")", 1)[1].split()[0] == "R":
+            time.sleep(1e-5)
+        return time.clock_gettime(self.clock)
 
     def do(self, *statements: str) -> None:
         """Statements that are not timed."""
