@@ -3,11 +3,11 @@
 //   ranges ROUNDS COLUMN ..      each COLUMN a file of little-endian integers, name.4 of 32 bits or name.8 of 64
 //
 // Each line of standard input is a query of numbers: how many ranges, then column, least and greatest of each; how many
-// orders, then two columns of each, the first of which is to be less; the grouping column or -1; how many sums, then the
-// column of each, where -1 is the number of rows. The answer is a line: nanoseconds of the quickest round, then the rows
-// of the answer, with `;` between rows and `,` between values. Rows are taken in blocks that the nearest cache holds, so
-// that the compiler makes vectors of each loop. Columns of ranges, orders and groups have 32 bits; groups are small
-// numbers from 0.
+// orders, then two columns of each, the first of which is to be less; the grouping column or -1; how many sums, then
+// the column of each, where -1 is the number of rows. The answer is a line: nanoseconds of the quickest round, then the
+// rows of the answer, with `;` between rows and `,` between values. Rows are taken in blocks that the nearest cache
+// holds, so that the compiler makes vectors of each loop. Columns of ranges, orders and groups have 32 bits; groups are
+// small numbers from 0.
 #include <algorithm>
 #include <chrono>
 #include <cstdint>

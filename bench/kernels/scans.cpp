@@ -95,8 +95,10 @@ static Slices slices_of(const Codes& codes, uint32_t width) {
     Slices made{width, codes.size() / 32, {}};
     for (uint32_t slice = 0; slice < count; slice++) {
         made.slices.emplace_back(codes.size());
-        for (size_t row = 0; row < codes.size(); row++)
-            made.slices[slice][row] = uint8_t((uint64_t(codes[row]) << (8 * count - width)) >> (8 * (count - 1 - slice)));
+        for (size_t row = 0; row < codes.size(); row++) {
+            const uint64_t shifted = uint64_t(codes[row]) << (8 * count - width);
+            made.slices[slice][row] = uint8_t(shifted >> (8 * (count - 1 - slice)));
+        }
     }
     return made;
 }
@@ -181,12 +183,13 @@ static void time_width(Bench& bench, uint32_t width, double part, std::mt19937_6
     const Planes planes = planes_of(codes, width);
     const Slices slices = slices_of(codes, width);
     const double slice_bytes = double(slices.slices.size());
-    bench.time("V", width, width / 8.0, [&] { scan_planes<true, false>(planes, constant, found); return found[0]; });
-    expect(count_bits(found), wanted);
-    bench.time("V-branch", width, width / 8.0, [&] { scan_planes<true, true>(planes, constant, found); return found[0]; });
-    expect(count_bits(found), wanted);
-    bench.time("V-all", width, width / 8.0, [&] { scan_planes<false, false>(planes, constant, found); return found[0]; });
-    expect(count_bits(found), wanted);
+    const auto in_planes = [&](const char* name, auto scan) {
+        bench.time(name, width, width / 8.0, [&] { scan(planes, constant, found); return found[0]; });
+        expect(count_bits(found), wanted);
+    };
+    in_planes("V", scan_planes<true, false>);
+    in_planes("V-branch", scan_planes<true, true>);
+    in_planes("V-all", scan_planes<false, false>);
     bench.time("S", width, slice_bytes, [&] { scan_slices(slices, constant, found); return found[0]; });
     expect(count_bits(found), wanted);
     bench.time("P", width, 4, [&] { scan_codes(codes, constant, found); return found[0]; });
