@@ -3,11 +3,10 @@
 import argparse
 import functools
 import os
-import re
 import shutil
 import subprocess
 import sys
-from collections.abc import Callable, Iterable, Iterator
+from collections.abc import Callable, Iterable
 from dataclasses import dataclass, field
 from pathlib import Path
 from random import Random
@@ -20,7 +19,6 @@ KERNELS = HERE / "kernels"
 
 LAYOUTS = "VHSP"
 STATEMENT_BYTES = 60_000
-ROWS_A_STATEMENT = 1_000
 ROUNDS = 7
 MEGABYTE = 1_000_000
 LEAST, MOST = -(2**31), 2**31 - 1
@@ -138,15 +136,6 @@ def rows_of_a_statement(next_row: Callable[[], str]) -> list[str]:
     return rows
 
 
-def filling(table: str, columns: str, rows: Iterable[tuple[int, ...]], choice: str = "") -> Iterator[str]:
-    """Statements that make a table of these columns and insert these rows. Each column has the layout and the kind that
-    the choice names, which sqlite3 doesn't know."""
-    listed = list(rows)
-    yield f"CREATE TABLE {table} ({', '.join(f'{column} INTEGER{choice}' for column in columns)});\n"
-    for start in range(0, len(listed), ROWS_A_STATEMENT):
-        yield insert(map(written, listed[start : start + ROWS_A_STATEMENT]), table)
-
-
 def processor_seconds(command: list[str], source: Path,
                       answers: int | IO[bytes] = subprocess.DEVNULL) -> tuple[float, float]:
     """The processor time that the command takes over the file, and the most memory that it holds, in megabytes."""
@@ -157,43 +146,3 @@ def processor_seconds(command: list[str], source: Path,
     if child.returncode != 0:
         sys.exit(f"{command[0]} ended with status {child.returncode}")
     return usage.ru_utime + usage.ru_stime, usage.ru_maxrss * 1024 / MEGABYTE
-
-
-def bitcol_run(name: str, script: str) -> Callable[[], float]:
-    """A call that runs bitcol over the script and gives the processor time. The bench ends where a statement is refused."""
-    command, source = [built("bitcol")], data_file(name)
-    source.write_text(script)
-    with source.open("rb") as stdin:
-        if b"error" in subprocess.run(command, stdin=stdin, stdout=subprocess.PIPE, check=True).stdout:
-            sys.exit("bitcol refuses a statement")
-    return lambda: processor_seconds(command, source)[0]
-
-
-def sqlite_run(program: str, fill: str, timed: str) -> Callable[[], float]:
-    """A call that runs sqlite3 and gives the processor time of the timed statements, as its own timer tells it."""
-    source = data_file("timed.sqlite.sql")
-    source.write_text("BEGIN;\n" + fill + "COMMIT;\n.output /dev/null\n.timer on\n" + timed)
-
-    def run() -> float:
-        with source.open("rb") as stdin:
-            ended = subprocess.run([program, ":memory:"], stdin=stdin, capture_output=True, check=True)
-        if ended.stderr:
-            sys.exit(f"sqlite3 refuses a statement: {ended.stderr[:200]!r}")
-        times = re.findall(rb"^Run Time: real \S+ user (\S+) sys (\S+)$", ended.stdout, re.MULTILINE)
-        return sum(float(user) + float(system) for user, system in times)
-
-    return run
-
-
-def quickest(fill: str, timed: str, beside: bool | str = True) -> dict[str, float]:
-    """The processor time that each program takes for the timed statements over the tables that are filled, the least of
-    some rounds; of bitcol that of the whole script less that of a script which only fills. Each round takes all runs in
-    turn, since a machine's speed swings. What is shown goes to no file. Without `beside` bitcol runs alone; `beside` may
-    be the statements with which sqlite3 fills its tables."""
-    runs = {"filling": bitcol_run("filled.sql", fill), "bitcol": bitcol_run("timed.sql", fill + timed)}
-    if beside and (program := sqlite3()):
-        runs["sqlite3"] = sqlite_run(program, fill if beside is True else str(beside), timed)
-    found = [{name: run() for name, run in runs.items()} for _ in range(rounds())]
-    least = {name: min(times[name] for times in found) for name in runs}
-    least["bitcol"] -= least.pop("filling")
-    return least

@@ -39,4 +39,5 @@ def functions_cost(rows: int) -> float | None:
     program = kernel("functions")
     if program is None:
         return None
-    return float(subprocess.run([program, str(rows)], stdout=subprocess.PIPE, check=True).stdout)
+    done = subprocess.run([program, str(rows)], stdout=subprocess.PIPE, stderr=subprocess.DEVNULL, check=True)
+    return float(done.stdout)
