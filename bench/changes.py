@@ -1,7 +1,7 @@
 #!/usr/bin/env python3
 """Times an UPDATE of half the rows of a table by values and by a literal, and a REBUILD, in each layout and both kinds;
-and a DELETE of every other row and a SELECT of all of them. sqlite3 does the same in memory, but for the REBUILD, in the
-same run, and what is in the tables then is compared: a difference ends the bench with status 1.
+and a DELETE of every other row and a SELECT of all of them. sqlite3 does the same in memory, but for the REBUILD, in
+the same run, and what is in the tables then is compared: a difference ends the bench with status 1.
 
 Build bitcol first, by `rt run` in crates/bitcol.
 
@@ -45,8 +45,9 @@ KINDS = {"OFFSET": of_distances, "DICTIONARY": of_entries}
 
 
 def four_columns(count: int, value: Callable[[random.Random], int]) -> list[Row]:
-    """Two columns to be set, one that is below 0 at half the rows, and one that is 1 at every other row. In two rows each
-    of the first two has the ends of both, so that neither is encoded anew where it takes the values of the other."""
+    """Two columns to be set, one that is below 0 at half the rows, and one that is 1 at every other row. In two rows
+    each of the first two has the ends of both, so that neither is encoded anew where it takes the values of the
+    other."""
     generator = random.Random(count)
     values = [(value(generator), value(generator)) for _ in range(count)]
     least, most = min(map(min, values)), max(map(max, values))

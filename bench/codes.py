@@ -1,5 +1,6 @@
 #!/usr/bin/env python3
-"""Times how fast values are fitted and encoded and how fast plain codes are scanned, beside plain passes in the same run.
+"""Times how fast values are fitted and encoded and how fast plain codes are scanned, beside plain passes in the same
+run.
 
 The values are random numbers of 32 bits. Build the timing program first, by `rt run` in crates/bw_bench.
 

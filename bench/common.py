@@ -49,13 +49,13 @@ class Number:
 
 def options(document: str | None, *numbers: Number, crate: str = "bitcol",
             more: Callable[[argparse.ArgumentParser], Any] | None = None) -> argparse.Namespace:
-    """The words of the command line. Each bench takes --program, --quick and --json, its numbers in order, and what `more`
-    adds."""
+    """The words of the command line. Each bench takes --program, --quick and --json, its numbers in order, and what
+    `more` adds."""
     parser = argparse.ArgumentParser(description=document, formatter_class=argparse.RawDescriptionHelpFormatter)
     for number in numbers:
         parser.add_argument(number.name, nargs="?", type=int, help=f"{number.meaning}; {number.usual:,} if not given")
     parser.add_argument("--program", metavar="PATH", help=f"the built program; crates/{crate}/out/{crate} if not given")
-    parser.add_argument("--quick", action="store_true", help="little data and one round: whether it works, and no figure")
+    parser.add_argument("--quick", action="store_true", help="little data and one round, to see that it works")
     parser.add_argument("--json", type=Path, metavar="FILE", help="where the tables are written as JSON, too")
     if more:
         more(parser)

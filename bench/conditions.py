@@ -1,8 +1,8 @@
 #!/usr/bin/env python3
 """Times selects whose condition has 1, 10 and 100 predicates, in bitcol and in sqlite3, in one run.
 
-A table of two columns of random 32-bit values. Each select finds no row, so that only the condition is timed. sqlite3 is
-Python's own, in memory. Build bitcol first, by `rt run` in crates/bitcol.
+A table of two columns of random 32-bit values. Each select finds no row, so that only the condition is timed. sqlite3
+is Python's own, in memory. Build bitcol first, by `rt run` in crates/bitcol.
 
     python3 bench/conditions.py [ROWS [ROUNDS]]      how many rows; 1000000 if not given
 """

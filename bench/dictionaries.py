@@ -33,7 +33,8 @@ def shapes() -> dict[str, Callable[[], int]]:
 
 
 def main() -> None:
-    words = options(__doc__, Number("rows", 1 << 20, 1_000, "how many values"), Number("rounds", 5, 1, "how many rounds"))
+    numbers = Number("rows", 1 << 20, 1_000, "how many values"), Number("rounds", 5, 1, "how many rounds")
+    words = options(__doc__, *numbers)
     loops = dictionary_costs(words.rows, words.rounds)
     lines = []
     for name, draw in shapes().items():

@@ -16,8 +16,8 @@ import time
 from dataclasses import dataclass
 from pathlib import Path
 
-from common import LAYOUTS, MEGABYTE, Number, built, data_file, options, processor_seconds, random_value, rounds, sqlite3
-from report import Report, figure, times
+from common import LAYOUTS, MEGABYTE, Number, built, data_file, options, processor_seconds, random_value, rounds,
+sqlite3 from report import Report, figure, times
 
 TABLE = "CREATE TABLE t (a INT, b INT);\n"
 # So often a table is saved or opened beyond once: the difference leaves out the program's start and what comes before.
@@ -113,8 +113,8 @@ def time_loads(paths: list[Path], rows: int, report: Report) -> None:
         runs["sqlite3"] = [other, ":memory:"], script
     found = quickest_of(runs)
     seconds = {name: took for name, (took, _) in found.items()}
-    # The process itself is counted in: what a script of one CREATE takes is told too high, since Python was in its place
-    # before.
+    # The process itself is counted in: what a script of one CREATE takes is told too high, since Python was in its
+    # place before.
     held = found["one"][1] * MEGABYTE - paths[0].stat().st_size
     cost = seconds["loads"] / (len(paths) * rows * 2) * 1e9
     line = [figure(cost), times(seconds.get("sqlite3"), seconds["loads"]), figure(held / (rows * 2), 2)]
@@ -141,7 +141,8 @@ def time_table(layout: str, which: str, paths: list[Path], rows: int) -> tuple[f
 
 
 def first_touch() -> float:
-    """Nanoseconds for a page of 4 KB that is touched for the first time, beyond those for one that was touched before."""
+    """Nanoseconds for a page of 4 KB that is touched for the first time, beyond those for one that was touched
+    before."""
     pages = 16_384
     marks = b"\1" * pages
 
@@ -172,7 +173,8 @@ def time_tables(paths: list[Path], rows: int, report: Report) -> None:
                 rates = [found[which, layout][1][memory.name, what] for layout in LAYOUTS]
                 name = f"{figure(found[which, 'V'][0])} MB, {memory.name}"
                 lines.append([name, *map(figure, rates)])
-                report.line("files", f"{what.upper()}, {name}", zip(LAYOUTS, rates))
+                if which == "all":
+                    report.line(f"files-{what}", memory.name, zip(LAYOUTS, rates))
         report.table(f"files-{what}", "MB of file a second", [what.upper(), *LAYOUTS], lines)
 
 

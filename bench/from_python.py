@@ -123,7 +123,7 @@ def time_statements(report: Report) -> None:
             for name in stores:
                 beyond = figure((took[name] - own) * 1e6, 2)
                 lines.append([what, name, times(took[name], took["sqlite3"]), beyond, figure(own * 1e6, 2)])
-    heading = ["Statement", "through", "sqlite3 executes times as many", "microseconds beyond the program's own", "its own"]
+    heading = ["Statement", "through", "sqlite3 executes times as many", "us beyond the program's own", "its own"]
     report.table("python-statements", "one by one, each with its answer", heading, lines)
 
 
@@ -216,7 +216,8 @@ def time_count(session: Any, rows: int, report: Report) -> None:
         values = numpy.array(first, numpy.int32)
         calls["numpy"] = lambda: int(numpy.count_nonzero(values < bound))
     took = quickest(calls, 3 * ROUNDS)
-    line = [figure(took["bitcol"] / rows * 1e9), *(times(took.get(name), took["bitcol"]) for name in ("sqlite3", "numpy"))]
+    own = took["bitcol"]
+    line = [figure(own / rows * 1e9), *(times(took.get(name), own) for name in ("sqlite3", "numpy"))]
     heading = ["ns a row", "sqlite3 takes times as long", "numpy takes times as long"]
     report.table("python-count", f"a COUNT that finds {expected:,} of {rows:,} rows", heading, [line])
 

@@ -2,9 +2,9 @@
 """Times GROUP BY over dense and sparse values, with few groups and many, and tells the memory at its peak.
 
 A row is a group's number and a random value of 32 bits. Dense groups are the numbers from 0; sparse ones are drawn from
-all of 32 bits, and in the last of them nearly each row is a group. All columns are in one layout. sqlite3 in memory, and
-numpy where it is installed, answer the same in the same run, and their answers are compared: a difference ends the bench
-with status 1. Neither has a MEDIAN of groups. Build bitcol first, by `rt run` in crates/bitcol.
+all of 32 bits, and in the last of them nearly each row is a group. All columns are in one layout. sqlite3 in memory,
+and numpy where it is installed, answer the same in the same run, and their answers are compared: a difference ends
+the bench with status 1. Neither has a MEDIAN of groups. Build bitcol first, by `rt run` in crates/bitcol.
 
     python3 bench/groups.py [ROWS [ROUNDS]] [--layout V]      how many rows; 4194304 if not given
 """
@@ -92,7 +92,8 @@ def medians(rows: Pairs) -> list[tuple[str, ...]]:
     return [(str(group), str(sorted(groups[group])[(len(groups[group]) - 1) // 2])) for group in sorted(groups)]
 
 
-def beside(base: sqlite3.Connection, rows: Pairs, expected: dict[str, list[tuple[str, ...]]]) -> dict[str, dict[str, float]]:
+def beside(base: sqlite3.Connection, rows: Pairs,
+           expected: dict[str, list[tuple[str, ...]]]) -> dict[str, dict[str, float]]:
     """Seconds of sqlite3 and of numpy for each statement that they have. Their answers have to be bitcol's."""
     found: dict[str, dict[str, float]] = {"sqlite3": {}}
     for what, text in STATEMENTS.items():
@@ -149,7 +150,8 @@ def main() -> None:
     for what, points in heights.items():
         report.line("groups", what, points)
     what = f"{words.rows:,} rows, layout {words.layout}; ns a row, the others as multiples, and memory at the peak"
-    heading = ["Group numbers", "groups", "Statement", "bitcol", "sqlite3", *(["numpy"] if numpy else []), "bytes a row"]
+    others = ["sqlite3", *(["numpy"] if numpy else [])]
+    heading = ["Group numbers", "groups", "Statement", "bitcol", *others, "bytes a row"]
     report.table("groups", what, heading, lines)
     report.finish()
     data_file("groups.csv").unlink()

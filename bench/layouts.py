@@ -41,6 +41,14 @@ def work_lines(own: Costs, what: str) -> list[list[str]]:
     return [[str(width), *(figure(own.get((layout, width, what))) for layout in LAYOUTS)] for width in widths]
 
 
+def wide_lines(own: Costs) -> list[list[str]]:
+    """Of each work the time at 64 bits as a multiple of that at 32; nothing in H, which has no codes of 64 bits."""
+    return [
+        [what, *(times(own.get((layout, 64, what)), own.get((layout, 32, what))) for layout in LAYOUTS)]
+        for what in ("extend", "read", "scan")
+    ]
+
+
 def scan_lines(own: Costs, loops: dict[tuple[str, int], float]) -> list[list[str]]:
     """The scans of each width, the loops' times, and V and S as multiples of theirs."""
     lines = []
@@ -64,8 +72,12 @@ def main() -> None:
     heading = ["Bits", *LAYOUTS]
     beside = [*(f"C++ {name}" for name in LOOPS), "V, times", "S, times"]
     report.table(f"scans-in-{place}", told, heading + beside, scan_lines(own, loops))
-    for what in ("extend", "read"):
-        report.table(f"{what}-in-{place}", f"{words.codes:,} codes; ns a code", heading, work_lines(own, what))
+    if place == "caches":
+        for what in ("extend", "read"):
+            told = f"{what}: {words.codes:,} codes; ns a code"
+            report.table(f"{what}-in-caches", told, heading, work_lines(own, what))
+        told = f"codes of 64 bits as multiples of the time of 32; {words.codes:,} codes"
+        report.table("wide-codes", told, ["", *LAYOUTS], wide_lines(own))
     for layout in LAYOUTS:
         heights = sorted((width, cost) for (name, width, what), cost in own.items() if (name, what) == (layout, "scan"))
         report.line(f"scans-in-{place}", layout, heights)

@@ -3,8 +3,8 @@
 
 A row a statement, a column a layout and kind. Three shapes of values: `byte` (0 to 255), `int` (random, 32 bits) and
 `few` (1,000 values that lie 2,000,000 apart). One in a hundred of the first column is NULL. The replies of all layouts
-and kinds are compared, and with sqlite3's: a difference ends the bench with status 1. Build bitcol first, by `rt run` in
-crates/bitcol.
+and kinds are compared, and with sqlite3's: a difference ends the bench with status 1. Build bitcol first, by `rt run`
+in crates/bitcol.
 
     python3 bench/matrix.py [ROWS [ROUNDS]] [--shapes byte,int,few] [--only WORD]
 """

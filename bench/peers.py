@@ -149,8 +149,9 @@ def main() -> None:
     rows = []
     for query in QUERIES:
         own = found[base.name][query.title].seconds
-        beside = [found[store.name].get(query.title) for store in others]
-        rows.append([query.title, figure(own * 1e3), *(times(taken.seconds if taken else None, own) for taken in beside)])
+        taken = [found[store.name].get(query.title) for store in others]
+        beside = [times(each.seconds if each else None, own) for each in taken]
+        rows.append([query.title, figure(own * 1e3), *beside])
     loads = [times(store.loading, base.loading) for store in others]
     rows.insert(0, ["LOAD of the files", figure((base.loading or 0) * 1e3), *loads])
     what = f"{columns.rows:,} rows, layout {words.layout}; bitcol in ms, the others as multiples of its time"

@@ -20,14 +20,19 @@ class Program:
 
     def __init__(self, folder: Path = DATA) -> None:
         folder.mkdir(exist_ok=True)
-        self.child = subprocess.Popen([built("bitcol")], cwd=folder, stdin=subprocess.PIPE, stdout=subprocess.PIPE, bufsize=0)
+        pipe = subprocess.PIPE
+        self.child = subprocess.Popen([built("bitcol")], cwd=folder, stdin=pipe, stdout=pipe, bufsize=0)
         # The clock of the processor time of another process.
         self.clock = (~self.child.pid << 3) | 2
 
     def __enter__(self) -> "Program":
         return self
 
-    def __exit__(self, kind: type[BaseException] | None, fault: BaseException | None, trace: TracebackType | None) -> None:
+    def __exit__(self, kind: type[BaseException] | None, fault: BaseException | None,
+                 trace: TracebackType | None) -> None:
+        self.close()
+
+    def close(self) -> None:
         assert self.child.stdin
         self.child.stdin.close()
         self.child.kill()
@@ -50,7 +55,8 @@ class Program:
         return b"".join(lines)
 
     def ask(self, statement: str, times: int = 1) -> tuple[float, str]:
-        """The processor seconds of a statement that is answered so often, for each time, and the last of its replies."""
+        """The processor seconds of a statement that is answered so often, for each time, and the last of its
+        replies."""
         assert self.child.stdin
         before = self.seconds()
         self.child.stdin.write(f"{statement};\n".encode() * times)

@@ -2,8 +2,8 @@
 """Times statements over 1,000 rows to 16,777,216, which is the most that a table holds: how cost grows.
 
 A table of one column of random 32-bit values, one in ten NULL, in layout V, and of 256 groups. Small tables are asked
-many times. sqlite3 in memory answers the same in the same run, and the answers are compared: a difference ends the bench
-with status 1. Build bitcol first, by `rt run` in crates/bitcol.
+many times. sqlite3 in memory answers the same in the same run, and the answers are compared: a difference ends the
+bench with status 1. Build bitcol first, by `rt run` in crates/bitcol.
 
     python3 bench/rows.py [ROWS [ROUNDS]] [--layout V]      the most rows; 16777216 if not given
 """
@@ -41,8 +41,8 @@ def drawn_rows(count: int) -> list[Row]:
 
 
 def costs(rows: list[Row], count: int, words: argparse.Namespace) -> tuple[dict[str, float], dict[str, float]]:
-    """Nanoseconds a row of each statement over so many rows, in bitcol and in sqlite3. Above the rows of a file the same
-    file is loaded many times."""
+    """Nanoseconds a row of each statement over so many rows, in bitcol and in sqlite3. Above the rows of a file the
+    same file is loaded many times."""
     copies = max(1, count // A_FILE)
     taken = rows[: count // copies]
     path = csv_file("rows.csv", taken)

@@ -27,7 +27,8 @@ def values(bits: int, count: int) -> list[tuple[int]]:
 
 
 def main() -> None:
-    words = options(__doc__, Number("rows", 1 << 22, 2_048, "how many rows"), Number("rounds", 15, 1, "how many rounds"))
+    numbers = Number("rows", 1 << 22, 2_048, "how many rows"), Number("rounds", 15, 1, "how many rounds")
+    words = options(__doc__, *numbers)
     loops = scan_costs((8, 32), words.rows, words.rounds)
     report = Report("python3 bench/statements.py")
     lines = []

@@ -133,7 +133,7 @@ class Bitcol:
         return found
 
     def close(self) -> None:
-        self.program.__exit__(None, None, None)
+        self.program.close()
 
 
 def texts(rows: Iterable[Iterable[object]]) -> Answer:
@@ -261,11 +261,13 @@ class Loops:
     def round(self, queries: Iterable[Query]) -> dict[str, Taken]:
         asked = list(queries)
         command = [self.program, str(self.rounds), *map(str, self.files)]
-        done = subprocess.run(command, input="".join(map(self.line, asked)), stdout=subprocess.PIPE, text=True, check=True)
+        lines = "".join(map(self.line, asked))
+        done = subprocess.run(command, input=lines, stdout=subprocess.PIPE, text=True, check=True)
         found = {}
         for query, line in zip(asked, done.stdout.splitlines(), strict=True):
             nanoseconds, _, rows = line.partition(" ")
-            found[query.title] = Taken(int(nanoseconds) / 1e9, [tuple(row.split(",")) for row in rows.split(";") if row])
+            answer = [tuple(row.split(",")) for row in rows.split(";") if row]
+            found[query.title] = Taken(int(nanoseconds) / 1e9, answer)
         return found
 
     def close(self) -> None:
@@ -305,8 +307,8 @@ def stores_of(columns: Columns, layouts: str) -> tuple[list[Store], list[str]]:
 
 
 def compared(stores: list[Store], queries: list[Query], rounds: int) -> dict[str, dict[str, Taken]]:
-    """Of each store and query the quickest of some rounds, in which all stores take turns. It ends the bench with status
-    1 where two answers differ."""
+    """Of each store and query the quickest of some rounds, in which all stores take turns. It ends the bench with
+    status 1 where two answers differ."""
     least: dict[str, dict[str, Taken]] = {store.name: {} for store in stores}
     expected: dict[str, Answer] = {}
     words = {query.title: query.sql() for query in queries}

@@ -36,7 +36,8 @@ def filled_base(columns: str, rows: Iterable[Row]) -> sqlite3.Connection:
     return base
 
 
-def least_of_base(base: sqlite3.Connection, words: str, rounds: int, times: int = 1) -> tuple[float, list[tuple[str, ...]]]:
+def least_of_base(base: sqlite3.Connection, words: str, rounds: int,
+                  times: int = 1) -> tuple[float, list[tuple[str, ...]]]:
     """The least processor time of a query of sqlite3 in some rounds, and its rows as bitcol writes them."""
     least, rows = float("inf"), []
     for _ in range(rounds):

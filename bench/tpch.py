@@ -3,9 +3,9 @@
 
 The table has the specification's distributions, as integers (bench/lineitem.py). The scans are of one column by
 selectivity and of conjunctions, as the papers of the layouts measured them, and what of queries 1, 4, 6 and 12 the
-language has. All stores answer the same queries in turns, in one run, one thread each, and their answers are compared: a
-difference ends the bench with status 1. Stores that aren't installed are left out. docs/WORKLOAD.md tells what was taken
-over. Build bitcol first, by `rt run` in crates/bitcol.
+language has. All stores answer the same queries in turns, in one run, one thread each, and their answers are
+compared: a difference ends the bench with status 1. Stores that aren't installed are left out. docs/WORKLOAD.md tells
+what was taken over. Build bitcol first, by `rt run` in crates/bitcol.
 
     python3 bench/tpch.py [--scale FACTOR]      scale factor 1 has six million rows; at most 2.7, which a table holds
 """

@@ -1,5 +1,5 @@
-// Sum, least, greatest and number of the values that are not NULL, row by row, over plain 32-bit integers, with a branch
-// on NULL.
+// Sum, least, greatest and number of the values that are not NULL, row by row, over plain 32-bit integers, with a
+// branch on NULL.
 //
 //   functions ROWS      prints nanoseconds a row of the quickest round
 #include <chrono>
