@@ -34,11 +34,10 @@ PLOTS = {
 def provenance(found: dict[str, Any], table: Table) -> str:
     """What a table was measured by and on."""
     told = found["conditions"]
-    words = (
-        f"`{found['command']}`, commit {told['commit']}, {told['date']}, {told['processor']}, {told['cores']} cores,
-        load" f" {told['load']} at the end, Python {told['python']}, SQLite {told['sqlite']}.
-        {table.figures[:1].upper()}" f"{table.figures[1:]}."
-    )
+    machine = f"{told['processor']}, {told['cores']} cores, load {told['load']} at the end"
+    versions = f"Python {told['python']}, SQLite {told['sqlite']}"
+    figures = table.figures[:1].upper() + table.figures[1:]
+    words = f"`{found['command']}`, commit {told['commit']}, {told['date']}, {machine}, {versions}. {figures}."
     notes = "".join(f" {note[:1].upper()}{note[1:]}." for note in found["notes"])
     return "\n".join(textwrap.wrap(words + notes, LONGEST_LINE, break_long_words=False, break_on_hyphens=False))
 

@@ -16,8 +16,19 @@ import time
 from dataclasses import dataclass
 from pathlib import Path
 
-from common import LAYOUTS, MEGABYTE, Number, built, data_file, options, processor_seconds, random_value, rounds,
-sqlite3 from report import Report, figure, times
+from common import (
+    LAYOUTS,
+    MEGABYTE,
+    Number,
+    built,
+    data_file,
+    options,
+    processor_seconds,
+    random_value,
+    rounds,
+    sqlite3,
+)
+from report import Report, figure, times
 
 TABLE = "CREATE TABLE t (a INT, b INT);\n"
 # So often a table is saved or opened beyond once: the difference leaves out the program's start and what comes before.

@@ -86,8 +86,8 @@ class Drawing:
 
     def words(self, x: float, y: float, text: str, anchor: str = "middle", colour: str = INK, size: int = 12) -> None:
         self.marks.append(
-            f'<text x="{x:.1f}" y="{y:.1f}" text-anchor="{anchor}" fill="{colour}"
-            font-size="{size}">{escape(text)}</text>'
+            f'<text x="{x:.1f}" y="{y:.1f}" text-anchor="{anchor}" fill="{colour}" '
+            f'font-size="{size}">{escape(text)}</text>'
         )
 
     def line(self, x1: float, y1: float, x2: float, y2: float, colour: str = RULE) -> None:
