@@ -112,7 +112,9 @@ def main() -> None:
     words = arguments()
     programs = {"bitcol": words.program.resolve(), "bw_bench": words.timing_program.resolve()}
     DATA.mkdir(exist_ok=True)
-    benches, failed, ended = chosen(words.only), [], []
+    benches = chosen(words.only)
+    failed: list[Bench] = []
+    ended: list[Bench] = []
     for number, bench in enumerate(benches, 1):
         program = programs[bench.crate]
         if not program.exists():

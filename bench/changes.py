@@ -50,8 +50,8 @@ def four_columns(count: int, value: Callable[[random.Random], int]) -> list[Row]
     other."""
     generator = random.Random(count)
     values = [(value(generator), value(generator)) for _ in range(count)]
-    least, most = min(map(min, values)), max(map(max, values))
-    values[:2] = (least, most), (most, least)
+    least, most = min(min(pair) for pair in values), max(max(pair) for pair in values)
+    values[:2] = [(least, most), (most, least)]
     return [(*pair, generator.choice((-1, 1)), i % 2) for i, pair in enumerate(values)]
 
 

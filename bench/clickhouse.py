@@ -72,8 +72,8 @@ class Server:
         (home / "users.xml").write_text(USERS)
         config = home / "config.xml"
         config.write_text(CONFIG.format(home=home, http=free_port(), port=self.port))
-        quiet = {"stdout": subprocess.DEVNULL, "stderr": subprocess.DEVNULL, "cwd": home}
-        self.child = subprocess.Popen(["clickhouse-server", f"--config-file={config}"], **quiet)
+        command, nowhere = ["clickhouse-server", f"--config-file={config}"], subprocess.DEVNULL
+        self.child = subprocess.Popen(command, stdout=nowhere, stderr=nowhere, cwd=home)
 
     def wait(self, client: list[str]) -> None:
         for _ in range(100):

@@ -80,8 +80,7 @@ def own_seconds(statement: str) -> float:
     filled.write_text(fill)
     script.write_text(fill + f"{statement};\n" * count)
     runs = [[processor_seconds([program()], path)[0] for path in (filled, script)] for _ in range(rounds())]
-    least_fill, least_all = map(min, zip(*runs))
-    return (least_all - least_fill) / count
+    return (min(each for _, each in runs) - min(each for each, _ in runs)) / count
 
 
 def sessions() -> dict[str, Any]:

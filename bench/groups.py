@@ -10,6 +10,7 @@ the bench with status 1. Neither has a MEDIAN of groups. Build bitcol first, by 
 """
 
 import argparse
+import functools
 import random
 import sqlite3
 import time
@@ -81,7 +82,7 @@ def numpy_answers(rows: Pairs) -> dict[str, Callable[[], list[Any]]]:
         }[what]()
         return [numbers, *columns]
 
-    return {what: lambda what=what: folded(what) for what in STATEMENTS if what != "MEDIAN"}
+    return {what: functools.partial(folded, what) for what in STATEMENTS if what != "MEDIAN"}
 
 
 def medians(rows: Pairs) -> list[tuple[str, ...]]:
@@ -142,7 +143,8 @@ def main() -> None:
     report = Report("python3 bench/groups.py")
     if numpy is None:
         report.note("numpy is not installed: left out")
-    lines, heights = [], {what: [] for what in STATEMENTS}
+    lines: list[list[str]] = []
+    heights: dict[str, list[tuple[float | str, float]]] = {what: [] for what in STATEMENTS}
     for shape in shapes(words.rows):
         for line in time_shape(shape, words):
             heights[str(line[2])].append((shape.name, float(line[3])))

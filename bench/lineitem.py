@@ -74,9 +74,9 @@ def lineitem(scale: float) -> Columns:
     whole."""
     whole = data_file(f"lineitem-{scale:g}.rows")
     if whole.exists():
-        count, *names = whole.read_text().split()
+        written, *names = whole.read_text().split()
         if all(data_file(name).exists() for name in names):
-            return Columns(tuple(data_file(name) for name in names), TYPES, int(count))
+            return Columns(tuple(data_file(name) for name in names), TYPES, int(written))
     draw = random.Random(SEED)
     parts = max(1, round(PARTS * scale))
     lines: list[str] = []

@@ -208,7 +208,7 @@ def more(parser: argparse.ArgumentParser) -> None:
 
 
 def main() -> None:
-    numbers = Number("rows", 1 << 20, 400, "how many rows"), Number("rounds", 3, 1, "how many rounds")
+    numbers = Number("rows", 1 << 20, 120, "how many rows"), Number("rounds", 3, 1, "how many rounds")
     words = options(__doc__, *numbers, more=more)
     statements = [statement for statement in STATEMENTS if words.only in statement.title]
     report = Report("python3 bench/matrix.py")

@@ -56,7 +56,7 @@ class Masked:
     """numpy's arrays of both columns, each with an array that tells where it isn't NULL."""
 
     name = "numpy"
-    loading = None
+    loading: float | None = None
 
     def __init__(self, columns: Columns) -> None:
         values = array.array("i"), array.array("i")

@@ -5,7 +5,7 @@ dashes, and bars in colour and in order, so that none is told by its colour alon
 """
 
 import math
-from collections.abc import Callable, Sequence
+from collections.abc import Sequence
 from dataclasses import dataclass
 from html import escape
 
@@ -43,9 +43,10 @@ class Axis:
     is_log: bool
 
     def place(self, value: float) -> float:
-        scale: Callable[[float], float] = math.log10 if self.is_log else float
-        low, high = scale(self.least), scale(self.greatest)
-        return self.begin + (scale(max(value, self.least)) - low) / (high - low or 1) * (self.end - self.begin)
+        low, high, here = (
+            math.log10(each) if self.is_log else each for each in (self.least, self.greatest, max(value, self.least))
+        )
+        return self.begin + (here - low) / (high - low or 1) * (self.end - self.begin)
 
     def ticks(self) -> list[float]:
         """Powers of ten, or some five round numbers."""

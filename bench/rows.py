@@ -59,7 +59,8 @@ def costs(rows: list[Row], count: int, words: argparse.Namespace) -> tuple[dict[
         ordered = text + (" ORDER BY g" if "GROUP" in text else "")
         theirs[what], answer = least_of_base(base, ordered, 1, max(1, repeats // 20))
         require(answer == rows_of(replies[what]), f"{count} rows, {what}: sqlite3 {answer[:4]}, {replies[what][:99]}")
-    return tuple({what: cost / count * 1e9 for what, cost in found.items()} for found in (own, theirs))
+    in_nanoseconds = [{what: cost / count * 1e9 for what, cost in found.items()} for found in (own, theirs)]
+    return in_nanoseconds[0], in_nanoseconds[1]
 
 
 def more(parser: argparse.ArgumentParser) -> None:

@@ -152,7 +152,7 @@ class Sqlite:
 
     name = "sqlite3"
     # It is filled by rows of Python, which is not to be compared with a LOAD.
-    loading = None
+    loading: float | None = None
 
     def __init__(self, columns: Columns) -> None:
         self.base = sqlite3.connect(":memory:", isolation_level=None)
@@ -188,7 +188,7 @@ class Numpy:
     """Masks and sums over numpy's arrays."""
 
     name = "numpy"
-    loading = None
+    loading: float | None = None
 
     def __init__(self, arrays: dict[str, array.array]) -> None:
         kinds = {"q": "i8", "i": "i4"}
@@ -207,8 +207,8 @@ class Numpy:
         found = self.mask(query)
         if not query.group:
             count = int(numpy.count_nonzero(found))
-            sums = [int(self.columns[name][found].sum(dtype="i8")) if count else "NULL" for name in query.sums]
-            return texts([(*sums, count)])
+            totals = [int(self.columns[name][found].sum(dtype="i8")) if count else None for name in query.sums]
+            return texts([(*totals, count)])
         keys = self.columns[query.group][found]
         order = numpy.argsort(keys, kind="stable")
         groups, starts, counts = numpy.unique(keys[order], return_index=True, return_counts=True)
@@ -234,7 +234,7 @@ class Loops:
     """Loops in C++ over plain columns, compiled: bench/kernels/ranges.cpp."""
 
     name = "C++"
-    loading = None
+    loading: float | None = None
 
     def __init__(self, arrays: dict[str, array.array], program: str, rounds: int = 3) -> None:
         self.program, self.rounds = program, rounds
