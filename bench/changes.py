@@ -1,34 +1,42 @@
 #!/usr/bin/env python3
-"""Times an UPDATE of half the rows of a table by values and by a literal, and a REBUILD, in each layout and both kinds; and a
-DELETE of every other row and a SELECT of all of them. sqlite3 does the same in memory, but for the REBUILD, in the same run.
+"""Times an UPDATE of half the rows of a table by values and by a literal, and a REBUILD, in each layout and both kinds;
+and a DELETE of every other row and a SELECT of all of them. sqlite3 does the same in memory, but for the REBUILD, in
+the same run, and what is in the tables then is compared: a difference ends the bench with status 1.
 
-The tables are filled by INSERT statements. Build bitcol first, by `rt run` in crates/bitcol.
+Build bitcol first, by `rt run` in crates/bitcol.
 
-    python3 bench/changes.py [ROWS]      how many rows; 1000000 if not given
+    python3 bench/changes.py [ROWS [ROUNDS]]      how many rows; 1000000 if not given
 """
 
+import argparse
 import random
-import sys
+import sqlite3
+import time
+from collections.abc import Callable
+from pathlib import Path
 
-from common import filling, quickest, random_row, random_value
+from common import LAYOUTS, Number, data_file, options, random_value
+from program import Program, rows_of
+from report import Report, figure, require, times
+from tables import Row, csv_file, fill, filled_base, least_of_base
 
-LAYOUTS = "VHSP"
-UPDATE = "UPDATE t SET a = b, b = a WHERE c < 0;\n"
-LITERAL = "UPDATE t SET a = 5, b = 5 WHERE c < 0;\n"
-REBUILD = "REBUILD t;\n"
-DELETE = "DELETE FROM t WHERE d = 1;\n"
-SELECT = "SELECT * FROM u;\n"
-TIMES = 5
+UPDATES = {
+    "UPDATE by another column": "UPDATE t SET a = b, b = a WHERE c < 0",
+    "UPDATE by a literal": "UPDATE t SET a = 5, b = 5 WHERE c < 0",
+}
+REBUILD = "REBUILD"
+DELETE = "DELETE FROM t WHERE d = 1"
+SELECT = "SELECT * FROM t"
+CONTENT = "SELECT SUM(a), SUM(b), MIN(a), MAX(b), COUNT(*) FROM t WHERE c < 0"
 ENTRIES = 4_096
-MILLISECOND = 1e-3
 
 
-def of_distances(generator):
+def of_distances(generator: random.Random) -> int:
     """A value of a column of distances: any 32-bit integer."""
     return random_value(generator)
 
 
-def of_entries(generator):
+def of_entries(generator: random.Random) -> int:
     """A value of a column of a dictionary: one of a few, among them the literal."""
     return 7 * generator.randrange(ENTRIES) + 5
 
@@ -36,56 +44,90 @@ def of_entries(generator):
 KINDS = {"OFFSET": of_distances, "DICTIONARY": of_entries}
 
 
-def four_columns(rows, value):
-    """Two columns to be set, one that is below 0 at half the rows, and one that is 1 at every other row. In two rows each of the
-    first two has the ends of both, so that neither is encoded anew where it takes the values of the other."""
-    generator = random.Random(rows)
-    values = [(value(generator), value(generator)) for _ in range(rows)]
-    least, most = min(map(min, values)), max(map(max, values))
-    values[:2] = (least, most), (most, least)
-    return ((*pair, generator.choice((-1, 1)), i % 2) for i, pair in enumerate(values))
+def four_columns(count: int, value: Callable[[random.Random], int]) -> list[Row]:
+    """Two columns to be set, one that is below 0 at half the rows, and one that is 1 at every other row. In two rows
+    each of the first two has the ends of both, so that neither is encoded anew where it takes the values of the
+    other."""
+    generator = random.Random(count)
+    values = [(value(generator), value(generator)) for _ in range(count)]
+    least, most = min(min(pair) for pair in values), max(max(pair) for pair in values)
+    values[:2] = [(least, most), (most, least)]
+    return [(*pair, generator.choice((-1, 1)), i % 2) for i, pair in enumerate(values)]
 
 
-def two_columns(rows):
-    generator = random.Random(rows)
-    return (random_row(generator) for _ in range(rows))
+def changed_base(base: sqlite3.Connection, rounds: int) -> tuple[dict[str, float], list[tuple[str, ...]]]:
+    """Seconds of sqlite3's updates, and what is in its table then."""
+    costs = {}
+    for what, text in UPDATES.items():
+        least = float("inf")
+        for _ in range(rounds):
+            start = time.process_time()
+            base.execute(text)
+            least = min(least, time.process_time() - start)
+        costs[what] = least
+    return costs, least_of_base(base, CONTENT, 1)[1]
 
 
-def each_value(name, costs, values, beside=""):
-    """Prints what one value takes."""
-    bitcol = costs["bitcol"]
-    if "sqlite3" in costs:
-        beside = f", sqlite3 {costs['sqlite3'] / values * 1e9:7.1f} ns, {costs['sqlite3'] / bitcol:5.1f} times as long"
-    print(f"{name:32}: bitcol {bitcol / values * 1e9:6.1f} ns{beside}", flush=True)
+def change(layout: str, kind: str, path: Path, rounds: int) -> tuple[dict[str, float], list[tuple[str, ...]]]:
+    """Seconds of the updates and of a REBUILD in a layout and kind, and what is in the table then."""
+    with Program() as program:
+        fill(program, "abcd", f"USING {layout} {kind}", path)
+        costs = {what: program.least(text, rounds)[0] for what, text in UPDATES.items()}
+        content = rows_of(program.ask(CONTENT)[1])
+        costs[REBUILD] = program.least("REBUILD t", rounds)[0]
+        return costs, content
 
 
-def changes(rows, layout, kind, value):
-    """Times the changes of one layout and kind. Half of the rows are set in two columns, and four columns are built anew."""
-    fill = "".join(filling("t", "abcd", four_columns(rows, value), f" USING {layout} {kind}"))
-    plain = "".join(filling("t", "abcd", four_columns(rows, value)))
-    for what, statement in (("UPDATE by values", UPDATE), ("UPDATE by a literal", LITERAL)):
-        times = quickest(fill, statement * TIMES, plain)
-        each_value(f"{layout} {kind}, {what}", times, rows * TIMES)
-    times = quickest(fill, REBUILD * TIMES, False)
-    each_value(f"{layout} {kind}, REBUILD", times, 4 * rows * TIMES)
-
-
-def compare(what, fill, statement, times):
-    """Prints what one statement takes. Where bitcol takes less than can be told, it counts as a millisecond."""
-    costs = {name: seconds / times for name, seconds in quickest(fill, statement * times).items()}
-    bitcol = max(costs.pop("bitcol"), MILLISECOND)
-    beside = "".join(f", {name} {cost * 1e3:8.1f} ms, {cost / bitcol:6.1f} times as long" for name, cost in costs.items())
-    print(f"{what:32}: bitcol {bitcol * 1e3:8.1f} ms{beside}", flush=True)
-
-
-def main():
-    rows = int(sys.argv[1]) if len(sys.argv) > 1 else 1_000_000
+def time_kind(kind: str, words: argparse.Namespace, report: Report) -> None:
+    """A table of the changes in one kind: ns for each value that is set or built anew."""
+    count, rounds = words.rows, words.rounds
+    rows = four_columns(count, KINDS[kind])
+    path = csv_file("changes.csv", rows)
+    theirs, wanted = changed_base(filled_base("abcd", rows), rounds)
+    own = {}
     for layout in LAYOUTS:
-        for kind, value in KINDS.items():
-            changes(rows, layout, kind, value)
-    wide = "".join(filling("t", "abcd", four_columns(rows, of_distances)))
-    compare("DELETE of every other", wide, DELETE, 1)
-    compare("SELECT * of all rows", "".join(filling("u", "ab", two_columns(rows))), SELECT, TIMES)
+        own[layout], content = change(layout, kind, path, rounds)
+        require(content == wanted, f"{layout} {kind}: {content}, sqlite3 {wanted}")
+    lines = []
+    for what in (*UPDATES, REBUILD):
+        scale = 1e9 / count / (4 if what == REBUILD else 1)
+        costs = [own[layout][what] for layout in LAYOUTS]
+        ratios = [times(theirs.get(what), costs[0]), times(theirs.get(what), max(costs))]
+        lines.append([what, *(figure(cost * scale, 2) for cost in costs), *ratios])
+        report.line(f"changes-{kind.lower()}", what, zip(LAYOUTS, (cost * scale for cost in costs)))
+    what = f"{count:,} rows, kind {kind}; ns for each value that is set or built anew"
+    report.table(f"changes-{kind.lower()}", what, ["Statement", *LAYOUTS, "sqlite3, times V", "times the worst"], lines)
+
+
+def time_rows(words: argparse.Namespace, report: Report) -> None:
+    """A table of the DELETE and of the SELECT of all rows, in milliseconds."""
+    rows = four_columns(words.rows, of_distances)
+    path, base, lines = csv_file("changes.csv", rows), filled_base("abcd", rows), []
+    with Program() as program:
+        fill(program, "abcd", "", path)
+        shown, reply = program.least(SELECT, words.rounds)
+        theirs, answer = least_of_base(base, SELECT, 2)
+        require(rows_of(reply) == answer, "SELECT * of all rows")
+        lines.append(["SELECT * of four columns", figure(shown * 1e3), figure(theirs * 1e3), times(theirs, shown)])
+        deleted, reply = program.ask(DELETE)
+        start = time.process_time()
+        count = base.execute(DELETE).rowcount
+        theirs = time.process_time() - start
+        require(reply == f"ok {count}\n", f"DELETE: {reply}, sqlite3 {count}")
+        lines.append(["DELETE of every other row", figure(deleted * 1e3), figure(theirs * 1e3), times(theirs, deleted)])
+    heading = ["Statement", "bitcol", "sqlite3", "times as long"]
+    report.table("rows-and-deletes", f"{words.rows:,} rows; ms, layout V", heading, lines)
+
+
+def main() -> None:
+    numbers = Number("rows", 1_000_000, 1_000, "how many rows"), Number("rounds", 5, 1, "how many rounds")
+    words = options(__doc__, *numbers)
+    report = Report("python3 bench/changes.py")
+    for kind in KINDS:
+        time_kind(kind, words, report)
+    time_rows(words, report)
+    report.finish()
+    data_file("changes.csv").unlink()
 
 
 if __name__ == "__main__":

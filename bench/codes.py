@@ -1,5 +1,6 @@
 #!/usr/bin/env python3
-"""Times how fast values are fitted and encoded and how fast plain codes are scanned, beside plain passes in the same run.
+"""Times how fast values are fitted and encoded and how fast plain codes are scanned, beside plain passes in the same
+run.
 
 The values are random numbers of 32 bits. Build the timing program first, by `rt run` in crates/bw_bench.
 
@@ -8,9 +9,9 @@ The values are random numbers of 32 bits. Build the timing program first, by `rt
 
 import re
 import subprocess
-import sys
 
-from common import built
+from common import Number, built, options
+from report import Report, figure, times
 
 FIGURE = re.compile(r"(\w+) (\d+) ns")
 
@@ -22,17 +23,24 @@ COMPARED = {
         ("sort", "search"),
         "a sort and a binary search a value",
     ),
-    "plain scan to a mask": (("scan",), ("count",), "counting alone"),
+    "a plain scan to a mask": (("scan",), ("count",), "counting alone"),
 }
 
 
-def main():
-    rounds, values = (int(word) for word in (sys.argv[1:] + ["20", "1000000"][len(sys.argv) - 1 :])[:2])
-    done = subprocess.run([built("bw_bench"), str(rounds), str(values)], input="", capture_output=True, text=True, check=True)
-    times = {what: int(nanoseconds) / rounds / values for what, nanoseconds in FIGURE.findall(done.stderr)}
+def main() -> None:
+    numbers = Number("rounds", 20, 1, "how many rounds"), Number("values", 1_000_000, 1_000, "how many values")
+    words = options(__doc__, *numbers, crate="bw_bench")
+    command = [built("bw_bench"), str(words.rounds), str(words.values)]
+    done = subprocess.run(command, input="", capture_output=True, text=True, check=True)
+    found = {what: int(taken) / words.rounds / words.values for what, taken in FIGURE.findall(done.stderr)}
+    lines = []
     for what, (work, plain, beside) in COMPARED.items():
-        time = sum(times[part] for part in work)
-        print(f"{what:28} {time:8.2f} ns a value, {time / sum(times[part] for part in plain):5.2f} times {beside}")
+        cost = sum(found[part] for part in work)
+        lines.append([what, figure(cost, 2), beside, times(cost, sum(found[part] for part in plain))])
+    report = Report("python3 bench/codes.py")
+    heading = ["Work", "ns a value", "compared with", "times as long"]
+    report.table("codes", f"{words.values:,} random values of 32 bits", heading, lines)
+    report.finish()
 
 
 if __name__ == "__main__":

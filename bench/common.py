@@ -1,81 +1,143 @@
-"""What the benches share: where programs and data lie, and the statements that fill a table of two columns."""
+"""What the benches share: where programs and data lie, how a script is called, and the statements that fill a table."""
 
+import argparse
 import functools
 import os
-import re
 import shutil
 import subprocess
 import sys
+from collections.abc import Callable, Iterable
+from dataclasses import dataclass, field
 from pathlib import Path
+from random import Random
+from typing import IO, Any
 
 HERE = Path(__file__).resolve().parent
+ROOT = HERE.parent
 DATA = HERE / "data"
+KERNELS = HERE / "kernels"
 
+LAYOUTS = "VHSP"
 STATEMENT_BYTES = 60_000
-ROWS_A_STATEMENT = 1_000
 ROUNDS = 7
 MEGABYTE = 1_000_000
 LEAST, MOST = -(2**31), 2**31 - 1
 
 
-def built(crate):
-    """The program that `rt run` builds in the folder of this crate."""
-    program = HERE.parent / "crates" / crate / "out" / crate
+@dataclass
+class Settings:
+    """What the command line of a bench says, for all that it calls."""
+
+    quick: bool = False
+    json: Path | None = None
+    # The programs that are not those which `rt run` builds, by their crates.
+    programs: dict[str, str] = field(default_factory=dict)
+
+
+SETTINGS = Settings()
+
+
+@dataclass(frozen=True)
+class Number:
+    """A word of the command line that is a number: what it is where it isn't given, and what in a quick run."""
+
+    name: str
+    usual: int
+    quick: int
+    meaning: str
+
+
+def options(document: str | None, *numbers: Number, crate: str = "bitcol",
+            more: Callable[[argparse.ArgumentParser], Any] | None = None) -> argparse.Namespace:
+    """The words of the command line. Each bench takes --program, --quick and --json, its numbers in order, and what
+    `more` adds."""
+    parser = argparse.ArgumentParser(description=document, formatter_class=argparse.RawDescriptionHelpFormatter)
+    for number in numbers:
+        parser.add_argument(number.name, nargs="?", type=int, help=f"{number.meaning}; {number.usual:,} if not given")
+    parser.add_argument("--program", metavar="PATH", help=f"the built program; crates/{crate}/out/{crate} if not given")
+    parser.add_argument("--quick", action="store_true", help="little data and one round, to see that it works")
+    parser.add_argument("--json", type=Path, metavar="FILE", help="where the tables are written as JSON, too")
+    if more:
+        more(parser)
+    words = parser.parse_args()
+    SETTINGS.quick, SETTINGS.json = words.quick, words.json
+    if words.program:
+        SETTINGS.programs[crate] = str(Path(words.program).resolve())
+    for number in numbers:
+        if getattr(words, number.name) is None:
+            setattr(words, number.name, number.quick if words.quick else number.usual)
+    return words
+
+
+def rounds(usual: int = ROUNDS) -> int:
+    """How many rounds are run: one in a quick run."""
+    return 1 if SETTINGS.quick else usual
+
+
+def built(crate: str) -> str:
+    """The program of this crate: what the command line names, or what `rt run` builds in the folder of the crate."""
+    program = Path(SETTINGS.programs.get(crate) or ROOT / "crates" / crate / "out" / crate)
     if not program.exists():
-        sys.exit(f"build {crate} first: rt run, in crates/{crate}")
+        sys.exit(f"{program} is not there: build {crate} first by rt run in crates/{crate}, or name it by --program")
     return str(program)
 
 
 @functools.cache
-def sqlite3():
+def sqlite3() -> str | None:
     """The sqlite3 of this machine, or None."""
     program = shutil.which("sqlite3")
     if program is None:
-        print("sqlite3 is not there: bitcol alone")
+        print("sqlite3 is not there: left out", file=sys.stderr)
     return program
 
 
-def data_file(name):
+@functools.cache
+def kernel(name: str) -> str | None:
+    """The program of bench/kernels/NAME.cpp, compiled as the products are, for x86-64-v2; or None without g++."""
+    compiler = shutil.which("g++")
+    if compiler is None:
+        print("g++ is not there: the loops in C++ are left out", file=sys.stderr)
+        return None
+    program = data_file(f"kernel_{name}")
+    flags = ["-O3", "-std=c++17", "-march=x86-64-v2"]
+    subprocess.run([compiler, *flags, "-o", str(program), str(KERNELS / f"{name}.cpp")], check=True)
+    return str(program)
+
+
+def data_file(name: str) -> Path:
     DATA.mkdir(exist_ok=True)
     return DATA / name
 
 
-def random_value(generator):
+def random_value(generator: Random) -> int:
     return generator.randint(LEAST, MOST)
 
 
-def random_row(generator):
+def random_row(generator: Random) -> tuple[int, int]:
     return random_value(generator), random_value(generator)
 
 
-def written(row):
+def written(row: Iterable[object]) -> str:
     return "(" + ",".join(map(str, row)) + ")"
 
 
-def insert(rows, table="t"):
+def insert(rows: Iterable[str], table: str = "t") -> str:
     """One statement that inserts rows as they are written."""
     return f"INSERT INTO {table} VALUES " + ",".join(rows) + ";\n"
 
 
-def rows_of_a_statement(next_row):
+def rows_of_a_statement(next_row: Callable[[], str]) -> list[str]:
     """So many rows, as they are written, that a statement of them has STATEMENT_BYTES."""
-    rows, length = [], 0
+    rows: list[str] = []
+    length = 0
     while length < STATEMENT_BYTES:
         rows.append(next_row())
         length += len(rows[-1]) + 1
     return rows
 
 
-def filling(table, columns, rows, choice=""):
-    """Statements that make a table of these columns and insert these rows, which are tuples. Each column has the layout and the
-    kind that the choice names, which sqlite3 doesn't know."""
-    rows = list(rows)
-    yield f"CREATE TABLE {table} ({', '.join(f'{column} INTEGER{choice}' for column in columns)});\n"
-    for start in range(0, len(rows), ROWS_A_STATEMENT):
-        yield insert(map(written, rows[start : start + ROWS_A_STATEMENT]), table)
-
-
-def processor_seconds(command, source, answers=subprocess.DEVNULL):
+def processor_seconds(command: list[str], source: Path,
+                      answers: int | IO[bytes] = subprocess.DEVNULL) -> tuple[float, float]:
     """The processor time that the command takes over the file, and the most memory that it holds, in megabytes."""
     with source.open("rb") as stdin:
         child = subprocess.Popen(command, stdin=stdin, stdout=answers)
@@ -84,43 +146,3 @@ def processor_seconds(command, source, answers=subprocess.DEVNULL):
     if child.returncode != 0:
         sys.exit(f"{command[0]} ended with status {child.returncode}")
     return usage.ru_utime + usage.ru_stime, usage.ru_maxrss * 1024 / MEGABYTE
-
-
-def bitcol_run(name, script):
-    """A call that runs bitcol over the script and gives the processor time. The bench ends where a statement is refused."""
-    command, source = [built("bitcol")], data_file(name)
-    source.write_text(script)
-    with source.open("rb") as stdin:
-        if b"error" in subprocess.run(command, stdin=stdin, stdout=subprocess.PIPE, check=True).stdout:
-            sys.exit("bitcol refuses a statement")
-    return lambda: processor_seconds(command, source)[0]
-
-
-def sqlite_run(program, fill, timed):
-    """A call that runs sqlite3 and gives the processor time of the timed statements, as its own timer tells it."""
-    source = data_file("timed.sqlite.sql")
-    source.write_text("BEGIN;\n" + fill + "COMMIT;\n.output /dev/null\n.timer on\n" + timed)
-
-    def run():
-        with source.open("rb") as stdin:
-            ended = subprocess.run([program, ":memory:"], stdin=stdin, capture_output=True, check=True)
-        if ended.stderr:
-            sys.exit(f"sqlite3 refuses a statement: {ended.stderr[:200]}")
-        times = re.findall(rb"^Run Time: real \S+ user (\S+) sys (\S+)$", ended.stdout, re.MULTILINE)
-        return sum(float(user) + float(system) for user, system in times)
-
-    return run
-
-
-def quickest(fill, timed, beside=True):
-    """The processor time that each program takes for the timed statements over the tables that are filled, the least of
-    some rounds; of bitcol that of the whole script less that of a script which only fills. Each round takes all runs in
-    turn, since a machine's speed swings. What is shown goes to no file. Without `beside` bitcol runs alone; `beside` may be the
-    statements with which sqlite3 fills its tables."""
-    runs = {"filling": bitcol_run("filled.sql", fill), "bitcol": bitcol_run("timed.sql", fill + timed)}
-    if beside and (program := sqlite3()):
-        runs["sqlite3"] = sqlite_run(program, fill if beside is True else beside, timed)
-    rounds = [{name: run() for name, run in runs.items()} for _ in range(ROUNDS)]
-    least = {name: min(times[name] for times in rounds) for name in runs}
-    least["bitcol"] -= least.pop("filling")
-    return least

@@ -1,26 +1,38 @@
 #!/usr/bin/env python3
-"""Times LOAD of CSV files beside sqlite3's `.import`, and SAVE and OPEN of the table that all of them make and of the table of one, in one
-run and in each layout: in fresh pages of 4 KB, in fresh huge pages, and in memory that the program has had before. It also tells what
-the kernel takes for a page that is touched for the first time.
+"""Times LOAD of CSV files beside sqlite3's `.import`, and SAVE and OPEN of the table that all of them make and of the
+table of one, in one run and in each layout: in fresh pages of 4 KB, in fresh huge pages, and in memory that the program
+has had before. It also tells what the kernel takes for a page that is touched for the first time.
 
-The files have two columns of random values of 32 bits, of which one in ten of the second is NULL. Of the LOAD of one file it also
-tells the memory that it takes at its peak beside the bytes of the file. Build bitcol first, by `rt run` in crates/bitcol.
+The files have two columns of random values of 32 bits, of which one in ten of the second is NULL. Of the LOAD of one
+file it also tells the memory that it takes at its peak beside the bytes of the file. Build bitcol first, by `rt run` in
+crates/bitcol.
 
     python3 bench/files.py [FILES [ROWS]]      how many files of how many rows; 4 of 1048576 if not given
 """
 
 import mmap
 import random
-import sys
 import time
 from dataclasses import dataclass
+from pathlib import Path
 
-from common import MEGABYTE, ROUNDS, built, data_file, processor_seconds, random_value, sqlite3
+from common import (
+    LAYOUTS,
+    MEGABYTE,
+    Number,
+    built,
+    data_file,
+    options,
+    processor_seconds,
+    random_value,
+    rounds,
+    sqlite3,
+)
+from report import Report, figure, times
 
 TABLE = "CREATE TABLE t (a INT, b INT);\n"
 # So often a table is saved or opened beyond once: the difference leaves out the program's start and what comes before.
 MORE = 8
-DEFAULTS = 4, 1_048_576
 
 
 @dataclass(frozen=True)
@@ -33,7 +45,7 @@ class Memory:
     # Whether each table is dropped before the next is opened.
     drops: bool
 
-    def run(self, script):
+    def run(self, script: Path) -> tuple[list[str], Path]:
         asked = ["env", f"GLIBC_TUNABLES={self.tunables}"] if self.tunables else []
         return [*asked, built("bitcol"), "--stop"], script
 
@@ -47,7 +59,7 @@ MEMORIES = (
 )
 
 
-def csv_file(number, rows):
+def csv_file(number: int, rows: int) -> Path:
     """A file of so many rows."""
     generator = random.Random(number)
     path = data_file(f"load{number}.csv")
@@ -58,28 +70,29 @@ def csv_file(number, rows):
     return path
 
 
-def script_file(name, *statements):
+def script_file(name: str, *statements: str) -> Path:
     path = data_file(name)
     path.write_text("".join(statements))
     return path
 
 
-def opened(table, times, drops):
+def opened(table: Path, count: int, drops: bool) -> str:
     """Statements that open the table so often, under another name each time, and drop each but the last if so."""
-    opens = [f"OPEN u{number} FROM '{table}';\n" for number in range(times)]
-    between = [f"DROP TABLE u{number};\n" if drops else "" for number in range(times - 1)]
+    opens = [f"OPEN u{number} FROM '{table}';\n" for number in range(count)]
+    between = [f"DROP TABLE u{number};\n" if drops else "" for number in range(count - 1)]
     return "".join(a + b for a, b in zip(opens, [*between, ""]))
 
 
-def made(layout, which, loads):
+def made(layout: str, which: str, loads: str) -> Path:
     """The file of the table that the loads fill, made by a run that isn't timed."""
     table = data_file(f"{which}_{layout}.table")
     create = f"CREATE TABLE t (a INT USING {layout}, b INT USING {layout});\n"
-    processor_seconds([built("bitcol"), "--stop"], script_file("make.sql", create, loads, f"SAVE t TO '{table}';\n"))
+    script = script_file("make.sql", create, loads, f"SAVE t TO '{table}';\n")
+    processor_seconds([built("bitcol"), "--stop"], script)
     return table
 
 
-def scripts_of(layout, which, table, drops):
+def scripts_of(layout: str, which: str, table: Path, drops: bool) -> dict[str, Path]:
     """Scripts that save a table once and more often, and that open it so, by what they do."""
     begin = f"OPEN t FROM '{table}';\n"
     saved = f"SAVE t TO '{data_file('saved.table')}';\n"
@@ -92,13 +105,13 @@ def scripts_of(layout, which, table, drops):
     }
 
 
-def quickest_of(runs):
+def quickest_of(runs: dict) -> dict:
     """The quickest of some rounds of each run: seconds of the processor, and the least of the peaks of memory."""
-    rounds = [{name: processor_seconds(*run) for name, run in runs.items()} for _ in range(ROUNDS)]
-    return {name: tuple(min(found[name][part] for found in rounds) for part in (0, 1)) for name in runs}
+    found = [{name: processor_seconds(*run) for name, run in runs.items()} for _ in range(rounds())]
+    return {name: tuple(min(each[name][part] for each in found) for part in (0, 1)) for name in runs}
 
 
-def time_loads(paths, rows):
+def time_loads(paths: list[Path], rows: int, report: Report) -> None:
     loads = "".join(f"LOAD t FROM '{path}';\n" for path in paths)
     program = [built("bitcol"), "--stop"]
     runs = {
@@ -107,56 +120,84 @@ def time_loads(paths, rows):
     }
     if other := sqlite3():
         imports = "".join(f".import {path} t\n" for path in paths)
-        runs["sqlite3"] = [other, ":memory:"], script_file("import.sql", TABLE, "BEGIN;\n.mode csv\n", imports, "COMMIT;\n")
+        script = script_file("import.sql", TABLE, "BEGIN;\n.mode csv\n", imports, "COMMIT;\n")
+        runs["sqlite3"] = [other, ":memory:"], script
     found = quickest_of(runs)
     seconds = {name: took for name, (took, _) in found.items()}
-    beside = f", sqlite3's .import {seconds['sqlite3'] / seconds['loads']:.1f} times as long" if "sqlite3" in seconds else ""
-    print(f"LOAD: {seconds['loads'] / (len(paths) * rows * 2) * 1e9:.0f} ns a value{beside}")
-    # The process itself is counted in: what a script of one CREATE takes is told too high, since Python was in its place before.
+    # The process itself is counted in: what a script of one CREATE takes is told too high, since Python was in its
+    # place before.
     held = found["one"][1] * MEGABYTE - paths[0].stat().st_size
-    print(f"LOAD of one file: at most {held / (rows * 2):.0f} bytes a value at its peak, beside those of the file")
+    cost = seconds["loads"] / (len(paths) * rows * 2) * 1e9
+    line = [figure(cost), times(seconds.get("sqlite3"), seconds["loads"]), figure(held / (rows * 2), 2)]
+    heading = ["ns a value", "sqlite3's .import takes times as long", "bytes a value at the peak, beside the file's"]
+    report.table("loads", f"LOAD of {len(paths)} files of {rows:,} rows", heading, [line])
 
 
-def time_table(layout, which, paths, rows):
+def time_table(layout: str, which: str, paths: list[Path], rows: int) -> tuple[float, dict[tuple[str, str], float]]:
+    """Megabytes of the table's file, and of each memory and of SAVE and OPEN the megabytes a second."""
     table = made(layout, which, "".join(f"LOAD t FROM '{path}';\n" for path in paths))
-    runs = {(memory, name): memory.run(source) for memory in MEMORIES for name, source in scripts_of(layout, which, table, memory.drops).items()}
+    runs = {
+        (memory, name): memory.run(source)
+        for memory in MEMORIES
+        for name, source in scripts_of(layout, which, table, memory.drops).items()
+    }
     found = quickest_of(runs)
     size = table.stat().st_size / MEGABYTE
+    rates = {}
     for memory in MEMORIES:
-        told = []
-        for what in "save", "open":
+        for what in ("save", "open"):
             took = (found[memory, f"{what}s"][0] - found[memory, what][0]) / MORE
-            told.append(f"{what.upper()} {size / took:.0f} MB of file a second, {took / (len(paths) * rows * 2) * 1e9:.1f} ns a value")
-        print(f"{layout}, {size:.1f} MB, {memory.name}: {'; '.join(told)}")
+            rates[memory.name, what] = size / took
+    return size, rates
 
 
-def first_touch():
-    """Nanoseconds for a page of 4 KB that is touched for the first time, beyond those for one that was touched before."""
+def first_touch() -> float:
+    """Nanoseconds for a page of 4 KB that is touched for the first time, beyond those for one that was touched
+    before."""
     pages = 16_384
     marks = b"\1" * pages
 
-    def touched(memory):
+    def touched(memory: mmap.mmap) -> float:
         begin = time.perf_counter()
         memory[:: mmap.PAGESIZE] = marks
         return time.perf_counter() - begin
 
     fresh, again = [], []
-    for _ in range(ROUNDS):
+    for _ in range(rounds()):
         with mmap.mmap(-1, pages * mmap.PAGESIZE) as memory:
             fresh.append(touched(memory))
             again.append(touched(memory))
     return (min(fresh) - min(again)) / pages * 1e9
 
 
-def main():
-    files, rows = (*map(int, sys.argv[1:3]), *DEFAULTS[len(sys.argv) - 1 :])
-    paths = [csv_file(number, rows) for number in range(files)]
-    time_loads(paths, rows)
-    for layout in "VHSP":
-        time_table(layout, "one", paths[:1], rows)
-        time_table(layout, "all", paths, rows)
+def time_tables(paths: list[Path], rows: int, report: Report) -> None:
+    """A table of SAVE and one of OPEN, over both sizes and all memories."""
+    found = {
+        (which, layout): time_table(layout, which, paths[:1] if which == "one" else paths, rows)
+        for layout in LAYOUTS
+        for which in ("one", "all")
+    }
+    for what in ("save", "open"):
+        lines = []
+        for memory in MEMORIES:
+            for which in ("one", "all"):
+                rates = [found[which, layout][1][memory.name, what] for layout in LAYOUTS]
+                name = f"{figure(found[which, 'V'][0])} MB, {memory.name}"
+                lines.append([name, *map(figure, rates)])
+                if which == "all":
+                    report.line(f"files-{what}", memory.name, zip(LAYOUTS, rates))
+        report.table(f"files-{what}", "MB of file a second", [what.upper(), *LAYOUTS], lines)
+
+
+def main() -> None:
+    words = options(__doc__, Number("files", 4, 2, "how many files"), Number("rows", 1 << 20, 500, "how many rows"))
+    paths = [csv_file(number, words.rows) for number in range(words.files)]
+    report = Report("python3 bench/files.py")
+    time_loads(paths, words.rows, report)
+    time_tables(paths, words.rows, report)
     # At the end, since a program's peak of memory is told no lower than Python's.
-    print(f"The first touch of a page of {mmap.PAGESIZE} bytes: {first_touch():.0f} ns")
+    report.note(f"The first touch of a page of {mmap.PAGESIZE} bytes: {first_touch():.0f} ns")
+    report.finish()
 
 
 if __name__ == "__main__":

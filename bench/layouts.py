@@ -1,94 +1,91 @@
 #!/usr/bin/env python3
-"""Times how fast codes are taken, read and scanned in each layout at each width, and draws the scans' times over the width.
+"""Times how fast codes are taken, read and scanned in each layout at each width, beside the same scans in C++.
 
-Random codes; a tenth of them is found. The quickest of the rounds counts, since a machine's speed swings. Beside them, in the
-same run, a plain pass counts 32-bit codes below a constant. Build the timing program first, by `rt run` in crates/bw_bench.
+Random codes; a tenth of them is found. The quickest of the rounds counts, since a machine's speed swings. The loops in
+C++ (bench/kernels/scans.cpp) run right behind, and tell what memory gives too: without g++ they are left out. Build the
+timing program first, by `rt run` in crates/bw_bench.
 
-    python3 bench/layouts.py [ROUNDS [CODES [SVG]]]     3 rounds over 16,777,216 codes, docs/scans.svg if not given
+    python3 bench/layouts.py [ROUNDS [CODES]]       3 rounds over 16,777,216 codes if not given
 """
 
 import re
 import subprocess
-import sys
 
-from common import HERE, built
+from common import LAYOUTS, Number, built, options
+from loops import scan_costs
+from report import Report, figure, times
 
-LAYOUTS = {"P": "#777777", "V": "#1b6ca8", "H": "#c2571a", "S": "#2e8b57"}
-WORKS = ("extend", "read", "scan")
-SHOWN = (1, 4, 8, 12, 16, 20, 24, 28, 32, 40, 48, 56, 64)
 FIGURE = re.compile(r"^([PVHS]) (\d+) (\w+) (\d+) ns", re.MULTILINE)
 COUNT = re.compile(r"^count (\d+) ns", re.MULTILINE)
-
-# The plot's size, its margins, and how many nanoseconds a row it reaches.
-WIDE, HIGH, LEFT, BOTTOM, TOP = 720, 400, 56, 44, 16
-MOST = 2.5
-
-
-def place(width, time):
-    """Where a time at a width is drawn."""
-    across = LEFT + (width - 1) / 63 * (WIDE - LEFT - 60)
-    up = HIGH - BOTTOM - min(time, MOST) / MOST * (HIGH - BOTTOM - TOP)
-    return across, up
+TOLD = (1, 4, 8, 12, 16, 20, 24, 28, 32, 40, 48, 56, 64)
+IN_LOOPS = (4, 8, 12, 16, 20, 24, 28, 32)
+LOOPS = ("V", "V-branch", "S", "P", "P-count", "memory")
+Costs = dict[tuple[str, int, str], float]
 
 
-def text(across, up, words, anchor="middle", colour="#333333"):
-    return f'<text x="{across:.1f}" y="{up:.1f}" text-anchor="{anchor}" fill="{colour}">{words}</text>'
-
-
-def scans_of(times, layout):
-    """The widths at which a layout was scanned, each with its time."""
-    return sorted((width, time) for (name, width, what), time in times.items() if (name, what) == (layout, "scan"))
-
-
-def shown(times, layout, width, what):
-    """A figure, or a dash where the layout has no codes of that width."""
-    time = times.get((layout, width, what))
-    return f"{'-':>6}" if time is None else f"{time:6.2f}"
-
-
-def plot(times, plain):
-    """An SVG of the scans: nanoseconds a row over the width, a line for each layout and one for the plain pass."""
-    marks = [f'<svg xmlns="http://www.w3.org/2000/svg" viewBox="0 0 {WIDE} {HIGH}" font-family="sans-serif" font-size="12">']
-    marks.append(f'<rect width="{WIDE}" height="{HIGH}" fill="white"/>')
-    for step in range(6):
-        time = MOST * step / 5
-        (left, up), (right, _) = place(1, time), place(64, time)
-        marks.append(f'<line x1="{left}" y1="{up:.1f}" x2="{right}" y2="{up:.1f}" stroke="#dddddd"/>')
-        marks.append(text(left - 8, up + 4, f"{time:.1f}", "end"))
-    for width in SHOWN:
-        marks.append(text(place(width, 0)[0], HIGH - BOTTOM + 18, width))
-    marks.append(text((WIDE + LEFT) / 2, HIGH - 8, "bits of a code"))
-    marks.append(text(LEFT, TOP - 4, "ns a row", "end"))
-    lines = {layout: (scans_of(times, layout), colour) for layout, colour in LAYOUTS.items()}
-    lines["a plain pass"] = ([(1, plain), (64, plain)], "#bbbbbb")
-    for name, (heights, colour) in lines.items():
-        points = " ".join(f"{x:.1f},{y:.1f}" for x, y in (place(width, time) for width, time in heights))
-        marks.append(f'<polyline points="{points}" fill="none" stroke="{colour}" stroke-width="2"/>')
-        x, y = place(*heights[-1])
-        if name in LAYOUTS:
-            marks.append(text(x + 8, y + 4, name, "start", colour))
-        else:
-            marks.append(text(place(3, 0)[0], y - 6, name, "start", "#888888"))
-    return "\n".join(marks + ["</svg>\n"])
-
-
-def main():
-    words = sys.argv[1:]
-    rounds, codes = (int(word) for word in (words[:2] + ["3", "16777216"][len(words[:2]) :]))
-    target = words[2] if len(words) > 2 else HERE.parent / "docs" / "scans.svg"
-    done = subprocess.run([built("bw_bench"), str(rounds), str(codes)], input="", capture_output=True, text=True, check=True)
-    times = {}
-    for layout, width, what, time in FIGURE.findall(done.stderr):
+def own_costs(rounds: int, codes: int) -> tuple[Costs, float | None]:
+    """Nanoseconds a code by layout, width and work, and those of a plain pass that counts."""
+    command = [built("bw_bench"), str(rounds), str(codes)]
+    done = subprocess.run(command, input="", capture_output=True, text=True, check=True)
+    least: Costs = {}
+    for layout, width, what, taken in FIGURE.findall(done.stderr):
         key = layout, int(width), what
-        times[key] = min(int(time) / codes, times.get(key, float("inf")))
-    plain = int(COUNT.search(done.stderr)[1]) / rounds / codes
-    print(f"ns a row; a plain pass that counts: {plain:.2f}")
-    for what in WORKS:
-        print(f"\n{what:6} " + " ".join(f"{width:>6}" for width in SHOWN))
-        for layout in LAYOUTS:
-            print(f"{layout:6} " + " ".join(shown(times, layout, width, what) for width in SHOWN))
-    with open(target, "w", encoding="utf-8") as file:
-        file.write(plot(times, plain))
+        least[key] = min(int(taken) / codes, least.get(key, float("inf")))
+    plain = COUNT.search(done.stderr)
+    return least, int(plain[1]) / rounds / codes if plain else None
+
+
+def work_lines(own: Costs, what: str) -> list[list[str]]:
+    """A line for each width, with what each layout takes; nothing where a layout has no codes of that width."""
+    widths = [width for width in TOLD if any((layout, width, what) in own for layout in LAYOUTS)]
+    return [[str(width), *(figure(own.get((layout, width, what))) for layout in LAYOUTS)] for width in widths]
+
+
+def wide_lines(own: Costs) -> list[list[str]]:
+    """Of each work the time at 64 bits as a multiple of that at 32; nothing in H, which has no codes of 64 bits."""
+    return [
+        [what, *(times(own.get((layout, 64, what)), own.get((layout, 32, what))) for layout in LAYOUTS)]
+        for what in ("extend", "read", "scan")
+    ]
+
+
+def scan_lines(own: Costs, loops: dict[tuple[str, int], float]) -> list[list[str]]:
+    """The scans of each width, the loops' times, and V and S as multiples of theirs."""
+    lines = []
+    for line in work_lines(own, "scan"):
+        width = int(line[0])
+        best_v = min((loops[name, width] for name in ("V", "V-branch") if (name, width) in loops), default=None)
+        ratios = [times(own.get(("V", width, "scan")), best_v),
+                  times(own.get(("S", width, "scan")), loops.get(("S", width)))]
+        lines.append([*line, *(figure(loops.get((name, width))) for name in LOOPS), *ratios])
+    return lines
+
+
+def main() -> None:
+    numbers = Number("rounds", 3, 1, "how many rounds"), Number("codes", 1 << 24, 4_096, "how many codes")
+    words = options(__doc__, *numbers, crate="bw_bench")
+    own, plain = own_costs(words.rounds, words.codes)
+    loops = scan_costs(IN_LOOPS, words.codes, words.rounds)
+    report = Report(f"python3 bench/layouts.py {words.rounds} {words.codes}")
+    told = f"{words.codes:,} codes; ns a code" + (f"; a plain pass that counts: {figure(plain)}" if plain else "")
+    place = "memory" if words.codes > 1 << 22 else "caches"
+    heading = ["Bits", *LAYOUTS]
+    beside = [*(f"C++ {name}" for name in LOOPS), "V, times", "S, times"]
+    report.table(f"scans-in-{place}", told, heading + beside, scan_lines(own, loops))
+    if place == "caches":
+        for what in ("extend", "read"):
+            told = f"{what}: {words.codes:,} codes; ns a code"
+            report.table(f"{what}-in-caches", told, heading, work_lines(own, what))
+        told = f"codes of 64 bits as multiples of the time of 32; {words.codes:,} codes"
+        report.table("wide-codes", told, ["", *LAYOUTS], wide_lines(own))
+    for layout in LAYOUTS:
+        heights = sorted((width, cost) for (name, width, what), cost in own.items() if (name, what) == (layout, "scan"))
+        report.line(f"scans-in-{place}", layout, heights)
+    for name in ("V", "S", "P", "memory"):
+        heights = [(width, loops[name, width]) for width in IN_LOOPS if (name, width) in loops]
+        if heights:
+            report.line(f"scans-in-{place}", name if name == "memory" else f"C++ {name}", heights)
+    report.finish()
 
 
 if __name__ == "__main__":

@@ -11,23 +11,25 @@ write them. Build the timing program first, by `rt run` in crates/bw_bench.
 import random
 import re
 import subprocess
-import sys
+from collections.abc import Callable
+from pathlib import Path
 
-from common import built, data_file, insert, random_row, rows_of_a_statement, written
+from common import SETTINGS, Number, built, data_file, insert, options, random_row, rows_of_a_statement, written
+from report import Report, figure, times
 
 STATEMENTS = 50
 FIGURE = re.compile(r"(\w+) (\d+) ns")
 
 
-def full_row(generator):
+def full_row(generator: random.Random) -> str:
     return written(random_row(generator))
 
 
-def dense_row(generator):
+def dense_row(generator: random.Random) -> str:
     return written((generator.randint(0, 9), generator.randint(0, 9)))
 
 
-def loose_row(generator):
+def loose_row(generator: random.Random) -> str:
     values = [generator.choice(["NULL", "+7", "- 12", "300", "-45000"]) for _ in range(3)]
     return f"( {', '.join(values)} )"
 
@@ -35,29 +37,30 @@ def loose_row(generator):
 SCRIPTS = {"random": full_row, "dense": dense_row, "written": loose_row}
 
 
-def write_script(name, row):
+def write_script(name: str, row: Callable[[random.Random], str]) -> Path:
     generator = random.Random(name)
     path = data_file(f"parsing-{name}.sql")
     with path.open("w") as out:
-        for _ in range(STATEMENTS):
+        for _ in range(1 if SETTINGS.quick else STATEMENTS):
             out.write(insert(rows_of_a_statement(lambda: row(generator))))
     return path
 
 
-def main():
-    rounds = int(sys.argv[1]) if len(sys.argv) > 1 else 20
-    timer = built("bw_bench")
+def main() -> None:
+    words = options(__doc__, Number("rounds", 20, 1, "how often each script is read"), crate="bw_bench")
+    timer, lines = built("bw_bench"), []
     for name, row in SCRIPTS.items():
         path = write_script(name, row)
         with path.open("rb") as script:
-            done = subprocess.run([timer, str(rounds)], stdin=script, capture_output=True, text=True, check=True)
-        times = {what: int(nanoseconds) for what, nanoseconds in FIGURE.findall(done.stderr)}
-        size = path.stat().st_size * rounds
+            done = subprocess.run([timer, str(words.rounds)], stdin=script, capture_output=True, text=True, check=True)
+        found = {what: int(nanoseconds) for what, nanoseconds in FIGURE.findall(done.stderr)}
+        size = path.stat().st_size * words.rounds
         for what in ("tokens", "statement"):
-            print(
-                f"{name:8} {what:10} {size / times[what] * 1000:7.0f} MB/s "
-                f"{times[what] / times['plain']:6.1f} times a plain pass"
-            )
+            lines.append([name, what, figure(size / found[what] * 1_000), times(found[what], found["plain"])])
+    report = Report("python3 bench/parsing.py")
+    heading = ["Script", "Call", "MB a second", "times as long as a plain pass"]
+    report.table("parsing", "INSERT statements of 60 KB", heading, lines)
+    report.finish()
 
 
 if __name__ == "__main__":

@@ -5,9 +5,10 @@ A script makes a table of two columns, fills it by INSERT statements of about 60
 with one SELECT that finds about 1% of the rows. sqlite3 gets the same statements, in memory and in
 one transaction. Build bitcol first, by `rt run` in crates/bitcol.
 
-    python3 bench/scripts.py [MB ..]        sizes in megabytes; 1 10 100 if none is given
+    python3 bench/scripts.py [--sizes 1,10,100]        sizes in megabytes
 """
 
+import argparse
 import random
 import shutil
 import sys
@@ -18,16 +19,19 @@ from common import (
     LEAST,
     MEGABYTE,
     MOST,
-    ROUNDS,
+    SETTINGS,
     built,
     data_file,
     insert,
+    options,
     processor_seconds,
     random_row,
+    rounds,
     rows_of_a_statement,
     sqlite3,
     written,
 )
+from report import Report, figure, require, times
 
 # The values of the first column are spread evenly, so that 1% of them lie below this.
 BOUND = LEAST + (MOST - LEAST + 1) // 100
@@ -39,7 +43,7 @@ class Script:
     rows: int
     found: int
 
-    def megabytes(self):
+    def megabytes(self) -> float:
         return self.path.stat().st_size / MEGABYTE
 
 
@@ -49,13 +53,13 @@ class Run:
     peak_megabytes: float
 
 
-def write_script(megabytes):
+def write_script(megabytes: float) -> Script:
     """A script of about this size; the same one each time."""
-    path = data_file(f"rows-{megabytes}.sql")
+    path = data_file(f"rows-{megabytes:g}.sql")
     generator = random.Random(megabytes)
     size = count = found = 0
 
-    def next_row():
+    def next_row() -> str:
         nonlocal count, found
         row = random_row(generator)
         count += 1
@@ -70,35 +74,37 @@ def write_script(megabytes):
     return Script(path, count, found)
 
 
-def timed(name, command, source, script):
+def timed(name: str, command: list[str], source: Path, script: Script) -> Run:
     """Runs the command over the file, and reads how many rows it found from its last lines."""
     answers = data_file("answers")
     with answers.open("wb") as stdout:
         seconds, peak = processor_seconds(command, source, stdout)
     found = FOUND[name](answers)
-    if found != script.found:
-        sys.exit(f"{name} found {found} rows of {script.found}")
+    require(found == script.found, f"{name} found {found} rows of {script.found}")
     return Run(seconds, peak)
 
 
-def quickest_of(programs, script):
+def quickest_of(programs: dict[str, tuple[list[str], Path]], script: Script) -> dict[str, Run]:
     """The quickest run of each program. They take turns, so that what else the machine does counts little."""
-    rounds = [{name: timed(name, command, source, script) for name, (command, source) in programs.items()} for _ in range(ROUNDS)]
-    return {name: min((runs[name] for runs in rounds), key=lambda run: run.seconds) for name in programs}
+    found = [
+        {name: timed(name, command, source, script) for name, (command, source) in programs.items()}
+        for _ in range(rounds())
+    ]
+    return {name: min((runs[name] for runs in found), key=lambda run: run.seconds) for name in programs}
 
 
-def bitcol_found(answers):
+def bitcol_found(answers: Path) -> int:
     last = answers.read_bytes().splitlines()[-1].split()
     if last[:1] != [b"rows"]:
-        sys.exit(f"bitcol's last line is {last}")
+        sys.exit(f"bitcol's last line is {last!r}")
     return int(last[1])
 
 
-def sqlite_found(answers):
+def sqlite_found(answers: Path) -> int:
     return len(answers.read_bytes().splitlines())
 
 
-def sqlite_script(script):
+def sqlite_script(script: Script) -> Path:
     """The same statements in one transaction."""
     path = script.path.with_suffix(".sqlite.sql")
     with script.path.open("rb") as source, path.open("wb") as out:
@@ -111,26 +117,28 @@ def sqlite_script(script):
 FOUND = {"bitcol": bitcol_found, "sqlite3": sqlite_found}
 
 
-def report(name, run, script, beside=None):
-    ratio = f"  {run.seconds / beside.seconds:6.2f} times sqlite3's" if beside else ""
-    print(
-        f"{name:8} {script.megabytes():8.1f} MB {run.seconds:8.3f} s "
-        f"{script.megabytes() / run.seconds:8.1f} MB/s {script.rows / run.seconds:12,.0f} rows/s "
-        f"{run.peak_megabytes:8.1f} MB peak{ratio}"
-    )
+def more(parser: argparse.ArgumentParser) -> None:
+    parser.add_argument("--sizes", help="sizes in megabytes, with commas between; 1,10,100 if not given")
 
 
-def main():
-    sizes = [int(word) for word in sys.argv[1:]] or [1, 10, 100]
-    sqlite = sqlite3()
-    for size in sizes:
+def main() -> None:
+    words = options(__doc__, more=more)
+    sizes = words.sizes or ("0.07" if SETTINGS.quick else "1,10,100")
+    sqlite, lines = sqlite3(), []
+    for size in map(float, sizes.split(",")):
         script = write_script(size)
         programs = {"bitcol": ([built("bitcol")], script.path)}
         if sqlite is not None:
             programs["sqlite3"] = ([sqlite, ":memory:"], sqlite_script(script))
         runs = quickest_of(programs, script)
-        for name, run in runs.items():
-            report(name, run, script, runs.get("sqlite3") if name == "bitcol" else None)
+        own, other = runs["bitcol"], runs.get("sqlite3")
+        part = times(own.seconds, other.seconds if other else None)
+        rate = figure(script.megabytes() / own.seconds)
+        lines.append([f"{size:g} MB", part, rate, f"{script.rows:,}", figure(own.peak_megabytes)])
+    report = Report("python3 bench/scripts.py")
+    heading = ["Script", "bitcol's time as a part of sqlite3's", "MB a second", "rows", "MB at the peak"]
+    report.table("scripts", "INSERT statements of 60 KB, and a SELECT of 1% of the rows", heading, lines)
+    report.finish()
 
 
 if __name__ == "__main__":

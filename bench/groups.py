@@ -1,0 +1,163 @@
+#!/usr/bin/env python3
+"""Times GROUP BY over dense and sparse values, with few groups and many, and tells the memory at its peak.
+
+A row is a group's number and a random value of 32 bits. Dense groups are the numbers from 0; sparse ones are drawn from
+all of 32 bits, and in the last of them nearly each row is a group. All columns are in one layout. sqlite3 in memory,
+and numpy where it is installed, answer the same in the same run, and their answers are compared: a difference ends
+the bench with status 1. Neither has a MEDIAN of groups. Build bitcol first, by `rt run` in crates/bitcol.
+
+    python3 bench/groups.py [ROWS [ROUNDS]] [--layout V]      how many rows; 4194304 if not given
+"""
+
+import argparse
+import functools
+import random
+import sqlite3
+import time
+from collections.abc import Callable
+from dataclasses import dataclass
+from typing import Any
+
+from common import LEAST, MOST, Number, data_file, options
+from program import Program, rows_of
+from report import Report, figure, require, times
+from tables import csv_file, fill, filled_base, least_of_base
+
+try:
+    import numpy
+except ImportError:
+    numpy = None
+
+STATEMENTS = {
+    "COUNT": "SELECT g, COUNT(*) FROM t GROUP BY g",
+    "SUM": "SELECT g, SUM(v) FROM t GROUP BY g",
+    "MIN, MAX": "SELECT g, MIN(v), MAX(v) FROM t GROUP BY g",
+    "COUNT, half": "SELECT g, COUNT(*) FROM t WHERE v < 0 GROUP BY g",
+    "MEDIAN": "SELECT g, MEDIAN(v) FROM t GROUP BY g",
+}
+Pairs = list[tuple[int, int]]
+
+
+@dataclass(frozen=True)
+class Shape:
+    """How many groups there are, and whether their numbers are spread over all of 32 bits."""
+
+    name: str
+    groups: int
+    is_sparse: bool
+
+    def rows(self, count: int) -> Pairs:
+        draw = random.Random(count)
+        if self.groups > count:
+            return [(draw.randint(LEAST, MOST), draw.randint(LEAST, MOST)) for _ in range(count)]
+        numbers = [draw.randint(LEAST, MOST) for _ in range(self.groups)] if self.is_sparse else range(self.groups)
+        return [(numbers[int(draw.random() * len(numbers))], draw.randint(LEAST, MOST)) for _ in range(count)]
+
+
+def shapes(rows: int) -> list[Shape]:
+    """The shapes; where there are fewer rows than a million, many groups are a quarter of them."""
+    many = min(1_000_000, rows // 4)
+    few = min(1_000, many)
+    dense = [Shape(f"{groups:,} dense", groups, False) for groups in sorted({10, few, many})]
+    sparse = [Shape(f"{groups:,} sparse", groups, True) for groups in sorted({few, many})]
+    return [*dense, *sparse, Shape("nearly each row", 1 << 32, True)]
+
+
+def numpy_answers(rows: Pairs) -> dict[str, Callable[[], list[Any]]]:
+    """The statements over numpy's arrays: rows sorted by groups, and folded group by group."""
+    groups, values = (numpy.array(column, "i4") for column in zip(*rows))
+
+    def sorted_by_groups(found: Any) -> tuple[Any, Any, Any, Any]:
+        order = numpy.argsort(groups[found], kind="stable")
+        numbers, starts, counts = numpy.unique(groups[found][order], return_index=True, return_counts=True)
+        return numbers, starts, counts, values[found][order]
+
+    def folded(what: str) -> list[Any]:
+        numbers, starts, counts, ordered = sorted_by_groups(values < 0 if what == "COUNT, half" else slice(None))
+        columns = {
+            "COUNT": lambda: [counts],
+            "COUNT, half": lambda: [counts],
+            "SUM": lambda: [numpy.add.reduceat(ordered, starts, dtype="i8")],
+            "MIN, MAX": lambda: [fold.reduceat(ordered, starts) for fold in (numpy.minimum, numpy.maximum)],
+        }[what]()
+        return [numbers, *columns]
+
+    return {what: functools.partial(folded, what) for what in STATEMENTS if what != "MEDIAN"}
+
+
+def medians(rows: Pairs) -> list[tuple[str, ...]]:
+    """The lower median of each group, in order, by sorting."""
+    groups: dict[int, list[int]] = {}
+    for group, value in rows:
+        groups.setdefault(group, []).append(value)
+    return [(str(group), str(sorted(groups[group])[(len(groups[group]) - 1) // 2])) for group in sorted(groups)]
+
+
+def beside(base: sqlite3.Connection, rows: Pairs,
+           expected: dict[str, list[tuple[str, ...]]]) -> dict[str, dict[str, float]]:
+    """Seconds of sqlite3 and of numpy for each statement that they have. Their answers have to be bitcol's."""
+    found: dict[str, dict[str, float]] = {"sqlite3": {}}
+    for what, text in STATEMENTS.items():
+        if what != "MEDIAN":
+            found["sqlite3"][what], answer = least_of_base(base, text + " ORDER BY g", 1)
+            require(answer == expected[what], f"{what}: sqlite3 {answer[:5]}, bitcol {expected[what][:5]}")
+    if numpy:
+        found["numpy"] = {}
+        for what, call in numpy_answers(rows).items():
+            start = time.process_time()
+            columns = call()
+            found["numpy"][what] = time.process_time() - start
+            answer = [tuple(map(str, row)) for row in zip(*(column.tolist() for column in columns))]
+            require(answer == expected[what], f"{what}: numpy {answer[:5]}, bitcol {expected[what][:5]}")
+    return found
+
+
+def time_shape(shape: Shape, words: argparse.Namespace) -> list[list[str | float]]:
+    """A line for each statement: nanoseconds a row, the others' multiples, bytes a row at the peak."""
+    rows = shape.rows(words.rows)
+    path = csv_file("groups.csv", rows)
+    own, expected, peaks = {}, {}, {}
+    with Program() as program:
+        fill(program, "gv", f"USING {words.layout}", path)
+        for what, text in STATEMENTS.items():
+            own[what], reply = program.least(text, words.rounds)
+            expected[what] = rows_of(reply)
+            peaks[what] = program.peak(text)
+    require(expected["MEDIAN"] == medians(rows), f"MEDIAN of {shape.name}")
+    others = beside(filled_base("gv", rows), rows, expected)
+    return [
+        [shape.name, f"{len(expected['COUNT']):,}", what, own[what] / words.rows * 1e9,
+         *(times(costs.get(what), own[what]) for costs in others.values()),
+         figure(peaks[what] / words.rows, 2)]
+        for what in STATEMENTS
+    ]
+
+
+def more(parser: argparse.ArgumentParser) -> None:
+    parser.add_argument("--layout", default="V", choices="VHSP", help="the layout of both columns; V if not given")
+
+
+def main() -> None:
+    numbers = Number("rows", 1 << 22, 1_000, "how many rows"), Number("rounds", 3, 1, "how many rounds")
+    words = options(__doc__, *numbers, more=more)
+    report = Report("python3 bench/groups.py")
+    if numpy is None:
+        report.note("numpy is not installed: left out")
+    lines: list[list[str]] = []
+    heights: dict[str, list[tuple[float | str, float]]] = {what: [] for what in STATEMENTS}
+    for shape in shapes(words.rows):
+        for line in time_shape(shape, words):
+            heights[str(line[2])].append((shape.name, float(line[3])))
+            lines.append([figure(cell) if isinstance(cell, float) else cell for cell in line])
+    for what, points in heights.items():
+        report.line("groups", what, points)
+    what = f"{words.rows:,} rows, layout {words.layout}; ns a row, the others as multiples, and memory at the peak"
+    others = ["sqlite3", *(["numpy"] if numpy else [])]
+    heading = ["Group numbers", "groups", "Statement", "bitcol", *others, "bytes a row"]
+    report.table("groups", what, heading, lines)
+    report.finish()
+    data_file("groups.csv").unlink()
+
+
+if __name__ == "__main__":
+    main()

@@ -1,0 +1,52 @@
+#!/usr/bin/env python3
+"""Times a whole `SELECT a FROM t WHERE a = x` that finds no row, beside the scan alone in C++, in one run.
+
+Values of 8 and of 32 bits, in each layout. The scan is the best of the loops of bench/kernels/scans.cpp in the same
+layout, which has none in H; without g++ they are left out. Build bitcol first, by `rt run` in crates/bitcol.
+
+    python3 bench/statements.py [ROWS [ROUNDS]]      how many rows; 4194304 if not given
+"""
+
+import random
+
+from common import LAYOUTS, LEAST, MOST, Number, data_file, options
+from loops import scan_costs
+from program import Program, rows_of
+from report import Report, figure, require, times
+from tables import csv_file, fill
+
+MISSING = 77
+# Which loops count for a layout.
+LOOPS = {"V": ("V", "V-branch"), "S": ("S",), "P": ("P",)}
+
+
+def values(bits: int, count: int) -> list[tuple[int]]:
+    draw = random.Random(bits)
+    drawn = (draw.getrandbits(8) if bits == 8 else draw.randint(LEAST, MOST) for _ in range(count))
+    return [(value + 1 if value == MISSING else value,) for value in drawn]
+
+
+def main() -> None:
+    numbers = Number("rows", 1 << 22, 2_048, "how many rows"), Number("rounds", 15, 1, "how many rounds")
+    words = options(__doc__, *numbers)
+    loops = scan_costs((8, 32), words.rows, words.rounds)
+    report = Report("python3 bench/statements.py")
+    lines = []
+    for bits in (8, 32):
+        path = csv_file("statements.csv", values(bits, words.rows))
+        for layout in LAYOUTS:
+            with Program() as program:
+                fill(program, "a", f"USING {layout}", path)
+                cost, reply = program.least(f"SELECT a FROM t WHERE a = {MISSING}", words.rounds)
+            require(rows_of(reply) == [], f"{layout}, {bits} bits: {reply}")
+            beside = min((loops[name, bits] for name in LOOPS.get(layout, ()) if (name, bits) in loops), default=None)
+            own = cost / words.rows * 1e9
+            lines.append([str(bits), layout, figure(own), figure(beside), times(own, beside)])
+    heading = ["Bits", "Layout", "statement", "scan in C++", "times"]
+    report.table("statements", f"{words.rows:,} rows; ns a row, and how many times as long", heading, lines)
+    report.finish()
+    data_file("statements.csv").unlink()
+
+
+if __name__ == "__main__":
+    main()
