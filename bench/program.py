@@ -5,6 +5,7 @@ import re
 import subprocess
 import sys
 import time
+from collections.abc import Iterator
 from pathlib import Path
 from types import TracebackType
 
@@ -98,7 +99,11 @@ class Program:
         return max(self.memory("VmHWM") - before, 0)
 
 
+def each_row(reply: str) -> Iterator[tuple[str, ...]]:
+    """The rows of a reply to a SELECT, one by one."""
+    return (tuple(line.split(",")) for line in reply.splitlines()[1:-1])
+
+
 def rows_of(reply: str) -> list[tuple[str, ...]]:
     """The rows of a reply to a SELECT."""
-    lines = reply.splitlines()
-    return [tuple(line.split(",")) for line in lines[1:-1]]
+    return list(each_row(reply))
