@@ -138,6 +138,8 @@ class ClickHouse:
         took = seconds[-2 * len(asked) :: 2]
         if len(took) != len(asked):
             sys.exit("ClickHouse tells other times than those of the queries")
+        if not self.server:
+            self.loading = seconds[-2 * len(asked) - 1]
         answered = zip(asked, answers, took)
         return {query.title: Taken(spent, shortened(query, cells(text))) for query, text, spent in answered}
 

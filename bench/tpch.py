@@ -104,7 +104,7 @@ def main() -> None:
     if not 0 < scale <= LARGEST:
         sys.exit(f"a scale factor above 0, and at most {LARGEST}")
     columns = lineitem(scale)
-    report = Report("python3 bench/tpch.py")
+    report = Report(f"python3 bench/tpch.py --scale {scale:g}")
     stores, missing = stores_of(columns, LAYOUTS)
     for name in missing:
         report.note(f"{name} is not installed: left out")
