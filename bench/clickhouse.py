@@ -4,20 +4,18 @@ The table is in memory (engine Memory), and each query runs in one thread. Times
 by --time, on the wall's clock. It is asked all queries of a round at once; between their answers a mark is selected.
 """
 
+import atexit
 import shutil
 import socket
 import subprocess
 import sys
 import tempfile
 import time
-from collections.abc import Iterable
+from collections.abc import Iterable, Iterator
 from pathlib import Path
-from typing import TYPE_CHECKING
 
 from common import data_file
-
-if TYPE_CHECKING:
-    from stores import Answer, Columns, Query, Taken
+from queries import Columns, Query, Taken, shortened
 
 MARK = "--next--"
 KINDS = {"INT": "Nullable(Int32)", "BIGINT": "Nullable(Int64)"}
@@ -53,7 +51,7 @@ def free_port() -> int:
         return int(asked.getsockname()[1])
 
 
-def marked_csv(columns: "Columns") -> Path:
+def marked_csv(columns: Columns) -> Path:
     """All rows in one CSV file, in which a NULL is written as ClickHouse reads it."""
     path = data_file("clickhouse.csv")
     with path.open("w") as out:
@@ -74,6 +72,7 @@ class Server:
         config.write_text(CONFIG.format(home=home, http=free_port(), port=self.port))
         command, nowhere = ["clickhouse-server", f"--config-file={config}"], subprocess.DEVNULL
         self.child = subprocess.Popen(command, stdout=nowhere, stderr=nowhere, cwd=home)
+        atexit.register(self.close)
 
     def wait(self, client: list[str]) -> None:
         for _ in range(100):
@@ -94,7 +93,7 @@ class ClickHouse:
 
     name = "ClickHouse"
 
-    def __init__(self, columns: "Columns", command: list[str]) -> None:
+    def __init__(self, columns: Columns, command: list[str]) -> None:
         self.source = marked_csv(columns)
         self.fields = ", ".join(f"{name} {KINDS[kind]}" for name, kind in columns.types.items())
         self.loading: float | None = None
@@ -128,9 +127,7 @@ class ClickHouse:
         seconds = [float(line) for line in done.stderr.split() if line.replace(".", "", 1).isdigit()]
         return done.stdout.split(f'"{MARK}"\n'), seconds
 
-    def round(self, queries: "Iterable[Query]") -> "dict[str, Taken]":
-        from stores import Taken, shortened
-
+    def round(self, queries: Iterable[Query]) -> dict[str, Taken]:
         asked = [query for query in queries if self.is_three_valued or not getattr(query, "is_three_valued", False)]
         begin = ["SET max_threads = 1"]
         if not self.server:
@@ -141,6 +138,8 @@ class ClickHouse:
         took = seconds[-2 * len(asked) :: 2]
         if len(took) != len(asked):
             sys.exit("ClickHouse tells other times than those of the queries")
+        if not self.server:
+            self.loading = seconds[-2 * len(asked) - 1]
         answered = zip(asked, answers, took)
         return {query.title: Taken(spent, shortened(query, cells(text))) for query, text, spent in answered}
 
@@ -150,5 +149,6 @@ class ClickHouse:
         self.source.unlink()
 
 
-def cells(text: str) -> "Answer":
-    return [tuple("NULL" if cell == "\\N" else cell for cell in line.split(",")) for line in text.splitlines()]
+def cells(text: str) -> Iterator[tuple[str, ...]]:
+    """The rows of an answer, as bitcol writes them."""
+    return (tuple("NULL" if cell == "\\N" else cell for cell in line.split(",")) for line in text.splitlines())

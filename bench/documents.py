@@ -18,6 +18,8 @@ from report import Table
 DOCUMENTS = ("PERFORMANCE.md", "WORKLOAD.md")
 PLACE = re.compile(r"(<!-- figures: ([\w-]+) -->\n).*?(<!-- end of figures -->\n)", re.DOTALL)
 LONGEST_LINE = 120
+# The place that tells the machine, and has no table.
+MACHINE = "machine"
 
 PLOTS = {
     "scans-in-caches": Plot("Scans of codes that the caches hold", "bits of a code", "ns a row"),
@@ -31,15 +33,23 @@ PLOTS = {
 }
 
 
+def wrapped(words: str) -> str:
+    return "\n".join(textwrap.wrap(words, LONGEST_LINE, break_long_words=False, break_on_hyphens=False))
+
+
 def provenance(found: dict[str, Any], table: Table) -> str:
-    """What a table was measured by and on."""
+    """What a table was measured by, and when."""
     told = found["conditions"]
-    machine = f"{told['processor']}, {told['cores']} cores, load {told['load']} at the end"
-    versions = f"Python {told['python']}, SQLite {told['sqlite']}"
     figures = table.figures[:1].upper() + table.figures[1:]
-    words = f"`{found['command']}`, commit {told['commit']}, {told['date']}, {machine}, {versions}. {figures}."
-    notes = "".join(f" {note[:1].upper()}{note[1:]}." for note in found["notes"])
-    return "\n".join(textwrap.wrap(words + notes, LONGEST_LINE, break_long_words=False, break_on_hyphens=False))
+    words = f"`{found['command']}`, commit {told['commit']}, {told['date']}, load {told['load']} at the end. {figures}."
+    return wrapped(words + "".join(f" {note[:1].upper()}{note[1:]}." for note in found["notes"]))
+
+
+def machine(told: dict[str, Any]) -> str:
+    """What all tables of a run were measured on."""
+    versions = f"Python {told['python']}, SQLite {told['sqlite']}"
+    words = f"Tables of {told['date']}: {told['processor']}, {told['cores']} cores, {versions}."
+    return f"\n{wrapped(words)}\n\n"
 
 
 def body(found: dict[str, Any], table: Table, plots: set[str]) -> str:
@@ -73,6 +83,8 @@ def write_documents(results: list[dict[str, Any]], is_quick: bool) -> list[Path]
 
     def filled(match: re.Match[str]) -> str:
         placed.add(match[2])
+        if match[2] == MACHINE and results:
+            return match[1] + machine(results[-1]["conditions"]) + match[3]
         if match[2] not in tables:
             return match[0]
         return match[1] + body(*tables[match[2]], plots) + match[3]

@@ -93,6 +93,15 @@ def medians(rows: Pairs) -> list[tuple[str, ...]]:
     return [(str(group), str(sorted(groups[group])[(len(groups[group]) - 1) // 2])) for group in sorted(groups)]
 
 
+def peak(statement: str) -> int:
+    """The bytes that a statement takes at its peak, beyond the table, in a process of its own. The same over two rows
+    goes before it, so that the program's own pages aren't counted."""
+    with Program(returns_memory=True) as program:
+        program.do("CREATE TABLE two (g INT, v INT)", "INSERT INTO two VALUES (1, 1), (2, -1)")
+        program.do(statement.replace("FROM t", "FROM two"), f"OPEN t FROM '{data_file('groups.table')}'")
+        return program.peak(statement)
+
+
 def beside(base: sqlite3.Connection, rows: Pairs,
            expected: dict[str, list[tuple[str, ...]]]) -> dict[str, dict[str, float]]:
     """Seconds of sqlite3 and of numpy for each statement that they have. Their answers have to be bitcol's."""
@@ -116,13 +125,14 @@ def time_shape(shape: Shape, words: argparse.Namespace) -> list[list[str | float
     """A line for each statement: nanoseconds a row, the others' multiples, bytes a row at the peak."""
     rows = shape.rows(words.rows)
     path = csv_file("groups.csv", rows)
-    own, expected, peaks = {}, {}, {}
+    own, expected = {}, {}
     with Program() as program:
         fill(program, "gv", f"USING {words.layout}", path)
         for what, text in STATEMENTS.items():
             own[what], reply = program.least(text, words.rounds)
             expected[what] = rows_of(reply)
-            peaks[what] = program.peak(text)
+        program.do(f"SAVE t TO '{data_file('groups.table')}'")
+    peaks = {what: peak(text) for what, text in STATEMENTS.items()}
     require(expected["MEDIAN"] == medians(rows), f"MEDIAN of {shape.name}")
     others = beside(filled_base("gv", rows), rows, expected)
     return [
@@ -156,7 +166,8 @@ def main() -> None:
     heading = ["Group numbers", "groups", "Statement", "bitcol", *others, "bytes a row"]
     report.table("groups", what, heading, lines)
     report.finish()
-    data_file("groups.csv").unlink()
+    for name in ("groups.csv", "groups.table"):
+        data_file(name).unlink()
 
 
 if __name__ == "__main__":

@@ -2,8 +2,8 @@
 """Times how fast codes are taken, read and scanned in each layout at each width, beside the same scans in C++.
 
 Random codes; a tenth of them is found. The quickest of the rounds counts, since a machine's speed swings. The loops in
-C++ (bench/kernels/scans.cpp) run right behind, and tell what memory gives too: without g++ they are left out. Build the
-timing program first, by `rt run` in crates/bw_bench.
+C++ (bench/kernels/scans.cpp) take turns with the timing program, and tell what memory gives too: without g++ they are
+left out. Build the timing program first, by `rt run` in crates/bw_bench.
 
     python3 bench/layouts.py [ROUNDS [CODES]]       3 rounds over 16,777,216 codes if not given
 """
@@ -20,6 +20,8 @@ COUNT = re.compile(r"^count (\d+) ns", re.MULTILINE)
 TOLD = (1, 4, 8, 12, 16, 20, 24, 28, 32, 40, 48, 56, 64)
 IN_LOOPS = (4, 8, 12, 16, 20, 24, 28, 32)
 LOOPS = ("V", "V-branch", "S", "P", "P-count", "memory")
+# So often the two programs take turns.
+TURNS = 4
 Costs = dict[tuple[str, int, str], float]
 
 
@@ -33,6 +35,21 @@ def own_costs(rounds: int, codes: int) -> tuple[Costs, float | None]:
         least[key] = min(int(taken) / codes, least.get(key, float("inf")))
     plain = COUNT.search(done.stderr)
     return least, int(plain[1]) / rounds / codes if plain else None
+
+
+def least_costs(rounds: int, codes: int) -> tuple[Costs, dict[tuple[str, int], float], float | None]:
+    """The least of both programs, which take turns, and the plain pass."""
+    own: Costs = {}
+    loops: dict[tuple[str, int], float] = {}
+    plains: list[float] = []
+    turns = min(TURNS, rounds)
+    for _ in range(turns):
+        costs, plain = own_costs(rounds // turns, codes)
+        own = {key: min(cost, own.get(key, cost)) for key, cost in costs.items()}
+        beside = scan_costs(IN_LOOPS, codes, rounds // turns)
+        loops = {key: min(cost, loops.get(key, cost)) for key, cost in beside.items()}
+        plains += [] if plain is None else [plain]
+    return own, loops, min(plains, default=None)
 
 
 def work_lines(own: Costs, what: str) -> list[list[str]]:
@@ -64,8 +81,7 @@ def scan_lines(own: Costs, loops: dict[tuple[str, int], float]) -> list[list[str
 def main() -> None:
     numbers = Number("rounds", 3, 1, "how many rounds"), Number("codes", 1 << 24, 4_096, "how many codes")
     words = options(__doc__, *numbers, crate="bw_bench")
-    own, plain = own_costs(words.rounds, words.codes)
-    loops = scan_costs(IN_LOOPS, words.codes, words.rounds)
+    own, loops, plain = least_costs(words.rounds, words.codes)
     report = Report(f"python3 bench/layouts.py {words.rounds} {words.codes}")
     told = f"{words.codes:,} codes; ns a code" + (f"; a plain pass that counts: {figure(plain)}" if plain else "")
     place = "memory" if words.codes > 1 << 22 else "caches"

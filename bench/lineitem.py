@@ -1,10 +1,10 @@
 """The rows of TPC-H's lineitem as integers, by the rules of its specification (clause 4.2.3), as CSV files.
 
-Money is in cents, discount and tax in hundredths, dates are days from 1992-01-01, return flags are A 0, N 1 and R 2,
-and line statuses F 0 and O 1. Behind the columns of the specification come four that the queries compute there: a number
-for the pair of flag and status, the discounted price with and without tax, and the revenue of query 6. Texts, keys
-and the ship mode are left out. The generator is Python's, with a seed of its own, and not that of `dbgen`: the
-distributions are the same, and the rows are not.
+Money is in cents, discount and tax in hundredths, dates are days from 1992-01-01, return flags are A 0, N 1 and R
+2, and line statuses F 0 and O 1. Behind the columns of the specification come four that the queries compute there:
+a number for the pair of flag and status, the discounted price with and without tax, and the revenue of query 6.
+Texts, keys and the ship mode are left out. The generator is Python's, with a seed of its own, and not that of
+`dbgen`: the distributions are the same, and the rows are not.
 """
 
 import datetime
@@ -13,7 +13,7 @@ from collections.abc import Iterator
 from pathlib import Path
 
 from common import data_file
-from stores import Columns
+from queries import Columns
 
 TYPES = {
     "quantity": "INT",

@@ -54,7 +54,7 @@ STATEMENTS = (
     Statement("COUNT, a IN of 8", COUNT + "a IN ({eight})"),
     Statement("COUNT, a IN of 100", COUNT + "a IN ({hundred})"),
     Statement("COUNT, a IS NULL", COUNT + "a IS NULL"),
-    Statement("COUNT, NOT (a < x AND b > y)", COUNT + "NOT (a < {mid} AND b > {x})"),
+    Statement("COUNT, NOT (.. AND ..)", COUNT + "NOT (a < {mid} AND b > {x})"),
     Statement("COUNT, a < b", COUNT + "a < b"),
     Statement("COUNT, a < c, other base", COUNT + "a < c"),
     Statement("COUNT, all", "SELECT COUNT(*) FROM t"),

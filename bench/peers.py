@@ -18,8 +18,9 @@ from typing import Any
 
 from clickhouse import ClickHouse, clickhouse_command
 from common import LEAST, MOST, Number, data_file, options, rounds
+from queries import Columns, Query, Range, Store, Taken, Written, texts
 from report import Report, figure, times
-from stores import Bitcol, Columns, Query, Range, Sqlite, Store, Taken, Written, compared, numpy, texts
+from stores import Bitcol, Sqlite, compared, numpy
 
 ROUNDS = 5
 COUNT = "SELECT COUNT(*) FROM t WHERE "
@@ -106,7 +107,7 @@ class Masked:
             if query.title in jobs:
                 start = time.process_time()
                 rows = jobs[query.title]()
-                found[query.title] = Taken(time.process_time() - start, texts(rows))
+                found[query.title] = Taken(time.process_time() - start, list(texts(rows)))
         return found
 
     def close(self) -> None:

@@ -67,6 +67,15 @@ def axis_of(values: list[float], begin: float, end: float, is_log: bool, from_ze
     return Axis(0 if from_zero else min(values), max(positive) * (1.05 if from_zero else 1), begin, end, False)
 
 
+def round_places(places: list[float]) -> list[float]:
+    """The least of some whole numbers, and up to a dozen multiples of a power of two up to the greatest."""
+    least, greatest = min(places), max(places)
+    step = 1
+    while (greatest - least) / step > 12:
+        step *= 2
+    return sorted({least, *(float(at) for at in range(step, int(greatest) + 1, step) if at > least)})
+
+
 def number(value: float) -> str:
     return f"{value:,.0f}" if value >= 10 or value == int(value) else f"{value:.3g}"
 
@@ -115,9 +124,7 @@ def drawn_lines(plot: Plot, lines: dict[str, Points]) -> str:
     up = axis_of(heights, HIGH - BOTTOM, TOP, plot.is_log_up)
     drawing = Drawing(plot)
     drawing.rule(up)
-    told = sorted(set(places)) if not plot.is_log_across else across.ticks()
-    told = told if len(told) <= 16 else told[:: math.ceil(len(told) / 16)]
-    for tick in told:
+    for tick in across.ticks() if plot.is_log_across else round_places(places):
         drawing.words(across.place(tick), HIGH - BOTTOM + 18, number(tick))
     for i, (name, points) in enumerate(lines.items()):
         colour, dash = COLOURS[i % len(COLOURS)], DASHES[0 if i < SOLID else 1 + i % (len(DASHES) - 1)]

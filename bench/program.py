@@ -5,6 +5,7 @@ import re
 import subprocess
 import sys
 import time
+from collections.abc import Iterator
 from pathlib import Path
 from types import TracebackType
 
@@ -12,16 +13,20 @@ from common import DATA, built
 
 # The last line of a reply. A heading is in upper case, and a row of numbers and NULL.
 ENDS = re.compile(rb"^(?:ok|error |rows |units )[^\n]*\n", re.MULTILINE)
+# Freed blocks of more bytes go back to the kernel at once.
+RETURNING = "glibc.malloc.mmap_threshold=65536:glibc.malloc.trim_threshold=65536"
 FAULT = re.compile(rb"^error [^\n]*", re.MULTILINE)
 
 
 class Program:
-    """A process of bitcol, which ends with the block that it is opened for."""
+    """A process of bitcol, which ends with the block that it is opened for. One that returns what it frees tells more
+    exactly what a statement takes of memory, and takes longer."""
 
-    def __init__(self, folder: Path = DATA) -> None:
+    def __init__(self, folder: Path = DATA, returns_memory: bool = False) -> None:
         folder.mkdir(exist_ok=True)
-        pipe = subprocess.PIPE
-        self.child = subprocess.Popen([built("bitcol")], cwd=folder, stdin=pipe, stdout=pipe, bufsize=0)
+        pipe, environment = subprocess.PIPE, os.environ | ({"GLIBC_TUNABLES": RETURNING} if returns_memory else {})
+        command = [built("bitcol")]
+        self.child = subprocess.Popen(command, cwd=folder, stdin=pipe, stdout=pipe, bufsize=0, env=environment)
         # The clock of the processor time of another process.
         self.clock = (~self.child.pid << 3) | 2
 
@@ -98,7 +103,11 @@ class Program:
         return max(self.memory("VmHWM") - before, 0)
 
 
+def each_row(reply: str) -> Iterator[tuple[str, ...]]:
+    """The rows of a reply to a SELECT, one by one."""
+    return (tuple(line.split(",")) for line in reply.splitlines()[1:-1])
+
+
 def rows_of(reply: str) -> list[tuple[str, ...]]:
     """The rows of a reply to a SELECT."""
-    lines = reply.splitlines()
-    return [tuple(line.split(",")) for line in lines[1:-1]]
+    return list(each_row(reply))

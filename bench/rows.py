@@ -17,8 +17,8 @@ from report import Report, figure, require, times
 from tables import Row, csv_file, fill, filled_base, least_of_base
 
 STATEMENTS = {
-    "scan, none found": "SELECT COUNT(*) FROM t WHERE a = 77",
-    "scan, half found": "SELECT COUNT(*) FROM t WHERE a < 0",
+    "none found": "SELECT COUNT(*) FROM t WHERE a = 77",
+    "half found": "SELECT COUNT(*) FROM t WHERE a < 0",
     "SUM": "SELECT SUM(a) FROM t",
     "COUNT by 256 groups": "SELECT g, COUNT(*) FROM t GROUP BY g",
 }
@@ -80,7 +80,7 @@ def main() -> None:
     ]
     for what in kinds:
         report.line("rows", what, ((count, own[what]) for count, (own, _) in found.items()))
-    heading = ["Rows", *kinds, "sqlite3: none", "half", "SUM", "groups"]
+    heading = ["Rows", *kinds, "sqlite3", "half", "SUM", "groups"]
     what = f"layout {words.layout}; ns a row in bitcol, and sqlite3's time as multiples of the first four"
     report.table("rows", what, heading, lines)
     report.finish()

@@ -7,6 +7,7 @@ layout, which has none in H; without g++ they are left out. Build bitcol first, 
     python3 bench/statements.py [ROWS [ROUNDS]]      how many rows; 4194304 if not given
 """
 
+import contextlib
 import random
 
 from common import LAYOUTS, LEAST, MOST, Number, data_file, options
@@ -26,22 +27,35 @@ def values(bits: int, count: int) -> list[tuple[int]]:
     return [(value + 1 if value == MISSING else value,) for value in drawn]
 
 
+def least_costs(bits: int, rows: int, rounds: int) -> tuple[dict[str, float], dict[tuple[str, int], float]]:
+    """Nanoseconds a row of the statement in each layout, and of the loops. They take turns, round by round."""
+    path = csv_file("statements.csv", values(bits, rows))
+    own = dict.fromkeys(LAYOUTS, float("inf"))
+    loops: dict[tuple[str, int], float] = {}
+    with contextlib.ExitStack() as running:
+        programs = {layout: running.enter_context(Program()) for layout in LAYOUTS}
+        for layout, program in programs.items():
+            fill(program, "a", f"USING {layout}", path)
+        for _ in range(rounds):
+            for layout, program in programs.items():
+                cost, reply = program.ask(f"SELECT a FROM t WHERE a = {MISSING}")
+                require(rows_of(reply) == [], f"{layout}, {bits} bits: {reply}")
+                own[layout] = min(own[layout], cost / rows * 1e9)
+            for key, cost in scan_costs((bits,), rows, 1).items():
+                loops[key] = min(cost, loops.get(key, cost))
+    return own, loops
+
+
 def main() -> None:
     numbers = Number("rows", 1 << 22, 2_048, "how many rows"), Number("rounds", 15, 1, "how many rounds")
     words = options(__doc__, *numbers)
-    loops = scan_costs((8, 32), words.rows, words.rounds)
     report = Report("python3 bench/statements.py")
     lines = []
     for bits in (8, 32):
-        path = csv_file("statements.csv", values(bits, words.rows))
-        for layout in LAYOUTS:
-            with Program() as program:
-                fill(program, "a", f"USING {layout}", path)
-                cost, reply = program.least(f"SELECT a FROM t WHERE a = {MISSING}", words.rounds)
-            require(rows_of(reply) == [], f"{layout}, {bits} bits: {reply}")
+        own, loops = least_costs(bits, words.rows, words.rounds)
+        for layout, cost in own.items():
             beside = min((loops[name, bits] for name in LOOPS.get(layout, ()) if (name, bits) in loops), default=None)
-            own = cost / words.rows * 1e9
-            lines.append([str(bits), layout, figure(own), figure(beside), times(own, beside)])
+            lines.append([str(bits), layout, figure(cost), figure(beside), times(cost, beside)])
     heading = ["Bits", "Layout", "statement", "scan in C++", "times"]
     report.table("statements", f"{words.rows:,} rows; ns a row, and how many times as long", heading, lines)
     report.finish()

@@ -9,109 +9,19 @@ import sqlite3
 import subprocess
 import sys
 import time
-import zlib
-from collections.abc import Callable, Iterable, Iterator
-from dataclasses import dataclass
-from pathlib import Path
-from typing import Any, Protocol
+from collections.abc import Callable, Iterable
+from typing import Any
 
+from clickhouse import ClickHouse, clickhouse_command
 from common import data_file, kernel
-from program import Program, rows_of
+from program import Program, each_row
+from queries import Answer, Columns, Query, Store, Taken, shortened, texts
 from report import require
 
 try:
     import numpy
 except ImportError:
     numpy = None
-
-Answer = list[tuple[str, ...]]
-
-
-@dataclass(frozen=True)
-class Range:
-    """Whether a column lies between two values, both included; an end that is None isn't asked for."""
-
-    column: str
-    least: int | None = None
-    greatest: int | None = None
-
-    def sql(self) -> str:
-        if self.least is None:
-            return f"{self.column} <= {self.greatest}"
-        if self.greatest is None:
-            return f"{self.column} >= {self.least}"
-        if self.least == self.greatest:
-            return f"{self.column} = {self.least}"
-        return f"{self.column} BETWEEN {self.least} AND {self.greatest}"
-
-
-@dataclass(frozen=True)
-class Query:
-    """Set functions, COUNT(*) and SUM of columns, over the rows within ranges and orders, and maybe by groups."""
-
-    title: str
-    ranges: tuple[Range, ...] = ()
-    # Pairs of columns of which the first is less.
-    orders: tuple[tuple[str, str], ...] = ()
-    sums: tuple[str, ...] = ()
-    group: str | None = None
-
-    def sql(self, ordered: bool = False) -> str:
-        """The query's text. bitcol's groups come in order; `ordered` asks others for it."""
-        items = [*([self.group] if self.group else []), *(f"SUM({column})" for column in self.sums), "COUNT(*)"]
-        tests = [*(test.sql() for test in self.ranges), *(f"{less} < {more}" for less, more in self.orders)]
-        words = f"SELECT {', '.join(items)} FROM t" + (" WHERE " + " AND ".join(tests) if tests else "")
-        if self.group:
-            words += f" GROUP BY {self.group}" + (f" ORDER BY {self.group}" if ordered else "")
-        return words
-
-
-@dataclass(frozen=True)
-class Written(Query):
-    """A query that has a text of its own, which all stores of SQL understand."""
-
-    text: str = ""
-    # Whether it shows so many rows that a checksum of them is compared.
-    is_long: bool = False
-    # Whether its answer rests on NULL AND FALSE being FALSE, which old versions of ClickHouse take for NULL.
-    is_three_valued: bool = False
-
-    def sql(self, ordered: bool = False) -> str:
-        return self.text
-
-
-@dataclass(frozen=True)
-class Columns:
-    """A table: its CSV files, and its columns with their types, INT or BIGINT."""
-
-    files: tuple[Path, ...]
-    types: dict[str, str]
-    rows: int
-
-    def records(self) -> Iterator[tuple[int | None, ...]]:
-        for path in self.files:
-            with path.open() as file:
-                for line in file:
-                    yield tuple(int(cell) if cell else None for cell in line.rstrip("\n").split(","))
-
-
-@dataclass(frozen=True)
-class Taken:
-    seconds: float
-    answer: Answer
-
-
-class Store(Protocol):
-    """A store with a table in it. `loading` is how long that took, where it can be compared."""
-
-    name: str
-    loading: float | None
-
-    def round(self, queries: Iterable[Query]) -> dict[str, Taken]:
-        """Each query once, by its title."""
-
-    def close(self) -> None:
-        """Gives up the table."""
 
 
 class Bitcol:
@@ -129,22 +39,11 @@ class Bitcol:
         found = {}
         for query in queries:
             took, reply = self.program.ask(query.sql())
-            found[query.title] = Taken(took, shortened(query, rows_of(reply)))
+            found[query.title] = Taken(took, shortened(query, each_row(reply)))
         return found
 
     def close(self) -> None:
         self.program.close()
-
-
-def texts(rows: Iterable[Iterable[object]]) -> Answer:
-    return [tuple("NULL" if cell is None else str(cell) for cell in row) for row in rows]
-
-
-def shortened(query: Query, rows: Answer) -> Answer:
-    """The rows; of a long answer their number and a checksum."""
-    if not getattr(query, "is_long", False):
-        return rows
-    return [(str(len(rows)), str(zlib.crc32("\n".join(map(",".join, rows)).encode())))]
 
 
 class Sqlite:
@@ -208,14 +107,14 @@ class Numpy:
         if not query.group:
             count = int(numpy.count_nonzero(found))
             totals = [int(self.columns[name][found].sum(dtype="i8")) if count else None for name in query.sums]
-            return texts([(*totals, count)])
+            return list(texts([(*totals, count)]))
         keys = self.columns[query.group][found]
         order = numpy.argsort(keys, kind="stable")
         groups, starts, counts = numpy.unique(keys[order], return_index=True, return_counts=True)
         if not len(groups):
             return []
         sums = [numpy.add.reduceat(self.columns[name][found][order], starts, dtype="i8") for name in query.sums]
-        return texts(zip(groups.tolist(), *(column.tolist() for column in sums), counts.tolist()))
+        return list(texts(zip(groups.tolist(), *(column.tolist() for column in sums), counts.tolist())))
 
     def round(self, queries: Iterable[Query]) -> dict[str, Taken]:
         return {query.title: timed(lambda: self.answer(query)) for query in queries}
@@ -284,8 +183,6 @@ def swapped(column: array.array) -> array.array:
 
 def stores_of(columns: Columns, layouts: str) -> tuple[list[Store], list[str]]:
     """A store of each kind that this machine has, filled, and the names of those that it hasn't."""
-    from clickhouse import ClickHouse, clickhouse_command
-
     stores: list[Store] = [Bitcol(columns, layout) for layout in layouts]
     missing = []
     stores.append(Sqlite(columns))

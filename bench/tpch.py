@@ -15,8 +15,9 @@ import sys
 
 from common import LAYOUTS, options, rounds
 from lineitem import TYPES, day, lineitem
+from queries import Columns, Query, Range, Taken
 from report import Report, figure, times
-from stores import Columns, Query, Range, compared, stores_of
+from stores import compared, stores_of
 
 PARTS = (0.001, 0.01, 0.1, 0.5, 0.9)
 SCANNED = ("quantity", "discount", "shipdate", "extendedprice")
@@ -76,7 +77,8 @@ def found_part(answer: list[tuple[str, ...]], rows: int) -> str:
     return f"{figure(100 * sum(int(row[-1]) for row in answer) / rows, 2)} %"
 
 
-def tell(report: Report, name: str, queries: list[Query], found: dict, rows: int, missing: list[str]) -> None:
+def tell(report: Report, name: str, queries: list[Query], found: dict[str, dict[str, Taken]], rows: int,
+         missing: list[str]) -> None:
     """A table: ns a row in bitcol, and the others as multiples of V's time."""
     ours = [f"bitcol {layout}" for layout in LAYOUTS]
     others = [store for store in found if store not in ours]
@@ -102,7 +104,7 @@ def main() -> None:
     if not 0 < scale <= LARGEST:
         sys.exit(f"a scale factor above 0, and at most {LARGEST}")
     columns = lineitem(scale)
-    report = Report("python3 bench/tpch.py")
+    report = Report(f"python3 bench/tpch.py --scale {scale:g}")
     stores, missing = stores_of(columns, LAYOUTS)
     for name in missing:
         report.note(f"{name} is not installed: left out")
