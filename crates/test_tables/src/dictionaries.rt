@@ -173,10 +173,10 @@ fn dictionaries_take_in_few(rt: HostRuntime) {
 }
 
 /// So many numbers from 0 on.
-fn numbers<R: Abort + AllocGlobal>(rt: &R, count: usize) -> Vec<Option<i64>> {
+fn numbers<R: Abort + AllocGlobal>(rt: &R, count: i64) -> Vec<Option<i64>> {
     let mut values = Vec::new(rt.alloc());
     for i in 0..count {
-        values.push(Some(i as i64)).expect(rt, "memory");
+        values.push(Some(i)).expect(rt, "memory");
     }
     values
 }
