@@ -16,9 +16,9 @@ pub mod Ordered
 pub mod Overwriting
 pub mod PairRows
 pub mod Pieces
-pub mod Planed
 pub mod Ranks
 pub mod Repeated
+pub mod Rises
 pub mod Rows
 pub mod Scans
 pub mod Shifting

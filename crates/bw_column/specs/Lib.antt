@@ -8,7 +8,6 @@ pub mod Keeping
 pub mod Moves
 pub mod Places
 pub mod PlaneSources
-pub mod Planes
 pub mod Preparing
 pub mod Storing
 pub mod Values

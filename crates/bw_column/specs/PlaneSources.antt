@@ -8,12 +8,10 @@ use Rattle.bw_column.specs.declared.column_planes.ColumnPlanes.TheVariants as pl
 
 abbrev pub units_in : ColumnPlanes → List (List ℕ)
 units_in (planes.V source) = source.units
-units_in (planes.H source) = source.units
 units_in (planes.S source) = source.units
 
 abbrev pub reads_in : ColumnPlanes → ℕ
 reads_in (planes.V source) = source.reads
-reads_in (planes.H source) = source.reads
 reads_in (planes.S source) = source.reads
 
 -- planes that hold the codes of a column, none of which was read

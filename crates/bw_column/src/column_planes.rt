@@ -1,20 +1,17 @@
 //! The planes of a column's codes, each layout's in its own way.
 
-ghost use Rattle.std.specs.Prelude.{IfSome, IsSome, false, if◌then◌else◌, length, pos, ℕ, ◌&&◌, ◌*◌, ◌+◌, ◌+ℤ◌, ◌^◌, ◌≡◌, ◌≤◌, ◌↔◌};
+ghost use Rattle.std.specs.Prelude.{IfSome, if◌then◌else◌, length, pos, ℕ, ◌&&◌, ◌*◌, ◌+◌, ◌+ℤ◌, ◌^◌, ◌≡◌, ◌≤◌};
 ghost use Rattle.bw_mask.specs.Masks.{SameShape, len, row_at};
 ghost use Rattle.bw_code.specs.Tests.{int_compares};
 ghost use Rattle.bw_code.specs.Units.{some_below};
 ghost use Rattle.bw_vertical.specs.Planes.{code_in, segments_of};
-ghost use Rattle.bw_column.specs.Costs.{is_plain};
 ghost use Rattle.bw_column.specs.PlaneSources.{HoldsCodes, reads_in, units_in};
 ghost use Rattle.bw_column.specs.Storing.{layout_of, list_of};
 ghost use Rattle.bw_column.specs.Values.{widest};
 
-use crate::planes::CodePlanes;
 use crate::storage::Codes;
 use bw_byteslice::SlicePlanes;
 use bw_code::{CmpOp, Offset, Source};
-use bw_horizontal::HorizontalColumn;
 use bw_mask::Mask;
 use bw_vertical::{PlaneSource, add_from};
 
@@ -22,7 +19,6 @@ use bw_vertical::{PlaneSource, add_from};
 #[derive(Drop)]
 pub(crate) enum ColumnPlanes<'a> {
     V(PlaneSource<'a>),
-    H(CodePlanes<'a, HorizontalColumn>),
     S(SlicePlanes<'a>),
 }
 
@@ -36,7 +32,6 @@ impl<'a> Source<[u64; 4]> for ColumnPlanes<'a> {
     fn read(&mut self, i: usize) -> [u64; 4] {
         match self {
             ColumnPlanes::V(planes) => planes.read(i),
-            ColumnPlanes::H(planes) => planes.read(i),
             ColumnPlanes::S(planes) => planes.read(i),
         }
     }
@@ -44,7 +39,6 @@ impl<'a> Source<[u64; 4]> for ColumnPlanes<'a> {
     fn reads(&self) -> u64 {
         match self {
             ColumnPlanes::V(planes) => planes.reads(),
-            ColumnPlanes::H(planes) => planes.reads(),
             ColumnPlanes::S(planes) => planes.reads(),
         }
     }
@@ -78,7 +72,6 @@ fn add_beside<A: Source<[u64; 4]>>(
 {
     match others {
         ColumnPlanes::V(b) => add_from(a, left, b, right, op, need, out),
-        ColumnPlanes::H(b) => add_from(a, left, b, right, op, need, out),
         ColumnPlanes::S(b) => add_from(a, left, b, right, op, need, out),
     }
 }
@@ -111,23 +104,20 @@ pub(crate) fn add_planes(
 {
     match planes {
         ColumnPlanes::V(a) => add_beside(a, left, others, right, op, need, out),
-        ColumnPlanes::H(a) => add_beside(a, left, others, right, op, need, out),
         ColumnPlanes::S(a) => add_beside(a, left, others, right, op, need, out),
     }
 }
 
 impl Codes {
-    /// The planes, none of them read. A plain list has none at hand.
+    /// The planes, none of them read, where they are at hand. Of a plain list and of words of sections none is.
     pub(crate) fn planes(&self) -> Option<ColumnPlanes<'_>>
-        requires narrow { (list_of self.now).width ≤ widest (layout_of self.now) }
-        ensures some { IsSome result ↔ (is_plain (layout_of self.now) ≡ false) }
-        ensures planes { IfSome result (HoldsCodes (list_of self.now)) }
+        requires { (list_of self.now).width ≤ widest (layout_of self.now) }
+        ensures { IfSome result (HoldsCodes (list_of self.now)) }
     {
         match self {
-            Codes::P(_) => None,
             Codes::V(codes) => Some(ColumnPlanes::V(codes.planes())),
-            Codes::H(codes) => Some(ColumnPlanes::H(CodePlanes::new(codes))),
             Codes::S(codes) => Some(ColumnPlanes::S(codes.planes())),
+            Codes::P(_) | Codes::H(_) => None,
         }
     }
 }

@@ -17,7 +17,6 @@ mod growing;
 mod kept;
 mod pair_codes;
 mod pairs;
-mod planes;
 mod reading;
 mod runs;
 mod split;

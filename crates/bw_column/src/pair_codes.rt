@@ -1,6 +1,6 @@
 //! Two columns compared by their codes, without fetching a value.
 
-ghost use Rattle.std.specs.Prelude.{is_some, length, true, ℕ, ◌&&◌, ◌≡◌};
+ghost use Rattle.std.specs.Prelude.{is_some, length, true, ℕ, ◌&&◌, ◌+◌, ◌^◌, ◌≡◌, ◌≤◌};
 ghost use Rattle.bw_mask.specs.Masks.{SameShape, len, row_at};
 ghost use Rattle.bw_code.specs.Encodings.{width};
 ghost use Rattle.bw_code.specs.Meters.{raised};
@@ -14,6 +14,20 @@ use crate::column::Column;
 use crate::column_planes::add_planes;
 use bw_code::{CmpOp, Encoding, Layout, Meter, Source};
 use bw_mask::Mask;
+
+/// The units of all planes of two columns of so many bits, where any row is known.
+fn units_of_planes(width: u32, other_width: u32, known: &Mask) -> u64
+    requires few { len known.now ≤ 2 ^ 24 }
+    requires narrow { width ≤ 64 }
+    requires other_narrow { other_width ≤ 64 }
+    ensures { result ≡ units_of_addition width other_width (row_at known.now) (len known.now) }
+{
+    if known.any() {
+        u64::from(width + other_width) * known.len().div_ceil(256) as u64
+    } else {
+        0
+    }
+}
 
 impl Column {
     /// Whether both have the same encoding, so that their codes compare as their values do, and lie in the same way.
@@ -57,7 +71,8 @@ impl Column {
         are_offsets && self.layout() != Layout::P && other.layout() != Layout::P
     }
 
-    /// `out` becomes the known rows whose values compare so, by the planes of both, to which the bases are added.
+    /// `out` becomes the known rows whose values compare so, by the planes of both, to which the bases are added, where planes are
+    /// at hand, and else by the values. What it costs is told by the planes in either way.
     #[tactic(auto, using(bw_code::proofs::Lists::made_len))]
     pub(crate) fn compare_sums(
         &self,
@@ -82,7 +97,10 @@ impl Column {
         };
         let (Some(mut planes), Some(mut others)) = (self.codes.planes(), other.codes.planes())
         else {
-            unreachable!()
+            // A plane of H is spread over all words of a segment: its codes are read quicker.
+            self.compare_rows(op, other, known, out);
+            meter.add(units_of_planes(left.width, right.width, known));
+            return;
         };
         add_planes(&mut planes, *left, &mut others, *right, op, known, out);
         meter.add(planes.reads());

@@ -1,39 +1,34 @@
 //! Two columns compared at the needed rows.
 
-ghost use Rattle.std.specs.Prelude.{is_some, length, not, true, ℕ, ◌&&◌, ◌+◌, ◌<◌, ◌^◌, ◌≡◌, ◌≤◌};
+ghost use Rattle.std.specs.Prelude.{is_some, length, negsuc, not, slice_index, true, ℕ, ◌&&◌, ◌+◌, ◌-◌, ◌<◌, ◌^◌, ◌≡◌, ◌≤◌};
 ghost use Rattle.bw_mask.specs.Masks.{SameShape, bit_of, len, row_at};
+ghost use Rattle.bw_cells.specs.Distances.{distance_from};
 ghost use Rattle.bw_code.specs.Meters.{raised};
+ghost use Rattle.bw_code.specs.Tests.{code_compares};
 ghost use Rattle.bw_code.specs.Units.{units_of_fetches};
 ghost use Rattle.bw_column.specs.Comparisons.{compare_so};
 ghost use Rattle.bw_column.specs.Costs.{needed_known, units_of_both, units_of_columns};
 ghost use Rattle.bw_column.specs.Values.{value_at};
 
 use crate::column::Column;
-use bw_cells::set_bytes;
+use bw_cells::Measured;
 use bw_code::{CmpOp, Meter};
 use bw_mask::Mask;
+use std::simd::prelude::*;
 
-/// Whether two values compare so. A null does not.
-fn values_compare(op: CmpOp, left: Option<i64>, right: Option<i64>) -> bool
-    ensures { result ≡ compare_so op left right }
+/// Bit i says whether the i-th numbers compare so.
+fn compared_bits(op: CmpOp, left: &[u64; 64], right: &[u64; 64]) -> u64
+    ensures { (i : ℕ) → i < 64 → bit_of result i ≡ code_compares op (slice_index left.now i) (slice_index right.now i) }
 {
-    match (left, right) {
-        (Some(x), Some(y)) => op.compares_integers(x, y),
-        _ => false,
+    let (x, y) = (u64x64::from_array(*left), u64x64::from_array(*right));
+    match op {
+        CmpOp::Eq => x.simd_eq(y).to_bitmask(),
+        CmpOp::Ne => x.simd_ne(y).to_bitmask(),
+        CmpOp::Lt => x.simd_lt(y).to_bitmask(),
+        CmpOp::Le => x.simd_le(y).to_bitmask(),
+        CmpOp::Gt => y.simd_lt(x).to_bitmask(),
+        CmpOp::Ge => y.simd_le(x).to_bitmask(),
     }
-}
-
-/// Bit i says whether the i-th values compare so.
-fn compared_bits(op: CmpOp, left: &[Option<i64>], right: &[Option<i64>]) -> u64
-    requires few { length left.now ≤ 64 }
-    requires same { length right.now ≡ length left.now }
-    ensures { (i : ℕ) → i < length left.now → bit_of result i ≡ compare_so op (value_at left.now i) (value_at right.now i) }
-{
-    let mut told = [0; 64];
-    for i in 0..left.len() {
-        told[i] = u8::from(values_compare(op, left[i], right[i]));
-    }
-    set_bytes(&told)
 }
 
 /// The units of fetching two values at each row that is in.
@@ -45,6 +40,17 @@ fn units_of_rows(rows: &Mask) -> u64
 }
 
 impl Column {
+    /// Fills `out` with how far the values of the 64 rows from row `at` on lie above the least 64-bit integer, as far as there are
+    /// such rows: numbers in the order of the values, whatever their encoding. Answers which of the rows are not null.
+    fn rise_of_block(&self, at: usize, out: &mut [u64; 64]) -> u64
+        requires { at ≤ length self.now.values }
+        ensures rises { (i : ℕ) → i < 64 → at + i < length self.now.values → slice_index out.new i ≡ distance_from (negsuc (2 ^ 63 - 1)) (value_at self.now.values (at + i)) }
+        ensures present { (i : ℕ) → i < 64 → at + i < length self.now.values → bit_of result i ≡ is_some (value_at self.now.values (at + i)) }
+    {
+        let n = (self.len() - at).min(64);
+        self.distances(at, i64::MIN, &mut out[..n])
+    }
+
     /// Bit i says whether the values of row `at + i` compare so, as far as there are such rows.
     fn compared_block(&self, op: CmpOp, other: &Column, at: usize) -> u64
         requires at { at ≤ length self.now.values }
@@ -52,14 +58,13 @@ impl Column {
         ensures { (i : ℕ) → i < 64 → at + i < length self.now.values
             → bit_of result i ≡ compare_so op (value_at self.now.values (at + i)) (value_at other.now.values (at + i)) }
     {
-        let n = (self.len() - at).min(64);
-        let mut left = [None; 64];
-        let mut right = [None; 64];
-        let lefts = &mut left[..n];
-        self.read(at, lefts);
-        let rights = &mut right[..n];
-        other.read(at, rights);
-        compared_bits(op, lefts, rights)
+        let _held = self.len();
+        let _others_held = other.len();
+        let mut left = [0; 64];
+        let mut right = [0; 64];
+        let present = self.rise_of_block(at, &mut left);
+        let others = other.rise_of_block(at, &mut right);
+        present & others & compared_bits(op, &left, &right)
     }
 
     /// Of the 64 rows from row `at` on, the needed ones whose values compare so.
@@ -78,7 +83,7 @@ impl Column {
     }
 
     /// `out` becomes the needed rows whose values compare so.
-    fn compare_rows(&self, op: CmpOp, other: &Column, need: &Mask, out: &mut Mask)
+    pub(crate) fn compare_rows(&self, op: CmpOp, other: &Column, need: &Mask, out: &mut Mask)
         requires other { length other.now.values ≡ length self.now.values }
         requires need { len need.now ≡ length self.now.values }
         requires out { len out.old ≡ length self.now.values }

@@ -18,14 +18,14 @@ add_planes-requires-clause-units c =
     let codes = list_of c.self.inside.codes in
     let rows : len c.args.known.now ≡ count codes = (rw (← c.self.view_is) at c.requires.known) ∙ made_len (count codes) (λ i. value_from c.self.inside.encoding (code_at codes i) (row_at c.self.inside.nonnull i)) in
     let width_is : codes.width ≡ c.in-Offset-Offset.left.width = c.self.invariant.width ∙ ap width c.in-Offset-Offset.is-0 in
-    c.in-Some-Some.ensures.planes.units ∙ ap (λ n. segments_of n * codes.width) (sym rows) ∙ ap (λ k. segments_of (len c.args.known.now) * k) width_is
+    c.in-Some-Some.ensures.units ∙ ap (λ n. segments_of n * codes.width) (sym rows) ∙ ap (λ k. segments_of (len c.args.known.now) * k) width_is
 
 pub add_planes-requires-clause-other_units : goal.add_planes-requires-clause-other_units
 add_planes-requires-clause-other_units c =
     let codes = list_of c.other.inside.codes in
     let rows : len c.args.known.now ≡ count codes = (rw (← c.other.view_is) at (c.requires.known ∙ sym c.requires.other)) ∙ made_len (count codes) (λ i. value_from c.other.inside.encoding (code_at codes i) (row_at c.other.inside.nonnull i)) in
     let width_is : codes.width ≡ c.in-Offset-Offset.right.width = c.other.invariant.width ∙ ap width c.in-Offset-Offset.is-1 in
-    c.in-Some-Some.ensures'.planes.units ∙ ap (λ n. segments_of n * codes.width) (sym rows) ∙ ap (λ k. segments_of (len c.args.known.now) * k) width_is
+    c.in-Some-Some.ensures'.units ∙ ap (λ n. segments_of n * codes.width) (sym rows) ∙ ap (λ k. segments_of (len c.args.known.now) * k) width_is
 
 pub returns-clause-rows : goal.returns-clause-rows
 returns-clause-rows c i =
@@ -46,8 +46,8 @@ returns-clause-rows c i =
     let there = rw (← c.self.view_is, ← c.other.view_is) at (c.requires.there i) in
     let held : known ≡ true → int_compares op (left.base +ℤ pos (code_in left.width units i)) (right.base +ℤ pos (code_in right.width other_units i)) ≡ int_compares op (left.base +ℤ pos (code_at codes i)) (right.base +ℤ pos (code_at others i)) = λ h.
     let inside = known_both op e d codes others nonnull nonnull_others c.self.invariant c.other.invariant i (there h) in
-    let first : code_in left.width units i ≡ code_at codes i = ap (λ k. code_in k units i) (sym width_is) ∙ code_held e codes nonnull c.self.invariant c.in-Some-Some.planes c.in-Some-Some.ensures.planes i inside.0 in
-    let second : code_in right.width other_units i ≡ code_at others i = ap (λ k. code_in k other_units i) (sym other_width_is) ∙ code_held d others nonnull_others c.other.invariant c.in-Some-Some.others c.in-Some-Some.ensures'.planes i inside.1 in
+    let first : code_in left.width units i ≡ code_at codes i = ap (λ k. code_in k units i) (sym width_is) ∙ code_held e codes nonnull c.self.invariant c.in-Some-Some.planes c.in-Some-Some.ensures i inside.0 in
+    let second : code_in right.width other_units i ≡ code_at others i = ap (λ k. code_in k other_units i) (sym other_width_is) ∙ code_held d others nonnull_others c.other.invariant c.in-Some-Some.others c.in-Some-Some.ensures' i inside.1 in
     ap (λ x. int_compares op (left.base +ℤ pos x) (right.base +ℤ pos (code_in right.width other_units i))) first ∙ ap (λ y. int_compares op (left.base +ℤ pos (code_at codes i)) (right.base +ℤ pos y)) second in
     rw (← c.self.view_is, ← c.other.view_is) (
     c.add_planes.ensures.rows i
@@ -61,13 +61,13 @@ returns-clause-units c =
     let n = len c.args.known.now in
     let known = row_at c.args.known.now in
     let old = c.args.meter.now in
-    let first : c.reads.result ≡ (if some_below n known then segments_of n * c.in-Offset-Offset.left.width else 0) = omega (arith, c.reads.ensures, c.add_planes.ensures.reads, c.in-Some-Some.ensures.planes.unread) in
-    let second : c.reads-2.result ≡ (if some_below n known then segments_of n * c.in-Offset-Offset.right.width else 0) = omega (arith, c.reads-2.ensures, c.add_planes.ensures.other_reads, c.in-Some-Some.ensures'.planes.unread) in
+    let first : c.reads.result ≡ (if some_below n known then segments_of n * c.in-Offset-Offset.left.width else 0) = omega (arith, c.reads.ensures, c.add_planes.ensures.reads, c.in-Some-Some.ensures.unread) in
+    let second : c.reads-2.result ≡ (if some_below n known then segments_of n * c.in-Offset-Offset.right.width else 0) = omega (arith, c.reads-2.ensures, c.add_planes.ensures.other_reads, c.in-Some-Some.ensures'.unread) in
     let width_is : c.in-Offset-Offset.left.width ≡ width e = sym (ap width c.in-Offset-Offset.is-0) in
     let other_width_is : c.in-Offset-Offset.right.width ≡ width d = sym (ap width c.in-Offset-Offset.is-1) in
     let rows = rw (← c.self.view_is) at c.requires.known in
     rw (← c.self.view_is, ← c.other.view_is) (
-    c.add-2.ensures ∙ ap (λ m. raised m c.reads-2.result) c.add.ensures
+    c.add-3.ensures ∙ ap (λ m. raised m c.reads-2.result) c.add-2.ensures
     ∙ added_units c.in-Offset-Offset.left.width c.in-Offset-Offset.right.width n old c.reads.result c.reads-2.result known first second
     ∙ ap (λ w. raised old (units_of_addition w c.in-Offset-Offset.right.width known n)) width_is
     ∙ ap (λ w. raised old (units_of_addition (width e) w known n)) other_width_is
