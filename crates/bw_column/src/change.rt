@@ -1,6 +1,6 @@
 //! Values added to a column, and values put in place of others. What may want memory comes first.
 
-ghost use Rattle.std.specs.Prelude.{All, IfOk, OnOk, count_by, true, false, length, ℕ, ◌++◌, ◌+◌, ◌<◌, ◌^◌, ◌≡◌, ◌≤◌};
+ghost use Rattle.std.specs.Prelude.{All, IfOk, IsTrue, OnOk, count_by, true, false, length, ℕ, ◌++◌, ◌+◌, ◌<◌, ◌^◌, ◌↔◌, ◌≡◌, ◌≤◌};
 ghost use Rattle.bw_code.specs.Encodings.{IsFit, kind_of, width};
 ghost use Rattle.bw_code.specs.declared.kind.Kind.TheVariants as kinds;
 ghost use Rattle.bw_mask.specs.Masks.{len};
@@ -12,11 +12,13 @@ ghost use Rattle.bw_column.specs.Preparing.{IsEncodingFor, IsPreparedFor, more};
 ghost use Rattle.bw_column.specs.Values.{IsNullOrHeld, known};
 
 use crate::column::Column;
+use crate::copying::spans;
+use crate::ended::EndedCells;
 use crate::growing::Grown;
-use crate::kept::{KeptCodes, are_coded, find_codes};
+use crate::kept::{KeptCodes, find_codes};
 use crate::step::Step;
 use bw_cells::{Cells, Measured};
-use bw_code::Kind;
+use bw_code::{Encoding, Kind};
 use bw_dictionary::rank_cells;
 use bw_mask::Mask;
 use std::alloc::{AllocError, Global};
@@ -74,6 +76,7 @@ impl Column {
         values: &C,
         grow: bool,
     ) -> Result<Prepared, AllocError>
+        requires kind { kind_of self.old.encoding ≡ kinds.Offset }
         requires held { All (IsNullOrHeld self.old.layout) (C.cells values.now) }
         requires some { length (C.cells values.now) ≤ 2 ^ 24 }
         requires few { length self.old.values + more grow (C.cells values.now) ≤ 2 ^ 24 }
@@ -82,13 +85,25 @@ impl Column {
     {
         let more = count_more(values, grow);
         let codes = KeptCodes::Distances;
-        if are_coded(&self.encoding, values) {
+        let values = EndedCells::of(values);
+        if self.has_codes_for(&values) {
             self.reserve(more)?;
             let step = Step::Stay;
             return Ok(Prepared { step, codes });
         }
-        let step = self.step_with(alloc, values, more)?;
+        let step = self.step_with(alloc, &values, more)?;
         Ok(Prepared { step, codes })
+    }
+
+    /// Whether each of the values has a code in a column of distances from a base, which the ends of the values tell.
+    fn has_codes_for<C: Measured>(&self, values: &C) -> bool
+        requires { kind_of self.now.encoding ≡ kinds.Offset }
+        ensures { IsTrue result ↔ All (IsCoded self.now.encoding) (C.cells values.now) }
+    {
+        let Encoding::Offset(own) = self.encoding else {
+            unreachable!()
+        };
+        spans(own, values.ends())
     }
 
     /// The same of a column in a dictionary: which integers the values have, and which of them is each, is found together.

@@ -37,7 +37,7 @@ fn covers(offset: Offset, other: Offset) -> bool
 }
 
 /// Whether values with these ends have codes by an offset.
-fn spans(offset: Offset, ends: Option<Ends>) -> bool
+pub(crate) fn spans(offset: Offset, ends: Option<Ends>) -> bool
     ensures { (values : List (Option ℤ)) → AreEnds (known values) ends → (IsTrue result ↔ All (IsCoded (by.Offset offset)) values) }
 {
     let Some(Ends { least, greatest }) = ends else {

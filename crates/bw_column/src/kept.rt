@@ -1,7 +1,6 @@
 //! The codes of cells that a column makes ready for, as far as they are kept until it takes them.
 
-ghost use Rattle.std.specs.Bool.{OnTrue};
-ghost use Rattle.std.specs.Prelude.{All, IfOk, IfSome, IsSome, IsTrue, drop, length, slice_index, slice_index_or, take, None, Option, ℤ, ◌+◌, ◌<◌, ◌↔◌, ◌≡◌, ◌≤◌};
+ghost use Rattle.std.specs.Prelude.{All, IfOk, IfSome, IsSome, length, ◌<◌, ◌↔◌, ◌≡◌};
 ghost use Rattle.bw_code.specs.Encodings.{IsEncoding, kind_of};
 ghost use Rattle.bw_code.specs.declared.kind.Kind.TheVariants as kinds;
 ghost use Rattle.bw_dictionary.specs.Ranking.{AreRanked};
@@ -9,8 +8,8 @@ ghost use Rattle.bw_column.specs.Codes.{IsCoded, code_for, codes_for};
 ghost use Rattle.bw_column.specs.Keeping.{AreKept};
 ghost use Rattle.bw_column.specs.Values.{value_at};
 
-use crate::codes::{code_of, encode_all};
-use bw_cells::{Cells, Measured};
+use crate::codes::code_of;
+use bw_cells::Measured;
 use bw_code::Encoding;
 use bw_dictionary::{RankedCells, find_entries};
 use std::alloc::{AllocError, Global};
@@ -37,24 +36,6 @@ impl KeptCodes {
             KeptCodes::Places(codes) => codes[i],
         }
     }
-}
-
-/// Whether each of the cells has a code.
-pub(crate) fn are_coded<C: Cells>(encoding: &Encoding, cells: &C) -> bool
-    ensures { IsTrue result ↔ All (IsCoded encoding.now) (C.cells cells.now) }
-{
-    let mut run = [None; 64];
-    let mut codes = [0; 64];
-    let mut at = 0;
-    while at < cells.len() {
-        let n = (cells.len() - at).min(64);
-        cells.read(at, &mut run[..n]);
-        if !encode_all(encoding, &run[..n], &mut codes[..n]) {
-            return false;
-        }
-        at += n;
-    }
-    true
 }
 
 /// The codes of cells by a dictionary, if each of them has one.

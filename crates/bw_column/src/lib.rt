@@ -10,6 +10,7 @@ mod compare;
 mod compare_anew;
 mod copying;
 mod distances;
+mod ended;
 mod ends;
 mod extending;
 mod filling;
