@@ -3,6 +3,7 @@ pub mod Between
 pub mod Blocks
 pub mod Changed
 pub mod Chosen
+pub mod Coded
 pub mod Extremes
 pub mod Filled
 pub mod Flat
@@ -11,6 +12,7 @@ pub mod Held
 pub mod Known
 pub mod Listed
 pub mod Masked
+pub mod Measuring
 pub mod Narrow
 pub mod Ordered
 pub mod Overwriting

@@ -1,4 +1,4 @@
--- The ends of a column's values are those of its codes, where these are distances from a base.
+-- The ends of a column's values are those of its codes, which keep their order.
 use Rattle.std.proofs.Common.{[], List, Option, Some, ap, arith, false, refl, subst, sym, true, ℕ, ℤ, ◌<◌, ◌∙◌, ◌≡◌, ◌≤ℤ◌, ◌≤◌, inl, inr, unwrap_or, Bool, ◌⊎◌}
 use Rattle.std.specs.List.{Contains}
 use Rattle.std.proofs.lemmas.Int.{ints}
@@ -6,11 +6,11 @@ use Rattle.std.proofs.lemmas.List.{get_or_past}
 use Rattle.std.proofs.lemmas.Bool.{cases_lt}
 use Rattle.bw_mask.specs.Masks.{MaskRows, row_at}
 use Rattle.bw_code.specs.Columns.{CodeList, code_at, count}
-use Rattle.bw_code.specs.Encodings.{IsCode, IsGreatest, IsLeast, kind_of, value_of}
+use Rattle.bw_code.specs.Encodings.{IsCode, IsEncoding, IsGreatest, IsLeast, value_of}
 use Rattle.bw_code.specs.declared.encoding.Encoding.{Encoding}
 use Rattle.bw_code.specs.declared.encoding.Encoding.TheVariants as by
-use Rattle.bw_code.specs.declared.kind.Kind.TheVariants as kind
 use Rattle.bw_code.specs.declared.kind.Layout.{Layout}
+use Rattle.bw_code.proofs.Entries.{entry_is}
 use Rattle.bw_column.specs.Codes.{AreRowCodes, IsRowCode, value_from, values_from}
 use Rattle.bw_column.specs.Extremes.{IsGreatestFrom, IsLeastFrom, IsReached}
 use Rattle.bw_column.specs.Values.{known, value_at}
@@ -21,9 +21,13 @@ row_code : (e : Encoding) (code : ℕ) (there : Bool) → there ≡ true → IsR
 row_code e code true _ is = record { value = value_of e code; fits = omega (arith, ints, is.1); is = is.0 }
 row_code e code false away is = absurd cc
 
-less : (e : Encoding) → kind_of e ≡ kind.Offset → (a b : ℕ) → a ≤ b → value_of e a ≤ℤ value_of e b
-less (by.Offset o) is a b h = omega (arith, ints, h)
-less (by.Dictionary entries) is a b h = absurd cc
+less : (e : Encoding) → IsEncoding e → (a b : ℕ) → IsCode e b → a ≤ b → value_of e a ≤ℤ value_of e b
+less (by.Offset o) sound a b is h = omega (arith, ints, h)
+less (by.Dictionary entries) sound a b is h =
+    elim (cases_lt a b) [
+      | inl below ↦ omega (arith, ints, sound.ascending a b below (entry_is entries is.value b sound.ascending is.is).within)
+      | inr other ↦ let same : a ≡ b = omega (arith, h, other) in rw same (omega (arith, ints))
+    ]
 
 value_there : (e : Encoding) (code : ℕ) (there : Bool) (x : ℤ) → value_from e code there ≡ Some x → (there ≡ true) × (value_of e code ≡ x)
 value_there e code true x is = (refl, ap (λ (o : Option ℤ). unwrap_or o x) is)
@@ -48,16 +52,16 @@ module _ {l : Layout} (e : Encoding) (codes : CodeList) (nonnull : MaskRows) (ar
         | inr past ↦ absurd (let none : row_at nonnull i ≡ false = get_or_past nonnull.rows i false (omega (arith, are.len)) in let both = at.0 in cc)
       ]
 
-  pub least_known : kind_of e ≡ kind.Offset → (start x : ℕ) → IsLeastFrom start (count codes) (row_at nonnull) (code_at codes) x → IsReached (count codes) (row_at nonnull) (code_at codes) x → IsLeast (known values) (value_of e x)
-  least_known offset start x is reached = record {
+  pub least_known : (start x : ℕ) → IsLeastFrom start (count codes) (row_at nonnull) (code_at codes) x → IsReached (count codes) (row_at nonnull) (code_at codes) x → IsLeast (known values) (value_of e x)
+  least_known start x is reached = record {
     reached = reached_value x reached;
-    bound = all_known (λ y. value_of e x ≤ℤ y) values (λ i y here. let at = place i y here in subst (λ z. value_of e x ≤ℤ z) at.2 (less e offset x (code_at codes i) (is.bound i at.0 at.1)));
+    bound = all_known (λ y. value_of e x ≤ℤ y) values (λ i y here. let at = place i y here in subst (λ z. value_of e x ≤ℤ z) at.2 (less e are.sound x (code_at codes i) (reached_code (code_at codes i) (i, at.0, at.1, refl)) (is.bound i at.0 at.1)));
   }
 
-  pub greatest_known : kind_of e ≡ kind.Offset → (start x : ℕ) → IsGreatestFrom start (count codes) (row_at nonnull) (code_at codes) x → IsReached (count codes) (row_at nonnull) (code_at codes) x → IsGreatest (known values) (value_of e x)
-  greatest_known offset start x is reached = record {
+  pub greatest_known : (start x : ℕ) → IsGreatestFrom start (count codes) (row_at nonnull) (code_at codes) x → IsReached (count codes) (row_at nonnull) (code_at codes) x → IsGreatest (known values) (value_of e x)
+  greatest_known start x is reached = record {
     reached = reached_value x reached;
-    bound = all_known (λ y. y ≤ℤ value_of e x) values (λ i y here. let at = place i y here in subst (λ z. z ≤ℤ value_of e x) at.2 (less e offset (code_at codes i) x (is.bound i at.0 at.1)));
+    bound = all_known (λ y. y ≤ℤ value_of e x) values (λ i y here. let at = place i y here in subst (λ z. z ≤ℤ value_of e x) at.2 (less e are.sound (code_at codes i) x (reached_code x reached) (is.bound i at.0 at.1)));
   }
 
   -- the start is the code of a row, so that in either case one is reached

@@ -96,9 +96,8 @@ impl Column {
     {
         let ranked = rank_cells(alloc, values)?;
         let encoding = dictionary_of(alloc, &ranked.entries)?;
-        let codes = ranked.all_codes(alloc)?;
         let mut column = Column::with_room(alloc, layout, encoding, values.len())?;
-        column.extend_with(values, &codes);
+        column.extend_ranked(values, &ranked);
         Ok(column)
     }
 

@@ -1,6 +1,6 @@
 //! How far the values of a column lie above a base, by their codes.
 
-ghost use Rattle.std.specs.Prelude.{None, drop, if◌then◌else◌, is_some, length, map, slice_index, slice_index_or, take, ℕ, ◌%◌, ◌+◌, ◌<◌, ◌^◌, ◌≡◌, ◌≤◌};
+ghost use Rattle.std.specs.Prelude.{None, Some, pos, drop, if◌then◌else◌, is_some, length, map, slice_index, slice_index_or, take, ℕ, ◌%◌, ◌+◌, ◌<◌, ◌^◌, ◌≡◌, ◌≤◌};
 ghost use Rattle.bw_mask.specs.Masks.{bit_of};
 ghost use Rattle.bw_cells.specs.Distances.{distance_from};
 ghost use Rattle.bw_code.specs.Columns.{count};
@@ -10,8 +10,8 @@ ghost use Rattle.bw_column.specs.Storing.{layout_of, list_of};
 
 use crate::column::Column;
 use crate::storage::Codes;
-use bw_cells::{Measured, distances_in_run};
-use bw_code::{Encoding, Offset};
+use bw_cells::Measured;
+use bw_code::{Encoding, Ends, Offset};
 use bw_mask::{Mask, has_bit};
 
 /// Adds so much to each number whose bit is set, modulo 2^64. Each other becomes 0.
@@ -53,13 +53,73 @@ fn distances_by_offset(
     present
 }
 
+/// How far an entry lies above a base, modulo 2^64, where its row is not null, and 0 elsewhere. The distance is made at a null,
+/// too: what is left to choose takes no branch.
+#[inline]
+fn distance_where(there: bool, entry: i64, base: i64) -> u64
+    ensures { result ≡ (if there then distance_from base (Some entry) else 0) }
+{
+    let distance = entry.cast_unsigned().wrapping_sub(base.cast_unsigned());
+    if there { distance } else { 0 }
+}
+
+/// Each code of at most 64 rows becomes the distance of its entry from a base, modulo 2^64, where its bit is set, and 0
+/// elsewhere.
+fn measure_entries(codes: &mut [u64], set: u64, entries: &[i64], base: i64)
+    requires few { length codes.old ≤ 64 }
+    requires inside { (k : ℕ) → k < length codes.old → slice_index codes.old k < length entries.now }
+    ensures count { length codes.new ≡ length codes.old }
+    ensures each { (k : ℕ) → k < length codes.old → slice_index codes.new k ≡ (if bit_of set k then distance_from base (Some (slice_index_or entries.now (slice_index codes.old k) (pos 0))) else 0) }
+{
+    // The code of a null is 0, which is the place of an entry, too.
+    for i in 0..codes.len() {
+        let entry = entries[codes[i] as usize];
+        codes[i] = distance_where(has_bit(set, i), entry, base);
+    }
+}
+
+/// The same by a dictionary. Where it has no entries, each row is null, and its code is 0.
+fn distances_by_entries(
+    entries: &[i64],
+    codes: &Codes,
+    nonnull: &Mask,
+    at: usize,
+    base: i64,
+    out: &mut [u64],
+) -> u64
+    requires rows { AreRowCodes (layout_of codes.now) (by.Dictionary entries.now) (list_of codes.now) nonnull.now }
+    requires few { length out.old ≤ 64 }
+    requires there { at + length out.old ≤ count (list_of codes.now) }
+    ensures distances { out.new ≡ map (distance_from base) (take (length out.old) (drop at (values_from (by.Dictionary entries.now) (list_of codes.now) nonnull.now))) }
+    ensures present { (i : ℕ) → bit_of result i ≡ is_some (slice_index_or (take (length out.old) (drop at (values_from (by.Dictionary entries.now) (list_of codes.now) nonnull.now))) i None) }
+{
+    codes.read(at, out);
+    if entries.is_empty() {
+        return nonnull.bits(at, out.len());
+    }
+    let present = nonnull.bits(at, out.len());
+    measure_entries(out, present, entries, base);
+    present
+}
+
 impl Measured for Column {
+    fn ends(&self) -> Option<Ends> {
+        self.ends()
+    }
+
     fn distances(&self, at: usize, base: i64, out: &mut [u64]) -> u64 {
         match &self.encoding {
             Encoding::Offset(offset) => {
                 distances_by_offset(*offset, &self.codes, &self.nonnull, at, base, out)
             }
-            Encoding::Dictionary(_) => distances_in_run(self, at, base, out),
+            Encoding::Dictionary(dictionary) => distances_by_entries(
+                dictionary.entries(),
+                &self.codes,
+                &self.nonnull,
+                at,
+                base,
+                out,
+            ),
         }
     }
 }

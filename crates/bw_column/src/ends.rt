@@ -3,9 +3,7 @@
 ghost use Rattle.std.specs.Prelude.{length, slice_index, ◌^◌, ◌-◌, ◌≡◌, ◌≤◌};
 ghost use Rattle.bw_mask.specs.Masks.{bit_of, row_at};
 ghost use Rattle.bw_code.specs.Columns.{code_at, count};
-ghost use Rattle.bw_code.specs.Encodings.{kind_of};
 ghost use Rattle.bw_code.specs.Fittings.{AreEnds};
-ghost use Rattle.bw_code.specs.declared.kind.Kind.TheVariants as kind;
 ghost use Rattle.bw_column.specs.Extremes.{IsGreatestFrom, IsLeastFrom};
 ghost use Rattle.bw_column.specs.Storing.{list_of};
 ghost use Rattle.bw_column.specs.Values.{known};
@@ -66,9 +64,8 @@ fn code_ends(codes: &Codes, nonnull: &Mask, start: u64) -> (u64, u64)
 }
 
 impl Column {
-    /// The ends of the values that are not null, if there are any. The kind is OFFSET.
+    /// The ends of the values that are not null, if there are any: codes keep the order of their values.
     pub(crate) fn ends(&self) -> Option<Ends>
-        requires { kind_of self.now.encoding ≡ kind.Offset }
         ensures { AreEnds (known self.now.values) result }
     {
         let Some(first) = self.nonnull.next_from(0) else {

@@ -11,6 +11,7 @@ use crate::codes::encode_all;
 use crate::column::Column;
 use bw_cells::{Cells, Measured, presence};
 use bw_code::{Encoding, Offset};
+use bw_dictionary::RankedCells;
 
 impl Column {
     /// Adds at most 64 rows at the end, within the room, by their codes: those whose bit is set are not null.
@@ -128,8 +129,8 @@ impl Column {
         }
     }
 
-    /// Adds cells with their codes at the end, within the room.
-    pub(crate) fn extend_with<C: Cells>(&mut self, cells: &C, codes: &[u64])
+    /// Adds cells with their codes at the end, within the room. Of the cells it asks only which of them are there.
+    pub(crate) fn extend_with<C: Measured>(&mut self, cells: &C, codes: &[u64])
         requires coded { All (IsCoded self.old.encoding) (C.cells cells.now) }
         requires codes { codes.now ≡ codes_for self.old.encoding (C.cells cells.now) }
         requires held { All (IsNullOrHeld self.old.layout) (C.cells cells.now) }
@@ -139,12 +140,37 @@ impl Column {
         ensures layout { self.new.layout ≡ self.old.layout }
         ensures encoding { self.new.encoding ≡ self.old.encoding }
     {
-        let mut run = [None; 64];
+        let _sound = self.encoding();
+        let mut list = [0; 64];
         let mut at = 0;
         while at < cells.len() {
             let n = (cells.len() - at).min(64);
-            cells.read(at, &mut run[..n]);
-            self.extend(&run[..n], &codes[at..at + n]);
+            let present = cells.distances(at, 0, &mut list[..n]);
+            self.extend_rows(&codes[at..at + n], present);
+            at += n;
+        }
+    }
+
+    /// The same by the cells' places among the entries, which are widened run by run.
+    pub(crate) fn extend_ranked<C: Measured>(&mut self, cells: &C, ranked: &RankedCells)
+        requires coded { All (IsCoded self.old.encoding) (C.cells cells.now) }
+        requires codes { ranked.now.places.items ≡ codes_for self.old.encoding (C.cells cells.now) }
+        requires held { All (IsNullOrHeld self.old.layout) (C.cells cells.now) }
+        requires room { length self.old.values + length (C.cells cells.now) ≤ self.old.room }
+        requires few { length self.old.values + length (C.cells cells.now) ≤ 2 ^ 24 }
+        ensures values { self.new.values ≡ self.old.values ++ C.cells cells.now }
+        ensures layout { self.new.layout ≡ self.old.layout }
+        ensures encoding { self.new.encoding ≡ self.old.encoding }
+    {
+        let _sound = self.encoding();
+        let mut list = [0; 64];
+        let mut at = 0;
+        while at < cells.len() {
+            let n = (cells.len() - at).min(64);
+            let codes = &mut list[..n];
+            let present = cells.distances(at, 0, codes);
+            ranked.read_codes(at, codes);
+            self.extend_rows(codes, present);
             at += n;
         }
     }

@@ -1,6 +1,6 @@
 //! The distinct integers among cells, and the place of each cell's among them.
 
-ghost use Rattle.std.specs.Prelude.{All, FitsSigned, IfOk, [], length, map, pos, ◌+ℤ◌, ◌^◌, ◌≡◌, ◌≤◌, ◌≤ℤ◌};
+ghost use Rattle.std.specs.Prelude.{All, FitsSigned, IfOk, [], drop, length, map, pos, take, ◌+◌, ◌+ℤ◌, ◌^◌, ◌≡◌, ◌≤◌, ◌≤ℤ◌};
 ghost use Rattle.bw_cells.specs.Distances.{distance_from};
 ghost use Rattle.bw_cells.specs.Known.{known};
 ghost use Rattle.bw_code.specs.Encodings.{IsGreatest, IsLeast};
@@ -23,13 +23,12 @@ pub struct RankedCells {
 }
 
 impl RankedCells {
-    /// The places as codes.
-    pub fn all_codes(&self, alloc: Global) -> Result<Vec<u64>, AllocError>
-        ensures { IfOk result (λ codes. codes.items ≡ self.now.places.items) }
+    /// Fills `codes` with the places from number `at` on.
+    pub fn read_codes(&self, at: usize, codes: &mut [u64])
+        requires { at + length codes.old ≤ length self.now.places.items }
+        ensures { codes.new ≡ take (length codes.old) (drop at self.now.places.items) }
     {
-        let mut codes = Vec::from_elem(alloc, 0, self.places.len())?;
-        widen(&self.places, &mut codes);
-        Ok(codes)
+        widen(&self.places[at..at + codes.len()], codes);
     }
 
     /// The codes of the cells by a table that has one for each entry; that of a NULL is 0.
@@ -50,7 +49,7 @@ impl RankedCells {
             let n = (cells.len() - at).min(64);
             let run = &mut list[..n];
             let present = cells.distances(at, 0, run);
-            widen(&self.places[at..at + n], run);
+            self.read_codes(at, run);
             move_codes(run, present, table);
             codes.extend_from_slice(run)?;
             at += n;

@@ -12,8 +12,8 @@ with_room-requires-clause-narrow g c =
     let e : c.in_ok-encoding.encoding ≡ by.Dictionary c.in_ok-ranked.ranked.entries.items = c.in_ok-encoding.ensures ∙ ap by.Dictionary c.deref.ensures.value in
     rw e (narrow c.args.layout (known values) (by.Dictionary c.in_ok-ranked.ranked.entries.items) (known_held c.args.layout values c.requires.held) c.in_ok-ranked.ensures.entries)
 
-pub extend_with-requires-clause-coded : goal.extend_with-requires-clause-coded
-extend_with-requires-clause-coded g c =
+pub extend_ranked-requires-clause-coded : goal.extend_ranked-requires-clause-coded
+extend_ranked-requires-clause-coded g c =
     let values = g.C.Cells.cells c.args.values.now in
     let entries = c.in_ok-ranked.ranked.entries.items in
     let e : c.in_ok-encoding.encoding ≡ by.Dictionary entries = c.in_ok-encoding.ensures ∙ ap by.Dictionary c.deref.ensures.value in

@@ -1,7 +1,7 @@
-use Rattle.std.proofs.Common.{rules, arith, ap, subst, sym, w64, ℤ, ◌∙◌}
+use Rattle.std.proofs.Common.{rules, arith, subst, sym, w64, ℤ, ◌∙◌}
 use Rattle.std.proofs.lemmas.Int.{to_z-of_z}
 use Rattle.bw_column.specs.Columns.{ColumnView}
-use Rattle.bw_code.specs.Encodings.{IsGreatest, IsLeast, kind_of, value_of}
+use Rattle.bw_code.specs.Encodings.{IsGreatest, IsLeast, value_of}
 use Rattle.bw_column.specs.Values.{known}
 use Rattle.bw_column.specs.Storing.{list_of}
 use Rattle.bw_column.proofs.Spanned.{greatest_known, least_known, none_there, reached_code, reached_row}
@@ -32,11 +32,10 @@ returns c =
     let least = c.code_ends-least.ensures.least in
     let greatest = c.code_ends-least.ensures.greatest in
     let start = c.get-start.result in
-    let offset = ap (λ (v : ColumnView). kind_of v.encoding) c.self.view_is ∙ c.requires in
     let low = reached_row s.encoding (list_of s.codes) s.nonnull c.self.invariant start c.code_ends-least.result.0 c.in-Some.first c.in-Some.ensures.1 c.get-start.ensures.code least.reached in
     let high = reached_row s.encoding (list_of s.codes) s.nonnull c.self.invariant start c.code_ends-least.result.1 c.in-Some.first c.in-Some.ensures.1 c.get-start.ensures.code greatest.reached in
-    let least_is = least_known s.encoding (list_of s.codes) s.nonnull c.self.invariant offset start c.code_ends-least.result.0 least low in
-    let greatest_is = greatest_known s.encoding (list_of s.codes) s.nonnull c.self.invariant offset start c.code_ends-least.result.1 greatest high in (
+    let least_is = least_known s.encoding (list_of s.codes) s.nonnull c.self.invariant start c.code_ends-least.result.0 least low in
+    let greatest_is = greatest_known s.encoding (list_of s.codes) s.nonnull c.self.invariant start c.code_ends-least.result.1 greatest high in (
       subst (λ (y : ℤ). IsLeast (known c.args.self.now.values) y) (sym (to_z-of_z w64 c.decode.result (search rules) ∙ c.decode.ensures.is))
           (subst (λ (v : ColumnView). IsLeast (known v.values) (value_of s.encoding c.code_ends-least.result.0)) c.self.view_is least_is),
       subst (λ (y : ℤ). IsGreatest (known c.args.self.now.values) y) (sym (to_z-of_z w64 c.decode-2.result (search rules) ∙ c.decode-2.ensures.is))
