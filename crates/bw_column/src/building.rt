@@ -101,6 +101,22 @@ impl Column {
         Ok(column)
     }
 
+    /// A column of the same values, as `build` makes it of them. From a dictionary to a dictionary no value is looked at: the
+    /// entries are there, and only codes move.
+    pub fn rebuild(&self, alloc: Global, layout: Layout, kind: Kind) -> Result<Column, AllocError>
+        requires { All (IsNullOrHeld layout) self.now.values }
+        ensures values { IfOk result (λ c. c.values ≡ self.now.values) }
+        ensures layout { IfOk result (λ c. c.layout ≡ layout) }
+        ensures fits { IfOk result (λ c. IsFit (known self.now.values) c.encoding) }
+        ensures kind { IfOk result (λ c. kind_of c.encoding ≡ kind) }
+    {
+        let _few = self.len();
+        match (self.kind(), kind) {
+            (Kind::Dictionary, Kind::Dictionary) => self.rebuilt_in(alloc, layout),
+            _ => Column::build(alloc, self, layout, kind),
+        }
+    }
+
     /// Makes room for so many values more. The column stays as it is, also where memory is wanting.
     #[tactic(auto, using(bw_code::proofs::Lists::made_len))]
     pub(crate) fn reserve(&mut self, more: usize) -> Result<(), AllocError>

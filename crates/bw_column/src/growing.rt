@@ -14,9 +14,9 @@ ghost use Rattle.bw_dictionary.specs.Ranking.{AreRanked};
 
 use crate::column::Column;
 use bw_cells::Measured;
-use bw_code::Encoding;
+use bw_code::{Encoding, Layout};
 use bw_dictionary::{
-    MergedEntries, RankedCells, dictionary_of, mark_standing, merge_entries, move_codes,
+    MergedEntries, RankedCells, dictionary_of, mark_standing, merge_entries, move_codes, rank_cells,
 };
 use std::alloc::{AllocError, Global};
 
@@ -72,26 +72,28 @@ impl Column {
         Ok(stands)
     }
 
-    /// The same values in another dictionary, where the code of each is what the table has in the place of its code here, and
-    /// room for so many values more.
+    /// The same values in a layout and another dictionary, where the code of each is what the table has in the place of its code
+    /// here, and room for so many values more.
     fn moved(
         &self,
         alloc: Global,
+        layout: Layout,
         encoding: Encoding,
         moves: &[u64],
         more: usize,
     ) -> Result<Column, AllocError>
         requires moved { All (IsMoved self.now.encoding encoding moves.now) self.now.values }
-        requires narrow { width encoding ≤ widest self.now.layout }
+        requires narrow { width encoding ≤ widest layout }
+        requires held { All (IsNullOrHeld layout) self.now.values }
         requires few { length self.now.values + more ≤ 2 ^ 24 }
         ensures values { IfOk result (λ c. c.values ≡ self.now.values) }
-        ensures layout { IfOk result (λ c. c.layout ≡ self.now.layout) }
+        ensures layout { IfOk result (λ c. c.layout ≡ layout) }
         ensures encoding { IfOk result (λ c. c.encoding ≡ encoding) }
         ensures room { IfOk result (λ c. length self.now.values + more ≤ c.room) }
     {
         let _sound = self.encoding();
         let _other_sound = encoding.width();
-        let mut column = Column::with_room(alloc, self.layout(), encoding, self.len() + more)?;
+        let mut column = Column::with_room(alloc, layout, encoding, self.len() + more)?;
         let mut list = [0; 64];
         let mut at = 0;
         while at < self.len() {
@@ -103,6 +105,42 @@ impl Column {
             at += n;
         }
         Ok(column)
+    }
+
+    /// The same values in a layout and a dictionary that has those of the cells, too, with room for so many values more.
+    fn grown_in<C: Measured>(
+        &self,
+        alloc: Global,
+        layout: Layout,
+        cells: &C,
+        ranked: &RankedCells,
+        more: usize,
+    ) -> Result<Grown, AllocError>
+        requires ranked { AreRanked (C.cells cells.now) ranked.now }
+        requires kind { kind_of self.now.encoding ≡ kinds.Dictionary }
+        requires own { All (IsNullOrHeld layout) self.now.values }
+        requires held { All (IsNullOrHeld layout) (C.cells cells.now) }
+        requires few { length self.now.values + more ≤ 2 ^ 24 }
+        ensures values { IfOk result (λ g. g.column.values ≡ self.now.values) }
+        ensures layout { IfOk result (λ g. g.column.layout ≡ layout) }
+        ensures fits { IfOk result (λ g. IsFit (known (self.now.values ++ C.cells cells.now)) g.column.encoding) }
+        ensures kind { IfOk result (λ g. kind_of g.column.encoding ≡ kinds.Dictionary) }
+        ensures room { IfOk result (λ g. length self.now.values + more ≤ g.column.room) }
+        ensures codes { IfOk result (λ g. AreCodes (code_of g.column.encoding) ranked.now.entries.items g.codes.items) }
+    {
+        let Encoding::Dictionary(own) = &self.encoding else {
+            unreachable!()
+        };
+        let entries = own.entries();
+        let stands = self.standing(alloc, entries)?;
+        let MergedEntries {
+            entries,
+            moves,
+            places: codes,
+        } = merge_entries(alloc, entries, &stands, &ranked.entries)?;
+        let encoding = dictionary_of(alloc, &entries)?;
+        let column = self.moved(alloc, layout, encoding, &moves, more)?;
+        Ok(Grown { column, codes })
     }
 
     /// The same values in a dictionary that has those of the cells, too, with room for so many values more.
@@ -125,18 +163,24 @@ impl Column {
         ensures codes { IfOk result (λ g. AreCodes (code_of g.column.encoding) ranked.now.entries.items g.codes.items) }
     {
         let _held = self.len();
-        let Encoding::Dictionary(own) = &self.encoding else {
-            unreachable!()
-        };
-        let entries = own.entries();
-        let stands = self.standing(alloc, entries)?;
-        let MergedEntries {
-            entries,
-            moves,
-            places: codes,
-        } = merge_entries(alloc, entries, &stands, &ranked.entries)?;
-        let encoding = dictionary_of(alloc, &entries)?;
-        let column = self.moved(alloc, encoding, &moves, more)?;
-        Ok(Grown { column, codes })
+        self.grown_in(alloc, self.layout(), cells, ranked, more)
+    }
+
+    /// The same values in a layout and in a dictionary that has those entries alone that some row has. No value is looked at,
+    /// only codes move.
+    pub(crate) fn rebuilt_in(&self, alloc: Global, layout: Layout) -> Result<Column, AllocError>
+        requires kind { kind_of self.now.encoding ≡ kinds.Dictionary }
+        requires held { All (IsNullOrHeld layout) self.now.values }
+        ensures values { IfOk result (λ c. c.values ≡ self.now.values) }
+        ensures layout { IfOk result (λ c. c.layout ≡ layout) }
+        ensures fits { IfOk result (λ c. IsFit (known self.now.values) c.encoding) }
+        ensures kind { IfOk result (λ c. kind_of c.encoding ≡ kinds.Dictionary) }
+    {
+        let _few = self.len();
+        let none = [];
+        let cells = none.as_slice();
+        let ranked = rank_cells(alloc, &cells)?;
+        let grown = self.grown_in(alloc, layout, &cells, &ranked, 0)?;
+        Ok(grown.column)
     }
 }

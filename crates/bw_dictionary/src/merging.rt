@@ -76,23 +76,23 @@ pub fn merge_entries(
         let place = entries.len() as u64;
         match turn_of(old, stands, new, i, j) {
             Turn::Skip => {
-                moves.push(0)?;
+                moves.push_reserved(0);
                 i += 1;
             }
             Turn::Old => {
-                entries.push(old[i])?;
-                moves.push(place)?;
+                entries.push_reserved(old[i]);
+                moves.push_reserved(place);
                 i += 1;
             }
             Turn::New => {
-                entries.push(new[j])?;
-                places.push(place)?;
+                entries.push_reserved(new[j]);
+                places.push_reserved(place);
                 j += 1;
             }
             Turn::Both => {
-                entries.push(old[i])?;
-                moves.push(place)?;
-                places.push(place)?;
+                entries.push_reserved(old[i]);
+                moves.push_reserved(place);
+                places.push_reserved(place);
                 i += 1;
                 j += 1;
             }

@@ -51,7 +51,9 @@ fn built_anew(
     ensures kind { IfOk result (λ c. kind_of c.encoding ≡ chosen_kind choice (kind_of own.now.encoding)) }
 {
     if mask.count() == own.len() {
-        return built_as(alloc, own, choice, own);
+        let layout = chosen_layout(choice, own.layout());
+        let kind = chosen_kind(choice, own.kind());
+        return own.rebuild(alloc, layout, kind);
     }
     let values = gather(own, alloc, mask)?;
     built_as(alloc, own, choice, &values.as_slice())

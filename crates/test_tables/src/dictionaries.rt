@@ -213,3 +213,58 @@ fn dictionaries_lose_values(rt: HostRuntime) {
         see_entries(&rt, &column, &[Some(5)]);
     }
 }
+
+/// Sees that a column that is rebuilt has the same values, as a dictionary the entries that some row has, and as an offset the
+/// base that the least of them is.
+fn check_rebuilt<R: Abort + AllocGlobal>(rt: &R, column: &Column, values: &[Option<i64>]) {
+    let _held = column.len();
+    let layout = column.layout();
+    let again = column
+        .rebuild(rt.alloc(), layout, Kind::Dictionary)
+        .expect(rt, "memory");
+    see_entries(rt, &again, values);
+    see_values(rt, &again, values);
+    let plain = column
+        .rebuild(rt.alloc(), layout, Kind::Offset)
+        .expect(rt, "memory");
+    see_base(rt, &plain, values);
+    see_values(rt, &plain, values);
+}
+
+/// Sees that a column has the least of these values as its base, or 0 where there is none.
+fn see_base<R: Abort + AllocGlobal>(rt: &R, column: &Column, values: &[Option<i64>]) {
+    let entries = distinct_values(rt, values);
+    let least = entries.first().copied().unwrap_or(0);
+    match column.encoding() {
+        Encoding::Offset(offset) => assert!(rt; offset.base == least),
+        Encoding::Dictionary(_) => panic!(rt; "a dictionary"),
+    }
+}
+
+#[test]
+fn dictionaries_are_rebuilt(rt: HostRuntime) {
+    for layout in LAYOUTS {
+        for lie in LIES {
+            let values = values_of(&rt, layout, lie);
+            check_rebuilt(
+                &rt,
+                &column_of(&rt, &values, layout, Kind::Dictionary),
+                &values,
+            );
+            check_rebuilt(&rt, &column_of(&rt, &values, layout, Kind::Offset), &values);
+        }
+    }
+}
+
+/// The entry that no row has any more is gone, at either end and between.
+#[test]
+fn rebuilt_dictionaries_lose_values(rt: HostRuntime) {
+    for layout in LAYOUTS {
+        for value in [Some(0), Some(7), Some(299), None] {
+            let column = column_of(&rt, &numbers(&rt, 300), layout, Kind::Dictionary);
+            let column = flattened(&rt, column, value);
+            let values = Vec::from_elem(rt.alloc(), value, 300).expect(&rt, "memory");
+            check_rebuilt(&rt, &column, &values);
+        }
+    }
+}

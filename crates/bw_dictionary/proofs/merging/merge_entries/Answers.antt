@@ -11,7 +11,10 @@ merge-preserved-in-Skip c =
     record {
       old = omega (arith, turn.0);
       new = v.new;
-      merging = rw c.in_ok-push-in-Skip.ensures.items (skipped c.args.old.now c.args.stands.now c.args.new.now c.merge.i c.merge.j c.merge.entries.items c.merge.moves.items c.merge.places.items c.requires.old c.requires.new v.merging turn.0 turn.1);
+      entries_room = v.entries_room;
+      moves_room = omega (arith, c.push_reserved.ensures.capacity, v.moves_room);
+      places_room = v.places_room;
+      merging = rw c.push_reserved.ensures.items (skipped c.args.old.now c.args.stands.now c.args.new.now c.merge.i c.merge.j c.merge.entries.items c.merge.moves.items c.merge.places.items c.requires.old c.requires.new v.merging turn.0 turn.1);
     }
 
 pub merge-preserved-in-Old : goal.merge-preserved-in-Old
@@ -20,13 +23,16 @@ merge-preserved-in-Old c =
     let turn = c.in-Old.ensures in
     let x = get_or c.args.old.now c.merge.i (pos 0) in
     let back : to_z w64 (of_z w64 x) ≡ x = search (arith, ints, to_z-of_z) in
-    let union = c.in_ok-push-in-Old.ensures.items ∙ ap (λ (y : ℤ). c.merge.entries.items ++ y ∷ []) back in
+    let union = c.push_reserved-in-Old.ensures.items ∙ ap (λ (y : ℤ). c.merge.entries.items ++ y ∷ []) back in
     let few : length c.merge.entries.items ≤ c.merge.i + c.merge.j = v.merging.few in
     let place : c.len-place.result ≡ length c.merge.entries.items = omega (arith, c.len-place.ensures, c.merge.entries.ok.0) in
     record {
       old = omega (arith, turn.0);
       new = v.new;
-      merging = rw (union, c.in_ok-push-in-Old-2.ensures.items) (took_old c.args.old.now c.args.stands.now c.args.new.now c.merge.i c.merge.j c.merge.entries.items c.merge.moves.items c.merge.places.items c.requires.old c.requires.new v.merging c.len-place.result turn.0 turn.1 turn.2 place);
+      entries_room = omega (arith, c.push_reserved-in-Old.ensures.capacity, v.entries_room);
+      moves_room = omega (arith, c.push_reserved-in-Old-2.ensures.capacity, v.moves_room);
+      places_room = v.places_room;
+      merging = rw (union, c.push_reserved-in-Old-2.ensures.items) (took_old c.args.old.now c.args.stands.now c.args.new.now c.merge.i c.merge.j c.merge.entries.items c.merge.moves.items c.merge.places.items c.requires.old c.requires.new v.merging c.len-place.result turn.0 turn.1 turn.2 place);
     }
 
 pub merge-preserved-in-New : goal.merge-preserved-in-New
@@ -35,12 +41,15 @@ merge-preserved-in-New c =
     let turn = c.in-New.ensures in
     let x = get_or c.args.new.now c.merge.j (pos 0) in
     let back : to_z w64 (of_z w64 x) ≡ x = search (arith, ints, to_z-of_z) in
-    let union = c.in_ok-push-in-New.ensures.items ∙ ap (λ (y : ℤ). c.merge.entries.items ++ y ∷ []) back in
+    let union = c.push_reserved-in-New.ensures.items ∙ ap (λ (y : ℤ). c.merge.entries.items ++ y ∷ []) back in
     let place : c.len-place.result ≡ length c.merge.entries.items = omega (arith, c.len-place.ensures, c.merge.entries.ok.0) in
     record {
       old = v.old;
       new = omega (arith, turn.0);
-      merging = rw (union, c.in_ok-push-in-New-2.ensures.items) (took_new c.args.old.now c.args.stands.now c.args.new.now c.merge.i c.merge.j c.merge.entries.items c.merge.moves.items c.merge.places.items c.requires.old c.requires.new v.merging c.len-place.result turn.0 turn.1 place);
+      entries_room = omega (arith, c.push_reserved-in-New.ensures.capacity, v.entries_room);
+      moves_room = v.moves_room;
+      places_room = omega (arith, c.push_reserved-in-New-2.ensures.capacity, v.places_room);
+      merging = rw (union, c.push_reserved-in-New-2.ensures.items) (took_new c.args.old.now c.args.stands.now c.args.new.now c.merge.i c.merge.j c.merge.entries.items c.merge.moves.items c.merge.places.items c.requires.old c.requires.new v.merging c.len-place.result turn.0 turn.1 place);
     }
 
 pub merge-preserved : goal.merge-preserved
@@ -49,12 +58,15 @@ merge-preserved c =
     let turn = c.in-Both.ensures in
     let x = get_or c.args.old.now c.merge.i (pos 0) in
     let back : to_z w64 (of_z w64 x) ≡ x = search (arith, ints, to_z-of_z) in
-    let union = c.in_ok-push-in-Both.ensures.items ∙ ap (λ (y : ℤ). c.merge.entries.items ++ y ∷ []) back in
+    let union = c.push_reserved-in-Both.ensures.items ∙ ap (λ (y : ℤ). c.merge.entries.items ++ y ∷ []) back in
     let place : c.len-place.result ≡ length c.merge.entries.items = omega (arith, c.len-place.ensures, c.merge.entries.ok.0) in
     record {
       old = omega (arith, turn.0);
       new = omega (arith, turn.1);
-      merging = rw (union, c.in_ok-push-in-Both-2.ensures.items, c.in_ok-push-in-Both-3.ensures.items) (took_both c.args.old.now c.args.stands.now c.args.new.now c.merge.i c.merge.j c.merge.entries.items c.merge.moves.items c.merge.places.items c.requires.old c.requires.new v.merging c.len-place.result turn.0 turn.1 turn.2 turn.3 place);
+      entries_room = omega (arith, c.push_reserved-in-Both.ensures.capacity, v.entries_room);
+      moves_room = omega (arith, c.push_reserved-in-Both-2.ensures.capacity, v.moves_room);
+      places_room = omega (arith, c.push_reserved-in-Both-3.ensures.capacity, v.places_room);
+      merging = rw (union, c.push_reserved-in-Both-2.ensures.items, c.push_reserved-in-Both-3.ensures.items) (took_both c.args.old.now c.args.stands.now c.args.new.now c.merge.i c.merge.j c.merge.entries.items c.merge.moves.items c.merge.places.items c.requires.old c.requires.new v.merging c.len-place.result turn.0 turn.1 turn.2 turn.3 place);
     }
 
 pub returns : goal.returns

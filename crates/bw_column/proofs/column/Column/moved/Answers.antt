@@ -36,9 +36,9 @@ extend_rows-requires-clause-rows c =
     let coded = c.encoding-sound.ensures.coded in
     let codes = codes_moved own sound values coded at n c.read_codes-present.new.codes c.read_codes-present.result inside run bits e c.args.moves.now c.requires.moved c.move_codes.new.codes c.move_codes.ensures.count c.move_codes.ensures.each in
     let here_coded = values_coded own sound values coded at n c.read_codes-present.new.codes c.read_codes-present.result inside run bits e c.args.moves.now c.requires.moved c.width-other_sound.ensures.sound in
-    let l = c.args.self.now.layout in
+    let l = c.args.layout in
     let here = take n (drop at values) in
-    rw c.loop-at.invariant.encoding (are_row_codes e c.width-other_sound.ensures.sound here c.move_codes.new.codes c.read_codes-present.result here_coded (all_storable l here (all_here (IsNullOrHeld l) values at n c.len.ensures.held)) codes bits)
+    rw c.loop-at.invariant.encoding (are_row_codes e c.width-other_sound.ensures.sound here c.move_codes.new.codes c.read_codes-present.result here_coded (all_storable l here (all_here (IsNullOrHeld l) values at n c.requires.held)) codes bits)
 
 pub extend_rows-requires-clause-held : goal.extend_rows-requires-clause-held
 extend_rows-requires-clause-held c =
@@ -55,9 +55,9 @@ extend_rows-requires-clause-held c =
     let coded = c.encoding-sound.ensures.coded in
     let codes = codes_moved own sound values coded at n c.read_codes-present.new.codes c.read_codes-present.result inside run bits e c.args.moves.now c.requires.moved c.move_codes.new.codes c.move_codes.ensures.count c.move_codes.ensures.each in
     let here_coded = values_coded own sound values coded at n c.read_codes-present.new.codes c.read_codes-present.result inside run bits e c.args.moves.now c.requires.moved c.width-other_sound.ensures.sound in
-    let l = c.args.self.now.layout in
+    let l = c.args.layout in
     let here = take n (drop at values) in
-    let here_held : All (IsNullOrHeld l) here = all_here (IsNullOrHeld l) values at n c.len.ensures.held in
+    let here_held : All (IsNullOrHeld l) here = all_here (IsNullOrHeld l) values at n c.requires.held in
     let is = rows_are_values e c.width-other_sound.ensures.sound here c.move_codes.new.codes c.read_codes-present.result here_coded (all_storable l here here_held) codes bits in
     let held : All (IsNullOrHeld l) (rows e c.move_codes.new.codes c.read_codes-present.result) = rw is here_held in
     rw (c.loop-at.invariant.encoding, c.loop-at.invariant.layout) held
@@ -78,9 +78,9 @@ loop-at-preserved c =
     let coded = c.encoding-sound.ensures.coded in
     let codes = codes_moved own sound values coded at n c.read_codes-present.new.codes c.read_codes-present.result inside run bits e c.args.moves.now c.requires.moved c.move_codes.new.codes c.move_codes.ensures.count c.move_codes.ensures.each in
     let here_coded = values_coded own sound values coded at n c.read_codes-present.new.codes c.read_codes-present.result inside run bits e c.args.moves.now c.requires.moved c.width-other_sound.ensures.sound in
-    let l = c.args.self.now.layout in
+    let l = c.args.layout in
     let here = take n (drop at values) in
-    let here_held : All (IsNullOrHeld l) here = all_here (IsNullOrHeld l) values at n c.len.ensures.held in
+    let here_held : All (IsNullOrHeld l) here = all_here (IsNullOrHeld l) values at n c.requires.held in
     let is = rows_are_values e c.width-other_sound.ensures.sound here c.move_codes.new.codes c.read_codes-present.result here_coded (all_storable l here here_held) codes bits in
     let added : rows c.loop-at.column.encoding c.move_codes.new.codes c.read_codes-present.result ≡ here = rw i.encoding is in
     record {

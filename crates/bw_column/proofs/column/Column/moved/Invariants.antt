@@ -6,7 +6,7 @@ abbrev pub invariant-loop-at : goal.invariant-loop-at
 invariant-loop-at l = record {
   at : l.at ≤ length l.self.values;
   values : l.column.values ++ drop l.at l.self.values ≡ l.self.values;
-  layout : l.column.layout ≡ l.self.layout;
+  layout : l.column.layout ≡ l.fn.layout;
   encoding : l.column.encoding ≡ l.fn.encoding;
   room : length l.self.values + l.more ≤ l.column.room;
 }

@@ -6,7 +6,7 @@ use Rattle.bw_dictionary.specs.Merging.{IsUnion, StandsIn}
 use Rattle.bw_column.specs.Values.{known}
 use Rattle.bw_column.proofs.Grown.{moves_are, places_are, union_fits}
 use Rattle.bw_column.proofs.Narrow.{held_of_both, narrow}
-use Rattle.bw_column.proofs.column.Column.grown.Goals as goal
+use Rattle.bw_column.proofs.column.Column.grown_in.Goals as goal
 
 pub moved-requires-clause-moved : goal.moved-requires-clause-moved
 moved-requires-clause-moved g c =
@@ -22,7 +22,7 @@ moved-requires-clause-moved g c =
 
 pub moved-requires-clause-narrow : goal.moved-requires-clause-narrow
 moved-requires-clause-narrow g c =
-    let l = c.args.self.now.layout in
+    let l = c.args.layout in
     let own = c.args.self.now.values in
     let cells = g.C.Cells.cells c.args.cells.now in
     let merged = c.in_ok-entries.field-0 in
@@ -31,7 +31,7 @@ moved-requires-clause-narrow g c =
     let put : IsUnion c.in-Dictionary.own c.in_ok-stands.stands.items c.args.ranked.now.entries.items merged.entries.items merged.moves.items merged.places.items = rw (c.entries-entries.ensures.is, c.deref.ensures.value, c.deref-2.ensures.value) at c.in_ok-entries.ensures in
     let fits = union_fits c.in-Dictionary.own c.in_ok-stands.stands.items c.args.ranked.now.entries.items merged.entries.items merged.moves.items merged.places.items up put own cells stand c.requires.ranked.entries in
     let e : c.in_ok-encoding.encoding ≡ by.Dictionary merged.entries.items = c.in_ok-encoding.ensures ∙ ap by.Dictionary c.deref-3.ensures.value in
-    rw e (narrow l (known (own ++ cells)) (by.Dictionary merged.entries.items) (held_of_both l own cells (known (own ++ cells)) refl c.len-held.ensures.held c.requires.held) fits)
+    rw e (narrow l (known (own ++ cells)) (by.Dictionary merged.entries.items) (held_of_both l own cells (known (own ++ cells)) refl c.requires.own c.requires.held) fits)
 
 pub returns-clause-fits : goal.returns-clause-fits
 returns-clause-fits g c =
