@@ -1,6 +1,7 @@
 pub mod Counting
 pub mod Descents
 pub mod Distances
+pub mod EntrySums
 pub mod Fronts
 pub mod Halves
 pub mod KnownEnds

@@ -2,6 +2,7 @@ pub mod Chosen
 pub mod Descending
 pub mod Descents
 pub mod Ends
+pub mod Entries
 pub mod Left
 pub mod Marks
 pub mod NextGroups

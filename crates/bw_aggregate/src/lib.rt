@@ -4,6 +4,7 @@
 mod descent;
 mod end;
 mod ends;
+mod entry_sums;
 mod known;
 mod left;
 mod middle;
