@@ -1,5 +1,6 @@
 pub mod Counting
 pub mod Descents
+pub mod DigitCounts
 pub mod Distances
 pub mod EntrySums
 pub mod Fronts

@@ -1,6 +1,7 @@
 pub mod Chosen
 pub mod Descending
 pub mod Descents
+pub mod Digits
 pub mod Ends
 pub mod Entries
 pub mod Left

@@ -2,6 +2,7 @@
 #![tactic(auto)]
 
 mod descent;
+mod digits;
 mod end;
 mod ends;
 mod entry_sums;
@@ -10,6 +11,7 @@ mod left;
 mod middle;
 mod nearest_planes;
 mod nearest_runs;
+mod nth_code;
 mod parting;
 mod plane;
 mod plane_sums;
