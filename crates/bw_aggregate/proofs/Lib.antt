@@ -1,6 +1,8 @@
 pub mod Counting
 pub mod Descents
+pub mod DigitCounts
 pub mod Distances
+pub mod EntrySums
 pub mod Fronts
 pub mod Halves
 pub mod KnownEnds

@@ -34,6 +34,16 @@ nearest_in n f g code end top best a same nearest = record {
       omega (arith, alike, nearest.there h);
 }
 
+-- where all rows are in
+nearest_all_in : (n : ℕ) (f : ℕ → Bool) (code : ℕ → ℕ) (end : End) (top best a : ℕ) → ((j : ℕ) → j < n → f j ≡ true) → IsNearest n (λ (j : ℕ). true) code end top best a → IsNearest n f code end top best a
+nearest_all_in n f code end top best a all nearest = record {
+  upto = nearest.upto;
+  none = λ j h t. nearest.none j h refl;
+  there = λ h.
+      let alike = marked_same n (λ j. true && (distance end top (code j) == a)) (λ j. f j && (distance end top (code j) == a)) (λ j k. rw (all j k) refl) in
+      omega (arith, alike, nearest.there h);
+}
+
 -- of the same codes
 pub nearest_same : (n : ℕ) (f : ℕ → Bool) (code other : ℕ → ℕ) (end : End) (top best a : ℕ) → ((j : ℕ) → j < n → code j ≡ other j) → IsNearest n f code end top best a → IsNearest n f other end top best a
 nearest_same n f code other end top best a same nearest = record {
@@ -204,6 +214,12 @@ ends_none n f code top best out = record { least = nearest_none n f code Least t
 
 pub ends_zero : (n : ℕ) (f : ℕ → Bool) (code : ℕ → ℕ) (top : ℕ) (best : Distances) → best.least ≡ 0 → best.greatest ≡ 0 → AreNearest n f code top best best
 ends_zero n f code top best low high = record { least = nearest_zero n f code Least top best.least low; greatest = nearest_zero n f code Greatest top best.greatest high }
+
+pub ends_all_in : (n : ℕ) (f : ℕ → Bool) (code : ℕ → ℕ) (top : ℕ) (best a : Distances) → ((j : ℕ) → j < n → f j ≡ true) → AreNearest n (λ (j : ℕ). true) code top best a → AreNearest n f code top best a
+ends_all_in n f code top best a all nearest = record {
+  least = nearest_all_in n f code Least top best.least a.least all nearest.least;
+  greatest = nearest_all_in n f code Greatest top best.greatest a.greatest all nearest.greatest;
+}
 
 pub ends_same : (n : ℕ) (f : ℕ → Bool) (code other : ℕ → ℕ) (top : ℕ) (best a : Distances) → ((j : ℕ) → j < n → code j ≡ other j) → AreNearest n f code top best a → AreNearest n f other top best a
 ends_same n f code other top best a same nearest = record {

@@ -1,19 +1,16 @@
 -- Sums of rows by runs: a row more, and a run of which no row is in.
-use Rattle.std.proofs.Common.{Bool, List, None, Option, [], ap, arith, drop, false, get_or, if◌then◌else◌, length, length-drop, ltb, pos, refl, suc, sum, sym, take, true, w64, zero, ℕ, ℤ, ◌&&◌, ◌*◌, ◌+◌, ◌+ℤ◌, ◌-◌, ◌<◌, ◌^◌, ◌≡◌, ◌≤◌, ◌∙◌, ◌∷◌}
+use Rattle.std.proofs.Common.{Bool, List, [], ap, arith, drop, false, get_or, if◌then◌else◌, length, length-drop, ltb, refl, suc, sum, sym, take, true, w64, zero, ℕ, ℤ, ◌&&◌, ◌*◌, ◌+◌, ◌+ℤ◌, ◌-◌, ◌<◌, ◌^◌, ◌≡◌, ◌≤◌, ◌∙◌, ◌∷◌}
 use Rattle.std.proofs.lemmas.Int.{ints}
 use Rattle.std.proofs.lemmas.Bool.Decides.{nat_tests}
 use Rattle.std.proofs.lemmas.List.{get_or-drop, get_or-take}
 use Rattle.std.proofs.lemmas.List.Sums.{sum_by-cons, sum_by_more}
 use Rattle.std.specs.Int.{w128}
 use Rattle.std.specs.List.{items_where_true}
-use Rattle.std.specs.Prelude.{FitsSigned, unsigned_abs, unwrap_or}
+use Rattle.std.specs.Prelude.{FitsSigned, unsigned_abs}
 use mir.Val.{of_z, to_z}
 use Rattle.bw_mask.specs.Masks.{bit_of}
 use Rattle.bw_mask.proofs.Bits.{bit_of_ones, bit_of_zero}
-use Rattle.bw_column.specs.Values.{value_at}
-use Rattle.bw_aggregate.specs.Chosen.{value_in}
-use Rattle.bw_aggregate.specs.Runs.{IsRun, code_sum, value_total}
-use Rattle.bw_aggregate.proofs.Sums.{total_more}
+use Rattle.bw_aggregate.specs.Runs.{IsRun, code_sum}
 
 -- the code of a row that is in; 0 where it isn't
 abbrev pub code_in : List Bool → List ℕ → ℕ → ℕ
@@ -48,22 +45,6 @@ module _ (rows : List Bool) (at n word : ℕ) (run : IsRun rows at n word) where
       let here : code_in rows all (at + i) ≡ c = rw (run.bits i h, item_of_run codes all at i 0 is (omega (arith, h, count)), code) refl in
       ap (code_sum rows all) place ∙ omega (arith, more, here, before)
 
-  pub total_row : (values all : List (Option ℤ)) (i : ℕ) (v sum : ℤ) → length rows ≡ length all → values ≡ take (length values) (drop at all) → n ≡ length values → i < n → v ≡ (if bit_of word i then unwrap_or (value_at values i) (pos 0) else pos 0)
-      → value_total rows all (at + i) ≡ value_total rows all at +ℤ sum → value_total rows all (at + (i + 1)) ≡ value_total rows all at +ℤ (sum +ℤ v)
-  total_row values all i v sum same is count h value before =
-      let place : at + (i + 1) ≡ suc (at + i) = omega arith in
-      let more = total_more rows all (at + i) (omega (arith, run.inside, h)) (omega (arith, run.inside, h, same)) in
-      let item : value_at all (at + i) ≡ value_at values i = item_of_run values all at i None is (omega (arith, h, count)) in
-      let here : value_in rows all (at + i) ≡ v = rw (run.bits i h, item) (choice (bit_of word i) (value_at values i) ∙ sym_value value) in
-      ap (value_total rows all) place ∙ omega (arith, ints, more, here, before)
-    where
-      choice : (b : Bool) (x : Option ℤ) → unwrap_or (if b then x else None) (pos 0) ≡ (if b then unwrap_or x (pos 0) else pos 0)
-      choice true x = refl
-      choice false x = refl
-
-      sym_value : {x y : ℤ} → x ≡ y → y ≡ x
-      sym_value e = cc
-
 -- a run of which no row is in
 module _ (rows : List Bool) (at : ℕ) where
   pub sum_none : (all : List ℕ) (n : ℕ) → length rows ≡ length all → IsRun rows at n 0 → code_sum rows all (at + n) ≡ code_sum rows all at + 0
@@ -75,16 +56,6 @@ module _ (rows : List Bool) (at : ℕ) where
       let out : get_or rows (at + n) false ≡ false = run.bits n (omega arith) ∙ bit_of_zero n in
       let none : code_in rows all (at + n) ≡ 0 = rw out refl in
       ap (code_sum rows all) place ∙ omega (arith, more, none, sum_none all n same shorter)
-
-  pub total_none : (all : List (Option ℤ)) (n : ℕ) → length rows ≡ length all → IsRun rows at n 0 → value_total rows all (at + n) ≡ value_total rows all at +ℤ pos 0
-  total_none all zero same run = let e : at + zero ≡ at = omega arith in ap (value_total rows all) e ∙ omega (arith, ints)
-  total_none all (suc n) same run =
-      let shorter : IsRun rows at n 0 = record { inside = omega (arith, run.inside); bits = λ i h. run.bits i (omega (arith, h)) } in
-      let place : at + suc n ≡ suc (at + n) = omega arith in
-      let more = total_more rows all (at + n) (omega (arith, run.inside)) (omega (arith, run.inside, same)) in
-      let out : get_or rows (at + n) false ≡ false = run.bits n (omega arith) ∙ bit_of_zero n in
-      let none : value_in rows all (at + n) ≡ pos 0 = rw out refl in
-      ap (value_total rows all) place ∙ omega (arith, ints, more, none, total_none all n same shorter)
 
 -- a run of which all rows are in
 pub sum_whole : (rows : List Bool) (all : List ℕ) (at n : ℕ) → n ≤ 64 → length rows ≡ length all → IsRun rows at n (2 ^ 64 - 1) → code_sum rows all (at + n) ≡ code_sum rows all at + sum (take n (drop at all))

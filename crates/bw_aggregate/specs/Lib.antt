@@ -1,7 +1,9 @@
 pub mod Chosen
 pub mod Descending
 pub mod Descents
+pub mod Digits
 pub mod Ends
+pub mod Entries
 pub mod Left
 pub mod Marks
 pub mod NextGroups

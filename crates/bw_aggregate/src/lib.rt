@@ -2,13 +2,16 @@
 #![tactic(auto)]
 
 mod descent;
+mod digits;
 mod end;
 mod ends;
+mod entry_sums;
 mod known;
 mod left;
 mod middle;
 mod nearest_planes;
 mod nearest_runs;
+mod nth_code;
 mod parting;
 mod plane;
 mod plane_sums;

@@ -1,4 +1,4 @@
-//! The lower median, down the planes of the codes: where they lie, or in copies.
+//! The lower median: down the planes of the codes, where they lie or in copies, or by digits.
 
 ghost use Rattle.std.specs.Prelude.{All, IfOk, List, Some, length, ℕ, ◌+◌, ◌-◌, ◌/◌, ◌<◌, ◌^◌, ◌≡◌, ◌≤◌};
 ghost use Rattle.std.specs.List.{items_where_true};
@@ -13,6 +13,7 @@ ghost use Rattle.bw_aggregate.specs.Descending.{IsDescent};
 ghost use Rattle.bw_aggregate.specs.Descents.{IsNthCode};
 
 use crate::descent::Descent;
+use crate::nth_code::nth_code;
 use crate::plane::{GroupPlane, Plane};
 use crate::segments::Left;
 use bw_code::CodeColumn;
@@ -69,8 +70,8 @@ fn descended(
     }
 }
 
-/// The code of the lower median of the rows, of which there are so many, and one at least. They make so many segments.
-fn median_code(
+/// The same down the planes. The rows make so many segments.
+fn code_by_planes(
     alloc: Global,
     column: &Column,
     rows: &Mask,
@@ -88,6 +89,29 @@ fn median_code(
     let left = Left::of(alloc, rows, segments)?;
     let descent = Descent::from_top(left, count, (count - 1) / 2);
     Ok(descended(alloc, column, bits, descent)?.code())
+}
+
+/// The code of the lower median of the rows, of which there are so many, and one at least. They make so many segments. Planes are
+/// looked at where they are stored or cost little to make, and else digits.
+fn median_code(
+    alloc: Global,
+    column: &Column,
+    rows: &Mask,
+    segments: u32,
+    count: usize,
+) -> Result<u64, AllocError>
+    requires len { len rows.now ≡ length column.now.values }
+    requires count { count ≡ length (items_where_true rows.now.rows (codes_for column.now.encoding column.now.values)) }
+    requires some { 0 < count }
+    requires few { length column.now.values ≤ 2 ^ 24 }
+    requires segments { segments ≡ (length column.now.values + 255) / 256 }
+    ensures { IfOk result (IsNthCode (items_where_true rows.now.rows (codes_for column.now.encoding column.now.values)) ((count - 1) / 2)) }
+{
+    match column.storage() {
+        Storage::P(codes) => nth_code(alloc, codes, rows, (count - 1) / 2),
+        Storage::H(codes) => nth_code(alloc, codes, rows, (count - 1) / 2),
+        Storage::V(_) | Storage::S(_) => code_by_planes(alloc, column, rows, segments, count),
+    }
 }
 
 /// The lower median of the values of the rows, of which there are so many, and one at least. None of them is NULL.

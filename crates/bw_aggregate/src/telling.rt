@@ -1,21 +1,22 @@
 //! What the codes of a column tell of some rows by one look.
 
-ghost use Rattle.std.specs.Prelude.{None, Some, if◌then◌else◌, is_some, length, ◌&&◌, ◌-◌, ◌<◌, ◌^◌, ◌≡◌, ◌≤◌};
+ghost use Rattle.std.specs.Prelude.{All, None, Some, if◌then◌else◌, is_some, length, ◌&&◌, ◌-◌, ◌<◌, ◌^◌, ◌≡◌, ◌≤◌};
 ghost use Rattle.bw_mask.specs.Masks.{len, row_at};
-ghost use Rattle.bw_code.specs.Encodings.{width};
-ghost use Rattle.bw_column.specs.Codes.{codes_for};
+ghost use Rattle.bw_code.specs.Encodings.{IsEncoding, width};
+ghost use Rattle.bw_code.specs.declared.encoding.Encoding.TheVariants as by;
+ghost use Rattle.bw_column.specs.Codes.{IsCoded, codes_for};
 ghost use Rattle.bw_column.specs.Values.{value_at};
 ghost use Rattle.bw_cells.specs.SetFunctions.{sum};
 ghost use Rattle.bw_aggregate.specs.Chosen.{chosen};
 ghost use Rattle.bw_aggregate.specs.Tallies.{IsTally, IsTold};
 
 use crate::end::Distances;
-use crate::runs::sum_of_values;
+use crate::entry_sums::sum_of_entries;
 use crate::tally::Tally;
 use crate::tally_planes::tally_by_planes;
 use crate::tally_runs::tally_in_runs;
 use crate::totals::based_total;
-use bw_code::Encoding;
+use bw_code::{Dictionary, Encoding};
 use bw_column::{Column, Storage};
 use bw_mask::Mask;
 
@@ -45,13 +46,16 @@ fn code_tally(column: &Column, rows: &Mask, sum: bool, far: Distances) -> Tally
 }
 
 /// The sum of the values of the rows that are not null, where it is asked for. There is one.
-fn value_sum_if(asked: bool, column: &Column, rows: &Mask) -> Option<i128>
+fn value_sum_if(asked: bool, column: &Column, dictionary: &Dictionary, rows: &Mask) -> Option<i128>
     requires len { len rows.now ≡ length column.now.values }
+    requires encoding { column.now.encoding ≡ by.Dictionary dictionary.now }
+    requires sound { IsEncoding column.now.encoding }
+    requires coded { All (IsCoded column.now.encoding) column.now.values }
     requires some { 0 < length (chosen column.now rows.now) }
     ensures { result ≡ (if asked then sum (chosen column.now rows.now) else None) }
 {
     if asked {
-        Some(sum_of_values(column, rows))
+        Some(sum_of_entries(column, dictionary.entries(), rows))
     } else {
         None
     }
@@ -82,8 +86,8 @@ pub(crate) fn tell(column: &Column, rows: &Mask, count: usize, sum: bool, far: D
                 nearest: tally.nearest,
             }
         }
-        Encoding::Dictionary(_) => Told {
-            sum: value_sum_if(sum, column, rows),
+        Encoding::Dictionary(dictionary) => Told {
+            sum: value_sum_if(sum, column, dictionary, rows),
             nearest: code_tally(column, rows, false, far).nearest,
         },
     }

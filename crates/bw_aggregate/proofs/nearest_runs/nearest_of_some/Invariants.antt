@@ -2,7 +2,7 @@ use Rattle.std.proofs.Common.{get_or}
 use Rattle.bw_mask.specs.Masks.{bit_of}
 use Rattle.bw_aggregate.specs.Ends.{IsNearest}
 use Rattle.bw_aggregate.specs.declared.end.End.TheVariants.{Greatest, Least}
-use Rattle.bw_aggregate.proofs.nearest_runs.run_nearest_to_ends.Given as goal
+use Rattle.bw_aggregate.proofs.nearest_runs.nearest_of_some.Given as goal
 
 abbrev pub invariant-codes : goal.invariant-codes
 invariant-codes l = record {

@@ -6,7 +6,7 @@ use Rattle.bw_column.specs.Codes.{code_for, codes_for}
 use Rattle.bw_aggregate.specs.Descents.{Holds}
 use Rattle.bw_aggregate.proofs.Descents.{descent_end}
 use Rattle.bw_aggregate.proofs.Told.{begins_all, fit_by}
-use Rattle.bw_aggregate.proofs.middle.median_code.Goals as goal
+use Rattle.bw_aggregate.proofs.middle.code_by_planes.Goals as goal
 
 pub returns : goal.returns
 returns c =
