@@ -2,8 +2,12 @@ pub mod Distances
 pub mod Distinct
 pub mod Ends
 pub mod Grouped
+pub mod KnownMore
 pub mod Placing
 pub mod RanksMake
 pub mod RunLists
 pub mod Spread
+pub mod Summing
 pub mod Sums
+pub mod Telling
+pub mod Values

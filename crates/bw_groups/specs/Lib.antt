@@ -1,3 +1,5 @@
 pub mod Arranging
+pub mod Folding
 pub mod Grouping
 pub mod Spreading
+pub mod Values

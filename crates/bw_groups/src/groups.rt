@@ -3,6 +3,7 @@
 ghost use Rattle.std.specs.Prelude.{IfOk, None, length, slice_index_or, ◌<◌, ◌^◌, ◌≡◌, ◌≤◌};
 ghost use Rattle.bw_groups.specs.Grouping.{AreCounted, AreGroups, rows_in};
 
+use crate::column_values::ColumnValues;
 use crate::numbers::{known_distances, known_ends, spread, values_at};
 use bw_rank::{Ranked, rank_counted};
 use std::alloc::{AllocError, Global};
@@ -31,7 +32,7 @@ impl Model for Groups {
 
 impl Groups {
     /// The groups of rows that have these values, at most 16,777,216 of them.
-    pub fn of(alloc: Global, values: &[Option<i64>]) -> Result<Groups, AllocError>
+    pub fn of(alloc: Global, values: &ColumnValues) -> Result<Groups, AllocError>
         requires { length values.now ≤ 2 ^ 24 }
         ensures groups { IfOk result (AreGroups values.now) }
         ensures rows { IfOk result (λ groups. length groups.ranks ≡ length values.now) }

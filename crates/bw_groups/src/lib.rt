@@ -1,10 +1,14 @@
 //! Groups of rows by the values of a column, and set functions of the values that a group has in another.
 #![tactic(auto)]
 
+mod column_values;
+mod fold;
+mod folds;
 mod grouped_values;
 mod groups;
+mod median;
 mod numbers;
-mod summary;
 
-pub use grouped_values::GroupedValues;
+pub use column_values::ColumnValues;
+pub use folds::Folds;
 pub use groups::Groups;

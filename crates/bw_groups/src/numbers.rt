@@ -4,28 +4,30 @@ ghost use Rattle.std.specs.Prelude.{All, IfOk, None, Some, [], filter_map, if◌
 ghost use Rattle.bw_cells.specs.SetFunctions.{known};
 ghost use Rattle.bw_groups.specs.Spreading.{ranks_over};
 
-use bw_cells::Measured;
+use crate::column_values::ColumnValues;
 use bw_code::Ends;
 use std::alloc::{AllocError, Global};
 
-/// The least and the greatest of the values that are not NULL; 0 where there is none.
-pub(crate) fn known_ends(values: &[Option<i64>]) -> Ends
+/// The least and the greatest of the values that are not NULL.
+pub(crate) fn known_ends(values: &ColumnValues) -> Ends
     ensures least { All (λ x. result.least ≤ℤ x) (known values.now) }
     ensures greatest { All (λ x. x ≤ℤ result.greatest) (known values.now) }
 {
-    match values.ends() {
-        Some(ends) => ends,
-        None => Ends {
-            least: 0,
-            greatest: 0,
-        },
+    let mut least = i64::MAX;
+    let mut greatest = i64::MIN;
+    'values: for i in 0..values.len() {
+        if let Some(value) = values.get(i) {
+            least = least.min(value);
+            greatest = greatest.max(value);
+        }
     }
+    Ends { least, greatest }
 }
 
 /// How far above the least each of the values that are not NULL lies, in their order.
 pub(crate) fn known_distances(
     alloc: Global,
-    values: &[Option<i64>],
+    values: &ColumnValues,
     ends: &Ends,
 ) -> Result<Vec<u64>, AllocError>
     requires { All (λ x. ends.now.least ≤ℤ x) (known values.now) }
@@ -34,13 +36,16 @@ pub(crate) fn known_distances(
     distances_from(alloc, values, ends.least)
 }
 
-fn distances_from(alloc: Global, values: &[Option<i64>], base: i64) -> Result<Vec<u64>, AllocError>
+fn distances_from(alloc: Global, values: &ColumnValues, base: i64) -> Result<Vec<u64>, AllocError>
     ensures { IfOk result (λ distances. distances.items ≡ filter_map (λ value. option_map (λ x. unsigned_abs (x -ℤ base)) value) values.now) }
 {
-    values
-        .iter()
-        .filter_map(|value| distance(*value, base))
-        .collect(alloc)
+    let mut distances = Vec::with_capacity(alloc, values.len())?;
+    'values: for i in 0..values.len() {
+        if let Some(distance) = distance(values.get(i), base) {
+            distances.push(distance)?;
+        }
+    }
+    Ok(distances)
 }
 
 /// How far a value lies from the base; `None` of NULL.
@@ -83,7 +88,7 @@ fn value_at(ends: Ends, distance: u64) -> Option<i64>
 /// The ranks of the values that are not NULL over all values, of which each NULL has this rank.
 pub(crate) fn spread(
     alloc: Global,
-    values: &[Option<i64>],
+    values: &ColumnValues,
     ranks: Vec<u32>,
     null_rank: u32,
 ) -> Result<Vec<u32>, AllocError>
@@ -96,7 +101,7 @@ pub(crate) fn spread(
     let mut spread = Vec::with_capacity(alloc, values.len())?;
     let mut next = 0;
     'values: for i in 0..values.len() {
-        if values[i].is_some() {
+        if values.get(i).is_some() {
             spread.push(ranks[next])?;
             next += 1;
         } else {

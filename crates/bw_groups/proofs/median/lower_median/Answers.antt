@@ -6,7 +6,7 @@ use Rattle.std.specs.Ordering.{int_cmp, is_lt}
 use Rattle.std.specs.Cmp.{int_ranks}
 use Rattle.bw_cells.specs.SetFunctions.{median, sorted}
 use Rattle.bw_groups.proofs.Ends.{lower_is, middle_told}
-use Rattle.bw_groups.proofs.summary.median.Goals as goal
+use Rattle.bw_groups.proofs.median.lower_median.Goals as goal
 
 pub returns : goal.returns
 returns c =

@@ -1,0 +1,41 @@
+-- What was asked of the values of each group.
+use Rattle.std.specs.Prelude.{Bool, List, None, Option, Some, if◌then◌else◌, length, map, not, pos, slice_index, slice_index_or, ℕ, ℤ, ◌&&◌, ◌<◌, ◌==◌}
+use Rattle.std.specs.List.{range_with_len}
+use Rattle.bw_aggregate.specs.declared.summary.Asked.{Asked}
+use Rattle.bw_aggregate.specs.declared.summary.Summary.{Summary}
+use Rattle.bw_cells.specs.SetFunctions.{known}
+use Rattle.bw_code.specs.declared.ends.Ends.{Ends}
+use Rattle.bw_groups.specs.Grouping.{members}
+
+-- each tells of the values in its group that are not null
+abbrev pub AreFolds : {F : Type 0} → (F → List ℤ → Type 0) → List ℕ → List (Option ℤ) → List F → Type 0
+AreFolds {F} tells ranks column folds = (g : ℕ) (d : F) → g < length folds → tells (slice_index_or folds g d) (known (members ranks column g))
+
+-- one of so many values, where it is asked for and there is any
+abbrev pub if_any : Bool → ℕ → ℤ → Option ℤ
+if_any asked count x = if asked && not (count == 0) then Some x else None
+
+abbrev pub least_in : Option Ends → Option ℤ
+least_in None = None
+least_in (Some ends) = Some ends.least
+
+abbrev pub greatest_in : Option Ends → Option ℤ
+greatest_in None = None
+greatest_in (Some ends) = Some ends.greatest
+
+-- of values their number, sum, ends and lower median as far as they are asked for
+abbrev pub summary_by : Asked → ℕ → ℤ → Option Ends → ℤ → Summary
+summary_by asked count sum ends median = record {
+  count = count;
+  sum = if_any asked.sum count sum;
+  least = if asked.least then least_in ends else None;
+  greatest = if asked.greatest then greatest_in ends else None;
+  median = if_any asked.median count median;
+}
+
+-- the same of each group, whose entries stand in these lists; a list of what isn't asked for may be empty
+abbrev pub summary_at : Asked → List ℕ → List ℤ → List (Option Ends) → List ℤ → ℕ → Summary
+summary_at asked counts sums ends medians g = summary_by asked (slice_index counts g) (slice_index_or sums g (pos 0)) (slice_index_or ends g None) (slice_index_or medians g (pos 0))
+
+abbrev pub summaries : Asked → List ℕ → List ℤ → List (Option Ends) → List ℤ → List Summary
+summaries asked counts sums ends medians = map (summary_at asked counts sums ends medians) (range_with_len 0 (length counts))

@@ -1,0 +1,129 @@
+//! What is told of values one by one.
+
+ghost use Rattle.std.specs.Prelude.{All, IfOk, IsTrue, List, [], length, unsigned_abs, ℤ, ◌*◌, ◌+ℤ◌, ◌+◌, ◌++◌, ◌<◌, ◌^◌, ◌∷◌, ◌≡◌, ◌≤◌};
+ghost use Rattle.bw_code.specs.Fittings.{AreEnds};
+ghost use Rattle.bw_cells.specs.SetFunctions.{total};
+ghost use Rattle.bw_groups.specs.Folding.{AreFolds};
+
+use crate::column_values::ColumnValues;
+use crate::groups::Groups;
+use bw_cells::ends_of_both;
+use bw_code::Ends;
+use std::alloc::{AllocError, Global};
+
+/// What is told of values that come one by one.
+pub(crate) trait Fold: Copy {
+    ghost tells: { Self → List ℤ → Type 0 };
+
+    /// What is told of no values.
+    fn none() -> Self
+        ensures { tells result [] };
+
+    /// What is told once a value more has come.
+    fn with(self, value: i64) -> Self
+        requires { (values : List ℤ) × (length values < 2 ^ 24) × tells self values }
+        ensures { (values : List ℤ) → length values < 2 ^ 24 → tells self values → tells result (values ++ value ∷ []) };
+}
+
+/// How many values there are.
+impl Fold for u32 {
+    ghost tells = { λ count values. count ≡ length values };
+
+    fn none() -> u32 {
+        0
+    }
+
+    fn with(self, _value: i64) -> u32 {
+        self + 1
+    }
+}
+
+/// The sum of the values.
+impl Fold for i128 {
+    ghost tells = { λ sum values. (sum ≡ total values) × (unsigned_abs sum ≤ length values * 2 ^ 63) };
+
+    fn none() -> i128 {
+        0
+    }
+
+    fn with(self, value: i64) -> i128 {
+        add(self, value)
+    }
+}
+
+/// The least and the greatest of the values, if there are any.
+impl Fold for Option<Ends> {
+    ghost tells = { λ ends values. AreEnds values ends };
+
+    fn none() -> Option<Ends> {
+        None
+    }
+
+    fn with(self, value: i64) -> Option<Ends> {
+        let ends = Ends {
+            least: value,
+            greatest: value,
+        };
+        ends_of_both(self, Some(ends))
+    }
+}
+
+/// Adds a value to a sum.
+fn add(sum: i128, value: i64) -> i128
+    requires { unsigned_abs sum < 2 ^ 100 }
+    ensures value { result ≡ sum +ℤ value }
+    ensures bound { unsigned_abs result ≤ unsigned_abs sum + 2 ^ 63 }
+{
+    sum + i128::from(value)
+}
+
+/// Of so many groups what is told of no values.
+fn none_each<F: Fold>(alloc: Global, count: usize) -> Result<Vec<F>, AllocError>
+    ensures count { IfOk result (λ folds. length folds.items ≡ count) }
+    ensures none { IfOk result (λ folds. All (λ fold. F.tells fold []) folds.items) }
+{
+    let mut folds = Vec::with_capacity(alloc, count)?;
+    'groups: for _g in 0..count {
+        folds.push(F::none())?;
+    }
+    Ok(folds)
+}
+
+/// What is told of a column's values in each group, by one pass over the rows.
+pub(crate) fn fold_each<F: Fold>(
+    alloc: Global,
+    groups: &Groups,
+    column: &ColumnValues,
+) -> Result<Vec<F>, AllocError>
+    requires { length column.now ≡ length groups.now.ranks }
+    ensures count { IfOk result (λ folds. length folds.items ≡ length groups.now.values) }
+    ensures tells { IfOk result (λ folds. AreFolds F.tells groups.now.ranks column.now folds.items) }
+{
+    let mut folds = none_each::<F>(alloc, groups.times().len())?;
+    let ranks = groups.ranks();
+    'rows: for i in 0..ranks.len() {
+        if let Some(value) = column.get(i) {
+            let g = ranks[i] as usize;
+            folds[g] = folds[g].with(value);
+        }
+    }
+    Ok(folds)
+}
+
+/// The same, if it is asked for.
+pub(crate) fn fold_if<F: Fold>(
+    alloc: Global,
+    asked: bool,
+    groups: &Groups,
+    column: &ColumnValues,
+) -> Result<Vec<F>, AllocError>
+    requires { length column.now ≡ length groups.now.ranks }
+    ensures count { IfOk result (λ folds. IsTrue asked → length folds.items ≡ length groups.now.values) }
+    ensures tells { IfOk result (λ folds. IsTrue asked → AreFolds F.tells groups.now.ranks column.now folds.items) }
+{
+    if asked {
+        fold_each::<F>(alloc, groups, column)
+    } else {
+        Ok(Vec::new(alloc))
+    }
+}

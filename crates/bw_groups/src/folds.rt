@@ -1,0 +1,151 @@
+//! Set functions of a column's values in each group.
+
+ghost use Rattle.std.specs.Prelude.{IfOk, IsTrue, None, Some, [], if◌then◌else◌, length, slice_index_or, ℕ, ◌<◌, ◌||◌, ◌≡◌};
+ghost use Rattle.bw_aggregate.specs.Summaries.{IsSummary};
+ghost use Rattle.bw_aggregate.specs.declared.summary.Summary.{Summary as AnySummary};
+ghost use Rattle.bw_cells.specs.SetFunctions.{known, median};
+ghost use Rattle.bw_groups.specs.Folding.{greatest_in, if_any, least_in, summaries, summary_by};
+ghost use Rattle.bw_groups.specs.Grouping.{members};
+
+use crate::column_values::ColumnValues;
+use crate::fold::{fold_each, fold_if};
+use crate::grouped_values::medians_of;
+use crate::groups::Groups;
+use bw_aggregate::{Asked, Summary};
+use bw_code::Ends;
+use std::alloc::{AllocError, Global};
+use std::marker::Model;
+
+/// What is asked of a column's values in each group. A contract sees a summary for each. It is told by one pass over the
+/// rows for each thing that is asked for; for medians alone the values are put group after group.
+#[derive(Debug, Drop)]
+pub struct Folds {
+    asked: Asked,
+    counts: Vec<u32>,
+    sums: Vec<i128>,
+    ends: Vec<Option<Ends>>,
+    medians: Vec<i64>,
+}
+
+impl Model for Folds {
+    ghost use Rattle.std.specs.Prelude.{List};
+    ghost use Rattle.bw_aggregate.specs.declared.summary.Summary.{Summary};
+    ghost use Rattle.bw_groups.specs.Folding.{summaries};
+
+    ghost Value = { List Summary };
+
+    ghost view = { λ folds. summaries folds.asked folds.counts.items folds.sums.items folds.ends.items folds.medians.items };
+}
+
+impl Folds {
+    /// What is asked of a column, which has a value for each row that is in the groups.
+    pub fn of(
+        alloc: Global,
+        groups: &Groups,
+        column: &ColumnValues,
+        asked: Asked,
+    ) -> Result<Folds, AllocError>
+        requires { length column.now ≡ length groups.now.ranks }
+        ensures count { IfOk result (λ folds. length folds ≡ length groups.now.values) }
+        ensures summaries { IfOk result (λ folds. (g : ℕ) (d : AnySummary) → g < length groups.now.values → IsSummary asked (known (members groups.now.ranks column.now g)) (slice_index_or folds g d)) }
+    {
+        let counts = fold_each::<u32>(alloc, groups, column)?;
+        let sums = fold_if::<i128>(alloc, asked.sum, groups, column)?;
+        let ends = fold_if::<Option<Ends>>(alloc, asks_ends(asked), groups, column)?;
+        let medians = medians_of(alloc, asked.median, groups, column)?;
+        Ok(Folds::from_parts(asked, counts, sums, ends, medians))
+    }
+
+    fn from_parts(
+        asked: Asked,
+        counts: Vec<u32>,
+        sums: Vec<i128>,
+        ends: Vec<Option<Ends>>,
+        medians: Vec<i64>,
+    ) -> Folds
+        ensures { result ≡ summaries asked counts.items sums.items ends.items medians.items }
+    {
+        Folds {
+            asked,
+            counts,
+            sums,
+            ends,
+            medians,
+        }
+    }
+
+    /// What is asked of the values in group g.
+    pub fn summary(&self, g: usize) -> Summary
+        requires { g < length self.now }
+        ensures { (d : AnySummary) → result ≡ slice_index_or self.now g d }
+    {
+        summary_by(
+            self.asked,
+            entry(&self.counts, g, 0),
+            entry(&self.sums, g, 0),
+            entry(&self.ends, g, None),
+            entry(&self.medians, g, 0),
+        )
+    }
+}
+
+/// Whether one of the ends is asked for.
+fn asks_ends(asked: Asked) -> bool
+    ensures { result ≡ (asked.least || asked.greatest) }
+{
+    asked.least || asked.greatest
+}
+
+/// Entry g of a list, or this where there is none.
+fn entry<T: Copy>(list: &[T], g: usize, none: T) -> T
+    ensures { result ≡ slice_index_or list.now g none }
+{
+    if g < list.len() { list[g] } else { none }
+}
+
+/// What is asked of values that have this number, sum, ends and lower median.
+fn summary_by(asked: Asked, count: u32, sum: i128, ends: Option<Ends>, median: i64) -> Summary
+    ensures { result ≡ summary_by asked count sum ends median }
+{
+    Summary {
+        count: count as usize,
+        sum: if_any(asked.sum, count, sum),
+        least: least_if(asked.least, ends),
+        greatest: greatest_if(asked.greatest, ends),
+        median: median_if(asked.median, count, median),
+    }
+}
+
+fn if_any(asked: bool, count: u32, sum: i128) -> Option<i128>
+    ensures { result ≡ if_any asked count sum }
+{
+    if asked && count != 0 { Some(sum) } else { None }
+}
+
+fn median_if(asked: bool, count: u32, median: i64) -> Option<i64>
+    ensures { result ≡ if_any asked count median }
+{
+    if asked && count != 0 {
+        Some(median)
+    } else {
+        None
+    }
+}
+
+fn least_if(asked: bool, ends: Option<Ends>) -> Option<i64>
+    ensures { result ≡ (if asked then least_in ends else None) }
+{
+    match ends {
+        Some(ends) if asked => Some(ends.least),
+        _ => None,
+    }
+}
+
+fn greatest_if(asked: bool, ends: Option<Ends>) -> Option<i64>
+    ensures { result ≡ (if asked then greatest_in ends else None) }
+{
+    match ends {
+        Some(ends) if asked => Some(ends.greatest),
+        _ => None,
+    }
+}
