@@ -156,7 +156,9 @@ STRIKES = [
     Strike("bw_column::column::Column::read", (of_column("read_block", "reading.rt", "", "out.new"),)),
     Strike("bw_column::column::Column::compared_block", (of_column("rise_of_block", "pairs.rt", "rises", "out.new"),)),
     Strike("bw_aggregate::tally_runs::run_tally", (of_every_column("read", "codes", "out.new"),)),
-    Strike("bw_aggregate::runs::total_at", (of_column("read", "reading.rt", "", "out.new"),)),
+    Strike("bw_aggregate::entry_sums::entries_at", (of_every_column("read", "codes", "out.new"),)),
+    Strike("bw_aggregate::digits::count_at", (of_every_column("read", "codes", "out.new"),)),
+    Strike("bw_aggregate::nth_code::rows_on_way", (of_every_column("scan", "rows", "out.new"),)),
     Strike("bw_engine::shown::read_column", (of_column("read", "reading.rt", "", "out.new"),)),
 ]
 
