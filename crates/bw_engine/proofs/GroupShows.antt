@@ -1,19 +1,24 @@
 -- What is shown of groups, by the place of each row's group.
-use Rattle.std.proofs.Common.{Bool, List, None, Option, Some, [], ap, append_assoc, arith, cond, count_by, false, get_or, length, map, pos, refl, suc, sym, take, true, zero, ℕ, ℤ, ◌++◌, ◌+◌, ◌<◌, ◌==◌, ◌≡◌, ◌≤◌, ◌∙◌, ◌∷◌}
+use Rattle.std.proofs.Common.{Bool, Contains, if◌then◌else◌, List, None, Some, [], ap, append_assoc, arith, cond, count_by, false, get_or, length, map, pos, refl, suc, sym, take, true, zero, ℕ, ℤ, ◌++◌, ◌+◌, ◌<◌, ◌==◌, ◌≡◌, ◌≤◌, ◌∙◌, ◌∷◌}
 use Rattle.std.specs.List.{All, filter, items_where_true}
-use Rattle.std.proofs.lemmas.List.{append-nil, get_or-map, length-map, map-append, take_all, take_more}
+use Rattle.std.proofs.lemmas.List.{append-nil, length-map, map-append, take_all, take_more}
 use Rattle.bw_aggregate.proofs.Counting.{count_cons}
-use Rattle.bw_cells.specs.SetFunctions.{known}
+use Rattle.bw_aggregate.specs.Summaries.{IsSummary}
+use Rattle.bw_aggregate.specs.declared.summary.Asked.{Asked}
+use Rattle.bw_aggregate.specs.declared.summary.Summary.{Summary}
+use Rattle.bw_cells.specs.SetFunctions.{greatest, known, least, median, sum}
 use Rattle.bw_groups.specs.Grouping.{AreGroups, Grouping, members, rows_in}
 use Rattle.bw_model.specs.Groups.{Group, group_values, groups_by, is_same, rows_having}
-use Rattle.bw_model.specs.Store.{Row, Value, value_at, value_from}
+use Rattle.bw_model.specs.Store.{Row, Value, value_at}
 use Rattle.bw_model.specs.declared.answer.Cell.{Cell}
 use Rattle.bw_sql.specs.Rows.{joined}
 use Rattle.bw_plan.specs.declared.grouping.GroupItem.{GroupItem}
 use Rattle.bw_plan.specs.declared.grouping.GroupItem.TheVariants as grouped
 use Rattle.bw_plan.specs.declared.selection.FunctionPlan.TheVariants as function
-use Rattle.bw_engine.specs.Folds.{number_of, told_in}
-use Rattle.bw_engine.specs.GroupLines.{cells_to, column_in, told_at}
+use Rattle.bw_engine.specs.Folds.{number_of, told_by, told_in}
+use Rattle.bw_engine.specs.GroupLines.{AskForItems, cells_to, column_in, told_at}
+use Rattle.bw_sql.specs.declared.tree.SetFunction.{SetFunction}
+use Rattle.bw_sql.specs.declared.tree.SetFunction.TheVariants.{Count, Max, Median, Min, Sum}
 use Rattle.bw_engine.specs.Found.{rows_where}
 use Rattle.bw_model.proofs.Lines.{All-map}
 use Rattle.bw_model.specs.Select.{shown}
@@ -118,3 +123,12 @@ rows_few p (row ∷ rows) = by (p 0) (rows_few (λ i. p (suc i)) rows)
 -- each group's line has a cell for each item
 pub group_lines_wide : (items : List GroupItem) (groups : List Group) → All (λ line. length line ≡ length items) (map (λ group. map (told_in group) items) groups)
 group_lines_wide items groups = All-map (λ group. map (told_in group) items) (length items) groups (λ group. length-map items (told_in group))
+
+-- a summary in which each item of a column is asked for tells each of them
+pub tells_items : (items : List GroupItem) (place : ℕ) (asked : Asked) (summary : Summary) (values : List ℤ) → AskForItems items place asked → IsSummary asked values summary
+    → (f : SetFunction) → Contains items (grouped.Function (function.Of f place)) → told_by f summary ≡ number_of f values
+tells_items items place asked summary values asks is Count there = ap (λ n. Some (pos n)) is.count
+tells_items items place asked summary values asks is Sum there = is.sum ∙ ap (λ (b : Bool). if b then sum values else None) (asks.sum there)
+tells_items items place asked summary values asks is Min there = is.least ∙ ap (λ (b : Bool). if b then least values else None) (asks.least there)
+tells_items items place asked summary values asks is Max there = is.greatest ∙ ap (λ (b : Bool). if b then greatest values else None) (asks.greatest there)
+tells_items items place asked summary values asks is Median there = is.median ∙ ap (λ (b : Bool). if b then median values else None) (asks.median there)

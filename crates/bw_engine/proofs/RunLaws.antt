@@ -1,10 +1,10 @@
 -- The lines of the places that pass, in parts, and from the columns.
-use Rattle.std.proofs.Common.{◌≡◌, ◌∙◌, ℕ, zero, suc, ◌%◌, ◌*◌, ◌+◌, ◌/◌, ◌<◌, ◌≤◌, ◌&&◌, Bool, true, false, List, [], ◌∷◌, ◌++◌, append-nil, append_assoc, get_or, if◌then◌else◌, length, map, nat_lt, refl, sym, ap, arith}
+use Rattle.std.proofs.Common.{None, drop, slice_index_or, take, ◌≡◌, ◌∙◌, ℕ, zero, suc, ◌%◌, ◌*◌, ◌+◌, ◌-◌, ◌/◌, ◌<◌, ◌≤◌, ◌^◌, ◌&&◌, Bool, true, false, List, [], ◌∷◌, ◌++◌, append-nil, append_assoc, get_or, if◌then◌else◌, length, map, nat_lt, refl, sym, ap, arith}
 use Rattle.std.specs.List.{filter, range_with_len}
-use Rattle.std.proofs.lemmas.Bool.{lt-ltb}
-use Rattle.std.proofs.lemmas.List.{get_or-map, length-map, same_lists}
+use Rattle.std.proofs.lemmas.Bool.{lt-ltb, true≢false}
+use Rattle.std.proofs.lemmas.List.{drop_more, get_or-map, length-map, same_lists}
 use Rattle.bw_mask.specs.Masks.{MaskRows, bit_of, row_at, row_in}
-use Rattle.bw_mask.proofs.Bits.{bit_of_zero}
+use Rattle.bw_mask.proofs.Bits.{bit_of_ones, bit_of_zero}
 use Rattle.bw_column.specs.Values as columns
 use Rattle.bw_table.specs.Slots.{Slot, slot_at}
 use Rattle.bw_sql.specs.Rows.{joined}
@@ -147,3 +147,50 @@ module _ (slots : List Slot) (places : List ℕ) (found : MaskRows) (word at n :
           ∙ are.values k i low h
           ∙ same_value row (get_or places k 0)
           ∙ sym (get_or-map (λ (place : ℕ). value_at row place) places k 0 d low))
+
+module _ (place : ℕ) where
+  -- each place that passes has one value
+  pub values_few : (slots : List Slot) (passes : ℕ → Bool) (n a : ℕ) → length (lines_from (slot_line (place ∷ []) slots) passes a n) ≤ n
+  values_few slots passes zero a = omega arith
+  values_few slots passes (suc n) a =
+      let one = ap length (one_line (passes a) (slot_line (place ∷ []) slots) a (filter passes (range_with_len (a + 1) n))) in
+      by (passes a) one (values_few slots passes n (a + 1))
+    where
+      by : (p : Bool) → length (lines_from (slot_line (place ∷ []) slots) passes a (suc n)) ≡ length ((if p then slot_line (place ∷ []) slots a else []) ++ lines_from (slot_line (place ∷ []) slots) passes (a + 1) n)
+          → length (lines_from (slot_line (place ∷ []) slots) passes (a + 1) n) ≤ n → length (lines_from (slot_line (place ∷ []) slots) passes a (suc n)) ≤ suc n
+      by true e few = omega (arith, e, few)
+      by false e few = omega (arith, e, few)
+
+  -- where all pass, those of a run of the column
+  pub values_all : (slots : List Slot) (values : List Value) (passes : ℕ → Bool) (n a : ℕ) → a + n ≤ length values → ((i : ℕ) → i < length values → slice_index_or values i None ≡ value_at (slot_at slots i).row place) → ((i : ℕ) → i < n → passes (a + i) ≡ true)
+      → take n (drop a values) ≡ lines_from (slot_line (place ∷ []) slots) passes a n
+  values_all slots values passes zero a inside are all = none (drop a values)
+    where
+      none : (vs : List Value) → take 0 vs ≡ []
+      none [] = refl
+      none (v ∷ vs) = refl
+  values_all slots values passes (suc n) a inside are all =
+      let low : a < length values = omega (arith, inside) in
+      let here : passes a ≡ true = ap passes (omega arith) ∙ all 0 (omega arith) in
+      ap (take (suc n)) (drop_more values a None low)
+      ∙ ap (λ v. v ∷ take n (drop (a + 1) values)) (are a low)
+      ∙ ap (λ vs. value_at (slot_at slots a).row place ∷ vs) (values_all slots values passes n (a + 1) (omega (arith, inside)) are (λ i h. ap passes (next i) ∙ all (suc i) (omega (arith, h))))
+      ∙ sym (one_line (passes a) (slot_line (place ∷ []) slots) a (filter passes (range_with_len (a + 1) n))
+      ∙ ap (λ p. (if p then slot_line (place ∷ []) slots a else []) ++ lines_from (slot_line (place ∷ []) slots) passes (a + 1) n) here)
+    where
+      next : (i : ℕ) → (a + 1) + i ≡ a + suc i
+      next i = omega arith
+
+in_list : (rows : List Bool) (i : ℕ) → get_or rows i false ≡ true → i < length rows
+in_list [] i h = absurd (true≢false (sym h))
+in_list (r ∷ rows) zero h = omega arith
+in_list (r ∷ rows) (suc i) h = let rest = in_list rows i h in omega (arith, rest)
+
+-- a word of ones: 64 slots that are found
+module _ (found : MaskRows) (word at : ℕ) (bits : (i : ℕ) → bit_of word i ≡ (nat_lt i 64 && row_at found (at + i))) (ones : word ≡ 2 ^ 64 - 1) where
+  pub all_found : (i : ℕ) → i < 64 → row_at found (at + i) ≡ true
+  all_found i h =
+      ap (λ b. b && row_at found (at + i)) (sym (lt-ltb i 64 h)) ∙ sym (bits i) ∙ ap (λ w. bit_of w i) ones ∙ bit_of_ones 64 i (omega arith) ∙ lt-ltb i 64 h
+
+  pub word_inside : at + 64 ≤ length found.rows
+  word_inside = let last = in_list found.rows (at + 63) (all_found 63 (omega arith)) in omega (arith, last)

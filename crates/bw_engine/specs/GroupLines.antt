@@ -1,5 +1,7 @@
 -- What is shown of groups of rows, by the place of each row's group.
-use Rattle.std.specs.Prelude.{List, None, Option, Some, [], length, map, pos, slice_index_or, suc, zero, ℕ, ℤ, ◌++◌, ◌<◌, ◌≡◌}
+use Rattle.std.specs.Prelude.{Bool, Contains, List, None, Option, Some, [], length, map, pos, slice_index_or, suc, true, zero, ℕ, ℤ, ◌++◌, ◌<◌, ◌≡◌}
+use Rattle.bw_aggregate.specs.declared.summary.Asked.{Asked}
+use Rattle.bw_aggregate.specs.declared.summary.Summary.{Summary}
 use Rattle.bw_cells.specs.SetFunctions.{known}
 use Rattle.bw_groups.specs.Grouping.{Grouping, members, rows_in}
 use Rattle.bw_model.specs.Select.{shown}
@@ -7,17 +9,30 @@ use Rattle.bw_model.specs.Store.{Row, value_at}
 use Rattle.bw_model.specs.declared.answer.Cell.{Cell}
 use Rattle.bw_plan.specs.declared.grouping.GroupItem.{GroupItem}
 use Rattle.bw_plan.specs.declared.grouping.GroupItem.TheVariants as grouped
+use Rattle.bw_plan.specs.declared.selection.FunctionPlan.{FunctionPlan}
 use Rattle.bw_plan.specs.declared.selection.FunctionPlan.TheVariants as function
-use Rattle.bw_engine.specs.Folds.{number_of}
+use Rattle.bw_sql.specs.declared.tree.SetFunction.{SetFunction}
+use Rattle.bw_sql.specs.declared.tree.SetFunction.TheVariants.{Max, Median, Min, Sum}
+use Rattle.bw_engine.specs.Folds.{number_of, told_by}
 
 -- the values of a column in rows
 abbrev pub column_in : List Row → ℕ → List (Option ℤ)
 column_in rows place = map (λ row. value_at row place) rows
 
--- those of each group that are not null
-pub record AreOfGroups (rows : List Row) (groups : Grouping) (place : ℕ) (lists : List (List ℤ)) : Type 0 where
-  pub count : length lists ≡ length groups.values
-  pub each : (g : ℕ) → g < length groups.values → slice_index_or lists g [] ≡ known (members groups.ranks (column_in rows place) g)
+-- where a set function is one of the items, it is asked for
+abbrev pub IsAskedIn : List GroupItem → FunctionPlan → Bool → Type 0
+IsAskedIn items f asked = Contains items (grouped.Function f) → asked ≡ true
+
+pub record AskForItems (items : List GroupItem) (place : ℕ) (asked : Asked) : Type 0 where
+  pub sum : IsAskedIn items (function.Of Sum place) asked.sum
+  pub least : IsAskedIn items (function.Of Min place) asked.least
+  pub greatest : IsAskedIn items (function.Of Max place) asked.greatest
+  pub median : IsAskedIn items (function.Of Median place) asked.median
+
+-- summaries of the column at a place, one for each group, tell each of the items that is a set function of this column
+pub record TellGroups (rows : List Row) (groups : Grouping) (items : List GroupItem) (place : ℕ) (summaries : List Summary) : Type 0 where
+  pub count : length summaries ≡ length groups.values
+  pub each : (g : ℕ) (f : SetFunction) (d : Summary) → g < length groups.values → Contains items (grouped.Function (function.Of f place)) → told_by f (slice_index_or summaries g d) ≡ number_of f (known (members groups.ranks (column_in rows place) g))
 
 -- what an item shows of group g
 abbrev pub told_at : List Row → Grouping → ℕ → GroupItem → Cell

@@ -1,22 +1,21 @@
 //! What is shown of each group of the found slots.
 
-ghost use Rattle.std.specs.Prelude.{All, IfOk, IfSome, List, None, OnOk, Some, [], length, map, slice_index_or, ℕ, ℤ, ◌<◌, ◌^◌, ◌≡◌, ◌≤◌};
+ghost use Rattle.std.specs.Prelude.{All, Contains, IfOk, IfSome, OnOk, Some, [], length, map, min, slice_index_or, ◌++◌, ◌-◌, ◌<◌, ◌^◌, ◌∷◌, ◌≡◌, ◌≤◌};
 ghost use Rattle.bw_mask.specs.Masks.{len, row_at};
-ghost use Rattle.bw_aggregate.specs.Summaries.{IsSummary};
-ghost use Rattle.bw_aggregate.specs.declared.summary.Summary.{Summary as AnySummary};
 ghost use Rattle.bw_groups.specs.Grouping.{AreGroups};
 ghost use Rattle.bw_model.specs.Groups.{groups_by};
 ghost use Rattle.bw_sql.specs.Rows.{joined};
-ghost use Rattle.bw_engine.specs.Folds.{IsItemWithin, number_of, told_by, told_in};
+ghost use Rattle.bw_engine.specs.Folds.{IsItemWithin, told_in};
 ghost use Rattle.bw_engine.specs.Found.{rows_where};
-ghost use Rattle.bw_engine.specs.GroupLines.{AreOfGroups, cells_to, column_in, told_at};
+ghost use Rattle.bw_engine.specs.GroupLines.{AskForItems, IsAskedIn, TellGroups, cells_to, column_in, told_at};
+ghost use Rattle.bw_engine.specs.Runs.{lines_from, slot_line};
 ghost use Rattle.bw_engine.specs.Stores.{rows_of_slots};
 ghost use Rattle.bw_engine.specs.declared.grouped.GroupedColumn.{GroupedColumn as AnyColumn};
 
 use crate::folded::{cell, told_by, wide};
-use crate::shown::found_values;
+use crate::shown::show_slots;
 use bw_aggregate::Asked;
-use bw_groups::{GroupedValues, Groups};
+use bw_groups::{ColumnValues, Folds, Groups};
 use bw_mask::Mask;
 use bw_model::Cell;
 use bw_plan::{FunctionPlan, GroupItem, GroupPlan};
@@ -24,11 +23,11 @@ use bw_sql::{Name, SetFunction, Value};
 use bw_table::Table;
 use std::alloc::{AllocError, Global};
 
-/// The values of the column at a place, group after group.
+/// What is asked of the column at a place, in each group.
 #[derive(Drop)]
 struct GroupedColumn {
     place: usize,
-    values: GroupedValues,
+    folds: Folds,
 }
 
 /// The cells of each group of the found slots, one group after the other: what the items show of it.
@@ -65,17 +64,27 @@ fn cells_of_groups(
     let mut cells = Vec::with_capacity(alloc, groups.len().saturating_mul(items.len()))?;
     'groups: for g in 0..groups.len() {
         'items: for i in 0..items.len() {
-            let cell = item_cell(alloc, table, items[i], found, groups, g, &mut columns)?;
+            let cell = item_cell(
+                alloc,
+                table,
+                items,
+                items[i],
+                found,
+                groups,
+                g,
+                &mut columns,
+            )?;
             cells.push(cell)?;
         }
     }
     Ok(cells)
 }
 
-/// What an item shows of group g.
+/// What one of the items shows of group g.
 fn item_cell(
     alloc: Global,
     table: &Table<Name>,
+    items: &[GroupItem],
     item: GroupItem,
     found: &Mask,
     groups: &Groups,
@@ -84,11 +93,12 @@ fn item_cell(
 ) -> Result<Cell, AllocError>
     requires found { len found.now ≡ length table.now.slots }
     requires item { IsItemWithin (length table.now.headers) item }
+    requires among { Contains items.now item }
     requires ranks { length groups.now.ranks ≡ length (rows_where (row_at found.now) (rows_of_slots table.now.slots)) }
     requires group { g < length groups.now.values }
-    requires columns { All (λ column. AreOfGroups (rows_where (row_at found.now) (rows_of_slots table.now.slots)) groups.now column.place column.values) columns.old.items }
+    requires columns { All (λ column. TellGroups (rows_where (row_at found.now) (rows_of_slots table.now.slots)) groups.now items.now column.place column.folds) columns.old.items }
     ensures cell { IfOk result (λ cell. cell ≡ told_at (rows_where (row_at found.now) (rows_of_slots table.now.slots)) groups.now g item) }
-    ensures columns { OnOk result (All (λ column. AreOfGroups (rows_where (row_at found.now) (rows_of_slots table.now.slots)) groups.now column.place column.values) columns.new.items) }
+    ensures columns { OnOk result (All (λ column. TellGroups (rows_where (row_at found.now) (rows_of_slots table.now.slots)) groups.now items.now column.place column.folds) columns.new.items) }
 {
     match item {
         GroupItem::Value => Ok(cell(wide(groups.value(g)))),
@@ -96,49 +106,35 @@ fn item_cell(
             Ok(Cell::Number(groups.row_count(g) as i128))
         }
         GroupItem::Function(FunctionPlan::Of(function, place)) => {
-            let i = column_at(alloc, table, place, found, groups, columns)?;
-            Ok(cell(number_in(alloc, &columns[i].values, g, function)?))
+            let i = column_at(alloc, table, items, place, found, groups, columns)?;
+            let summary = columns[i].folds.summary(g);
+            Ok(cell(told_by(function, &summary)))
         }
     }
 }
 
-/// What is asked of values for a set function.
-fn asked_for(function: SetFunction) -> Asked
-    ensures { (values : List ℤ) (summary : AnySummary) → IsSummary result values summary → told_by function summary ≡ number_of function values }
+/// Whether a set function is one of the items.
+fn is_asked(items: &[GroupItem], function: FunctionPlan) -> bool
+    ensures { IsAskedIn items.now function result }
 {
-    match function {
-        SetFunction::Count => Asked::NOTHING,
-        SetFunction::Sum => Asked {
-            sum: true,
-            ..Asked::NOTHING
-        },
-        SetFunction::Min => Asked {
-            least: true,
-            ..Asked::NOTHING
-        },
-        SetFunction::Max => Asked {
-            greatest: true,
-            ..Asked::NOTHING
-        },
-        SetFunction::Median => Asked {
-            median: true,
-            ..Asked::NOTHING
-        },
+    for i in 0..items.len() {
+        if items[i] == GroupItem::Function(function) {
+            return true;
+        }
     }
+    false
 }
 
-/// What a set function says of the values in group g.
-fn number_in(
-    alloc: Global,
-    values: &GroupedValues,
-    g: usize,
-    function: SetFunction,
-) -> Result<Option<i128>, AllocError>
-    requires { g < length values.now }
-    ensures { IfOk result (λ number. number ≡ number_of function (slice_index_or values.now g [])) }
+/// All that the items ask of the column at a place.
+fn asked_of(items: &[GroupItem], place: usize) -> Asked
+    ensures { AskForItems items.now place result }
 {
-    let summary = values.summary(alloc, g, asked_for(function))?;
-    Ok(told_by(function, &summary))
+    Asked {
+        sum: is_asked(items, FunctionPlan::Of(SetFunction::Sum, place)),
+        least: is_asked(items, FunctionPlan::Of(SetFunction::Min, place)),
+        greatest: is_asked(items, FunctionPlan::Of(SetFunction::Max, place)),
+        median: is_asked(items, FunctionPlan::Of(SetFunction::Median, place)),
+    }
 }
 
 /// The values of the column at a place in the found slots.
@@ -147,13 +143,13 @@ fn column_values(
     table: &Table<Name>,
     place: usize,
     found: &Mask,
-) -> Result<Vec<Value>, AllocError>
+) -> Result<ColumnValues, AllocError>
     requires found { len found.now ≡ length table.now.slots }
     requires place { place < length table.now.headers }
-    ensures values { IfOk result (λ values. values.items ≡ column_in (rows_where (row_at found.now) (rows_of_slots table.now.slots)) place) }
-    ensures few { IfOk result (λ values. length values.items ≤ 2 ^ 24) }
+    ensures values { IfOk result (λ values. values ≡ column_in (rows_where (row_at found.now) (rows_of_slots table.now.slots)) place) }
+    ensures few { IfOk result (λ values. length values ≤ 2 ^ 24) }
 {
-    let values = found_values(alloc, table, &[place], found)?;
+    let values = gathered(alloc, table, place, found)?;
     // No more slots are found than there are.
     if values.len() > table.slot_count() {
         unreachable!()
@@ -161,10 +157,60 @@ fn column_values(
     Ok(values)
 }
 
-/// The values of the column at a place, group after group.
+/// The same, by runs of 64 slots.
+fn gathered(
+    alloc: Global,
+    table: &Table<Name>,
+    place: usize,
+    found: &Mask,
+) -> Result<ColumnValues, AllocError>
+    requires found { len found.now ≡ length table.now.slots }
+    requires place { place < length table.now.headers }
+    ensures { IfOk result (λ values. values ≡ lines_from (slot_line (place ∷ []) table.now.slots) (row_at found.now) 0 (length table.now.slots)) }
+{
+    let mut values = ColumnValues::with_capacity(alloc, found.count())?;
+    let mut shown = Vec::with_capacity(alloc, 64)?;
+    let words = found.words();
+    for q in 0..words.len() {
+        if words[q] != 0 {
+            values = with_slots(values, &mut shown, table, place, found, 64 * q)?;
+        }
+    }
+    Ok(values)
+}
+
+/// These values, and after them those of the found ones of the next 64 slots, from slot `at` on. Where not all of them are
+/// found, those that are go through the list of what is shown.
+#[inline(never)]
+fn with_slots(
+    values: ColumnValues,
+    shown: &mut Vec<Value>,
+    table: &Table<Name>,
+    place: usize,
+    found: &Mask,
+    at: usize,
+) -> Result<ColumnValues, AllocError>
+    requires found { len found.now ≡ length table.now.slots }
+    requires place { place < length table.now.headers }
+    requires inside { at < length table.now.slots }
+    ensures { IfOk result (λ all. all ≡ values ++ lines_from (slot_line (place ∷ []) table.now.slots) (row_at found.now) at (min (length table.now.slots - at) 64)) }
+{
+    if found.bits(at, 64) == u64::MAX {
+        let mut run = [None; 64];
+        table.column(place).read(at, &mut run);
+        return values.with_run(&run);
+    }
+    let mut runs = [[None; 64]];
+    shown.clear();
+    show_slots(shown, &mut runs, table, &[place], found, at)?;
+    values.with_run(shown)
+}
+
+/// What the items ask of the column at a place, in each group.
 fn grouped_column(
     alloc: Global,
     table: &Table<Name>,
+    items: &[GroupItem],
     place: usize,
     found: &Mask,
     groups: &Groups,
@@ -173,11 +219,11 @@ fn grouped_column(
     requires place { place < length table.now.headers }
     requires ranks { length groups.now.ranks ≡ length (rows_where (row_at found.now) (rows_of_slots table.now.slots)) }
     ensures place { IfOk result (λ column. column.place ≡ place) }
-    ensures values { IfOk result (λ column. AreOfGroups (rows_where (row_at found.now) (rows_of_slots table.now.slots)) groups.now column.place column.values) }
+    ensures tell { IfOk result (λ column. TellGroups (rows_where (row_at found.now) (rows_of_slots table.now.slots)) groups.now items.now column.place column.folds) }
 {
     let values = column_values(alloc, table, place, found)?;
-    let values = GroupedValues::of(alloc, groups, &values)?;
-    Ok(GroupedColumn { place, values })
+    let folds = Folds::of(alloc, groups, &values, asked_of(items, place))?;
+    Ok(GroupedColumn { place, folds })
 }
 
 /// Which of the columns is the one at a place, where one is.
@@ -192,10 +238,11 @@ fn column_among(columns: &[GroupedColumn], place: usize) -> Option<usize>
     None
 }
 
-/// Which of the columns is the one at a place. Each column is read and put in groups once: then it is kept.
+/// Which of the columns is the one at a place. Each column is read and folded once, for all items: then it is kept.
 fn column_at(
     alloc: Global,
     table: &Table<Name>,
+    items: &[GroupItem],
     place: usize,
     found: &Mask,
     groups: &Groups,
@@ -204,13 +251,13 @@ fn column_at(
     requires found { len found.now ≡ length table.now.slots }
     requires place { place < length table.now.headers }
     requires ranks { length groups.now.ranks ≡ length (rows_where (row_at found.now) (rows_of_slots table.now.slots)) }
-    requires columns { All (λ column. AreOfGroups (rows_where (row_at found.now) (rows_of_slots table.now.slots)) groups.now column.place column.values) columns.old.items }
+    requires columns { All (λ column. TellGroups (rows_where (row_at found.now) (rows_of_slots table.now.slots)) groups.now items.now column.place column.folds) columns.old.items }
     ensures at { IfOk result (λ i. (i < length columns.new.items) × ((d : AnyColumn) → (slice_index_or columns.new.items i d).place ≡ place)) }
-    ensures columns { OnOk result (All (λ column. AreOfGroups (rows_where (row_at found.now) (rows_of_slots table.now.slots)) groups.now column.place column.values) columns.new.items) }
+    ensures columns { OnOk result (All (λ column. TellGroups (rows_where (row_at found.now) (rows_of_slots table.now.slots)) groups.now items.now column.place column.folds) columns.new.items) }
 {
     if let Some(i) = column_among(columns, place) {
         return Ok(i);
     }
-    columns.push(grouped_column(alloc, table, place, found, groups)?)?;
+    columns.push(grouped_column(alloc, table, items, place, found, groups)?)?;
     Ok(columns.len() - 1)
 }

@@ -49,7 +49,7 @@ pub(crate) fn found_values(
 /// Puts the values of the found ones of the next 64 slots last, from slot `at` on.
 // Taken into the loop over the words, it would keep the loop's counter in memory, and most words have no found slot.
 #[inline(never)]
-fn show_slots(
+pub(crate) fn show_slots(
     values: &mut Vec<Value>,
     runs: &mut [Run],
     table: &Table<Name>,
