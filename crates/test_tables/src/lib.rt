@@ -1,5 +1,5 @@
 //! Worked examples as tests of columns and tables, each call that may run out of memory seen answering, random changes compared
-//! with a plain list of rows, and set functions of random columns compared with a plain fold.
+//! with a plain list of rows, and set functions and groups of random columns compared with a plain fold.
 #![tactic(auto)]
 
 #[cfg(test)]
@@ -14,6 +14,8 @@ mod columns;
 mod dictionaries;
 #[cfg(test)]
 mod examples;
+#[cfg(test)]
+mod groups;
 #[cfg(test)]
 mod harness;
 #[cfg(test)]

@@ -110,15 +110,15 @@ pub(crate) fn cell(is_known: bool, distance: u64, reach: Reach) -> Option<i64> {
 /// What a random column is like: how far its integers reach, how many bits the codes of an offset have, and how many of 64
 /// values are not null.
 #[derive(Clone, Copy, Debug)]
-struct Drawn {
-    reach: Reach,
-    width: u32,
-    known: u64,
+pub(crate) struct Drawn {
+    pub(crate) reach: Reach,
+    pub(crate) width: u32,
+    pub(crate) known: u64,
 }
 
 /// Values whose distances from the least have some of the bits of a top code and no others. Where one is known, 0 and the
 /// top code are known too, half a column apart, so that an offset's codes have this many bits.
-fn drawn_values<R: Abort + AllocGlobal>(
+pub(crate) fn drawn_values<R: Abort + AllocGlobal>(
     rt: &R,
     random: &mut Random,
     drawn: Drawn,
