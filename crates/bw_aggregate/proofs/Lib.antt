@@ -2,6 +2,7 @@ pub mod Counting
 pub mod Descents
 pub mod DigitCounts
 pub mod Distances
+pub mod EntryCounts
 pub mod EntrySums
 pub mod Fronts
 pub mod Halves

@@ -1,5 +1,5 @@
 -- The values of rows by the entries of a dictionary at the places that their codes say.
-use Rattle.std.specs.Prelude.{Bool, List, None, Option, Some, if◌then◌else◌, length, pos, slice_index, slice_index_or, ℕ, ℤ, ◌+◌, ◌<◌, ◌≡◌, ◌≤◌}
+use Rattle.std.specs.Prelude.{Bool, List, None, Option, Some, if◌then◌else◌, length, pos, slice_index, slice_index_or, suc, zero, ℕ, ℤ, ◌*ℤ◌, ◌+◌, ◌+ℤ◌, ◌<◌, ◌≡◌, ◌≤◌}
 use Rattle.bw_mask.specs.Masks.{bit_of}
 use Rattle.bw_column.specs.Values.{value_at}
 use Rattle.bw_aggregate.specs.Chosen.{value_in}
@@ -13,3 +13,8 @@ pub record AreSummed (need : List Bool) (all : List (Option ℤ)) (at : ℕ) (en
   pub same : length need ≡ length all
   pub inside : at + length codes ≤ length all
   pub each : (i : ℕ) → i < length codes → value_in need all (at + i) ≡ (if bit_of word i then slice_index_or entries (slice_index codes i) (pos 0) else pos 0)
+
+-- the sum of the first n entries, each as often as is counted
+abbrev pub weighted : (ℕ → ℕ) → List ℤ → ℕ → ℤ
+weighted counted entries zero = pos 0
+weighted counted entries (suc n) = weighted counted entries n +ℤ (pos (counted n) *ℤ slice_index_or entries n (pos 0))

@@ -33,7 +33,7 @@ fn place_of(codes: &[u64], rows: u64, i: usize, digits: Digits) -> usize
     requires few { length codes.now ≤ 64 }
     requires there { i < length codes.now }
     requires below { digits.below < 64 }
-    requires many { digits.many ≤ 2 ^ 11 }
+    requires many { digits.many ≤ 2 ^ 26 }
     requires among { bit_of rows i ≡ true → IsAmong digits.below digits.first digits.many (slice_index codes.now i) }
     ensures is_in { bit_of rows i ≡ true → digits.first + result ≡ front digits.below (slice_index codes.now i) }
     ensures out { bit_of rows i ≡ false → digits.many ≤ result }
@@ -51,7 +51,7 @@ fn place_of(codes: &[u64], rows: u64, i: usize, digits: Digits) -> usize
 fn count_run(codes: &[u64], rows: u64, digits: Digits, before: usize, counts: &mut [u32])
     requires few { length codes.now ≤ 64 }
     requires below { digits.below < 64 }
-    requires many { digits.many ≤ 2 ^ 11 }
+    requires many { digits.many ≤ 2 ^ 26 }
     requires among { (i : ℕ) → i < length codes.now → bit_of rows i ≡ true → IsAmong digits.below digits.first digits.many (slice_index codes.now i) }
     requires long { length counts.old ≡ digits.many + 64 }
     requires before { before ≤ 2 ^ 24 }
@@ -80,7 +80,7 @@ fn count_at<C: CodeColumn>(
     requires inside { at + n ≤ count (C.seen column.now) }
     requires low { at ≤ 2 ^ 24 }
     requires below { digits.below < 64 }
-    requires many { digits.many ≤ 2 ^ 11 }
+    requires many { digits.many ≤ 2 ^ 26 }
     requires among { (i : ℕ) → i < n → bit_of rows i ≡ true → IsAmong digits.below digits.first digits.many (code_at (C.seen column.now) (at + i)) }
     requires long { length counts.old ≡ digits.many + 64 }
     requires small { (k : ℕ) → slice_index counts.old k ≤ at }
@@ -107,7 +107,7 @@ pub(crate) fn count_digits<C: CodeColumn>(
 )
     requires len { len rows.now ≡ count (C.seen column.now) }
     requires below { digits.below < 64 }
-    requires many { digits.many ≤ 2 ^ 11 }
+    requires many { digits.many ≤ 2 ^ 26 }
     requires among { (r : ℕ) → r < count (C.seen column.now) → row_at rows.now r ≡ true → IsAmong digits.below digits.first digits.many (code_at (C.seen column.now) r) }
     requires long { length counts.old ≡ digits.many + 64 }
     requires none { (k : ℕ) → slice_index counts.old k ≡ 0 }

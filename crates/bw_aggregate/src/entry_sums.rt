@@ -1,6 +1,6 @@
 //! Sums of a dictionary's values: a code is the place of an entry.
 
-ghost use Rattle.std.specs.Prelude.{All, Bool, List, Option, drop, if◌then◌else◌, length, pos, slice_index, slice_index_or, take, unsigned_abs, ℕ, ℤ, ◌*◌, ◌+◌, ◌+ℤ◌, ◌<◌, ◌^◌, ◌≡◌, ◌≤◌};
+ghost use Rattle.std.specs.Prelude.{All, Bool, IfOk, List, Option, drop, if◌then◌else◌, length, pos, slice_index, slice_index_or, take, unsigned_abs, ℕ, ℤ, ◌*◌, ◌+◌, ◌+ℤ◌, ◌/◌, ◌<◌, ◌^◌, ◌≡◌, ◌≤◌};
 ghost use Rattle.bw_mask.specs.Masks.{bit_of, len, row_at};
 ghost use Rattle.bw_code.specs.Columns.{count};
 ghost use Rattle.bw_code.specs.Encodings.{IsEncoding};
@@ -11,10 +11,13 @@ ghost use Rattle.bw_aggregate.specs.Chosen.{chosen};
 ghost use Rattle.bw_aggregate.specs.Entries.{AreFound, AreSummed};
 ghost use Rattle.bw_aggregate.specs.Runs.{value_total};
 
+use crate::entry_counts::sum_by_counts;
+use crate::known::known_rows;
 use crate::runs::is_in;
 use bw_code::CodeColumn;
 use bw_column::{Column, Storage};
 use bw_mask::Mask;
+use std::alloc::{AllocError, Global};
 
 /// The entry of row i of a run by its code; 0 where the row isn't in.
 // By a product, since which rows are in is not foreseen, and a choice here becomes a branch.
@@ -76,8 +79,8 @@ fn sum_in_runs<C: CodeColumn>(column: &C, entries: &[i64], rows: &Mask, nonnull:
     total
 }
 
-/// The sum of the values of the rows, of which one is not null. They are all among the entries.
-pub(crate) fn sum_of_entries(column: &Column, entries: &[i64], rows: &Mask) -> i128
+/// The sum of the values of the rows, of which one is not null: of the entries of their codes, which are looked up.
+fn sum_by_look_ups(column: &Column, entries: &[i64], rows: &Mask) -> i128
     requires len { len rows.now ≡ length column.now.values }
     requires encoding { column.now.encoding ≡ by.Dictionary entries.now }
     requires sound { IsEncoding column.now.encoding }
@@ -91,5 +94,34 @@ pub(crate) fn sum_of_entries(column: &Column, entries: &[i64], rows: &Mask) -> i
         Storage::V(codes) => sum_in_runs(codes, entries, rows, nonnull),
         Storage::H(codes) => sum_in_runs(codes, entries, rows, nonnull),
         Storage::S(codes) => sum_in_runs(codes, entries, rows, nonnull),
+    }
+}
+
+/// As many entries as stay in a near cache while they are looked up.
+const NEAR_ENTRIES: usize = 1 << 15;
+
+/// The sum of the values of the rows, of which so many are not null, and one at least. They are all among the entries. Many entries
+/// are read once, in their order, where they aren't many more than the values: a count is half as long as an entry, and so are
+/// found sooner.
+pub(crate) fn sum_of_entries(
+    alloc: Global,
+    column: &Column,
+    entries: &[i64],
+    rows: &Mask,
+    count: usize,
+) -> Result<i128, AllocError>
+    requires len { len rows.now ≡ length column.now.values }
+    requires encoding { column.now.encoding ≡ by.Dictionary entries.now }
+    requires sound { IsEncoding column.now.encoding }
+    requires coded { All (IsCoded column.now.encoding) column.now.values }
+    requires some { 0 < length (chosen column.now rows.now) }
+    requires few { count ≤ 2 ^ 24 }
+    ensures { IfOk result (λ sum. sum ≡ total (chosen column.now rows.now)) }
+{
+    if entries.len() > NEAR_ENTRIES && entries.len() / 2 <= count {
+        let known = known_rows(column, rows)?;
+        sum_by_counts(alloc, column, entries, &known)
+    } else {
+        Ok(sum_by_look_ups(column, entries, rows))
     }
 }

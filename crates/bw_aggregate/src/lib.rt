@@ -5,6 +5,7 @@ mod descent;
 mod digits;
 mod end;
 mod ends;
+mod entry_counts;
 mod entry_sums;
 mod known;
 mod left;

@@ -85,7 +85,8 @@ pub fn summarize(
     }
     let segments = column.len().div_ceil(256) as u32;
     let median = median_told(alloc, column, rows, segments, count, asked.median)?;
-    let Told { sum, nearest } = tell(column, rows, count, asked.sum, asked.farthest());
+    let Told { sum, nearest } =
+        tell(alloc, column, rows, count, asked.sum, asked.farthest())?;
     Ok(Summary {
         count,
         sum,

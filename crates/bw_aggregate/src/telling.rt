@@ -1,6 +1,6 @@
 //! What the codes of a column tell of some rows by one look.
 
-ghost use Rattle.std.specs.Prelude.{All, None, Some, if◌then◌else◌, is_some, length, ◌&&◌, ◌-◌, ◌<◌, ◌^◌, ◌≡◌, ◌≤◌};
+ghost use Rattle.std.specs.Prelude.{All, IfOk, None, Some, if◌then◌else◌, is_some, length, ◌&&◌, ◌-◌, ◌<◌, ◌^◌, ◌≡◌, ◌≤◌};
 ghost use Rattle.bw_mask.specs.Masks.{len, row_at};
 ghost use Rattle.bw_code.specs.Encodings.{IsEncoding, width};
 ghost use Rattle.bw_code.specs.declared.encoding.Encoding.TheVariants as by;
@@ -19,6 +19,7 @@ use crate::totals::based_total;
 use bw_code::{Dictionary, Encoding};
 use bw_column::{Column, Storage};
 use bw_mask::Mask;
+use std::alloc::{AllocError, Global};
 
 /// The sum of the values of rows, where it is asked for, and how near their codes come to each end.
 #[derive(Clone, Copy)]
@@ -45,20 +46,28 @@ fn code_tally(column: &Column, rows: &Mask, sum: bool, far: Distances) -> Tally
     }
 }
 
-/// The sum of the values of the rows that are not null, where it is asked for. There is one.
-fn value_sum_if(asked: bool, column: &Column, dictionary: &Dictionary, rows: &Mask) -> Option<i128>
+/// The sum of the values of the rows that are not null, where it is asked for. There are so many, and one at least.
+fn value_sum_if(
+    alloc: Global,
+    asked: bool,
+    column: &Column,
+    dictionary: &Dictionary,
+    rows: &Mask,
+    count: usize,
+) -> Result<Option<i128>, AllocError>
     requires len { len rows.now ≡ length column.now.values }
     requires encoding { column.now.encoding ≡ by.Dictionary dictionary.now }
     requires sound { IsEncoding column.now.encoding }
     requires coded { All (IsCoded column.now.encoding) column.now.values }
     requires some { 0 < length (chosen column.now rows.now) }
-    ensures { result ≡ (if asked then sum (chosen column.now rows.now) else None) }
+    requires few { count ≤ 2 ^ 24 }
+    ensures { IfOk result (λ value. value ≡ (if asked then sum (chosen column.now rows.now) else None)) }
 {
-    if asked {
-        Some(sum_of_entries(column, dictionary.entries(), rows))
-    } else {
-        None
+    if !asked {
+        return Ok(None);
     }
+    let sum = sum_of_entries(alloc, column, dictionary.entries(), rows, count)?;
+    Ok(Some(sum))
 }
 
 /// The sum, where it is asked for.
@@ -71,24 +80,31 @@ fn sum_if(asked: bool, sum: i128) -> Option<i128>
 /// The sum of the values of the rows, where it is asked for, and the least distances of their codes, or `far` where none is
 /// nearer. So many of them are not null, and one at least. A null's code is 0, so that the sum of the codes is that of the values
 /// without their bases; a dictionary's codes don't tell it.
-pub(crate) fn tell(column: &Column, rows: &Mask, count: usize, sum: bool, far: Distances) -> Told
+pub(crate) fn tell(
+    alloc: Global,
+    column: &Column,
+    rows: &Mask,
+    count: usize,
+    sum: bool,
+    far: Distances,
+) -> Result<Told, AllocError>
     requires len { len rows.now ≡ length column.now.values }
     requires few { count ≤ 2 ^ 24 }
     requires count { count ≡ length (chosen column.now rows.now) }
     requires some { 0 < count }
-    ensures { IsTold column.now rows.now sum far result }
+    ensures { IfOk result (IsTold column.now rows.now sum far) }
 {
     match column.encoding() {
         Encoding::Offset(offset) => {
             let tally = code_tally(column, rows, sum, far);
-            Told {
+            Ok(Told {
                 sum: sum_if(sum, based_total(offset.base, count, tally.sum)),
                 nearest: tally.nearest,
-            }
+            })
         }
-        Encoding::Dictionary(dictionary) => Told {
-            sum: value_sum_if(sum, column, dictionary, rows),
+        Encoding::Dictionary(dictionary) => Ok(Told {
+            sum: value_sum_if(alloc, sum, column, dictionary, rows, count)?,
             nearest: code_tally(column, rows, false, far).nearest,
-        },
+        }),
     }
 }

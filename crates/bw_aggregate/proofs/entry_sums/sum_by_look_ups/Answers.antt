@@ -3,7 +3,7 @@ use Rattle.std.proofs.lemmas.Int.{ints}
 use Rattle.std.specs.Int.{w128}
 use Rattle.bw_mask.specs.Masks.{row_at}
 use Rattle.bw_aggregate.proofs.EntrySums.{all_found, total_is}
-use Rattle.bw_aggregate.proofs.entry_sums.sum_of_entries.Goals as goal
+use Rattle.bw_aggregate.proofs.entry_sums.sum_by_look_ups.Goals as goal
 use mir.Val.{of_z, to_z}
 
 pub sum_in_runs-requires-clause-found : goal.sum_in_runs-requires-clause-found
