@@ -17,10 +17,10 @@ use Rattle.bw_model.proofs.Items.{columns_only}
 use Rattle.bw_plan.specs.Selections.{ShowsBy, grouped_item, placed_item}
 use Rattle.bw_plan.specs.declared.grouping.GroupItem.{GroupItem}
 use Rattle.bw_plan.specs.declared.grouping.GroupItem.TheVariants as grouped
-use Rattle.bw_plan.specs.declared.selection.FunctionPlan.{FunctionPlan}
-use Rattle.bw_plan.specs.declared.selection.FunctionPlan.TheVariants as function
-use Rattle.bw_plan.specs.declared.selection.ShownPlan.{ShownPlan}
-use Rattle.bw_plan.specs.declared.selection.ShownPlan.TheVariants as plans
+use Rattle.bw_plan.specs.declared.select.FunctionPlan.{FunctionPlan}
+use Rattle.bw_plan.specs.declared.select.FunctionPlan.TheVariants as function
+use Rattle.bw_plan.specs.declared.select.ShownPlan.{ShownPlan}
+use Rattle.bw_plan.specs.declared.select.ShownPlan.TheVariants as plans
 use Rattle.bw_plan.proofs.Places.{line_by_places}
 use Rattle.bw_plan.proofs.SetLaws.{place_inside}
 use Rattle.bw_aggregate.specs.Summaries.{IsSummary}

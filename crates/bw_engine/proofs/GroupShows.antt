@@ -14,7 +14,7 @@ use Rattle.bw_model.specs.declared.answer.Cell.{Cell}
 use Rattle.bw_sql.specs.Rows.{joined}
 use Rattle.bw_plan.specs.declared.grouping.GroupItem.{GroupItem}
 use Rattle.bw_plan.specs.declared.grouping.GroupItem.TheVariants as grouped
-use Rattle.bw_plan.specs.declared.selection.FunctionPlan.TheVariants as function
+use Rattle.bw_plan.specs.declared.select.FunctionPlan.TheVariants as function
 use Rattle.bw_engine.specs.Folds.{number_of, told_by, told_in}
 use Rattle.bw_engine.specs.GroupLines.{AskForItems, cells_to, column_in, told_at}
 use Rattle.bw_sql.specs.declared.tree.SetFunction.{SetFunction}

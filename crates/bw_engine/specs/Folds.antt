@@ -2,7 +2,7 @@
 use Rattle.std.specs.Prelude.{All, Bool, List, Option, Some, [], length, map, pos, slice_index_or, true, ⊤, ℕ, ℤ, ◌<◌, ◌≡◌, ◌∷◌}
 use Rattle.bw_aggregate.specs.declared.summary.Asked.{Asked}
 use Rattle.bw_aggregate.specs.declared.summary.Summary.{Summary}
-use Rattle.bw_engine.specs.declared.folded.ColumnSummary.{ColumnSummary}
+use Rattle.bw_engine.specs.declared.set_functions.ColumnSummary.{ColumnSummary}
 use Rattle.bw_sql.specs.declared.tree.SetFunction.{SetFunction}
 use Rattle.bw_sql.specs.declared.tree.SetFunction.TheVariants.{Count, Sum, Min, Max, Median}
 use Rattle.bw_cells.specs.SetFunctions.{greatest, known, least, median, sum}
@@ -12,10 +12,10 @@ use Rattle.bw_model.specs.Select.{shown}
 use Rattle.bw_model.specs.declared.answer.Cell.{Cell}
 use Rattle.bw_plan.specs.declared.grouping.GroupItem.{GroupItem}
 use Rattle.bw_plan.specs.declared.grouping.GroupItem.TheVariants as grouped
-use Rattle.bw_plan.specs.declared.selection.FunctionPlan.{FunctionPlan}
-use Rattle.bw_plan.specs.declared.selection.FunctionPlan.TheVariants as function
-use Rattle.bw_plan.specs.declared.selection.ShownPlan.{ShownPlan}
-use Rattle.bw_plan.specs.declared.selection.ShownPlan.TheVariants as plans
+use Rattle.bw_plan.specs.declared.select.FunctionPlan.{FunctionPlan}
+use Rattle.bw_plan.specs.declared.select.FunctionPlan.TheVariants as function
+use Rattle.bw_plan.specs.declared.select.ShownPlan.{ShownPlan}
+use Rattle.bw_plan.specs.declared.select.ShownPlan.TheVariants as plans
 
 -- a set function of values that are not null
 abbrev pub number_of : SetFunction → List ℤ → Option ℤ

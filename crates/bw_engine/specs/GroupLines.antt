@@ -9,8 +9,8 @@ use Rattle.bw_model.specs.Store.{Row, value_at}
 use Rattle.bw_model.specs.declared.answer.Cell.{Cell}
 use Rattle.bw_plan.specs.declared.grouping.GroupItem.{GroupItem}
 use Rattle.bw_plan.specs.declared.grouping.GroupItem.TheVariants as grouped
-use Rattle.bw_plan.specs.declared.selection.FunctionPlan.{FunctionPlan}
-use Rattle.bw_plan.specs.declared.selection.FunctionPlan.TheVariants as function
+use Rattle.bw_plan.specs.declared.select.FunctionPlan.{FunctionPlan}
+use Rattle.bw_plan.specs.declared.select.FunctionPlan.TheVariants as function
 use Rattle.bw_sql.specs.declared.tree.SetFunction.{SetFunction}
 use Rattle.bw_sql.specs.declared.tree.SetFunction.TheVariants.{Max, Median, Min, Sum}
 use Rattle.bw_engine.specs.Folds.{number_of, told_by}

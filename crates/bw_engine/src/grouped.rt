@@ -12,7 +12,7 @@ ghost use Rattle.bw_engine.specs.Runs.{lines_from, slot_line};
 ghost use Rattle.bw_engine.specs.Stores.{rows_of_slots};
 ghost use Rattle.bw_engine.specs.declared.grouped.GroupedColumn.{GroupedColumn as AnyColumn};
 
-use crate::folded::{cell, told_by, wide};
+use crate::set_functions::{cell, told_by, wide};
 use crate::shown::show_slots;
 use bw_aggregate::Asked;
 use bw_groups::{ColumnValues, Folds, Groups};

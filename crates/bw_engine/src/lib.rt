@@ -1,12 +1,11 @@
 //! The engine: tables in memory, and the statements that make, fill, change, read and drop them.
 #![tactic(auto)]
 
-mod changes;
 mod create;
+mod delete;
 mod drop;
 mod engine;
 mod file_answer;
-mod folded;
 mod found;
 mod grouped;
 mod insert;
@@ -17,11 +16,14 @@ mod live_ends;
 mod load;
 mod open;
 mod outcome;
+mod rebuild;
 mod save;
 mod select;
+mod set_functions;
 mod shown;
 mod stats;
 mod table;
+mod update;
 
 pub use bw_model::{Answer, Cell, FILE_LIMIT, Heading, Refusal, Reply};
 pub use engine::Engine;

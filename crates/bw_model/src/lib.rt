@@ -2,25 +2,27 @@
 #![tactic(auto)]
 
 mod answer;
-mod changes;
 mod condition;
 mod condition_laws;
 mod content;
-mod filing;
+mod delete;
+mod file_length;
 mod group_laws;
 mod groups;
 mod insert;
 mod laws;
 mod listing;
+mod rebuild;
 mod refusal;
-mod refusals;
+mod refusal_tests;
 mod reply;
+mod reply_text;
 mod select;
 mod select_refusals;
 mod set_functions;
-mod steps;
+mod step;
 mod store;
-mod texts;
+mod update;
 mod words;
 
 pub use answer::{Answer, Cell, Cells, Heading};
@@ -29,7 +31,7 @@ pub use condition_laws::{
     between_is_two_comparisons, in_is_a_run_of_or, not_in_with_null_finds_nothing,
 };
 pub use content::Content;
-pub use filing::FILE_LIMIT;
+pub use file_length::FILE_LIMIT;
 pub use group_laws::{groups_are_of_same_values, groups_ascend, groups_part_rows};
 pub use laws::{
     one_content, one_table_a_file, refusals_change_nothing, refusals_need_no_memory,
@@ -37,7 +39,7 @@ pub use laws::{
 };
 pub use refusal::Refusal;
 pub use reply::Reply;
+pub use reply_text::reply_text;
 pub use select::{answer_of, heading_of};
-pub use steps::step;
+pub use step::step;
 pub use store::{Row, RowList, Store, Table, header_of};
-pub use texts::reply_text;

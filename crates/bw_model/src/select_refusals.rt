@@ -7,7 +7,7 @@ ghost use Rattle.bw_model.specs.Select.{columns_in, is_column, is_mixed, shown_i
 ghost use Rattle.bw_sql.specs.Tree.{items_of, select_of};
 
 use crate::refusal::Refusal;
-use crate::refusals::{
+use crate::refusal_tests::{
     Test, condition_misses, first_that_holds, is_missing, lists_too_long, misses_any,
 };
 use crate::select::{columns_in, has_functions, is_column, shown_items};

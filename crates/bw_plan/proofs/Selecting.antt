@@ -12,7 +12,7 @@ use Rattle.bw_model.proofs.Items.{columns_more}
 use Rattle.bw_model.proofs.Passing.{neither}
 use Rattle.bw_plan.specs.Selections.{is_ungrouped, is_unplaced}
 use Rattle.bw_plan.specs.declared.grouping.GroupItem.TheVariants as grouped
-use Rattle.bw_plan.specs.declared.selection.FunctionPlan.TheVariants as function
+use Rattle.bw_plan.specs.declared.select.FunctionPlan.TheVariants as function
 
 last : (b : Bool) → (b || false) ≡ b
 last true = refl

@@ -6,10 +6,10 @@ use Rattle.bw_model.specs.Select.{columns_in, has_functions}
 use Rattle.bw_model.specs.Store.{Header, place_of}
 use Rattle.bw_plan.specs.declared.grouping.GroupItem.{GroupItem}
 use Rattle.bw_plan.specs.declared.grouping.GroupItem.TheVariants as grouped
-use Rattle.bw_plan.specs.declared.selection.FunctionPlan.{FunctionPlan}
-use Rattle.bw_plan.specs.declared.selection.FunctionPlan.TheVariants as function
-use Rattle.bw_plan.specs.declared.selection.ShownPlan.{ShownPlan}
-use Rattle.bw_plan.specs.declared.selection.ShownPlan.TheVariants as shown
+use Rattle.bw_plan.specs.declared.select.FunctionPlan.{FunctionPlan}
+use Rattle.bw_plan.specs.declared.select.FunctionPlan.TheVariants as function
+use Rattle.bw_plan.specs.declared.select.ShownPlan.{ShownPlan}
+use Rattle.bw_plan.specs.declared.select.ShownPlan.TheVariants as shown
 
 -- a set function with the place of its column, where there is such a column
 abbrev pub placed_item : List Header → SelectItem → Option FunctionPlan

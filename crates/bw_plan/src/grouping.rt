@@ -8,7 +8,7 @@ ghost use Rattle.bw_plan.specs.Selections.{grouped_item, is_ungrouped};
 ghost use Rattle.bw_sql.specs.Tree.{items_of};
 
 use crate::headers::Headers;
-use crate::selection::{FunctionPlan, is_mixed, placed_item};
+use crate::select::{FunctionPlan, is_mixed, placed_item};
 use bw_sql::{Name, SelectItem, SelectItems};
 use std::alloc::{AllocError, Global};
 

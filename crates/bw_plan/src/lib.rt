@@ -1,30 +1,34 @@
 //! Statements over the rows of a table: columns' names become places, and a condition the truth of each row.
 #![tactic(auto)]
 
-mod changes;
 mod comparison_truth;
+mod delete;
 mod evaluation;
 mod grouping;
 mod headers;
-mod insertion;
+mod insert;
 mod list_truth;
 mod narrow;
 mod operand;
 mod plan;
 mod predicate_truth;
 mod range_truth;
+mod rebuild;
 mod resolution;
-mod selection;
+mod select;
 mod targets;
+mod update;
 mod words;
 
-pub use changes::{UpdatePlan, check_choices, resolve_delete, resolve_rebuild, resolve_update};
+pub use delete::resolve_delete;
 pub use evaluation::evaluate;
 pub use grouping::{GroupItem, GroupPlan};
 pub use headers::Headers;
-pub use insertion::resolve_insert;
+pub use insert::resolve_insert;
 pub use narrow::{chooses_too_narrow, defines_too_narrow};
 pub use plan::{Predicate, RowCondition, Source};
+pub use rebuild::{check_choices, resolve_rebuild};
 pub use resolution::plans_keep_truth;
-pub use selection::{FunctionPlan, SelectPlan, ShownPlan, resolve_select};
+pub use select::{FunctionPlan, SelectPlan, ShownPlan, resolve_select};
+pub use update::{UpdatePlan, resolve_update};
 pub use words::header_for;

@@ -2,7 +2,7 @@ use Rattle.std.proofs.Common.{ap, subst, sym, ◌∙◌, ◌≡◌, Contains}
 use Rattle.bw_mask.specs.Masks.{row_at}
 use Rattle.bw_model.specs.Select.{shown}
 use Rattle.bw_plan.specs.declared.grouping.GroupItem.TheVariants as grouped
-use Rattle.bw_plan.specs.declared.selection.FunctionPlan.TheVariants as function
+use Rattle.bw_plan.specs.declared.select.FunctionPlan.TheVariants as function
 use Rattle.bw_engine.specs.Folds.{told_by}
 use Rattle.bw_engine.specs.Found.{rows_where}
 use Rattle.bw_engine.specs.GroupLines.{TellGroups, told_at}
