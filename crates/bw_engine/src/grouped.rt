@@ -42,9 +42,24 @@ pub(crate) fn group_cells(
     requires items { All (IsItemWithin (length table.now.headers)) plan.now.items.items }
     ensures { IfOk result (λ cells. cells.items ≡ joined (map (λ group. map (told_in group) plan.now.items.items) (groups_by (Some plan.now.by) (rows_where (row_at found.now) (rows_of_slots table.now.slots))))) }
 {
-    let values = column_values(alloc, table, plan.by, found)?;
-    let groups = Groups::of(alloc, &values)?;
+    let groups = groups_of(alloc, table, plan.by, found)?;
     cells_of_groups(alloc, table, plan.items.as_slice(), found, &groups)
+}
+
+/// The groups of the found slots by the values of the column at a place, which are let go once the groups are made.
+fn groups_of(
+    alloc: Global,
+    table: &Table<Name>,
+    by: usize,
+    found: &Mask,
+) -> Result<Groups, AllocError>
+    requires found { len found.now ≡ length table.now.slots }
+    requires by { by < length table.now.headers }
+    ensures groups { IfOk result (AreGroups (column_in (rows_where (row_at found.now) (rows_of_slots table.now.slots)) by)) }
+    ensures rows { IfOk result (λ groups. length groups.ranks ≡ length (rows_where (row_at found.now) (rows_of_slots table.now.slots))) }
+{
+    let values = column_values(alloc, table, by, found)?;
+    Groups::of(alloc, &values)
 }
 
 /// The cells that the items show of these groups of the found slots.

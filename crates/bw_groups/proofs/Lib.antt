@@ -1,3 +1,4 @@
+pub mod Counts
 pub mod Distances
 pub mod Distinct
 pub mod Ends

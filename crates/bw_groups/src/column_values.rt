@@ -1,6 +1,7 @@
 //! The values of a column in some rows.
 
-ghost use Rattle.std.specs.Prelude.{IfOk, None, [], length, slice_index_or, ◌++◌, ◌<◌, ◌≡◌, ◌≤◌};
+ghost use Rattle.std.specs.Prelude.{IfOk, None, [], is_some, length, slice_index_or, ◌++◌, ◌<◌, ◌≡◌, ◌≤◌};
+ghost use Rattle.std.specs.List.{list_all};
 
 use std::alloc::{AllocError, Global};
 use std::marker::Model;
@@ -64,6 +65,13 @@ impl ColumnValues {
         self.numbers.len()
     }
 
+    /// Whether none of the values is NULL.
+    pub fn all_known(&self) -> bool
+        ensures { result ≡ list_all is_some self.now }
+    {
+        are_all(&self.known)
+    }
+
     /// Value i.
     #[inline]
     pub fn get(&self, i: usize) -> Option<i64>
@@ -73,4 +81,11 @@ impl ColumnValues {
         let number = self.numbers[i];
         if self.known[i] { Some(number) } else { None }
     }
+}
+
+/// Whether all of these hold.
+fn are_all(tests: &[bool]) -> bool
+    ensures { result ≡ list_all (λ test. test) tests.now }
+{
+    tests.iter().all(|test| *test)
 }
