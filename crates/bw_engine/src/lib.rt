@@ -8,6 +8,7 @@ mod engine;
 mod file_answer;
 mod folded;
 mod found;
+mod found_column;
 mod grouped;
 mod insert;
 mod laws;

@@ -7,6 +7,7 @@ pub mod KnownMore
 pub mod Placing
 pub mod RanksMake
 pub mod RunLists
+pub mod Runs
 pub mod Spread
 pub mod Summing
 pub mod Sums

@@ -1,5 +1,6 @@
 pub mod Arranging
 pub mod Folding
 pub mod Grouping
+pub mod Runs
 pub mod Spreading
 pub mod Values

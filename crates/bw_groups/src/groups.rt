@@ -2,9 +2,11 @@
 
 ghost use Rattle.std.specs.Prelude.{IfOk, None, length, slice_index_or, ◌<◌, ◌^◌, ◌≡◌, ◌≤◌};
 ghost use Rattle.bw_groups.specs.Grouping.{AreCounted, AreGroups, rows_in};
+ghost use Rattle.bw_groups.specs.Runs.{values_in};
 
 use crate::column_values::ColumnValues;
 use crate::numbers::{known_distances, known_ends, spread, values_at};
+use crate::value_runs::ValueRuns;
 use bw_rank::{Ranked, rank_counted};
 use std::alloc::{AllocError, Global};
 use std::marker::Model;
@@ -32,7 +34,17 @@ impl Model for Groups {
 
 impl Groups {
     /// The groups of rows that have these values, at most 16,777,216 of them.
-    pub fn of(alloc: Global, values: &ColumnValues) -> Result<Groups, AllocError>
+    pub fn of<C: ValueRuns>(alloc: Global, column: &C) -> Result<Groups, AllocError>
+        requires { length (values_in (C.runs column.now)) ≤ 2 ^ 24 }
+        ensures groups { IfOk result (AreGroups (values_in (C.runs column.now))) }
+        ensures rows { IfOk result (λ groups. length groups.ranks ≡ length (values_in (C.runs column.now))) }
+    {
+        let values = ColumnValues::of(alloc, column)?;
+        Groups::of_list(alloc, &values)
+    }
+
+    /// The groups of rows by how far their values lie above the least.
+    fn of_list(alloc: Global, values: &ColumnValues) -> Result<Groups, AllocError>
         requires { length values.now ≤ 2 ^ 24 }
         ensures groups { IfOk result (AreGroups values.now) }
         ensures rows { IfOk result (λ groups. length groups.ranks ≡ length values.now) }

@@ -1,16 +1,14 @@
-use Rattle.std.proofs.Common.{IfOk, ap, length, subst, ◌∙◌, ◌≡◌}
-use Rattle.std.proofs.lemmas.List.{length-map}
+use Rattle.std.proofs.Common.{IfOk, arith, length, subst, ◌≡◌}
 use Rattle.bw_groups.specs.Grouping.{AreGroups}
 use Rattle.bw_mask.specs.Masks.{row_at}
-use Rattle.bw_model.specs.Store.{value_at}
-use Rattle.bw_engine.specs.Found.{rows_where}
-use Rattle.bw_engine.specs.Stores.{rows_of_slots}
+use Rattle.bw_engine.proofs.FoundRuns.{runs_column, runs_few, runs_long}
 use Rattle.bw_engine.proofs.grouped.groups_of.Goals as goal
 
+pub of-requires : goal.of-requires
+of-requires c = omega (arith, runs_few c.args.by c.args.table.now.slots (row_at c.args.found.now), c.slot_count-few.ensures.count, c.slot_count-few.ensures.few)
+
 pub returns-clause-groups : goal.returns-clause-groups
-returns-clause-groups c = subst (λ values. IfOk c.of.result (AreGroups values)) c.in_ok-values.ensures.values c.of.ensures.groups
+returns-clause-groups c = subst (λ values. IfOk c.of.result (AreGroups values)) (runs_column c.args.by c.args.table.now.slots (row_at c.args.found.now)) c.of.ensures.groups
 
 pub returns-clause-rows : goal.returns-clause-rows
-returns-clause-rows c =
-    let rows = rows_where (row_at c.args.found.now) (rows_of_slots c.args.table.now.slots) in
-    subst (λ n. IfOk c.of.result (λ groups. length groups.ranks ≡ n)) (ap length c.in_ok-values.ensures.values ∙ length-map rows (λ row. value_at row c.args.by)) c.of.ensures.rows
+returns-clause-rows c = subst (λ n. IfOk c.of.result (λ groups. length groups.ranks ≡ n)) (runs_long c.args.by c.args.table.now.slots (row_at c.args.found.now)) c.of.ensures.rows
