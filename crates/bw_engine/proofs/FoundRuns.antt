@@ -1,9 +1,9 @@
 -- The values of a column in the found slots, in runs.
-use Rattle.std.proofs.Common.{All, Bool, List, None, Option, Some, [], ap, arith, cond, count_by, false, filter, get_or, if◌then◌else◌, inl, inr, is_some, length, map, min, not, refl, subst, suc, sym, true, zero, ℕ, ℤ, ◌&&◌, ◌*◌, ◌++◌, ◌+◌, ◌-◌, ◌/◌, ◌<◌, ◌||◌, ◌∙◌, ◌∷◌, ◌≡◌, ◌≤◌}
+use Rattle.std.proofs.Common.{All, Bool, IfSome, List, None, Option, Some, [], ap, arith, cond, count_by, false, filter, get_or, if◌then◌else◌, inl, inr, is_some, length, map, min, not, refl, subst, suc, sym, true, zero, ℕ, ℤ, ◌&&◌, ◌*◌, ◌++◌, ◌+◌, ◌-◌, ◌/◌, ◌<◌, ◌||◌, ◌∙◌, ◌∷◌, ◌≡◌, ◌≤◌}
 use Rattle.std.specs.List.{list_all, list_any, range_with_len}
 use Rattle.std.proofs.lemmas.Bool.{cases_eq, cases_lt, true≢false}
 use Rattle.std.proofs.lemmas.List.{length-map}
-use Rattle.std.proofs.lemmas.List.Elements.{All-cons, All-head, All-nil, All-tail}
+use Rattle.std.proofs.lemmas.List.Elements.{All-cons, All-head, All-tail}
 use Rattle.std.proofs.lemmas.List.FromFn.{get_or-map-range_with_len, length-map-range_with_len}
 use Rattle.bw_mask.specs.Masks.{MaskRows, len, row_at}
 use Rattle.bw_column.specs.Values as columns
@@ -159,15 +159,11 @@ module _ (P : ℤ → Type 0) where
       by false rest = rest
 
 -- the ends of a column bound its values in the found slots
-pub runs_within : (place : ℕ) (slots : List Slot) (passes : ℕ → Bool) (ends : Ends) → AreEnds (known (slot_column slots place)) (Some ends) → All (IsWithin ends) (known (values_in (found_runs place slots passes)))
-runs_within place slots passes ends are =
+pub runs_bounded : (place : ℕ) (slots : List Slot) (passes : ℕ → Bool) (ends : Option Ends) → AreEnds (known (slot_column slots place)) ends → IfSome ends (λ bounds. All (IsWithin bounds) (known (values_in (found_runs place slots passes))))
+runs_bounded place slots passes None are = tt
+runs_bounded place slots passes (Some ends) are =
     subst (λ values. All (IsWithin ends) (known values)) (sym (runs_column place slots passes))
     (found_all (IsWithin ends) place passes (rows_of_slots slots) (λ k d h. (are.0.bound k d h, are.1.bound k d h)))
-
-pub runs_none : (place : ℕ) (slots : List Slot) (passes : ℕ → Bool) (ends : Ends) → AreEnds (known (slot_column slots place)) None → All (IsWithin ends) (known (values_in (found_runs place slots passes)))
-runs_none place slots passes ends are =
-    subst (λ values. All (IsWithin ends) (known values)) (sym (runs_column place slots passes))
-    (found_all (IsWithin ends) place passes (rows_of_slots slots) (subst (λ xs. All (IsWithin ends) xs) (sym are) (All-nil (IsWithin ends))))
 
 -- one that is true
 any_at : (tests : List Bool) → list_any (λ test. test) tests ≡ true → (i : ℕ) × (i < length tests) × (get_or tests i false ≡ true)

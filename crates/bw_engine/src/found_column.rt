@@ -33,14 +33,12 @@ impl<'a> ValueRuns for FoundColumn<'a> {
         self.found.count()
     }
 
-    fn bounds(&self) -> Ends {
-        match self.table.column(self.place).ends() {
-            Some(ends) => ends,
-            None => Ends {
-                least: 0,
-                greatest: 0,
-            },
+    fn bounds(&self) -> Option<Ends> {
+        // The ends are found by a pass over the whole column, which takes longer than to gather a few values.
+        if self.found.count() < self.found.len() / 16 {
+            return None;
         }
+        self.table.column(self.place).ends()
     }
 
     fn run_count(&self) -> usize {
@@ -63,8 +61,8 @@ impl<'a> ValueRuns for FoundColumn<'a> {
     }
 }
 
-/// Puts the values of the column at a place last that are in the found ones of the next 64 slots, from slot `at` on. Where
-/// all of them are found, they are a run of the column.
+/// Puts the values of the column at a place last that are in the found ones of the next 64 slots, from slot `at` on.
+/// Where all of them are found, they are a run of the column.
 #[inline(never)]
 fn put_slots(
     values: &mut Vec<Value>,

@@ -8,6 +8,7 @@ pub mod Placing
 pub mod RanksMake
 pub mod RunLists
 pub mod Runs
+pub mod Scales
 pub mod Spread
 pub mod Summing
 pub mod Sums

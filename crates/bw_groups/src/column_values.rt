@@ -102,8 +102,8 @@ impl ValueRuns for ColumnValues {
         self.len()
     }
 
-    fn bounds(&self) -> Ends {
-        known_ends(self)
+    fn bounds(&self) -> Option<Ends> {
+        Some(known_ends(self))
     }
 
     fn run_count(&self) -> usize {

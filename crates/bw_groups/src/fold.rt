@@ -90,8 +90,8 @@ fn none_each<F: Fold>(alloc: Global, count: usize) -> Result<Vec<F>, AllocError>
     Ok(folds)
 }
 
-/// Adds what a run of values tells to what was told of each group before. The rows of the run are in the groups of these
-/// ranks.
+/// Adds what a run of values tells to what was told of each group before. The ranks are those of the groups of the run's
+/// rows.
 fn fold_run<F: Fold>(folds: &mut Vec<F>, ranks: &[u32], run: &[Option<i64>])
     requires as_many { length run.now ≡ length ranks.now }
     requires inside { All (λ r. r < length folds.old.items) ranks.now }

@@ -2,6 +2,9 @@ use Rattle.std.proofs.Common.{IfOk, ap, arith, length, subst, ◌≡◌}
 use Rattle.bw_groups.specs.Grouping.{AreGroups}
 use Rattle.bw_groups.proofs.groups.Groups.of.Goals as goal
 
+pub on_scale-requires-clause-within : goal.on_scale-requires-clause-within
+on_scale-requires-clause-within g c = c.in-Some.ensures
+
 pub of_list-requires : goal.of_list-requires
 of_list-requires g c = omega (arith, ap length c.in_ok-values.ensures, c.requires)
 
