@@ -6,11 +6,10 @@ ghost use Rattle.bw_groups.specs.Grouping.{AreCounted, AreGroups, rows_in};
 ghost use Rattle.bw_groups.specs.Runs.{IsWithin, values_in};
 
 use crate::column_values::ColumnValues;
-use crate::narrow_ranks::rank_narrow;
 use crate::numbers::{known_distances, known_ends, spread, values_at};
 use crate::scale::Scale;
 use crate::value_runs::ValueRuns;
-use bw_rank::{Ranked, rank_counted};
+use bw_rank::{Ranked, rank_counted, rank_narrow};
 use std::alloc::{AllocError, Global};
 use std::marker::Model;
 

@@ -7,7 +7,6 @@ mod folds;
 mod grouped_values;
 mod groups;
 mod median;
-mod narrow_ranks;
 mod numbers;
 mod scale;
 mod value_runs;

@@ -1,6 +1,6 @@
 use Rattle.std.proofs.Common.{length, take, ◌≡◌}
 use Rattle.std.specs.Prelude.{vec_capacity}
-use Rattle.bw_groups.proofs.narrow_ranks.widened.Given as goal
+use Rattle.bw_rank.proofs.widths.widened.Given as goal
 
 abbrev pub invariant-numbers : goal.invariant-numbers
 invariant-numbers l = record {
