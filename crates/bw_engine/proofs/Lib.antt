@@ -8,6 +8,7 @@ pub mod Executed
 pub mod Folding
 mod FoundLaws
 pub mod Founds
+pub mod FoundRuns
 pub mod GroupShows
 pub mod Inserted
 pub mod LiveLaws

@@ -14,7 +14,7 @@ use Rattle.bw_engine.specs.Runs.{AreRead, line_across, line_at, lines_from, slot
 use Rattle.bw_engine.specs.Stores.{rows_of_slots}
 use Rattle.bw_engine.proofs.SetRows.{same_value}
 
-one_line : (b : Bool) (line : ℕ → List Value) (a : ℕ) (rest : List ℕ) → joined (map line (if b then a ∷ rest else rest)) ≡ (if b then line a else []) ++ joined (map line rest)
+pub one_line : (b : Bool) (line : ℕ → List Value) (a : ℕ) (rest : List ℕ) → joined (map line (if b then a ∷ rest else rest)) ≡ (if b then line a else []) ++ joined (map line rest)
 one_line true line a rest = refl
 one_line false line a rest = refl
 
@@ -181,7 +181,7 @@ module _ (place : ℕ) where
       next : (i : ℕ) → (a + 1) + i ≡ a + suc i
       next i = omega arith
 
-in_list : (rows : List Bool) (i : ℕ) → get_or rows i false ≡ true → i < length rows
+pub in_list : (rows : List Bool) (i : ℕ) → get_or rows i false ≡ true → i < length rows
 in_list [] i h = absurd (true≢false (sym h))
 in_list (r ∷ rows) zero h = omega arith
 in_list (r ∷ rows) (suc i) h = let rest = in_list rows i h in omega (arith, rest)

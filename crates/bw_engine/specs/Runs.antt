@@ -1,5 +1,5 @@
 -- Slots that are shown by runs: the values of 64 slots are read column by column, and shown row by row.
-use Rattle.std.specs.Prelude.{Bool, List, [], length, map, slice_index_or, ℕ, ◌+◌, ◌<◌, ◌≡◌}
+use Rattle.std.specs.Prelude.{Bool, List, [], length, map, min, slice_index_or, ℕ, ◌*◌, ◌+◌, ◌-◌, ◌/◌, ◌<◌, ◌∷◌, ◌≡◌}
 use Rattle.std.specs.List.{filter, range_with_len}
 use Rattle.bw_table.specs.Slots.{Slot, slot_at}
 use Rattle.bw_sql.specs.Rows.{joined}
@@ -26,3 +26,7 @@ slot_line places slots i = line_at places (slot_at slots i).row
 pub record AreRead (slots : List Slot) (places : List ℕ) (at n : ℕ) (runs : List (List Value)) : Type 0 where
   pub count : length runs ≡ length places
   pub values : (p i : ℕ) → p < length places → i < n → columns.value_at (slice_index_or runs p []) i ≡ columns.value_at (slot_at slots (at + i)).row (slice_index_or places p 0)
+
+-- the values of the column at a place in those of 64 slots that pass, one run of slots after the other
+abbrev pub found_runs : ℕ → List Slot → (ℕ → Bool) → List (List Value)
+found_runs place slots passes = map (λ q. lines_from (slot_line (place ∷ []) slots) passes (64 * q) (min (length slots - 64 * q) 64)) (range_with_len 0 ((length slots + 63) / 64))

@@ -1,6 +1,6 @@
 //! What is shown of each group of the found slots.
 
-ghost use Rattle.std.specs.Prelude.{All, Contains, IfOk, IfSome, OnOk, Some, [], length, map, min, slice_index_or, ◌++◌, ◌-◌, ◌<◌, ◌^◌, ◌∷◌, ◌≡◌, ◌≤◌};
+ghost use Rattle.std.specs.Prelude.{All, Contains, IfOk, IfSome, OnOk, Some, length, map, slice_index_or, ◌<◌, ◌≡◌};
 ghost use Rattle.bw_mask.specs.Masks.{len, row_at};
 ghost use Rattle.bw_groups.specs.Grouping.{AreGroups};
 ghost use Rattle.bw_model.specs.Groups.{groups_by};
@@ -8,18 +8,17 @@ ghost use Rattle.bw_sql.specs.Rows.{joined};
 ghost use Rattle.bw_engine.specs.Folds.{IsItemWithin, told_in};
 ghost use Rattle.bw_engine.specs.Found.{rows_where};
 ghost use Rattle.bw_engine.specs.GroupLines.{AskForItems, IsAskedIn, TellGroups, cells_to, column_in, told_at};
-ghost use Rattle.bw_engine.specs.Runs.{lines_from, slot_line};
 ghost use Rattle.bw_engine.specs.Stores.{rows_of_slots};
 ghost use Rattle.bw_engine.specs.declared.grouped.GroupedColumn.{GroupedColumn as AnyColumn};
 
+use crate::found_column::FoundColumn;
 use crate::set_functions::{cell, told_by, wide};
-use crate::shown::show_slots;
 use bw_aggregate::Asked;
-use bw_groups::{ColumnValues, Folds, Groups};
+use bw_groups::{Folds, Groups};
 use bw_mask::Mask;
 use bw_model::Cell;
 use bw_plan::{FunctionPlan, GroupItem, GroupPlan};
-use bw_sql::{Name, SetFunction, Value};
+use bw_sql::{Name, SetFunction};
 use bw_table::Table;
 use std::alloc::{AllocError, Global};
 
@@ -42,9 +41,30 @@ pub(crate) fn group_cells(
     requires items { All (IsItemWithin (length table.now.headers)) plan.now.items.items }
     ensures { IfOk result (λ cells. cells.items ≡ joined (map (λ group. map (told_in group) plan.now.items.items) (groups_by (Some plan.now.by) (rows_where (row_at found.now) (rows_of_slots table.now.slots))))) }
 {
-    let values = column_values(alloc, table, plan.by, found)?;
-    let groups = Groups::of(alloc, &values)?;
+    let groups = groups_of(alloc, table, plan.by, found)?;
     cells_of_groups(alloc, table, plan.items.as_slice(), found, &groups)
+}
+
+/// The groups of the found slots by the values of the column at a place, which are let go once the groups are made.
+fn groups_of(
+    alloc: Global,
+    table: &Table<Name>,
+    by: usize,
+    found: &Mask,
+) -> Result<Groups, AllocError>
+    requires found { len found.now ≡ length table.now.slots }
+    requires by { by < length table.now.headers }
+    ensures groups { IfOk result (AreGroups (column_in (rows_where (row_at found.now) (rows_of_slots table.now.slots)) by)) }
+    ensures rows { IfOk result (λ groups. length groups.ranks ≡ length (rows_where (row_at found.now) (rows_of_slots table.now.slots))) }
+{
+    // There are few slots.
+    let _few = table.slot_count();
+    let column = FoundColumn {
+        table,
+        place: by,
+        found,
+    };
+    Groups::of(alloc, &column)
 }
 
 /// The cells that the items show of these groups of the found slots.
@@ -137,75 +157,6 @@ fn asked_of(items: &[GroupItem], place: usize) -> Asked
     }
 }
 
-/// The values of the column at a place in the found slots.
-fn column_values(
-    alloc: Global,
-    table: &Table<Name>,
-    place: usize,
-    found: &Mask,
-) -> Result<ColumnValues, AllocError>
-    requires found { len found.now ≡ length table.now.slots }
-    requires place { place < length table.now.headers }
-    ensures values { IfOk result (λ values. values ≡ column_in (rows_where (row_at found.now) (rows_of_slots table.now.slots)) place) }
-    ensures few { IfOk result (λ values. length values ≤ 2 ^ 24) }
-{
-    let values = gathered(alloc, table, place, found)?;
-    // No more slots are found than there are.
-    if values.len() > table.slot_count() {
-        unreachable!()
-    }
-    Ok(values)
-}
-
-/// The same, by runs of 64 slots.
-fn gathered(
-    alloc: Global,
-    table: &Table<Name>,
-    place: usize,
-    found: &Mask,
-) -> Result<ColumnValues, AllocError>
-    requires found { len found.now ≡ length table.now.slots }
-    requires place { place < length table.now.headers }
-    ensures { IfOk result (λ values. values ≡ lines_from (slot_line (place ∷ []) table.now.slots) (row_at found.now) 0 (length table.now.slots)) }
-{
-    let mut values = ColumnValues::with_capacity(alloc, found.count())?;
-    let mut shown = Vec::with_capacity(alloc, 64)?;
-    let words = found.words();
-    for q in 0..words.len() {
-        if words[q] != 0 {
-            values = with_slots(values, &mut shown, table, place, found, 64 * q)?;
-        }
-    }
-    Ok(values)
-}
-
-/// These values, and after them those of the found ones of the next 64 slots, from slot `at` on. Where not all of them are
-/// found, those that are go through the list of what is shown.
-#[inline(never)]
-fn with_slots(
-    values: ColumnValues,
-    shown: &mut Vec<Value>,
-    table: &Table<Name>,
-    place: usize,
-    found: &Mask,
-    at: usize,
-) -> Result<ColumnValues, AllocError>
-    requires found { len found.now ≡ length table.now.slots }
-    requires place { place < length table.now.headers }
-    requires inside { at < length table.now.slots }
-    ensures { IfOk result (λ all. all ≡ values ++ lines_from (slot_line (place ∷ []) table.now.slots) (row_at found.now) at (min (length table.now.slots - at) 64)) }
-{
-    if found.bits(at, 64) == u64::MAX {
-        let mut run = [None; 64];
-        table.column(place).read(at, &mut run);
-        return values.with_run(&run);
-    }
-    let mut runs = [[None; 64]];
-    shown.clear();
-    show_slots(shown, &mut runs, table, &[place], found, at)?;
-    values.with_run(shown)
-}
-
 /// What the items ask of the column at a place, in each group.
 fn grouped_column(
     alloc: Global,
@@ -221,8 +172,12 @@ fn grouped_column(
     ensures place { IfOk result (λ column. column.place ≡ place) }
     ensures tell { IfOk result (λ column. TellGroups (rows_where (row_at found.now) (rows_of_slots table.now.slots)) groups.now items.now column.place column.folds) }
 {
-    let values = column_values(alloc, table, place, found)?;
-    let folds = Folds::of(alloc, groups, &values, asked_of(items, place))?;
+    let column = FoundColumn {
+        table,
+        place,
+        found,
+    };
+    let folds = Folds::of(alloc, groups, &column, asked_of(items, place))?;
     Ok(GroupedColumn { place, folds })
 }
 

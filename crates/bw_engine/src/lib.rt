@@ -7,6 +7,7 @@ mod drop;
 mod engine;
 mod file_answer;
 mod found;
+mod found_column;
 mod grouped;
 mod insert;
 mod laws;

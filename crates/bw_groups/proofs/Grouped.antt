@@ -27,7 +27,7 @@ map_some : (f : ℕ → ℤ) (ns : List ℕ) → map (λ n. Some (f n)) ns ≡ m
 map_some f [] = refl
 map_some f (n ∷ ns) = ap (λ xs. Some (f n) ∷ xs) (map_some f ns)
 
-map_entries : (f : ℕ → ℤ) (entries ranks : List ℕ) → map f (map (λ r. get_or entries r 0) ranks) ≡ map (λ r. f (get_or entries r 0)) ranks
+pub map_entries : (f : ℕ → ℤ) (entries ranks : List ℕ) → map f (map (λ r. get_or entries r 0) ranks) ≡ map (λ r. f (get_or entries r 0)) ranks
 map_entries f entries [] = refl
 map_entries f entries (r ∷ ranks) = ap (λ xs. f (get_or entries r 0) ∷ xs) (map_entries f entries ranks)
 

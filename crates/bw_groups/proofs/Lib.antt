@@ -1,3 +1,4 @@
+pub mod Counts
 pub mod Distances
 pub mod Distinct
 pub mod Ends
@@ -6,6 +7,8 @@ pub mod KnownMore
 pub mod Placing
 pub mod RanksMake
 pub mod RunLists
+pub mod Runs
+pub mod Scales
 pub mod Spread
 pub mod Summing
 pub mod Sums

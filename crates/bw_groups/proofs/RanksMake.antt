@@ -26,7 +26,7 @@ has_at [] k z d h is = absurd (omega (arith, h))
 has_at (x ∷ xs) zero z d h is = let test : int_eq z x ≡ true = grind (arith, ints, is) in ap (λ b. b || has xs z) test
 has_at (x ∷ xs) (suc k) z d h is = later (int_eq z x) (has xs z) (has_at xs k z d (omega (arith, h)) is)
 
-at_has : (xs : List ℤ) (z d : ℤ) → has xs z ≡ true → (k : ℕ) × (k < length xs) × (get_or xs k d ≡ z)
+pub at_has : (xs : List ℤ) (z d : ℤ) → has xs z ≡ true → (k : ℕ) × (k < length xs) × (get_or xs k d ≡ z)
 at_has [] z d there = absurd (true≢false (sym there))
 at_has (x ∷ xs) z d there = by (int_eq z x) refl there (at_has xs z d)
   where

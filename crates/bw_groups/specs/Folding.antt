@@ -1,5 +1,5 @@
 -- What was asked of the values of each group.
-use Rattle.std.specs.Prelude.{Bool, List, None, Option, Some, if◌then◌else◌, length, map, not, pos, slice_index, slice_index_or, ℕ, ℤ, ◌&&◌, ◌<◌, ◌==◌}
+use Rattle.std.specs.Prelude.{Bool, List, None, Option, Some, if◌then◌else◌, length, map, not, pos, slice_index, slice_index_or, ℕ, ℤ, ◌&&◌, ◌<◌, ◌==◌, ◌≡◌}
 use Rattle.std.specs.List.{range_with_len}
 use Rattle.bw_aggregate.specs.declared.summary.Asked.{Asked}
 use Rattle.bw_aggregate.specs.declared.summary.Summary.{Summary}
@@ -11,8 +11,12 @@ use Rattle.bw_groups.specs.Grouping.{members}
 abbrev pub AreFolds : {F : Type 0} → (F → List ℤ → Type 0) → List ℕ → List (Option ℤ) → List F → Type 0
 AreFolds {F} tells ranks column folds = (g : ℕ) (d : F) → g < length folds → tells (slice_index_or folds g d) (known (members ranks column g))
 
--- one of so many values, where it is asked for and there is any
-abbrev pub if_any : Bool → ℕ → ℤ → Option ℤ
+-- it is the number of the values
+abbrev pub IsCount : ℕ → List ℤ → Type 0
+IsCount count values = count ≡ length values
+
+-- what is told of so many values, where it is asked for and there is any
+abbrev pub if_any : {A : Type 0} → Bool → ℕ → A → Option A
 if_any asked count x = if asked && not (count == 0) then Some x else None
 
 abbrev pub least_in : Option Ends → Option ℤ

@@ -1,5 +1,7 @@
 pub mod Arranging
 pub mod Folding
 pub mod Grouping
+pub mod Runs
+pub mod Scales
 pub mod Spreading
 pub mod Values

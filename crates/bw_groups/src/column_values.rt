@@ -1,7 +1,12 @@
 //! The values of a column in some rows.
 
 ghost use Rattle.std.specs.Prelude.{IfOk, None, [], length, slice_index_or, ◌++◌, ◌<◌, ◌≡◌, ◌≤◌};
+ghost use Rattle.std.specs.List.{list_all};
+ghost use Rattle.bw_groups.specs.Runs.{values_in};
 
+use crate::numbers::known_ends;
+use crate::value_runs::ValueRuns;
+use bw_code::Ends;
 use std::alloc::{AllocError, Global};
 use std::marker::Model;
 
@@ -34,6 +39,19 @@ impl ColumnValues {
             numbers: Vec::with_capacity(alloc, count)?,
             known: Vec::with_capacity(alloc, count)?,
         })
+    }
+
+    /// The values of a column in its runs.
+    pub(crate) fn of<C: ValueRuns>(alloc: Global, column: &C) -> Result<ColumnValues, AllocError>
+        ensures { IfOk result (λ values. values ≡ values_in (C.runs column.now)) }
+    {
+        let mut all = ColumnValues::with_capacity(alloc, column.len())?;
+        let mut run = Vec::with_capacity(alloc, 64)?;
+        'runs: for q in 0..column.run_count() {
+            column.read_run(q, &mut run)?;
+            all = all.with_run(&run)?;
+        }
+        Ok(all)
     }
 
     /// These values and at most 64 more after them.
@@ -73,4 +91,45 @@ impl ColumnValues {
         let number = self.numbers[i];
         if self.known[i] { Some(number) } else { None }
     }
+}
+
+impl ValueRuns for ColumnValues {
+    ghost use Rattle.bw_groups.specs.Runs.{runs_of};
+
+    ghost runs = { λ values. runs_of values };
+
+    fn len(&self) -> usize {
+        self.len()
+    }
+
+    fn bounds(&self) -> Option<Ends> {
+        Some(known_ends(self))
+    }
+
+    fn run_count(&self) -> usize {
+        self.len().div_ceil(64)
+    }
+
+    fn read_run(&self, q: usize, run: &mut Vec<Option<i64>>) -> Result<(), AllocError> {
+        let len = self.len();
+        let start = 64 * q;
+        let rest = len - start;
+        let n = rest.min(64);
+        run.clear();
+        'run: for k in 0..n {
+            run.push(self.get(start + k))?;
+        }
+        Ok(())
+    }
+
+    fn all_known(&self) -> Result<bool, AllocError> {
+        Ok(are_all(&self.known))
+    }
+}
+
+/// Whether all of these hold.
+fn are_all(tests: &[bool]) -> bool
+    ensures { result ≡ list_all (λ test. test) tests.now }
+{
+    tests.iter().all(|test| *test)
 }

@@ -1,12 +1,13 @@
 //! What is told of values one by one.
 
-ghost use Rattle.std.specs.Prelude.{All, IfOk, IsTrue, List, [], length, unsigned_abs, ℤ, ◌*◌, ◌+ℤ◌, ◌+◌, ◌++◌, ◌<◌, ◌^◌, ◌∷◌, ◌≡◌, ◌≤◌};
+ghost use Rattle.std.specs.Prelude.{All, IfOk, IsTrue, List, Option, [], length, unsigned_abs, ℕ, ℤ, ◌*◌, ◌+ℤ◌, ◌+◌, ◌++◌, ◌<◌, ◌^◌, ◌∷◌, ◌≡◌, ◌≤◌};
 ghost use Rattle.bw_code.specs.Fittings.{AreEnds};
 ghost use Rattle.bw_cells.specs.SetFunctions.{total};
 ghost use Rattle.bw_groups.specs.Folding.{AreFolds};
+ghost use Rattle.bw_groups.specs.Runs.{values_in};
 
-use crate::column_values::ColumnValues;
 use crate::groups::Groups;
+use crate::value_runs::ValueRuns;
 use bw_cells::ends_of_both;
 use bw_code::Ends;
 use std::alloc::{AllocError, Global};
@@ -89,40 +90,59 @@ fn none_each<F: Fold>(alloc: Global, count: usize) -> Result<Vec<F>, AllocError>
     Ok(folds)
 }
 
-/// What is told of a column's values in each group, by one pass over the rows.
-pub(crate) fn fold_each<F: Fold>(
-    alloc: Global,
-    groups: &Groups,
-    column: &ColumnValues,
-) -> Result<Vec<F>, AllocError>
-    requires { length column.now ≡ length groups.now.ranks }
-    ensures count { IfOk result (λ folds. length folds.items ≡ length groups.now.values) }
-    ensures tells { IfOk result (λ folds. AreFolds F.tells groups.now.ranks column.now folds.items) }
+/// Adds what a run of values tells to what was told of each group before. The ranks are those of the groups of the run's
+/// rows.
+fn fold_run<F: Fold>(folds: &mut Vec<F>, ranks: &[u32], run: &[Option<i64>])
+    requires as_many { length run.now ≡ length ranks.now }
+    requires inside { All (λ r. r < length folds.old.items) ranks.now }
+    requires tells { (rows : List ℕ) × (values : List (Option ℤ)) × (length values ≡ length rows) × (length rows + length ranks.now ≤ 2 ^ 24) × AreFolds F.tells rows values folds.old.items }
+    ensures count { length folds.new.items ≡ length folds.old.items }
+    ensures tells { (rows : List ℕ) (values : List (Option ℤ)) → length values ≡ length rows → length rows + length ranks.now ≤ 2 ^ 24 → AreFolds F.tells rows values folds.old.items → AreFolds F.tells (rows ++ ranks.now) (values ++ run.now) folds.new.items }
 {
-    let mut folds = none_each::<F>(alloc, groups.times().len())?;
-    let ranks = groups.ranks();
     'rows: for i in 0..ranks.len() {
-        if let Some(value) = column.get(i) {
+        if let Some(value) = run[i] {
             let g = ranks[i] as usize;
             folds[g] = folds[g].with(value);
         }
+    }
+}
+
+/// What is told of a column's values in each group, by one pass over the rows, run by run.
+pub(crate) fn fold_each<F: Fold, C: ValueRuns>(
+    alloc: Global,
+    groups: &Groups,
+    column: &C,
+) -> Result<Vec<F>, AllocError>
+    requires { length (values_in (C.runs column.now)) ≡ length groups.now.ranks }
+    ensures count { IfOk result (λ folds. length folds.items ≡ length groups.now.values) }
+    ensures tells { IfOk result (λ folds. AreFolds F.tells groups.now.ranks (values_in (C.runs column.now)) folds.items) }
+{
+    let mut folds = none_each::<F>(alloc, groups.times().len())?;
+    let mut run = Vec::with_capacity(alloc, 64)?;
+    let ranks = groups.ranks();
+    let mut at = 0;
+    'runs: for q in 0..column.run_count() {
+        column.read_run(q, &mut run)?;
+        let end = at + run.len();
+        fold_run(&mut folds, &ranks[at..end], &run);
+        at = end;
     }
     Ok(folds)
 }
 
 /// The same, if it is asked for.
-pub(crate) fn fold_if<F: Fold>(
+pub(crate) fn fold_if<F: Fold, C: ValueRuns>(
     alloc: Global,
     asked: bool,
     groups: &Groups,
-    column: &ColumnValues,
+    column: &C,
 ) -> Result<Vec<F>, AllocError>
-    requires { length column.now ≡ length groups.now.ranks }
+    requires { length (values_in (C.runs column.now)) ≡ length groups.now.ranks }
     ensures count { IfOk result (λ folds. IsTrue asked → length folds.items ≡ length groups.now.values) }
-    ensures tells { IfOk result (λ folds. IsTrue asked → AreFolds F.tells groups.now.ranks column.now folds.items) }
+    ensures tells { IfOk result (λ folds. IsTrue asked → AreFolds F.tells groups.now.ranks (values_in (C.runs column.now)) folds.items) }
 {
     if asked {
-        fold_each::<F>(alloc, groups, column)
+        fold_each::<F, C>(alloc, groups, column)
     } else {
         Ok(Vec::new(alloc))
     }

@@ -4,13 +4,14 @@ ghost use Rattle.std.specs.Prelude.{IfOk, IsTrue, None, Some, [], if◌then◌el
 ghost use Rattle.bw_aggregate.specs.Summaries.{IsSummary};
 ghost use Rattle.bw_aggregate.specs.declared.summary.Summary.{Summary as AnySummary};
 ghost use Rattle.bw_cells.specs.SetFunctions.{known, median};
-ghost use Rattle.bw_groups.specs.Folding.{greatest_in, if_any, least_in, summaries, summary_by};
+ghost use Rattle.bw_groups.specs.Folding.{AreFolds, IsCount, greatest_in, if_any, least_in, summaries, summary_by};
 ghost use Rattle.bw_groups.specs.Grouping.{members};
+ghost use Rattle.bw_groups.specs.Runs.{values_in};
 
-use crate::column_values::ColumnValues;
 use crate::fold::{fold_each, fold_if};
 use crate::grouped_values::medians_of;
 use crate::groups::Groups;
+use crate::value_runs::ValueRuns;
 use bw_aggregate::{Asked, Summary};
 use bw_code::Ends;
 use std::alloc::{AllocError, Global};
@@ -39,19 +40,19 @@ impl Model for Folds {
 
 impl Folds {
     /// What is asked of a column, which has a value for each row that is in the groups.
-    pub fn of(
+    pub fn of<C: ValueRuns>(
         alloc: Global,
         groups: &Groups,
-        column: &ColumnValues,
+        column: &C,
         asked: Asked,
     ) -> Result<Folds, AllocError>
-        requires { length column.now ≡ length groups.now.ranks }
+        requires { length (values_in (C.runs column.now)) ≡ length groups.now.ranks }
         ensures count { IfOk result (λ folds. length folds ≡ length groups.now.values) }
-        ensures summaries { IfOk result (λ folds. (g : ℕ) (d : AnySummary) → g < length groups.now.values → IsSummary asked (known (members groups.now.ranks column.now g)) (slice_index_or folds g d)) }
+        ensures summaries { IfOk result (λ folds. (g : ℕ) (d : AnySummary) → g < length groups.now.values → IsSummary asked (known (members groups.now.ranks (values_in (C.runs column.now)) g)) (slice_index_or folds g d)) }
     {
-        let counts = fold_each::<u32>(alloc, groups, column)?;
-        let sums = fold_if::<i128>(alloc, asked.sum, groups, column)?;
-        let ends = fold_if::<Option<Ends>>(alloc, asks_ends(asked), groups, column)?;
+        let counts = counts_of(alloc, groups, column)?;
+        let sums = fold_if::<i128, C>(alloc, asked.sum, groups, column)?;
+        let ends = fold_if::<Option<Ends>, C>(alloc, asks_ends(asked), groups, column)?;
         let medians = medians_of(alloc, asked.median, groups, column)?;
         Ok(Folds::from_parts(asked, counts, sums, ends, medians))
     }
@@ -89,6 +90,24 @@ impl Folds {
     }
 }
 
+/// How many values each group has that are not NULL. Where none is NULL, they are as many as its rows.
+fn counts_of<C: ValueRuns>(
+    alloc: Global,
+    groups: &Groups,
+    column: &C,
+) -> Result<Vec<u32>, AllocError>
+    requires { length (values_in (C.runs column.now)) ≡ length groups.now.ranks }
+    ensures count { IfOk result (λ counts. length counts.items ≡ length groups.now.values) }
+    ensures tells { IfOk result (λ counts. AreFolds IsCount groups.now.ranks (values_in (C.runs column.now)) counts.items) }
+{
+    let known = column.all_known()?;
+    if !known {
+        return fold_each::<u32, C>(alloc, groups, column);
+    }
+    let counts = groups.times().to_vec(alloc)?;
+    Ok(counts)
+}
+
 /// Whether one of the ends is asked for.
 fn asks_ends(asked: Asked) -> bool
     ensures { result ≡ (asked.least || asked.greatest) }
@@ -112,21 +131,16 @@ fn summary_by(asked: Asked, count: u32, sum: i128, ends: Option<Ends>, median: i
         sum: if_any(asked.sum, count, sum),
         least: least_if(asked.least, ends),
         greatest: greatest_if(asked.greatest, ends),
-        median: median_if(asked.median, count, median),
+        median: if_any(asked.median, count, median),
     }
 }
 
-fn if_any(asked: bool, count: u32, sum: i128) -> Option<i128>
-    ensures { result ≡ if_any asked count sum }
-{
-    if asked && count != 0 { Some(sum) } else { None }
-}
-
-fn median_if(asked: bool, count: u32, median: i64) -> Option<i64>
-    ensures { result ≡ if_any asked count median }
+/// What is told of so many values, where it is asked for and there is any.
+fn if_any<T: Copy>(asked: bool, count: u32, told: T) -> Option<T>
+    ensures { result ≡ if_any asked count told }
 {
     if asked && count != 0 {
-        Some(median)
+        Some(told)
     } else {
         None
     }

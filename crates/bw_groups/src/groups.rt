@@ -1,11 +1,15 @@
 //! Groups of rows by the values of a column.
 
-ghost use Rattle.std.specs.Prelude.{IfOk, None, length, slice_index_or, ◌<◌, ◌^◌, ◌≡◌, ◌≤◌};
+ghost use Rattle.std.specs.Prelude.{All, IfOk, IfSome, None, length, slice_index_or, ◌<◌, ◌^◌, ◌≡◌, ◌≤◌};
+ghost use Rattle.bw_cells.specs.SetFunctions.{known};
 ghost use Rattle.bw_groups.specs.Grouping.{AreCounted, AreGroups, rows_in};
+ghost use Rattle.bw_groups.specs.Runs.{IsWithin, values_in};
 
 use crate::column_values::ColumnValues;
 use crate::numbers::{known_distances, known_ends, spread, values_at};
-use bw_rank::{Ranked, rank_counted};
+use crate::scale::Scale;
+use crate::value_runs::ValueRuns;
+use bw_rank::{Ranked, rank_counted, rank_narrow};
 use std::alloc::{AllocError, Global};
 use std::marker::Model;
 
@@ -31,8 +35,47 @@ impl Model for Groups {
 }
 
 impl Groups {
-    /// The groups of rows that have these values, at most 16,777,216 of them.
-    pub fn of(alloc: Global, values: &ColumnValues) -> Result<Groups, AllocError>
+    /// The groups of rows that have these values, at most 16,777,216 of them. The values are ranked as numbers of 32
+    /// bits where their bounds allow it, and else as numbers of 64, which takes more memory.
+    pub fn of<C: ValueRuns>(alloc: Global, column: &C) -> Result<Groups, AllocError>
+        requires { length (values_in (C.runs column.now)) ≤ 2 ^ 24 }
+        ensures groups { IfOk result (AreGroups (values_in (C.runs column.now))) }
+        ensures rows { IfOk result (λ groups. length groups.ranks ≡ length (values_in (C.runs column.now))) }
+    {
+        if let Some(scale) = scale_of(column) {
+            return Groups::on_scale(alloc, column, &scale);
+        }
+        let values = ColumnValues::of(alloc, column)?;
+        Groups::of_list(alloc, &values)
+    }
+
+    /// The groups of rows by the numbers that their values have on a scale.
+    fn on_scale<C: ValueRuns>(
+        alloc: Global,
+        column: &C,
+        scale: &Scale,
+    ) -> Result<Groups, AllocError>
+        requires few { length (values_in (C.runs column.now)) ≤ 2 ^ 24 }
+        requires within { All (IsWithin scale.now.ends) (known (values_in (C.runs column.now))) }
+        ensures groups { IfOk result (AreGroups (values_in (C.runs column.now))) }
+        ensures rows { IfOk result (λ groups. length groups.ranks ≡ length (values_in (C.runs column.now))) }
+    {
+        let numbers = scale.numbers(alloc, column)?;
+        let Ranked {
+            entries,
+            times,
+            ranks,
+        } = rank_narrow(alloc, numbers)?;
+        let values = scale.values(alloc, &entries)?;
+        Ok(Groups {
+            values,
+            times,
+            ranks,
+        })
+    }
+
+    /// The groups of rows by how far their values lie above the least.
+    fn of_list(alloc: Global, values: &ColumnValues) -> Result<Groups, AllocError>
         requires { length values.now ≤ 2 ^ 24 }
         ensures groups { IfOk result (AreGroups values.now) }
         ensures rows { IfOk result (λ groups. length groups.ranks ≡ length values.now) }
@@ -93,5 +136,15 @@ impl Groups {
         ensures { result ≡ rows_in self.now.ranks g }
     {
         self.times[g] as usize
+    }
+}
+
+/// A scale for the values of a column, where their bounds are known and give one.
+fn scale_of<C: ValueRuns>(column: &C) -> Option<Scale>
+    ensures { IfSome result (λ scale. All (IsWithin scale.ends) (known (values_in (C.runs column.now)))) }
+{
+    match column.bounds() {
+        Some(ends) => Scale::between(ends),
+        None => None,
     }
 }

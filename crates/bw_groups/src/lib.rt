@@ -8,7 +8,10 @@ mod grouped_values;
 mod groups;
 mod median;
 mod numbers;
+mod scale;
+mod value_runs;
 
 pub use column_values::ColumnValues;
 pub use folds::Folds;
 pub use groups::Groups;
+pub use value_runs::ValueRuns;

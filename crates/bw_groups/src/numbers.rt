@@ -78,7 +78,7 @@ pub(crate) fn values_at(
     Ok(values)
 }
 
-fn value_at(ends: Ends, distance: u64) -> Option<i64>
+pub(crate) fn value_at(ends: Ends, distance: u64) -> Option<i64>
     requires { (ends.least +ℤ pos distance) ≤ℤ ends.greatest }
     ensures { result ≡ Some (ends.least +ℤ pos distance) }
 {

@@ -7,6 +7,7 @@ mod packed;
 mod ranked;
 mod ranks;
 mod table;
+mod widths;
 
-pub use ranked::{Ranked, rank_counted};
+pub use ranked::{Ranked, rank_counted, rank_narrow};
 pub use ranks::{Ranks, rank};

@@ -1,11 +1,12 @@
 //! Ranks with how often each of the distinct numbers stands, and which way they are found.
 
-ghost use Rattle.std.specs.Prelude.{IfOk, length, ◌^◌, ◌≤◌};
+ghost use Rattle.std.specs.Prelude.{All, IfOk, length, ◌^◌, ◌≤◌};
 ghost use Rattle.bw_rank.specs.Ranks.{AreRanked};
 
 use crate::counted::with_times;
 use crate::ranks::{Ranks, greatest_of, rank};
 use crate::table::ranked_by_table;
+use crate::widths::{narrowed, widened};
 use std::alloc::{AllocError, Global};
 
 /// The distinct ones of some numbers, how often each stands, and of each of the numbers its place among these.
@@ -19,6 +20,13 @@ pub struct Ranked {
     pub ranks: Vec<u32>,
 }
 
+/// The least number that is too great for a table of counts, where so many numbers are ranked.
+fn table_limit(count: usize) -> u64
+    ensures { result ≤ 2 ^ 17 }
+{
+    (count as u64 / 2).min(1 << 17)
+}
+
 /// Ranks numbers and counts how often each stands: by a table of counts where the greatest number is small, and else as
 /// `rank` does.
 pub fn rank_counted(alloc: Global, numbers: &[u64]) -> Result<Ranked, AllocError>
@@ -26,9 +34,34 @@ pub fn rank_counted(alloc: Global, numbers: &[u64]) -> Result<Ranked, AllocError
     ensures { IfOk result (AreRanked numbers.now) }
 {
     let greatest = greatest_of(numbers);
-    if greatest < (numbers.len() as u64 / 2).min(1 << 17) {
-        return ranked_by_table(alloc, numbers, greatest as usize + 1);
+    if greatest < table_limit(numbers.len()) {
+        return ranked_by_table(alloc, narrowed(alloc, numbers)?, greatest as usize + 1);
     }
     let Ranks { entries, ranks } = rank(alloc, numbers)?;
     with_times(alloc, entries, ranks)
+}
+
+/// The same of numbers of 32 bits. By a table they take no more memory: the ranks stand where the numbers stood.
+pub fn rank_narrow(alloc: Global, numbers: Vec<u32>) -> Result<Ranked, AllocError>
+    requires { length numbers.items ≤ 2 ^ 24 }
+    ensures { IfOk result (AreRanked numbers.items) }
+{
+    let greatest = greatest_narrow(&numbers);
+    if u64::from(greatest) < table_limit(numbers.len()) {
+        return ranked_by_table(alloc, numbers, greatest as usize + 1);
+    }
+    let wide = widened(alloc, &numbers)?;
+    drop(numbers);
+    rank_counted(alloc, &wide)
+}
+
+/// The greatest of some numbers of 32 bits, and 0 of none.
+fn greatest_narrow(numbers: &[u32]) -> u32
+    ensures { All (λ n. n ≤ result) numbers.now }
+{
+    let mut greatest = 0;
+    for number in numbers {
+        greatest = greatest.max(*number);
+    }
+    greatest
 }

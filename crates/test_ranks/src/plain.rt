@@ -1,7 +1,7 @@
 //! The plain definition: numbers are sorted, repeated ones dropped, and each number is looked up and counted.
 
 use crate::seen::{see, see_at};
-use bw_rank::{Ranked, Ranks, rank, rank_counted};
+use bw_rank::{Ranked, Ranks, rank, rank_counted, rank_narrow};
 use std::alloc::{AllocError, Global};
 use std::process::Abort;
 
@@ -43,6 +43,23 @@ pub(crate) fn check<R: Abort + AllocGlobal>(rt: &R, numbers: &[u64]) {
     check_rank(rt, numbers, &entries, found);
     let found = rank_counted(rt.alloc(), numbers).expect(rt, "memory");
     check_counted(rt, numbers, &entries, found);
+    if let Some(narrow) = narrowed(rt.alloc(), numbers).expect(rt, "memory") {
+        assert!(rt; narrow.len() <= 1 << 24);
+        let found = rank_narrow(rt.alloc(), narrow).expect(rt, "memory");
+        check_counted(rt, numbers, &entries, found);
+    }
+}
+
+/// The same numbers in 32 bits each, where they fit.
+fn narrowed(alloc: Global, numbers: &[u64]) -> Result<Option<Vec<u32>>, AllocError> {
+    let mut narrow = Vec::with_capacity(alloc, numbers.len())?;
+    for number in numbers {
+        if *number > u64::from(u32::MAX) {
+            return Ok(None);
+        }
+        narrow.push(*number as u32)?;
+    }
+    Ok(Some(narrow))
 }
 
 fn check_rank<R: Abort>(rt: &R, numbers: &[u64], entries: &[u64], found: Ranks) {

@@ -9,7 +9,7 @@ use crate::set_functions::{Answers, Drawn, Reach, drawn_values, folded};
 use bw_aggregate::{Asked, next_group};
 use bw_code::{Kind, Layout};
 use bw_column::Column;
-use bw_groups::{ColumnValues, Folds, Groups};
+use bw_groups::{ColumnValues, Folds, Groups, ValueRuns};
 use bw_mask::Mask;
 use std::process::Abort;
 
@@ -103,7 +103,8 @@ fn check_groups<R: Abort + AllocGlobal>(
         median: true,
     };
     let (own, other) = (gathered(rt, columns.0), gathered(rt, columns.1));
-    assert!(rt; own.len() == other.len() && own.len() <= 200);
+    let (rows, others) = (ValueRuns::len(&own), ValueRuns::len(&other));
+    assert!(rt; rows == others && rows <= 200);
     let groups = Groups::of(rt.alloc(), &own).expect(rt, "memory");
     let folds = Folds::of(rt.alloc(), &groups, &other, all).expect(rt, "memory");
     let wanted = distinct(rt, by);

@@ -1,50 +1,104 @@
-use Rattle.std.proofs.Common.{ap, arith, get_or, length, length-set, of_z, subst, sym, take, to_z, w64, ◌<◌, ◌∙◌, ◌≡◌}
-use Rattle.std.proofs.lemmas.Int.{ints, to_z-of_z}
-use Rattle.bw_groups.specs.Arranging.{known_in}
-use Rattle.bw_groups.proofs.Telling.{after_all, after_null, after_value, before_any, one_more}
-use Rattle.bw_groups.proofs.fold.fold_each.Goals.{in-Some, in_default}
+use Rattle.std.proofs.Common.{All, [], ap, arith, drop, get_or, length, length-append, length-take, refl, subst, sym, take, ◌++◌, ◌+◌, ◌-◌, ◌<◌, ◌∙◌, ◌≡◌, ◌≤◌}
+use Rattle.std.proofs.lemmas.List.{length-drop, length-take-le, take_all}
+use Rattle.std.proofs.lemmas.List.Elements.{All-drop, All-take}
+use Rattle.bw_groups.specs.Folding.{AreFolds}
+use Rattle.bw_groups.specs.Runs.{values_in}
+use Rattle.bw_groups.proofs.Runs.{run_inside, runs_all, runs_more, runs_none, runs_reach, take_none, take_parts}
+use Rattle.bw_groups.proofs.Telling.{before_any}
 use Rattle.bw_groups.proofs.fold.fold_each.Goals as goal
 
-pub with-requires : goal.with-requires
-with-requires g c =
-    let ranks = c.ranks-ranks.result.now in
-    let column = c.args.column.now in
-    let folds = c.rows.folds.items in
-    let i = c.rows.i in
-    let as_many : length column ≡ length ranks = c.requires ∙ sym (ap length c.ranks-ranks.ensures) in
-    let q = get_or ranks i 0 in
-    let inside : q < length c.times.result.now = rw (sym c.ranks-ranks.ensures) at c.times.ensures.counted.inside i 0 c.rows-test.true in
-    let low : q < length folds = omega (arith, inside, c.times.ensures.count, c.rows.invariant.count) in
-    let room = one_more ranks column as_many i c.rows-test.true c.in-Some.value (sym c.get.ensures ∙ c.in-Some.is) in
-    let few = ap length c.ranks-ranks.ensures in
-    let told = subst (λ f. g.F.Fold.tells f (known_in ranks column i q)) (sym c.index.ensures) (c.rows.invariant.tells q c.index.result.now low) in
-    (known_in ranks column i q, omega (arith, room, few, c.times.ensures.counted.few), told)
+pub runs-init : goal.runs-init
+runs-init g c =
+    let none = runs_none (g.C.ValueRuns.runs c.args.column.now) in
+    record {
+      count = c.in_ok-folds.ensures.count ∙ c.times.ensures.count;
+      at = sym (ap length none);
+      tells = before_any g.F.Fold.tells (take 0 c.ranks-ranks.result.now) (values_in (take 0 (g.C.ValueRuns.runs c.args.column.now))) c.in_ok-folds.folds.items (take_none c.ranks-ranks.result.now) none c.in_ok-folds.ensures.none;
+    }
 
-pub rows-preserved : goal.rows-preserved
-rows-preserved g c =
+pub overflow_add-end : goal.overflow_add-end
+overflow_add-end g c =
+    let runs = g.C.ValueRuns.runs c.args.column.now in
+    let low : c.runs.q < length runs = omega (arith, c.runs-test.true, c.run_count-q-end.ensures) in
+    let inside = run_inside runs c.runs.q c.runs.at c.read_run.new.run.items low c.in_ok-read_run.ensures.values c.runs.invariant.at in
+    omega (arith, inside, c.len.ensures, c.read_run.new.run.ok, c.requires, c.times.ensures.counted.few)
+
+pub offset_bounds-ranks-at : goal.offset_bounds-ranks-at
+offset_bounds-ranks-at g c =
+    let runs = g.C.ValueRuns.runs c.args.column.now in
+    let low : c.runs.q < length runs = omega (arith, c.runs-test.true, c.run_count-q-end.ensures) in
+    let inside = run_inside runs c.runs.q c.runs.at c.read_run.new.run.items low c.in_ok-read_run.ensures.values c.runs.invariant.at in
+    omega (arith, inside, c.requires, c.times.ensures.counted.few)
+
+pub slice_bounds-fold_run-start : goal.slice_bounds-fold_run-start
+slice_bounds-fold_run-start g c = omega arith
+
+pub slice_bounds-fold_run-end : goal.slice_bounds-fold_run-end
+slice_bounds-fold_run-end g c =
+    let runs = g.C.ValueRuns.runs c.args.column.now in
+    let low : c.runs.q < length runs = omega (arith, c.runs-test.true, c.run_count-q-end.ensures) in
+    let inside = run_inside runs c.runs.q c.runs.at c.read_run.new.run.items low c.in_ok-read_run.ensures.values c.runs.invariant.at in
+    omega (arith, inside, c.len.ensures, c.read_run.new.run.ok, c.requires, ap length c.ranks-ranks.ensures)
+
+pub fold_run-requires : goal.fold_run-requires
+fold_run-requires g c =
     let ranks = c.ranks-ranks.result.now in
-    let column = c.args.column.now in
-    let folds = c.rows.folds.items in
-    let i = c.rows.i in
-    let as_many : length column ≡ length ranks = c.requires ∙ sym (ap length c.ranks-ranks.ensures) in
-    let q = get_or ranks i 0 in
-    let few = ap length c.ranks-ranks.ensures in
-    elim c.match-get.branch [
-      | in-Some w ↦
-          let inside : q < length c.times.result.now = rw (sym c.ranks-ranks.ensures) at c.times.ensures.counted.inside i 0 c.rows-test.true in
-          let low : q < length folds = omega (arith, inside, c.times.ensures.count, c.rows.invariant.count) in
-          let is = sym c.get.ensures ∙ w.in-Some.is in
-          let room = one_more ranks column as_many i c.rows-test.true w.in-Some.value is in
-          let told = subst (λ f. g.F.Fold.tells f (known_in ranks column i q)) (sym w.index.ensures) (c.rows.invariant.tells q w.index.result.now low) in
-          let value : to_z w64 (of_z w64 w.in-Some.value) ≡ w.in-Some.value = search (arith, ints, to_z-of_z) in
-          let new = rw value at (w.with.ensures (known_in ranks column i q) (omega (arith, room, few, c.times.ensures.counted.few)) told) in
-          rw w.folds-is (record {
-            count = length-set folds q w.with.result ∙ c.rows.invariant.count;
-            tells = after_value ranks column as_many i c.rows-test.true g.F.Fold.tells folds c.rows.invariant.tells w.in-Some.value w.with.result is new;
-          })
-      | in_default w ↦
-          rw w.folds-is (record {
-            count = c.rows.invariant.count;
-            tells = after_null ranks column as_many i c.rows-test.true g.F.Fold.tells folds c.rows.invariant.tells (sym c.get.ensures ∙ w.in_default.is);
-          })
-    ]
+    let runs = g.C.ValueRuns.runs c.args.column.now in
+    let run = c.read_run.new.run.items in
+    let at = c.runs.at in
+    let end = at + c.len.result in
+    let low : c.runs.q < length runs = omega (arith, c.runs-test.true, c.run_count-q-end.ensures) in
+    let inside = run_inside runs c.runs.q at run low c.in_ok-read_run.ensures.values c.runs.invariant.at in
+    let here : c.deref.result.now ≡ run = c.deref.ensures.value in
+    let many = ap length c.ranks-ranks.ensures in
+    let part = length-take-le (end - at) (drop at ranks) (omega (arith, length-drop at ranks, inside, c.len.ensures, c.read_run.new.run.ok, c.requires, many)) in
+    let front = length-take-le at ranks (omega (arith, inside, c.requires, many)) in
+    let all : All (λ r. r < length c.runs.folds.items) ranks = λ k d h. let one = rw (sym c.ranks-ranks.ensures) at c.times.ensures.counted.inside k d h in omega (arith, one, c.times.ensures.count, c.runs.invariant.count) in
+    record {
+      as_many = omega (arith, ap length here, part, c.len.ensures, c.read_run.new.run.ok);
+      inside = All-take (λ r. r < length c.runs.folds.items) (end - at) (drop at ranks) (All-drop (λ r. r < length c.runs.folds.items) at ranks all);
+      tells = (
+        take at ranks,
+        values_in (take c.runs.q runs),
+        omega (arith, front, c.runs.invariant.at),
+        omega (arith, front, part, inside, many, c.requires, c.times.ensures.counted.few, c.len.ensures, c.read_run.new.run.ok),
+        c.runs.invariant.tells,
+      );
+    }
+
+pub runs-preserved : goal.runs-preserved
+runs-preserved g c =
+    let ranks = c.ranks-ranks.result.now in
+    let runs = g.C.ValueRuns.runs c.args.column.now in
+    let run = c.read_run.new.run.items in
+    let at = c.runs.at in
+    let n = c.len.result in
+    let end = at + n in
+    let low : c.runs.q < length runs = omega (arith, c.runs-test.true, c.run_count-q-end.ensures) in
+    let is = c.in_ok-read_run.ensures.values in
+    let inside = run_inside runs c.runs.q at run low is c.runs.invariant.at in
+    let here : c.deref.result.now ≡ run = c.deref.ensures.value in
+    let many = ap length c.ranks-ranks.ensures in
+    let long : n ≡ length run = omega (arith, c.len.ensures, c.read_run.new.run.ok) in
+    let part = length-take-le (end - at) (drop at ranks) (omega (arith, length-drop at ranks, inside, long, c.requires, many)) in
+    let front = length-take-le at ranks (omega (arith, inside, c.requires, many)) in
+    let told = c.fold_run.ensures.tells (take at ranks) (values_in (take c.runs.q runs)) (omega (arith, front, c.runs.invariant.at)) (omega (arith, front, part, inside, many, c.requires, c.times.ensures.counted.few, long)) c.runs.invariant.tells in
+    let size : end - at ≡ n = omega arith in
+    let rows : take at ranks ++ take (end - at) (drop at ranks) ≡ take end ranks = ap (λ m. take at ranks ++ take m (drop at ranks)) size ∙ take_parts at n ranks in
+    let values : values_in (take c.runs.q runs) ++ c.deref.result.now ≡ values_in (take (c.runs.q + 1) runs) = ap (λ l. values_in (take c.runs.q runs) ++ l) (here ∙ is) ∙ sym (runs_more runs c.runs.q low) in
+    record {
+      count = c.fold_run.ensures.count ∙ c.runs.invariant.count;
+      at = ap (λ m. at + m) long ∙ runs_reach runs c.runs.q at run low is c.runs.invariant.at;
+      tells = subst (λ xs. AreFolds g.F.Fold.tells xs (values_in (take (c.runs.q + 1) runs)) c.fold_run.new.folds.items) rows
+          (subst (λ ys. AreFolds g.F.Fold.tells (take at ranks ++ take (end - at) (drop at ranks)) ys c.fold_run.new.folds.items) values told);
+    }
+
+pub returns-clause-tells : goal.returns-clause-tells
+returns-clause-tells g c =
+    let ranks = c.ranks-ranks.result.now in
+    let runs = g.C.ValueRuns.runs c.args.column.now in
+    let folds = c.runs.folds.items in
+    let all = runs_all runs c.runs.q (omega (arith, c.runs-test.false, c.run_count-q-end.ensures)) in
+    let most : length ranks ≤ c.runs.at = omega (arith, c.runs.invariant.at, ap length all, c.requires, ap length c.ranks-ranks.ensures) in
+    subst (λ xs. AreFolds g.F.Fold.tells xs (values_in runs) folds) (take_all c.runs.at ranks most ∙ c.ranks-ranks.ensures)
+    (subst (λ ys. AreFolds g.F.Fold.tells (take c.runs.at ranks) ys folds) all c.runs.invariant.tells)

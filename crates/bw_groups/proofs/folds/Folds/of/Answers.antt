@@ -2,22 +2,23 @@ use Rattle.std.proofs.Common.{None, ap, arith, get_or, length, pos, subst, sym, 
 use Rattle.bw_aggregate.specs.Summaries.{IsSummary}
 use Rattle.bw_cells.specs.SetFunctions.{known}
 use Rattle.bw_groups.specs.Grouping.{members}
+use Rattle.bw_groups.specs.Runs.{values_in}
 use Rattle.bw_groups.proofs.Summing.{summaries_count, summary_is, summary_there}
 use Rattle.bw_groups.proofs.folds.Folds.of.Goals as goal
 
 pub returns-clause-count : goal.returns-clause-count
-returns-clause-count c =
+returns-clause-count g c =
     ap length c.from_parts.ensures
     ∙ summaries_count c.args.asked c.in_ok-counts.counts.items c.in_ok-sums.sums.items c.in_ok-ends.ends.items c.in_ok-medians.medians.items
     ∙ c.in_ok-counts.ensures.count
 
 pub returns-clause-summaries : goal.returns-clause-summaries
-returns-clause-summaries c = λ g d low.
+returns-clause-summaries b c = λ g d low.
     let counts = c.in_ok-counts.counts.items in
     let sums = c.in_ok-sums.sums.items in
     let ends = c.in_ok-ends.ends.items in
     let medians = c.in_ok-medians.medians.items in
-    let values = known (members c.args.groups.now.ranks c.args.column.now g) in
+    let values = known (members c.args.groups.now.ranks (values_in (b.C.ValueRuns.runs c.args.column.now)) g) in
     let there : g < length counts = omega (arith, low, c.in_ok-counts.ensures.count) in
     subst (IsSummary c.args.asked values)
     (sym (ap (λ xs. get_or xs g d) c.from_parts.ensures ∙ summary_there c.args.asked counts sums ends medians g d there))

@@ -1,4 +1,4 @@
-use Rattle.std.proofs.Common.{IfOk, None, Option, [], ap, arith, get_or, length, map, min, subst, ℕ, ℤ, List, ◌++◌, ◌-◌, ◌<◌, ◌∙◌, ◌∷◌, ◌≡◌}
+use Rattle.std.proofs.Common.{None, Option, [], ap, arith, get_or, length, map, min, ℕ, ℤ, List, ◌++◌, ◌-◌, ◌<◌, ◌∙◌, ◌∷◌, ◌≡◌}
 use Rattle.std.proofs.lemmas.List.{length-map}
 use Rattle.bw_mask.specs.Masks.{row_at}
 use Rattle.bw_table.specs.Slots.{slot_at, Slot}
@@ -6,9 +6,9 @@ use Rattle.bw_table.proofs.Across.{column_at}
 use Rattle.bw_column.specs.Values.{value_at}
 use Rattle.bw_model.specs.Store as model
 use Rattle.bw_engine.specs.Runs.{lines_from, slot_line}
-use Rattle.bw_engine.proofs.RunLaws.{all_found, values_all, values_few, word_inside}
+use Rattle.bw_engine.proofs.RunLaws.{all_found, values_all, word_inside}
 use Rattle.bw_engine.proofs.SetRows.{same_value}
-use Rattle.bw_engine.proofs.grouped.with_slots.Goals as goal
+use Rattle.bw_engine.proofs.found_column.put_slots.Goals as goal
 
 pub read-requires : goal.read-requires
 read-requires c =
@@ -29,21 +29,5 @@ returns-then-bits c =
     let are : (i : ℕ) → i < length values → get_or values i None ≡ model.value_at (slot_at slots i).row place =
     λ i low. ap (λ vs. value_at vs i) c.column.ensures.values ∙ column_at slots place i (omega (arith, low, long)) ∙ same_value (slot_at slots i).row place in
     let run = values_all place slots values (row_at found) 64 at (omega (arith, inside, long, c.requires.found)) are (all_found found c.bits.result at c.bits.ensures c.if-bits.true) in
-    subst (λ l. IfOk c.with_run.result (λ v. v ≡ c.args.values ++ l))
-    (c.read.ensures ∙ run ∙ ap (lines_from (slot_line (place ∷ []) slots) (row_at found) at) all)
-    c.with_run.ensures
-
-pub with_run-requires-2 : goal.with_run-requires-2
-with_run-requires-2 c =
-    let slots = c.args.table.now.slots in
-    let n = min (length slots - c.args.at) 64 in
-    let shown = c.deref.ensures.value ∙ c.in_ok-show_slots.ensures.values ∙ ap (λ l. l ++ lines_from (slot_line (c.args.place ∷ []) slots) (row_at c.args.found.now) c.args.at n) c.clear.ensures.items in
-    let few = values_few c.args.place slots (row_at c.args.found.now) n c.args.at in
-    omega (arith, ap length shown, few)
-
-pub returns : goal.returns
-returns c =
-    let slots = c.args.table.now.slots in
-    let n = min (length slots - c.args.at) 64 in
-    let shown = c.deref.ensures.value ∙ c.in_ok-show_slots.ensures.values ∙ ap (λ l. l ++ lines_from (slot_line (c.args.place ∷ []) slots) (row_at c.args.found.now) c.args.at n) c.clear.ensures.items in
-    subst (λ l. IfOk c.with_run-2.result (λ v. v ≡ c.args.values ++ l)) shown c.with_run-2.ensures
+    c.in_ok-extend_from_slice.ensures.items
+    ∙ ap (λ l. c.args.values.now.items ++ l) (c.read.ensures ∙ run ∙ ap (lines_from (slot_line (place ∷ []) slots) (row_at found) at) all)

@@ -1,9 +1,9 @@
 use Rattle.std.proofs.Common.{length, take, ◌≡◌}
 use Rattle.std.specs.Prelude.{vec_capacity}
-use Rattle.bw_rank.proofs.table.narrowed.Given as goal
+use Rattle.bw_rank.proofs.widths.widened.Given as goal
 
 abbrev pub invariant-numbers : goal.invariant-numbers
 invariant-numbers l = record {
-  room : vec_capacity l.narrow ≡ length l.numbers;
-  items : l.narrow.items ≡ take l.i l.numbers;
+  room : vec_capacity l.wide ≡ length l.numbers;
+  items : l.wide.items ≡ take l.i l.numbers;
 }
