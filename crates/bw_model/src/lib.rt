@@ -16,12 +16,12 @@ mod rebuild;
 mod refusal;
 mod refusal_tests;
 mod reply;
-mod reply_text;
 mod select;
 mod select_refusals;
 mod set_functions;
-mod step;
+mod steps;
 mod store;
+mod texts;
 mod update;
 mod words;
 
@@ -39,7 +39,7 @@ pub use laws::{
 };
 pub use refusal::Refusal;
 pub use reply::Reply;
-pub use reply_text::reply_text;
 pub use select::{answer_of, heading_of};
-pub use step::step;
+pub use steps::step;
 pub use store::{Row, RowList, Store, Table, header_of};
+pub use texts::reply_text;
