@@ -16,9 +16,9 @@ ghost use Rattle.bw_engine.specs.Outcomes.{CarriesOut};
 ghost use Rattle.bw_engine.specs.Stores.{rows_of_slots, store_of, table_in};
 ghost use Rattle.bw_plan.specs.Checks.{Answers};
 
-use crate::set_functions::function_cells;
 use crate::found::found_slots;
 use crate::grouped::group_cells;
+use crate::set_functions::function_cells;
 use crate::shown::found_values;
 use crate::table::Table;
 use bw_mask::Mask;
