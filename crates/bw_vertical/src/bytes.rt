@@ -154,6 +154,7 @@ fn joined(bytes: &[[u8; 64]; 4]) -> [u32; 64]
 }
 
 /// The codes of at most 8 bits of which these are the words.
+#[inline(always)]
 fn codes_of_byte(words: &[u64]) -> [u32; 64]
     requires long { 8 ≤ length words.now }
     requires rest { (b : ℕ) → 8 ≤ b → b < 32 → slice_index words.now b ≡ 0 }
@@ -163,7 +164,9 @@ fn codes_of_byte(words: &[u64]) -> [u32; 64]
     widened(&bytes_of_words(words))
 }
 
-/// The codes of k bits of which the first 32 of these are the words.
+/// The codes of k bits of which the first 32 of these are the words. Taken into its callers, which know how many words
+/// there are, it looks for no end of them.
+#[inline(always)]
 pub fn codes_of_words(words: &[u64], k: usize) -> [u32; 64]
     requires long { 32 ≤ length words.now }
     requires narrow { k ≤ 32 }
