@@ -2,14 +2,13 @@
 //! of a segment ask for, and of plain codes one unit for each needed row that is not NULL.
 
 use crate::harness::{Cell, insert, table_of};
+use crate::random::LAYOUTS;
 use crate::seen::{see, see_at};
 use bw_code::{Kind, Layout, Meter};
 use bw_plan::{Predicate, RowCondition, Source, evaluate};
 use bw_sql::CompareOp;
 use bw_table::Table;
 use std::process::Abort;
-
-const LAYOUTS: [Layout; 4] = [Layout::P, Layout::V, Layout::H, Layout::S];
 
 /// A table of one column in a layout with the 32 values 0 to 15 and 240 to 255.
 fn two_ends<R: Abort + AllocGlobal>(rt: &R, layout: Layout) -> Table<usize> {

@@ -1,5 +1,5 @@
 use Rattle.std.proofs.Common.{vec_len, ◌≡◌}
-use Rattle.test_tables.proofs.changes.values_of.Given as goal
+use Rattle.test_columns.proofs.changes.turned.Given as goal
 
 abbrev pub invariant-loop-row : goal.invariant-loop-row
 invariant-loop-row g l = vec_len l.values ≡ l.row

@@ -1,6 +1,6 @@
 use Rattle.std.proofs.Common.{◌≡◌}
 use Rattle.bw_mask.specs.Masks.{len}
-use Rattle.test_tables.proofs.changes.chosen_rows.Given as goal
+use Rattle.test_columns.proofs.changes.chosen_rows.Given as goal
 
 abbrev pub invariant-loop-row : goal.invariant-loop-row
 invariant-loop-row g l = len l.chosen ≡ 300

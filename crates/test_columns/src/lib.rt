@@ -1,0 +1,24 @@
+//! Worked examples as tests of columns, each call that may run out of memory seen answering, and random columns: changed,
+//! compared with each other, summarized and grouped, each compared with a plain list or a plain fold.
+#![tactic(auto)]
+
+#[cfg(test)]
+mod blocks;
+#[cfg(test)]
+mod changes;
+#[cfg(test)]
+mod columns;
+#[cfg(test)]
+mod dictionaries;
+#[cfg(test)]
+mod groups;
+#[cfg(test)]
+mod pairs;
+#[cfg(test)]
+mod random;
+#[cfg(test)]
+mod seen;
+#[cfg(test)]
+mod set_functions;
+#[cfg(test)]
+mod widest;
