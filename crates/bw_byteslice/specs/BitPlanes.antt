@@ -25,11 +25,6 @@ plane_in slice q i = words_of 4 (λ r. bit_of (slice_index slice (256 * q + r)) 
 abbrev pub planes_of : ℕ → ℕ → List (List ℕ) → List (List ℕ)
 planes_of k n slices = made (blocks_of n * k) (λ u. words_of 4 (λ r. bit_of (byte_of slices (256 * (u / k) + r) (u % k / 8)) (7 - u % k % 8)))
 
--- the planes as units, and how many of them were read
-pub record PlanesRead : Type 0 where
-  pub units : List (List ℕ)
-  pub reads : ℕ
-
 -- the slices of n codes, and the first unit of a segment of their planes
 pub record ArePlanes (k n : ℕ) (slices : List (List ℕ)) (segment start : ℕ) : Type 0 where
   pub stored : AreSlices k n slices

@@ -113,3 +113,8 @@ units_of_addition width other_width needed n = if some_below n needed then (widt
 -- the units of comparing n rows of two columns by fetching the needed values of both
 unfoldable pub units_of_fetches : (ℕ → Bool) → ℕ → ℕ
 units_of_fetches needed n = 2 * count_below n needed
+
+-- the planes of a column as units of a source, and how many of them were read
+pub record PlanesRead : Type 0 where
+  pub units : List (List ℕ)
+  pub reads : ℕ

@@ -74,13 +74,9 @@ blended rows new old = bit_or (bit_and old (2 ^ 64 - 1 - rows)) (bit_and new row
 abbrev pub codes_of : ℕ → List (List (List ℕ)) → ℕ → List ℕ
 codes_of k groups n = made n (code_of k groups)
 
--- the planes as units of a scan, and how many of them were read
+-- the planes as units of a scan
 abbrev pub units_of : ℕ → List (List (List ℕ)) → ℕ → List (List ℕ)
 units_of k groups n = made (segments_of n * k) (λ u. plane_at k groups (u / k) (u % k))
-
-pub record PlanesRead : Type 0 where
-  pub units : List (List ℕ)
-  pub reads : ℕ
 
 -- these are units first, first + 1, ..
 abbrev pub HoldsUnits : ℕ → List (List (List ℕ)) → List (List ℕ) → ℕ → Type 0

@@ -3,7 +3,8 @@ use Rattle.std.proofs.Math.Nat.{div-lt_iff_lt-mul, mul-le-mul_left}
 use Rattle.std.proofs.lemmas.List.{length-drop, length-take}
 use Rattle.bw_vertical.specs.declared.source.Standing.{Standing}
 use Rattle.bw_vertical.specs.Planes.{segments_of}
-use Rattle.bw_vertical.specs.Storage.{PlanesRead, Stands, lists, plane_at}
+use Rattle.bw_code.specs.Units.{PlanesRead}
+use Rattle.bw_vertical.specs.Storage.{Stands, lists, plane_at}
 use Rattle.bw_vertical.proofs.Holding.{has_segment, held_past, unit_at, units_len}
 use Rattle.bw_vertical.proofs.source.PlaneSourceSourceArrayU644.read.Goals as goal
 use Rattle.bw_vertical.proofs.source.PlaneSourceSourceArrayU644.read.Goals.{then-i-at, else-i-at+then-is_empty, else-i-at+else-is_empty}
