@@ -5,6 +5,7 @@ ghost use Rattle.std.specs.List.{items_where_true};
 ghost use Rattle.bw_mask.specs.Masks.{len};
 ghost use Rattle.bw_code.specs.Columns.{Fit};
 ghost use Rattle.bw_code.specs.Encodings.{width};
+ghost use Rattle.bw_code.specs.Units.{segments_of};
 ghost use Rattle.bw_column.specs.Codes.{codes_for};
 ghost use Rattle.bw_column.specs.Values.{IsNullOrHeld};
 ghost use Rattle.bw_cells.specs.SetFunctions.{median};
@@ -82,7 +83,7 @@ fn code_by_planes(
     requires count { count ≡ length (items_where_true rows.now.rows (codes_for column.now.encoding column.now.values)) }
     requires some { 0 < count }
     requires few { length column.now.values ≤ 2 ^ 24 }
-    requires segments { segments ≡ (length column.now.values + 255) / 256 }
+    requires segments { segments ≡ segments_of 256 (length column.now.values) }
     ensures { IfOk result (IsNthCode (items_where_true rows.now.rows (codes_for column.now.encoding column.now.values)) ((count - 1) / 2)) }
 {
     let bits = column.encoding().width();
@@ -104,7 +105,7 @@ fn median_code(
     requires count { count ≡ length (items_where_true rows.now.rows (codes_for column.now.encoding column.now.values)) }
     requires some { 0 < count }
     requires few { length column.now.values ≤ 2 ^ 24 }
-    requires segments { segments ≡ (length column.now.values + 255) / 256 }
+    requires segments { segments ≡ segments_of 256 (length column.now.values) }
     ensures { IfOk result (IsNthCode (items_where_true rows.now.rows (codes_for column.now.encoding column.now.values)) ((count - 1) / 2)) }
 {
     match column.storage() {
@@ -128,7 +129,7 @@ pub(crate) fn median_of(
     requires some { 0 < count }
     requires few { length column.now.values ≤ 2 ^ 24 }
     requires held { All (IsNullOrHeld column.now.layout) column.now.values }
-    requires segments { segments ≡ (length column.now.values + 255) / 256 }
+    requires segments { segments ≡ segments_of 256 (length column.now.values) }
     ensures { IfOk result (λ value. Some value ≡ median (chosen column.now known.now)) }
 {
     let encoding = column.encoding();

@@ -3,7 +3,7 @@
 ghost use Rattle.std.specs.Prelude.{false, if◌then◌else◌, nat_lt, true, ℕ, ◌&&◌, ◌*◌, ◌+◌, ◌-◌, ◌<◌, ◌^◌, ◌≡◌, ◌≤◌};
 ghost use Rattle.bw_mask.specs.Masks.{row_in};
 ghost use Rattle.bw_code.specs.Columns.{Fit, code_at, count};
-ghost use Rattle.bw_vertical.specs.Planes.{segments_of};
+ghost use Rattle.bw_code.specs.Units.{segments_of};
 ghost use Rattle.bw_aggregate.specs.Ends.{AreNearest, IsNearest, MayBeNearer, distance, is_near};
 ghost use Rattle.bw_aggregate.specs.Marks.{marked};
 ghost use Rattle.bw_aggregate.specs.declared.end.End.TheVariants.{Greatest, Least};
@@ -34,7 +34,7 @@ fn rows_that_may_be_nearer(
     end: End,
     best: u64,
 ) -> [u64; 4]
-    requires there { q < segments_of (count codes.now) }
+    requires there { q < segments_of 256 (count codes.now) }
     requires few { count codes.now ≤ 2 ^ 24 }
     requires narrow { codes.now.width ≤ 64 }
     ensures left { (j : ℕ) → j < 256 → row_in result j ≡ true → row_in rows.now j ≡ true }
@@ -63,7 +63,7 @@ fn nearer_or_all(some: bool, nearer: [u64; 4], all: [u64; 4]) -> [u64; 4]
 /// The least distance of the rows, of which there is one, or `best` where none is nearer: a plane a step, from the top, as far
 /// as a row may still be nearer.
 fn nearest_of(codes: &VerticalColumn, q: usize, rows: &[u64; 4], end: End, best: u64) -> u64
-    requires there { q < segments_of (count codes.now) }
+    requires there { q < segments_of 256 (count codes.now) }
     requires few { count codes.now ≤ 2 ^ 24 }
     requires narrow { codes.now.width ≤ 64 }
     requires some { nat_lt 0 (marked 256 (row_in rows.now)) ≡ true }
@@ -87,7 +87,7 @@ fn nearest_of(codes: &VerticalColumn, q: usize, rows: &[u64; 4], end: End, best:
 /// The least distance of the rows of segment q, or `best` where none is nearer.
 #[inline(never)]
 fn nearest_in_segment(codes: &VerticalColumn, q: usize, rows: &[u64; 4], end: End, best: u64) -> u64
-    requires there { q < segments_of (count codes.now) }
+    requires there { q < segments_of 256 (count codes.now) }
     requires few { count codes.now ≤ 2 ^ 24 }
     requires narrow { codes.now.width ≤ 64 }
     ensures { IsNearest 256 (row_in rows.now) (λ j. code_at codes.now (256 * q + j)) end (2 ^ codes.now.width - 1) best result }
@@ -122,7 +122,7 @@ struct NearRows {
 
 /// The rows whose distance from an end has no bit in the planes of the first groups.
 fn near_rows(codes: &VerticalColumn, q: usize, rows: &[u64; 4], groups: usize) -> NearRows
-    requires there { q < segments_of (count codes.now) }
+    requires there { q < segments_of 256 (count codes.now) }
     requires few { count codes.now ≤ 2 ^ 24 }
     requires narrow { codes.now.width ≤ 64 }
     requires fit { Fit codes.now.width codes.now.codes }
@@ -152,7 +152,7 @@ fn nearest_among(
     end: End,
     best: u64,
 ) -> u64
-    requires there { q < segments_of (count codes.now) }
+    requires there { q < segments_of 256 (count codes.now) }
     requires few { count codes.now ≤ 2 ^ 24 }
     requires narrow { codes.now.width ≤ 64 }
     requires within { 4 * groups ≤ codes.now.width }
@@ -182,7 +182,7 @@ pub(crate) fn nearest_to_ends(
     groups: usize,
     best: Distances,
 ) -> Distances
-    requires there { q < segments_of (count codes.now) }
+    requires there { q < segments_of 256 (count codes.now) }
     requires few { count codes.now ≤ 2 ^ 24 }
     requires narrow { codes.now.width ≤ 64 }
     requires fit { Fit codes.now.width codes.now.codes }

@@ -3,7 +3,7 @@
 ghost use Rattle.std.specs.Prelude.{[], slice_index_or, ℕ, ◌*◌, ◌+◌, ◌-◌, ◌<◌, ◌^◌, ◌≡◌, ◌≤◌};
 ghost use Rattle.bw_mask.specs.Masks.{bit_of, row_in};
 ghost use Rattle.bw_code.specs.Columns.{code_at, count};
-ghost use Rattle.bw_vertical.specs.Planes.{segments_of};
+ghost use Rattle.bw_code.specs.Units.{segments_of};
 ghost use Rattle.bw_aggregate.specs.Planes.{IsGroupPlane, is_in};
 
 use crate::rows::rows_at;
@@ -68,7 +68,7 @@ impl<'a> Plane<'a> {
 
 /// Plane i of segment q.
 pub(crate) fn plane_at(codes: &VerticalColumn, q: usize, i: usize) -> &[u64; 4]
-    requires there { q < segments_of (count codes.now) }
+    requires there { q < segments_of 256 (count codes.now) }
     requires within { i < codes.now.width }
     requires few { count codes.now ≤ 2 ^ 24 }
     requires narrow { codes.now.width ≤ 64 }

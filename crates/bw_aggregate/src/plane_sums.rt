@@ -3,7 +3,7 @@
 ghost use Rattle.std.specs.Prelude.{All, Bool, List, length, sum, true, ℕ, ◌&&◌, ◌*◌, ◌+◌, ◌-◌, ◌<◌, ◌^◌, ◌≡◌, ◌≤◌};
 ghost use Rattle.bw_mask.specs.Masks.{row_in};
 ghost use Rattle.bw_code.specs.Columns.{Fit, count};
-ghost use Rattle.bw_vertical.specs.Planes.{segments_of};
+ghost use Rattle.bw_code.specs.Units.{segments_of};
 ghost use Rattle.bw_aggregate.specs.Left.{codes_between};
 ghost use Rattle.bw_aggregate.specs.Marks.{marked};
 ghost use Rattle.bw_aggregate.specs.PlaneSums.{AreBits, AreMadeOf, AreRows, IsSumTo};
@@ -48,7 +48,7 @@ fn planes_sum(
     group: usize,
     end: usize,
 ) -> u64
-    requires there { q < segments_of (count codes.now) }
+    requires there { q < segments_of 256 (count codes.now) }
     requires few { count codes.now ≤ 2 ^ 24 }
     requires narrow { codes.now.width ≤ 64 }
     requires all { all ≡ true → (j : ℕ) → j < 256 → row_in rows.now j ≡ true }
@@ -84,7 +84,7 @@ fn upper_groups(width: usize) -> usize
 /// The sum of the codes of those rows of segment q that are in. Codes of more than 32 bits are summed as two numbers of at most 32
 /// bits each, so that no sum wraps.
 pub(crate) fn segment_sum(codes: &VerticalColumn, q: usize, rows: &[u64; 4]) -> u128
-    requires there { q < segments_of (count codes.now) }
+    requires there { q < segments_of 256 (count codes.now) }
     requires few { count codes.now ≤ 2 ^ 24 }
     requires narrow { codes.now.width ≤ 64 }
     ensures sum { (need : List Bool) → length need ≡ count codes.now → AreRows need q rows.now → result ≡ sum (codes_between need codes.now.codes (256 * q) (256 * q + 256)) }

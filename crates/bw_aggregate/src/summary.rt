@@ -2,6 +2,7 @@
 
 ghost use Rattle.std.specs.Prelude.{All, IfOk, None, if◌then◌else◌, length, ◌+◌, ◌-◌, ◌/◌, ◌<◌, ◌≡◌, ◌≤◌, ◌^◌};
 ghost use Rattle.bw_mask.specs.Masks.{len};
+ghost use Rattle.bw_code.specs.Units.{segments_of};
 ghost use Rattle.bw_column.specs.Values.{IsNullOrHeld};
 ghost use Rattle.bw_cells.specs.SetFunctions.{median};
 ghost use Rattle.bw_aggregate.specs.Chosen.{chosen};
@@ -115,7 +116,7 @@ fn median_told(
     requires some { 0 < count }
     requires few { length column.now.values ≤ 2 ^ 24 }
     requires held { All (IsNullOrHeld column.now.layout) column.now.values }
-    requires segments { segments ≡ (length column.now.values + 255) / 256 }
+    requires segments { segments ≡ segments_of 256 (length column.now.values) }
     ensures { IfOk result (λ value. value ≡ (if asked then median (chosen column.now rows.now) else None)) }
 {
     if !asked {

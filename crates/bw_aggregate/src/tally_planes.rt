@@ -4,7 +4,7 @@
 ghost use Rattle.std.specs.Prelude.{Bool, List, false, length, sum, true, ◌&&◌, ◌*◌, ◌+◌, ◌-◌, ◌<◌, ◌^◌, ◌≡◌, ◌≤◌};
 ghost use Rattle.bw_mask.specs.Masks.{len, row_at};
 ghost use Rattle.bw_code.specs.Columns.{Fit, count};
-ghost use Rattle.bw_vertical.specs.Planes.{segments_of};
+ghost use Rattle.bw_code.specs.Units.{segments_of};
 ghost use Rattle.bw_aggregate.specs.Left.{codes_between};
 ghost use Rattle.bw_aggregate.specs.PlaneSums.{AreRows};
 ghost use Rattle.bw_aggregate.specs.Tallies.{IsTally};
@@ -20,7 +20,7 @@ use bw_vertical::VerticalColumn;
 
 /// The sum of the codes of those rows of segment q that are in, where it is asked for.
 fn sum_if(asked: bool, codes: &VerticalColumn, q: usize, rows: &[u64; 4]) -> u128
-    requires there { q < segments_of (count codes.now) }
+    requires there { q < segments_of 256 (count codes.now) }
     requires few { count codes.now ≤ 2 ^ 24 }
     requires narrow { codes.now.width ≤ 64 }
     ensures sum { asked ≡ true → (need : List Bool) → length need ≡ count codes.now → AreRows need q rows.now → result ≡ sum (codes_between need codes.now.codes (256 * q) (256 * q + 256)) }

@@ -9,10 +9,10 @@ use Rattle.std.proofs.lemmas.Nat.Bits.{bit_at-lt, same_from_bits_below}
 use Rattle.std.proofs.lemmas.Simd.{bit_mask_l, mask_l-lt}
 use Rattle.bw_mask.specs.Masks.{bit_of, row_in}
 use Rattle.bw_code.specs.Lists.{made}
-use Rattle.bw_code.specs.Units.{digit}
+use Rattle.bw_code.specs.Units.{digit, segments_of}
 use Rattle.bw_code.proofs.Lists.{made_at, made_is, made_len}
-use Rattle.bw_byteslice.specs.BitPlanes.{blocks_of, plane_in, planes_of, word_of, words_of}
-use Rattle.bw_byteslice.specs.Slices.{segments_of, shift_of, slices_of}
+use Rattle.bw_byteslice.specs.BitPlanes.{plane_in, planes_of, word_of, words_of}
+use Rattle.bw_byteslice.specs.Slices.{shift_of, slices_of}
 use Rattle.bw_byteslice.specs.Storing.{AreSlices, byte_of, code_of}
 use Rattle.bw_byteslice.proofs.Keeping.{byte_is_digit}
 use Rattle.bw_byteslice.proofs.Planes.{bit_of_byte}
@@ -79,15 +79,15 @@ plane_read k n slices u segment plane slice d segment_is plane_is slice_is there
     ap (λ s. f s segment plane) slice_is
     ∙ ap (λ q. f (get_or slices (plane / 8) []) q plane) segment_is
     ∙ ap (λ p. f (get_or slices (p / 8) []) (u / k) p) plane_is
-    ∙ sym (made_at (blocks_of n * k) unit u d (subst (λ c. u < c) (made_len (blocks_of n * k) unit) there))
+    ∙ sym (made_at (segments_of 256 n * k) unit u d (subst (λ c. u < c) (made_len (segments_of 256 n * k) unit) there))
 
-pub planes_len : (k n : ℕ) (slices : List (List ℕ)) → length (planes_of k n slices) ≡ blocks_of n * k
-planes_len k n slices = made_len (blocks_of n * k) (λ u. words_of 4 (λ r. bit_of (byte_of slices (256 * (u / k) + r) (u % k / 8)) (7 - u % k % 8)))
+pub planes_len : (k n : ℕ) (slices : List (List ℕ)) → length (planes_of k n slices) ≡ segments_of 256 n * k
+planes_len k n slices = made_len (segments_of 256 n * k) (λ u. words_of 4 (λ r. bit_of (byte_of slices (256 * (u / k) + r) (u % k / 8)) (7 - u % k % 8)))
 
 -- the segment of a unit is one of few
 pub segment_small : (k n : ℕ) (slices : List (List ℕ)) (u : ℕ) → 1 ≤ k → n ≤ 2 ^ 24 → u < length (planes_of k n slices) → u / k < 2 ^ 32
 segment_small k n slices u some few there =
-    let inside : u / k < blocks_of n = (div-lt_iff_lt-mul {k = k} {x = u} {y = blocks_of n} some).1 (omega (arith, there, planes_len k n slices)) in
+    let inside : u / k < segments_of 256 n = (div-lt_iff_lt-mul {k = k} {x = u} {y = segments_of 256 n} some).1 (omega (arith, there, planes_len k n slices)) in
     omega (arith, inside, few)
 
 -- the slice that a plane is read off
@@ -106,7 +106,7 @@ module _ (A : Type 0) (f : A → List ℕ) (xs : List A) (k n u start : ℕ) (st
     slice_at = slice_is ∙ sym (get_or-map f xs ((u - start) / 8) d [] slice_low)
 
     pub slice_whole : length slice % 32 ≡ 0
-    slice_whole = let long : length slice ≡ 32 * segments_of n = ap length slice_at ∙ stored.long ((u - start) / 8) (omega (arith, plane_low)) in omega (arith, long)
+    slice_whole = let long : length slice ≡ 32 * segments_of 32 n = ap length slice_at ∙ stored.long ((u - start) / 8) (omega (arith, plane_low)) in omega (arith, long)
 
 -- row r of plane i is bit k - 1 - i of the row's code
 module _ (k n : ℕ) (slices : List (List ℕ)) (stored : AreSlices k n slices) where
@@ -124,11 +124,11 @@ module _ (k n : ℕ) (slices : List (List ℕ)) (stored : AreSlices k n slices) 
       ∙ ap (λ p. bit_of (digit 256 m (x * 2 ^ s) (m - 1 - (e + s) / 8)) p) (sym bit)
       ∙ bit_of_byte m x s e s m refl refl (omega (arith, h))
 
-  pub plane_bits : (q i r : ℕ) → q < blocks_of n → i < k → r < 256 → row_in (get_or (planes_of k n slices) (q * k + i) []) r ≡ bit_of (code_of k slices (256 * q + r)) (k - 1 - i)
+  pub plane_bits : (q i r : ℕ) → q < segments_of 256 n → i < k → r < 256 → row_in (get_or (planes_of k n slices) (q * k + i) []) r ≡ bit_of (code_of k slices (256 * q + r)) (k - 1 - i)
   plane_bits q i r inside low short =
       let unit : ℕ → List ℕ = λ v. words_of 4 (λ e. bit_of (byte_of slices (256 * (v / k) + e) (v % k / 8)) (7 - v % k % 8)) in
-      let there : q * k + i < blocks_of n * k = omega (arith, low, mul-le-mul_right {m = q + 1} {n = blocks_of n} k (omega (arith, inside))) in
-      ap (λ p. row_in p r) (made_at (blocks_of n * k) unit (q * k + i) [] there)
+      let there : q * k + i < segments_of 256 n * k = omega (arith, low, mul-le-mul_right {m = q + 1} {n = segments_of 256 n} k (omega (arith, inside))) in
+      ap (λ p. row_in p r) (made_at (segments_of 256 n * k) unit (q * k + i) [] there)
       ∙ plane_row (λ e. bit_of (byte_of slices (256 * ((q * k + i) / k) + e) ((q * k + i) % k / 8)) (7 - (q * k + i) % k % 8)) r short
       ∙ ap (λ p. bit_of (byte_of slices (256 * p + r) ((q * k + i) % k / 8)) (7 - (q * k + i) % k % 8)) (div-mul-add q k i low)
       ∙ ap (λ p. bit_of (byte_of slices (256 * q + r) (p / 8)) (7 - p % 8)) (mod-mul-add q k i low)

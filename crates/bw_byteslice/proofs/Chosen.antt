@@ -5,10 +5,10 @@ use Rattle.bw_mask.specs.Masks.{bit_of}
 use Rattle.bw_mask.proofs.Bits.{bit_above}
 use Rattle.bw_code.specs.Columns.{Fit, is_chosen}
 use Rattle.bw_code.specs.Lists.{made}
-use Rattle.bw_code.specs.Units.{digit}
+use Rattle.bw_code.specs.Units.{digit, segments_of}
 use Rattle.bw_code.proofs.Lists.{made_at, made_len}
 use Rattle.bw_code.proofs.Runs.{chosen_above, chosen_from, put_here, put_left, put_to, run_is}
-use Rattle.bw_byteslice.specs.Slices.{segments_of, shift_of, slices_of}
+use Rattle.bw_byteslice.specs.Slices.{shift_of, slices_of}
 use Rattle.bw_byteslice.specs.Storing.{AreSlices, byte_of, code_of}
 use Rattle.bw_byteslice.proofs.Keeping.{byte_is_digit, code_fits, code_inside, slices_put}
 use Rattle.bw_byteslice.proofs.Numbers.{number_same}
@@ -46,7 +46,7 @@ module _ (k n at rows m : ℕ) (f : ℕ → ℕ) (before after : List (List ℕ)
   outside : (i j : ℕ) → (at ≤ j → at + length codes ≤ j) → byte_of after j i ≡ byte_of before j i
   outside i j apart = kept i j (λ up. none (j - at) (omega (arith, apart up, long)))
 
-  pub slices_kept : length after ≡ length before → ((i : ℕ) → i < slices_of k → length (get_or after i []) ≡ 32 * segments_of n) → AreSlices k n after
+  pub slices_kept : length after ≡ length before → ((i : ℕ) → i < slices_of k → length (get_or after i []) ≡ 32 * segments_of 32 n) → AreSlices k n after
   slices_kept count all = slices_put k at codes before after fit inside outside n n stored (omega arith) stored.few (omega (arith, fits, long)) count all
 
   abbrev old : List ℕ

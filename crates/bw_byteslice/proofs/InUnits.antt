@@ -5,7 +5,8 @@ use Rattle.std.proofs.lemmas.Bool.{cases_lt}
 use Rattle.std.proofs.lemmas.List.{get_or-drop, get_or-map, get_or-take, get_or_past, length-map}
 use Rattle.std.proofs.lemmas.Nat.{div-mul-add, mod-mul-add}
 use Rattle.bw_code.proofs.Lists.{made_at, made_len}
-use Rattle.bw_byteslice.specs.Slices.{AreBytes, AreStored, byte_in, code_in, number_in, segments_of, shift_of, slices_of}
+use Rattle.bw_code.specs.Units.{segments_of}
+use Rattle.bw_byteslice.specs.Slices.{AreBytes, AreStored, byte_in, code_in, number_in, shift_of, slices_of}
 use Rattle.bw_byteslice.specs.Storing.{AreEven, AreSlices, byte_of, code_of, number_at, units_of}
 use Rattle.bw_byteslice.proofs.Numbers.{number_same, number_zero}
 
@@ -47,34 +48,34 @@ module _ (k n : ℕ) (slices : List (List ℕ)) (stored : AreSlices k n slices) 
   pub even_slices : AreEven slices
   even_slices i h = stored.long i (omega (arith, h, stored.count)) ∙ sym (stored.long 0 some_slices)
 
-  pub stored_len : length (units_of slices) ≡ segments_of n * slices_of k
+  pub stored_len : length (units_of slices) ≡ segments_of 32 n * slices_of k
   stored_len =
-      let high : length (get_or slices 0 []) / 32 ≡ segments_of n = omega (arith, stored.long 0 some_slices) in
+      let high : length (get_or slices 0 []) / 32 ≡ segments_of 32 n = omega (arith, stored.long 0 some_slices) in
       units_len slices ∙ rw (high, stored.count) refl
 
   -- a byte of a unit is one of the slices, or there is none
-  byte_here : (i j : ℕ) → i < slices_of k → j / 32 < segments_of n → byte_in (slices_of k) (units_of slices) j i ≡ byte_of slices j i
+  byte_here : (i j : ℕ) → i < slices_of k → j / 32 < segments_of 32 n → byte_in (slices_of k) (units_of slices) j i ≡ byte_of slices j i
   byte_here i j low inside =
       let m = slices_of k in
       let q = j / 32 in
       let r = j % 32 in
       let short : r < 32 = omega arith in
       let place : 32 * q + r ≡ j = omega arith in
-      let within : q * m + i < length (units_of slices) = omega (arith, low, stored_len, mul-le-mul_right {m = q + 1} {n = segments_of n} m (omega (arith, inside))) in
+      let within : q * m + i < length (units_of slices) = omega (arith, low, stored_len, mul-le-mul_right {m = q + 1} {n = segments_of 32 n} m (omega (arith, inside))) in
       let unit : get_or (units_of slices) (q * m + i) [] ≡ take 32 (drop (32 * q) (get_or slices i [])) =
       unit_is slices (q * m + i) [] within
       ∙ ap (λ l. take 32 (drop (32 * ((q * m + i) / l)) (get_or slices ((q * m + i) % l) []))) stored.count
       ∙ rw (div-mul-add q m i low, mod-mul-add q m i low) refl in
       ap (λ s. get_or s r 0) unit ∙ get_or-take 32 (drop (32 * q) (get_or slices i [])) r 0 short ∙ get_or-drop (32 * q) (get_or slices i []) r 0 ∙ ap (λ e. get_or (get_or slices i []) e 0) place
 
-  byte_past : (i j : ℕ) → segments_of n ≤ j / 32 → byte_in (slices_of k) (units_of slices) j i ≡ 0
+  byte_past : (i j : ℕ) → segments_of 32 n ≤ j / 32 → byte_in (slices_of k) (units_of slices) j i ≡ 0
   byte_past i j past =
       let m = slices_of k in
-      ap (λ s. get_or s (j % 32) 0) (get_or_past (units_of slices) (j / 32 * m + i) [] (omega (arith, stored_len, mul-le-mul_right {m = segments_of n} {n = j / 32} m past)))
+      ap (λ s. get_or s (j % 32) 0) (get_or_past (units_of slices) (j / 32 * m + i) [] (omega (arith, stored_len, mul-le-mul_right {m = segments_of 32 n} {n = j / 32} m past)))
 
   number_here : (j : ℕ) → number_in (slices_of k) (units_of slices) j ≡ number_at (slices_of k) slices j
   number_here j =
-      elim (cases_lt (j / 32) (segments_of n)) [
+      elim (cases_lt (j / 32) (segments_of 32 n)) [
         | inl inside ↦ number_same (slices_of k) (byte_in (slices_of k) (units_of slices) j) (byte_of slices j) (λ i low. byte_here i j low inside)
         | inr past ↦ number_zero (slices_of k) (byte_in (slices_of k) (units_of slices) j) (λ i _. byte_past i j past) ∙ sym (stored.clean j (omega arith))
       ]

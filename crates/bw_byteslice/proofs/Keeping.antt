@@ -7,9 +7,9 @@ use Rattle.std.proofs.lemmas.List.Elements.{All-get_or}
 use Rattle.std.proofs.lemmas.Nat.{pow-add}
 use Rattle.bw_code.specs.Columns.{Fit}
 use Rattle.bw_code.specs.Lists.{made}
-use Rattle.bw_code.specs.Units.{digit}
+use Rattle.bw_code.specs.Units.{digit, segments_of}
 use Rattle.bw_code.proofs.Lists.{made_at, made_len, made_more}
-use Rattle.bw_byteslice.specs.Slices.{segments_of, shift_of, slices_of}
+use Rattle.bw_byteslice.specs.Slices.{shift_of, slices_of}
 use Rattle.bw_byteslice.specs.Storing.{AreSlices, byte_of, code_of, number_at}
 use Rattle.bw_byteslice.proofs.Numbers.{digit_of_number, number_fits, number_of_digits, number_same, number_zero}
 use Rattle.bw_byteslice.proofs.Raised.{pow_bytes, raised_fits}
@@ -84,7 +84,7 @@ module _
               ]
         ]
 
-    module _ (n more : ℕ) (stored : AreSlices k n before) (longer : n ≤ more) (few : more ≤ 2 ^ 24) (within : at + length codes ≤ more) (count : length after ≡ length before) (long : (i : ℕ) → i < slices_of k → length (get_or after i []) ≡ 32 * segments_of more) where
+    module _ (n more : ℕ) (stored : AreSlices k n before) (longer : n ≤ more) (few : more ≤ 2 ^ 24) (within : at + length codes ≤ more) (count : length after ≡ length before) (long : (i : ℕ) → i < slices_of k → length (get_or after i []) ≡ 32 * segments_of 32 more) where
       byte_small : (i j : ℕ) → get_or (get_or after i []) j 0 < 256
       byte_small i j =
           elim (cases_lt i (slices_of k)) [

@@ -1,10 +1,10 @@
 -- Segments of two columns side by side.
 use Rattle.std.proofs.Common.{Bool, List, arith, false, refl, ℕ, ◌&&◌, ◌*◌, ◌+◌, ◌/◌, ◌<◌, ◌≡◌, ◌≤◌, ◌∙◌}
 use Rattle.bw_code.specs.Tests.{code_compares}
-use Rattle.bw_code.specs.Units.{side_units, some_below}
+use Rattle.bw_code.specs.Units.{segments_of, side_units, some_below}
 use Rattle.bw_code.specs.declared.compare.CmpOp.{CmpOp}
 use Rattle.bw_code.proofs.UnitLemmas.{cost_same}
-use Rattle.bw_byteslice.specs.Slices.{by_bytes, number_in, segments_of, side_cost}
+use Rattle.bw_byteslice.specs.Slices.{by_bytes, number_in, side_cost}
 use Rattle.bw_byteslice.proofs.Words.{none_past, sum_by_twos}
 
 -- what a segment costs, and its rows, by the needed rows of all and by the units as they were
@@ -23,8 +23,8 @@ module _
 
 -- the segments of all words cost what those of all rows do
 pub whole_cost : (m n words : ℕ) (need : ℕ → Bool) (number other : ℕ → ℕ) → words ≡ (n + 63) / 64 → ((j : ℕ) → n ≤ j → need j ≡ false)
-    → side_units (by_bytes m) need number other (2 * words) ≡ side_units (by_bytes m) need number other (segments_of n)
+    → side_units (by_bytes m) need number other (2 * words) ≡ side_units (by_bytes m) need number other (segments_of 32 n)
 whole_cost m n words need number other count past =
-    let q = segments_of n in
+    let q = segments_of 32 n in
     let none : some_below 32 (λ r. need (32 * q + r)) ≡ false = none_past n q (λ r. need (32 * q + r)) need (λ r h. refl) past (omega arith) in
     sum_by_twos n words (λ p. side_cost m (λ r. need (32 * p + r)) (λ r. number (32 * p + r)) (λ r. other (32 * p + r))) count (λ _. rw none refl)

@@ -3,9 +3,9 @@ use Rattle.std.proofs.Common.{List, [], ◌∷◌, suc, zero, vec_capacity, Vec,
 use Rattle.std.proofs.lemmas.List.{get_or_default, length-map}
 use Rattle.bw_code.specs.Columns.{CodeList, Fit}
 use Rattle.bw_code.specs.Lists.{made}
-use Rattle.bw_code.specs.Units.{digit}
+use Rattle.bw_code.specs.Units.{digit, segments_of}
 use Rattle.bw_code.proofs.Lists.{made_len, part_is}
-use Rattle.bw_byteslice.specs.Slices.{segments_of, shift_of, slices_of}
+use Rattle.bw_byteslice.specs.Slices.{shift_of, slices_of}
 use Rattle.bw_byteslice.specs.Storing.{AreSlices, bytes_of, capacities_of, code_of, room_of}
 use Rattle.bw_byteslice.proofs.Keeping.{byte_is_digit, code_fits, codes_at}
 use Rattle.bw_byteslice.proofs.Replacing.{read_is}
@@ -37,8 +37,8 @@ module _ (k n : ℕ) (slices : List (Vec ℕ Global)) (column : CodeList) (store
     slice_is : slice.items ≡ get_or (bytes_of slices) j []
     slice_is = sym (read_is (λ v. v.items) [] slices j (omega (arith, low, slices_count)) slice read)
 
-    pub slice_len : length slice.items ≡ 32 * segments_of (length column.codes)
-    slice_len = ap length slice_is ∙ stored.long j low ∙ ap (λ m. 32 * segments_of m) (sym count_is)
+    pub slice_len : length slice.items ≡ 32 * segments_of 32 (length column.codes)
+    slice_len = ap length slice_is ∙ stored.long j low ∙ ap (λ m. 32 * segments_of 32 m) (sym count_is)
 
     pub slice_bytes : (r : ℕ) → get_or slice.items r 0 ≡ digit 256 (slices_of column.width) (get_or column.codes r 0 * 2 ^ shift_of column.width) j
     slice_bytes r =

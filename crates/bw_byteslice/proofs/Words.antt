@@ -7,8 +7,7 @@ use Rattle.std.proofs.lemmas.Nat.{shr-shr}
 use Rattle.std.proofs.lemmas.Nat.Bits.{bit_at-lt, bit_at-zero, bit_at_above, bit_at_cat_low, same_from_bits_below}
 use Rattle.bw_mask.specs.Masks.{MaskRows, bit_of, len, row_at, row_in}
 use Rattle.bw_mask.proofs.Bits.{bit_below_shl, bit_of_or, bit_of_shl, bit_of_zero}
-use Rattle.bw_code.specs.Units.{some_below, sum_below}
-use Rattle.bw_byteslice.specs.Slices.{segments_of}
+use Rattle.bw_code.specs.Units.{segments_of, some_below, sum_below}
 use Rattle.bw_code.proofs.Reach.{none_at, none_if, sum_more}
 
 pub empty_is : (w : ℕ) → w < 2 ^ 32 → eqb w 0 ≡ not (some_below 32 (bit_of w))
@@ -50,13 +49,13 @@ module _ (low high : ℕ) (fits : low < 2 ^ 32) (r : ℕ) (h : r < 32) where
 
 -- a segment of which a row is needed is there
 module _ (n q : ℕ) (rows need : ℕ → Bool) (each : (r : ℕ) → r < 32 → rows r ≡ need (32 * q + r)) (past : (j : ℕ) → n ≤ j → need j ≡ false) where
-  pub none_past : segments_of n ≤ q → some_below 32 rows ≡ false
+  pub none_past : segments_of 32 n ≤ q → some_below 32 rows ≡ false
   none_past h = none_if 32 rows (λ r l. each r l ∙ past (32 * q + r) (omega (arith, h)))
 
-  pub segment_there : (m units : ℕ) → units ≡ segments_of n * m → some_below 32 rows ≡ true → (q + 1) * m ≤ units
+  pub segment_there : (m units : ℕ) → units ≡ segments_of 32 n * m → some_below 32 rows ≡ true → (q + 1) * m ≤ units
   segment_there m units count some =
-      elim (cases_lt q (segments_of n)) [
-        | inl l ↦ rw count (mul-le-mul_right {m = q + 1} {n = segments_of n} m (omega (arith, l)))
+      elim (cases_lt q (segments_of 32 n)) [
+        | inl l ↦ rw count (mul-le-mul_right {m = q + 1} {n = segments_of 32 n} m (omega (arith, l)))
         | inr h ↦ let none = none_past h in absurd cc
       ]
 
@@ -68,11 +67,11 @@ word_row words need each w e j h place =
     sym (ap (λ q. bit_of (get_or words q 0) ((64 * w + e) % 64)) at ∙ ap (bit_of (get_or words w 0)) within) ∙ each (64 * w + e) ∙ ap need place
 
 -- segments by twos, where the last of them may have no row
-pub sum_by_twos : (n words : ℕ) (f : ℕ → ℕ) → words ≡ (n + 63) / 64 → (segments_of n < 2 * words → f (segments_of n) ≡ 0) → sum_below (2 * words) f ≡ sum_below (segments_of n) f
+pub sum_by_twos : (n words : ℕ) (f : ℕ → ℕ) → words ≡ (n + 63) / 64 → (segments_of 32 n < 2 * words → f (segments_of 32 n) ≡ 0) → sum_below (2 * words) f ≡ sum_below (segments_of 32 n) f
 sum_by_twos n words f count none =
-    elim (cases_lt (segments_of n) (2 * words)) [
-      | inl l ↦ let one : 2 * words ≡ segments_of n + 1 = omega (arith, count, l) in ap (λ k. sum_below k f) one ∙ omega (arith, sum_more (segments_of n) f, none l)
-      | inr h ↦ let same : 2 * words ≡ segments_of n = omega (arith, count, h) in ap (λ k. sum_below k f) same
+    elim (cases_lt (segments_of 32 n) (2 * words)) [
+      | inl l ↦ let one : 2 * words ≡ segments_of 32 n + 1 = omega (arith, count, l) in ap (λ k. sum_below k f) one ∙ omega (arith, sum_more (segments_of 32 n) f, none l)
+      | inr h ↦ let same : 2 * words ≡ segments_of 32 n = omega (arith, count, h) in ap (λ k. sum_below k f) same
     ]
 
 -- two segments more

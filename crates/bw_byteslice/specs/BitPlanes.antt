@@ -3,11 +3,8 @@ use Rattle.std.specs.Prelude.{Bool, List, slice_index, ℕ, ◌%◌, ◌*◌, �
 use Rattle.std.specs.Simd.Lanes.{mask_l}
 use Rattle.bw_mask.specs.Masks.{bit_of}
 use Rattle.bw_code.specs.Lists.{made}
+use Rattle.bw_code.specs.Units.{segments_of}
 use Rattle.bw_byteslice.specs.Storing.{AreSlices, byte_of}
-
--- how many segments of planes n rows take
-abbrev pub blocks_of : ℕ → ℕ
-blocks_of n = (n + 255) / 256
 
 -- a word of n rows, by what a test says of each
 unfoldable pub word_of : ℕ → (ℕ → Bool) → ℕ
@@ -23,12 +20,7 @@ plane_in slice q i = words_of 4 (λ r. bit_of (slice_index slice (256 * q + r)) 
 
 -- the planes of n codes of k bits
 abbrev pub planes_of : ℕ → ℕ → List (List ℕ) → List (List ℕ)
-planes_of k n slices = made (blocks_of n * k) (λ u. words_of 4 (λ r. bit_of (byte_of slices (256 * (u / k) + r) (u % k / 8)) (7 - u % k % 8)))
-
--- the planes as units, and how many of them were read
-pub record PlanesRead : Type 0 where
-  pub units : List (List ℕ)
-  pub reads : ℕ
+planes_of k n slices = made (segments_of 256 n * k) (λ u. words_of 4 (λ r. bit_of (byte_of slices (256 * (u / k) + r) (u % k / 8)) (7 - u % k % 8)))
 
 -- the slices of n codes, and the first unit of a segment of their planes
 pub record ArePlanes (k n : ℕ) (slices : List (List ℕ)) (segment start : ℕ) : Type 0 where

@@ -4,10 +4,6 @@ use Rattle.bw_code.specs.Units.{Segmentation, agreement, cost_of}
 use Rattle.bw_code.specs.declared.compare.CodeTest.{CodeTest}
 use Rattle.bw_code.specs.declared.compare.CodeTest.TheVariants.{None, All, Cmp, Range}
 
--- how many segments n rows take
-abbrev pub segments_of : ℕ → ℕ
-segments_of n = (n + 31) / 32
-
 -- how many slices k bits take
 abbrev pub slices_of : ℕ → ℕ
 slices_of k = (k + 7) / 8

@@ -2,7 +2,8 @@
 use Rattle.std.specs.Prelude.{List, [], ◌∷◌, drop, length, map, min, slice_index, slice_index_or, take, vec_capacity, ℕ, ◌%◌, ◌*◌, ◌/◌, ◌<◌, ◌^◌, ◌≡◌, ◌≤◌}
 use Rattle.std.specs.Global.{Vec}
 use Rattle.bw_code.specs.Lists.{made}
-use Rattle.bw_byteslice.specs.Slices.{number_of, segments_of, shift_of, slices_of}
+use Rattle.bw_code.specs.Units.{segments_of}
+use Rattle.bw_byteslice.specs.Slices.{number_of, shift_of, slices_of}
 
 -- the bytes of each slice
 abbrev pub bytes_of : List (Vec ℕ) → List (List ℕ)
@@ -53,7 +54,7 @@ pub record AreSlices (k n : ℕ) (slices : List (List ℕ)) : Type 0 where
   pub narrow : k ≤ 64
   pub few : n ≤ 2 ^ 24
   pub count : length slices ≡ slices_of k
-  pub long : (i : ℕ) → i < slices_of k → length (slice_index_or slices i []) ≡ 32 * segments_of n
+  pub long : (i : ℕ) → i < slices_of k → length (slice_index_or slices i []) ≡ 32 * segments_of 32 n
   pub bytes : (i j : ℕ) → byte_of slices j i < 256
   pub spare : (j : ℕ) → number_at (slices_of k) slices j % 2 ^ shift_of k ≡ 0
   pub clean : (j : ℕ) → n ≤ j → number_at (slices_of k) slices j ≡ 0

@@ -3,9 +3,9 @@
 ghost use Rattle.std.specs.Prelude.{[], length, slice_index, slice_index_or, ℕ, ◌*◌, ◌+◌, ◌-◌, ◌/◌, ◌<◌, ◌^◌, ◌≡◌, ◌≤◌};
 ghost use Rattle.bw_mask.specs.Masks.{bit_of, row_in};
 ghost use Rattle.bw_code.specs.Columns.{code_at, count};
-ghost use Rattle.bw_code.specs.Units.{digit};
+ghost use Rattle.bw_code.specs.Units.{digit, segments_of};
 ghost use Rattle.bw_code.specs.declared.kind.Layout.TheVariants as layouts;
-ghost use Rattle.bw_byteslice.specs.Slices.{segments_of, shift_of, slices_of};
+ghost use Rattle.bw_byteslice.specs.Slices.{shift_of, slices_of};
 
 use crate::pair::pair_from;
 use crate::plane_source::SlicePlanes;
@@ -43,7 +43,7 @@ impl Model for SliceColumn {
 /// As many bytes as whole segments of 32 rows take.
 fn whole_segments(rows: usize) -> usize
     requires { rows ≤ 2 ^ 24 }
-    ensures { result ≡ 32 * segments_of rows }
+    ensures { result ≡ 32 * segments_of 32 rows }
 {
     32 * rows.div_ceil(32)
 }
@@ -53,7 +53,7 @@ impl SliceColumn {
     /// highest. Behind the last row come zeros, up to a multiple of 32.
     pub fn slice(&self, j: usize) -> &[u8]
         requires { j < slices_of self.now.width }
-        ensures len { length result.now ≡ 32 * segments_of (count self.now) }
+        ensures len { length result.now ≡ 32 * segments_of 32 (count self.now) }
         ensures bytes { (r : ℕ) → slice_index result.now r ≡ digit 256 (slices_of self.now.width) (code_at self.now r * 2 ^ shift_of self.now.width) j }
     {
         let SliceColumn {
@@ -67,8 +67,8 @@ impl SliceColumn {
     /// The planes of the codes, straight off the slices and none of them read yet. With k bits, unit q * k + i is plane i of
     /// segment q, which is rows 256 q to 256 q + 255: bit k - 1 - i of each code. Rows past the last are not set.
     pub fn planes(&self) -> SlicePlanes<'_>
-        ensures units { length result.units ≡ (count self.now + 255) / 256 * self.now.width }
-        ensures rows { (q i r : ℕ) → q < (count self.now + 255) / 256 → i < self.now.width → r < 256
+        ensures units { length result.units ≡ segments_of 256 (count self.now) * self.now.width }
+        ensures rows { (q i r : ℕ) → q < segments_of 256 (count self.now) → i < self.now.width → r < 256
             → row_in (slice_index_or result.units (q * self.now.width + i) []) r ≡ bit_of (code_at self.now (256 * q + r)) (self.now.width - 1 - i) }
         ensures none { result.reads ≡ 0 }
     {

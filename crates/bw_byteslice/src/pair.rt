@@ -4,8 +4,8 @@
 ghost use Rattle.std.specs.Prelude.{length, nat_lt, true, ℕ, ◌&&◌, ◌*◌, ◌+◌, ◌<◌, ◌==◌, ◌^◌, ◌≡◌, ◌≤◌};
 ghost use Rattle.bw_mask.specs.Masks.{SameShape, bit_of, len, row_at};
 ghost use Rattle.bw_code.specs.Tests.{code_compares};
-ghost use Rattle.bw_code.specs.Units.{by_slices, side_units, some_below};
-ghost use Rattle.bw_byteslice.specs.Slices.{AreBytes, AreStored, by_bytes, code_in, number_in, segments_of, side_cost, slices_of};
+ghost use Rattle.bw_code.specs.Units.{by_slices, segments_of, side_units, some_below};
+ghost use Rattle.bw_byteslice.specs.Slices.{AreBytes, AreStored, by_bytes, code_in, number_in, side_cost, slices_of};
 
 use crate::rows::{chosen, high_half, is_empty, joined, low_half};
 use crate::shift::slices_of;
@@ -95,16 +95,16 @@ fn pair_numbers<A: Source<[u8; 32]>, B: Source<[u8; 32]>>(
     requires narrow { m ≤ 8 }
     requires few { len need.now ≤ 2 ^ 24 }
     requires out { len out.old ≡ len need.now }
-    requires units { length (A.units a.old) ≡ segments_of (len need.now) * m }
-    requires other_units { length (B.units b.old) ≡ segments_of (len need.now) * m }
+    requires units { length (A.units a.old) ≡ segments_of 32 (len need.now) * m }
+    requires other_units { length (B.units b.old) ≡ segments_of 32 (len need.now) * m }
     requires bytes { AreBytes (A.units a.old) }
     requires other_bytes { AreBytes (B.units b.old) }
     requires reads { A.reads a.old ≤ 2 ^ 62 }
     requires other_reads { B.reads b.old ≤ 2 ^ 62 }
     ensures units { A.units a.new ≡ A.units a.old }
     ensures other_units { B.units b.new ≡ B.units b.old }
-    ensures reads { A.reads a.new ≡ A.reads a.old + side_units (by_bytes m) (row_at need.now) (number_in m (A.units a.old)) (number_in m (B.units b.old)) (segments_of (len need.now)) }
-    ensures other_reads { B.reads b.new ≡ B.reads b.old + side_units (by_bytes m) (row_at need.now) (number_in m (A.units a.old)) (number_in m (B.units b.old)) (segments_of (len need.now)) }
+    ensures reads { A.reads a.new ≡ A.reads a.old + side_units (by_bytes m) (row_at need.now) (number_in m (A.units a.old)) (number_in m (B.units b.old)) (segments_of 32 (len need.now)) }
+    ensures other_reads { B.reads b.new ≡ B.reads b.old + side_units (by_bytes m) (row_at need.now) (number_in m (A.units a.old)) (number_in m (B.units b.old)) (segments_of 32 (len need.now)) }
     ensures shape { SameShape out.new out.old }
     ensures rows { (j : ℕ) → row_at out.new j ≡ (row_at need.now j && code_compares op (number_in m (A.units a.old) j) (number_in m (B.units b.old) j)) }
 {
@@ -131,16 +131,16 @@ pub fn pair_from<A: Source<[u8; 32]>, B: Source<[u8; 32]>>(
     requires narrow { width ≤ 64 }
     requires few { len need.now ≤ 2 ^ 24 }
     requires out { len out.old ≡ len need.now }
-    requires units { length (A.units a.old) ≡ segments_of (len need.now) * slices_of width }
-    requires other_units { length (B.units b.old) ≡ segments_of (len need.now) * slices_of width }
+    requires units { length (A.units a.old) ≡ segments_of 32 (len need.now) * slices_of width }
+    requires other_units { length (B.units b.old) ≡ segments_of 32 (len need.now) * slices_of width }
     requires stored { AreStored width (A.units a.old) }
     requires other_stored { AreStored width (B.units b.old) }
     requires reads { A.reads a.old ≤ 2 ^ 62 }
     requires other_reads { B.reads b.old ≤ 2 ^ 62 }
     ensures units { A.units a.new ≡ A.units a.old }
     ensures other_units { B.units b.new ≡ B.units b.old }
-    ensures reads { A.reads a.new ≡ A.reads a.old + side_units (by_slices width (slices_of width)) (row_at need.now) (code_in width (A.units a.old)) (code_in width (B.units b.old)) (segments_of (len need.now)) }
-    ensures other_reads { B.reads b.new ≡ B.reads b.old + side_units (by_slices width (slices_of width)) (row_at need.now) (code_in width (A.units a.old)) (code_in width (B.units b.old)) (segments_of (len need.now)) }
+    ensures reads { A.reads a.new ≡ A.reads a.old + side_units (by_slices width (slices_of width)) (row_at need.now) (code_in width (A.units a.old)) (code_in width (B.units b.old)) (segments_of 32 (len need.now)) }
+    ensures other_reads { B.reads b.new ≡ B.reads b.old + side_units (by_slices width (slices_of width)) (row_at need.now) (code_in width (A.units a.old)) (code_in width (B.units b.old)) (segments_of 32 (len need.now)) }
     ensures shape { SameShape out.new out.old }
     ensures rows { (j : ℕ) → row_at out.new j ≡ (row_at need.now j && code_compares op (code_in width (A.units a.old) j) (code_in width (B.units b.old) j)) }
 {

@@ -2,7 +2,7 @@
 
 ghost use Rattle.std.specs.Prelude.{length, slice_index, ℕ, ◌%◌, ◌*◌, ◌+◌, ◌<◌, ◌^◌, ◌≡◌, ◌≤◌};
 ghost use Rattle.bw_mask.specs.Masks.{SameShape, bit_of, len, row_at};
-ghost use Rattle.bw_byteslice.specs.Slices.{segments_of};
+ghost use Rattle.bw_code.specs.Units.{segments_of};
 
 use crate::rows::{joined, low_half};
 use crate::source::bytes_at;
@@ -51,7 +51,7 @@ pub(crate) fn word_up_to_end(slice: &[u8], w: usize, i: u32) -> u64
 pub(crate) fn put_rows(slice: &[u8], i: u32, out: &mut Mask)
     requires bit { i < 8 }
     requires few { len out.old ≤ 2 ^ 24 }
-    requires long { length slice.now ≡ 32 * segments_of (len out.old) }
+    requires long { length slice.now ≡ 32 * segments_of 32 (len out.old) }
     requires clean { (r : ℕ) → len out.old ≤ r → slice_index slice.now r ≡ 0 }
     ensures shape { SameShape out.new out.old }
     ensures rows { (r : ℕ) → row_at out.new r ≡ bit_of (slice_index slice.now r) i }

@@ -37,7 +37,8 @@ pub struct SlicePlanes<'a> {
 }
 
 impl<'a> Model for SlicePlanes<'a> {
-    ghost use Rattle.bw_byteslice.specs.BitPlanes.{ArePlanes, PlanesRead, planes_of};
+    ghost use Rattle.bw_code.specs.Units.{PlanesRead};
+    ghost use Rattle.bw_byteslice.specs.BitPlanes.{ArePlanes, planes_of};
     ghost use Rattle.bw_byteslice.specs.Storing.{bytes_of};
 
     ghost Value = { PlanesRead };

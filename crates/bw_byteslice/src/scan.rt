@@ -3,8 +3,8 @@
 ghost use Rattle.std.specs.Prelude.{length, max, nat_le, nat_lt, not, true, ℕ, ◌&&◌, ◌*◌, ◌+◌, ◌<◌, ◌==◌, ◌^◌, ◌||◌, ◌≡◌, ◌≤◌};
 ghost use Rattle.bw_mask.specs.Masks.{SameShape, bit_of, len, row_at};
 ghost use Rattle.bw_code.specs.Tests.{TestFits, meets};
-ghost use Rattle.bw_code.specs.Units.{agreement, by_slices, cost_of, scan_units, segment_units, some_below};
-ghost use Rattle.bw_byteslice.specs.Slices.{AreBytes, AreStored, IsBelow, by_bytes, code_in, number_in, segments_of, slices_of};
+ghost use Rattle.bw_code.specs.Units.{agreement, by_slices, cost_of, scan_units, segment_units, segments_of, some_below};
+ghost use Rattle.bw_byteslice.specs.Slices.{AreBytes, AreStored, IsBelow, by_bytes, code_in, number_in, slices_of};
 
 use crate::rows::{chosen, either, high_half, is_empty, joined, low_half, without};
 use crate::shift::{byte_at, raise_test, slices_of};
@@ -133,11 +133,11 @@ fn scan_numbers<S: Source<[u8; 32]>>(
     requires test { IsBelow (256 ^ m) test }
     requires few { len need.now ≤ 2 ^ 24 }
     requires out { len out.old ≡ len need.now }
-    requires units { length (S.units source.old) ≡ segments_of (len need.now) * m }
+    requires units { length (S.units source.old) ≡ segments_of 32 (len need.now) * m }
     requires bytes { AreBytes (S.units source.old) }
     requires reads { S.reads source.old ≤ 2 ^ 62 }
     ensures units { S.units source.new ≡ S.units source.old }
-    ensures reads { S.reads source.new ≡ S.reads source.old + scan_units (by_bytes m) test (row_at need.now) (number_in m (S.units source.old)) (segments_of (len need.now)) }
+    ensures reads { S.reads source.new ≡ S.reads source.old + scan_units (by_bytes m) test (row_at need.now) (number_in m (S.units source.old)) (segments_of 32 (len need.now)) }
     ensures shape { SameShape out.new out.old }
     ensures rows { (j : ℕ) → row_at out.new j ≡ (row_at need.now j && meets test (number_in m (S.units source.old) j)) }
 {
@@ -164,11 +164,11 @@ pub fn scan_from<S: Source<[u8; 32]>>(
     requires test { TestFits width test }
     requires few { len need.now ≤ 2 ^ 24 }
     requires out { len out.old ≡ len need.now }
-    requires units { length (S.units source.old) ≡ segments_of (len need.now) * slices_of width }
+    requires units { length (S.units source.old) ≡ segments_of 32 (len need.now) * slices_of width }
     requires stored { AreStored width (S.units source.old) }
     requires reads { S.reads source.old ≤ 2 ^ 62 }
     ensures units { S.units source.new ≡ S.units source.old }
-    ensures reads { S.reads source.new ≡ S.reads source.old + scan_units (by_slices width (slices_of width)) test (row_at need.now) (code_in width (S.units source.old)) (segments_of (len need.now)) }
+    ensures reads { S.reads source.new ≡ S.reads source.old + scan_units (by_slices width (slices_of width)) test (row_at need.now) (code_in width (S.units source.old)) (segments_of 32 (len need.now)) }
     ensures shape { SameShape out.new out.old }
     ensures rows { (j : ℕ) → row_at out.new j ≡ (row_at need.now j && meets test (code_in width (S.units source.old) j)) }
 {

@@ -55,11 +55,11 @@ segment_none cut (Range low high) needed code none = rw none refl
 module _ (layout : Layout) (width : ℕ) (needed : ℕ → Bool) (codes : List ℕ) where
   pub units_of_none : units_of_scan layout width None needed codes ≡ 0
   unfolding units_of_scan
-  units_of_none = sum_zero (segments_of (segmentation layout width) (length codes))
+  units_of_none = sum_zero (segments_of (segmentation layout width).rows (length codes))
 
   pub units_of_all : units_of_scan layout width All needed codes ≡ 0
   unfolding units_of_scan
-  units_of_all = sum_zero (segments_of (segmentation layout width) (length codes))
+  units_of_all = sum_zero (segments_of (segmentation layout width).rows (length codes))
 
 -- a segment of one row
 pub one_row : (needed : ℕ → Bool) (agreed : ℕ → ℕ) (q : ℕ) → cost_of by_codes (λ j. needed (1 * q + j)) agreed ≡ (if needed q then 1 else 0)

@@ -39,6 +39,10 @@ digit base m x i = x / base ^ (m - 1 - i) % base
 abbrev pub agreement : ℕ → ℕ → ℕ → ℕ → ℕ
 agreement base m x y = leading m (λ i. digit base m x i == digit base m y i)
 
+-- in how many segments of so many rows n rows lie
+abbrev pub segments_of : ℕ → ℕ → ℕ
+segments_of rows n = div_ceil n rows
+
 -- how a layout cuts a column into segments: the rows of one, the agreement of two codes, and the units of a segment with a
 -- needed row, by the greatest agreement
 pub record Segmentation : Type 0 where
@@ -92,24 +96,25 @@ side_units cut needed code other segments = sum_below segments (λ q.
 abbrev pub pair_units : Segmentation → (ℕ → Bool) → (ℕ → ℕ) → (ℕ → ℕ) → ℕ → ℕ
 pair_units cut needed code other segments = 2 * side_units cut needed code other segments
 
--- in how many segments n rows lie
-abbrev pub segments_of : Segmentation → ℕ → ℕ
-segments_of cut n = div_ceil n cut.rows
-
 -- the units of one scan of a column of these codes, by its layout and its width
 unfoldable pub units_of_scan : Layout → ℕ → CodeTest → (ℕ → Bool) → List ℕ → ℕ
 units_of_scan layout width test needed codes =
-    let cut = segmentation layout width in scan_units cut test needed (λ i. slice_index codes i) (segments_of cut (length codes))
+    let cut = segmentation layout width in scan_units cut test needed (λ i. slice_index codes i) (segments_of cut.rows (length codes))
 
 -- the units of a scan of two columns of one layout, width and length
 unfoldable pub units_of_pair : Layout → ℕ → (ℕ → Bool) → List ℕ → List ℕ → ℕ
 units_of_pair layout width needed codes others =
-    let cut = segmentation layout width in pair_units cut needed (λ i. slice_index codes i) (λ i. slice_index others i) (segments_of cut (length codes))
+    let cut = segmentation layout width in pair_units cut needed (λ i. slice_index codes i) (λ i. slice_index others i) (segments_of cut.rows (length codes))
 
 -- the units of comparing n rows of two columns of these widths by adding a base to each: all planes of both, 256 rows a plane
 unfoldable pub units_of_addition : ℕ → ℕ → (ℕ → Bool) → ℕ → ℕ
-units_of_addition width other_width needed n = if some_below n needed then (width + other_width) * div_ceil n 256 else 0
+units_of_addition width other_width needed n = if some_below n needed then (width + other_width) * segments_of 256 n else 0
 
 -- the units of comparing n rows of two columns by fetching the needed values of both
 unfoldable pub units_of_fetches : (ℕ → Bool) → ℕ → ℕ
 units_of_fetches needed n = 2 * count_below n needed
+
+-- the planes of a column as units of a source, and how many of them were read
+pub record PlanesRead : Type 0 where
+  pub units : List (List ℕ)
+  pub reads : ℕ

@@ -42,3 +42,4 @@ pub use plain::PlainColumn;
 pub use shift::word_between;
 pub use source::Source;
 pub use unit_laws::{units_of_scans, units_of_segments};
+pub use wide_lanes::compared_rows;

@@ -91,7 +91,7 @@ fn between(codes: &[u64], low: u64, span: u64) -> u64
 }
 
 /// Bit i says whether the i-th of the first 64 codes and that of the others compare so.
-pub(crate) fn compared(op: CmpOp, codes: &[u64], others: &[u64]) -> u64
+pub fn compared_rows(op: CmpOp, codes: &[u64], others: &[u64]) -> u64
     requires long { 64 ≤ length codes.now }
     requires other { 64 ≤ length others.now }
     ensures { (i : ℕ) → i < 64 → bit_of result i ≡ code_compares op (slice_index codes.now i) (slice_index others.now i) }

@@ -7,7 +7,7 @@ ghost use Rattle.bw_code.specs.Units.{units_of_pair};
 ghost use Rattle.bw_code.specs.declared.kind.Layout.TheVariants as layouts;
 
 use crate::compare::CmpOp;
-use crate::wide_lanes::{compared, filled_up};
+use crate::wide_lanes::{compared_rows, filled_up};
 use bw_mask::Mask;
 
 /// The needed ones of 64 rows whose codes compare so.
@@ -19,7 +19,7 @@ fn chosen(op: CmpOp, codes: &[u64], others: &[u64], needed: u64) -> u64
     if needed == 0 {
         0
     } else {
-        needed & compared(op, codes, others)
+        needed & compared_rows(op, codes, others)
     }
 }
 

@@ -5,8 +5,7 @@ use Rattle.bw_code.specs.Columns.{CodeList, code_at, count}
 use Rattle.bw_code.specs.Encodings.{IsEncoding, code_of, value_of, width}
 use Rattle.bw_code.specs.Meters.{raised}
 use Rattle.bw_code.specs.Tests.{code_compares, int_compares}
-use Rattle.bw_code.specs.Units.{some_below, units_of_addition}
-use Rattle.std.specs.Int.{div_ceil}
+use Rattle.bw_code.specs.Units.{segments_of, some_below, units_of_addition}
 use Rattle.std.proofs.Math.Nat.{mul-add, mul_comm}
 use Rattle.bw_code.specs.declared.compare.CmpOp.{CmpOp}
 use Rattle.bw_code.specs.declared.encoding.Encoding.{Encoding}
@@ -22,7 +21,7 @@ use Rattle.bw_column.specs.Comparisons.{compare_so}
 use Rattle.bw_column.specs.PlaneSources.{HoldsCodes, units_in}
 use Rattle.bw_column.specs.Values.{value_at}
 use Rattle.bw_column.specs.declared.column_planes.ColumnPlanes.{ColumnPlanes}
-use Rattle.bw_vertical.specs.Planes.{code_in, in_plane, segments_of}
+use Rattle.bw_vertical.specs.Planes.{code_in, in_plane}
 use Rattle.bw_vertical.proofs.Numbers.{number_is}
 use Rattle.bw_column.proofs.Rows.{known_rows, value_of_row}
 
@@ -119,15 +118,14 @@ on_known true f g same = same refl
 on_known false f g same = refl
 
 -- the planes of both columns, counted one column after the other
-pub added_units : (width other n old r s : ℕ) (needed : ℕ → Bool) → r ≡ (if some_below n needed then segments_of n * width else 0) → s ≡ (if some_below n needed then segments_of n * other else 0)
+pub added_units : (width other n old r s : ℕ) (needed : ℕ → Bool) → r ≡ (if some_below n needed then segments_of 256 n * width else 0) → s ≡ (if some_below n needed then segments_of 256 n * other else 0)
     → raised (raised old r) s ≡ raised old (units_of_addition width other needed n)
 unfolding units_of_addition
 added_units width other n old r s needed first second = by_case (some_below n needed) first second
   where
-    by_case : (b : Bool) → r ≡ (if b then segments_of n * width else 0) → s ≡ (if b then segments_of n * other else 0)
-        → raised (raised old r) s ≡ raised old (if b then (width + other) * div_ceil n 256 else 0)
+    by_case : (b : Bool) → r ≡ (if b then segments_of 256 n * width else 0) → s ≡ (if b then segments_of 256 n * other else 0)
+        → raised (raised old r) s ≡ raised old (if b then (width + other) * segments_of 256 n else 0)
     by_case true h k =
-        let segments : div_ceil n 256 ≡ segments_of n = omega arith in
-        let all : (width + other) * segments_of n ≡ r + s = mul_comm (width + other) (segments_of n) ∙ mul-add (segments_of n) width other ∙ omega (arith, h, k) in
-        rw (segments, all) (omega arith)
+        let all : (width + other) * segments_of 256 n ≡ r + s = mul_comm (width + other) (segments_of 256 n) ∙ mul-add (segments_of 256 n) width other ∙ omega (arith, h, k) in
+        rw all (omega arith)
     by_case false h k = omega (arith, h, k)

@@ -2,7 +2,7 @@
 use Rattle.std.specs.Prelude.{List, [], length, slice_index_or, ℕ, ◌*◌, ◌+◌, ◌-◌, ◌<◌, ◌≡◌}
 use Rattle.bw_mask.specs.Masks.{bit_of, row_in}
 use Rattle.bw_code.specs.Columns.{CodeList, code_at, count}
-use Rattle.bw_vertical.specs.Planes.{segments_of}
+use Rattle.bw_code.specs.Units.{segments_of}
 use Rattle.bw_column.specs.declared.column_planes.ColumnPlanes.{ColumnPlanes}
 use Rattle.bw_column.specs.declared.column_planes.ColumnPlanes.TheVariants as planes
 
@@ -16,7 +16,7 @@ reads_in (planes.S source) = source.reads
 
 -- planes that hold the codes of a column, none of which was read
 pub record HoldsCodes (codes : CodeList) (source : ColumnPlanes) : Type 0 where
-  pub units : length (units_in source) ≡ segments_of (count codes) * codes.width
-  pub rows : (q i r : ℕ) → q < segments_of (count codes) → i < codes.width → r < 256
+  pub units : length (units_in source) ≡ segments_of 256 (count codes) * codes.width
+  pub rows : (q i r : ℕ) → q < segments_of 256 (count codes) → i < codes.width → r < 256
       → row_in (slice_index_or (units_in source) (q * codes.width + i) []) r ≡ bit_of (code_at codes (256 * q + r)) (codes.width - 1 - i)
   pub unread : reads_in source ≡ 0

@@ -3,8 +3,8 @@
 ghost use Rattle.std.specs.Prelude.{IfSome, if◌then◌else◌, length, pos, ℕ, ◌&&◌, ◌*◌, ◌+◌, ◌+ℤ◌, ◌^◌, ◌≡◌, ◌≤◌};
 ghost use Rattle.bw_mask.specs.Masks.{SameShape, len, row_at};
 ghost use Rattle.bw_code.specs.Tests.{int_compares};
-ghost use Rattle.bw_code.specs.Units.{some_below};
-ghost use Rattle.bw_vertical.specs.Planes.{code_in, segments_of};
+ghost use Rattle.bw_code.specs.Units.{segments_of, some_below};
+ghost use Rattle.bw_vertical.specs.Planes.{code_in};
 ghost use Rattle.bw_column.specs.PlaneSources.{HoldsCodes, reads_in, units_in};
 ghost use Rattle.bw_column.specs.Storing.{layout_of, list_of};
 ghost use Rattle.bw_column.specs.Values.{widest};
@@ -58,14 +58,14 @@ fn add_beside<A: Source<[u64; 4]>>(
     requires other_narrow { right.width ≤ 64 }
     requires few { len need.now ≤ 2 ^ 24 }
     requires out { len out.old ≡ len need.now }
-    requires units { length (A.units a.old) ≡ segments_of (len need.now) * left.width }
-    requires other_units { length (units_in others.old) ≡ segments_of (len need.now) * right.width }
+    requires units { length (A.units a.old) ≡ segments_of 256 (len need.now) * left.width }
+    requires other_units { length (units_in others.old) ≡ segments_of 256 (len need.now) * right.width }
     requires reads { A.reads a.old ≤ 2 ^ 62 }
     requires other_reads { reads_in others.old ≤ 2 ^ 62 }
     ensures units { A.units a.new ≡ A.units a.old }
     ensures other_units { units_in others.new ≡ units_in others.old }
-    ensures reads { A.reads a.new ≡ A.reads a.old + (if some_below (len need.now) (row_at need.now) then segments_of (len need.now) * left.width else 0) }
-    ensures other_reads { reads_in others.new ≡ reads_in others.old + (if some_below (len need.now) (row_at need.now) then segments_of (len need.now) * right.width else 0) }
+    ensures reads { A.reads a.new ≡ A.reads a.old + (if some_below (len need.now) (row_at need.now) then segments_of 256 (len need.now) * left.width else 0) }
+    ensures other_reads { reads_in others.new ≡ reads_in others.old + (if some_below (len need.now) (row_at need.now) then segments_of 256 (len need.now) * right.width else 0) }
     ensures shape { SameShape out.new out.old }
     ensures rows { (i : ℕ) → row_at out.new i ≡ (row_at need.now i
         && int_compares op (left.base +ℤ pos (code_in left.width (A.units a.old) i)) (right.base +ℤ pos (code_in right.width (units_in others.old) i))) }
@@ -90,14 +90,14 @@ pub(crate) fn add_planes(
     requires other_narrow { right.width ≤ 64 }
     requires few { len need.now ≤ 2 ^ 24 }
     requires out { len out.old ≡ len need.now }
-    requires units { length (units_in planes.old) ≡ segments_of (len need.now) * left.width }
-    requires other_units { length (units_in others.old) ≡ segments_of (len need.now) * right.width }
+    requires units { length (units_in planes.old) ≡ segments_of 256 (len need.now) * left.width }
+    requires other_units { length (units_in others.old) ≡ segments_of 256 (len need.now) * right.width }
     requires reads { reads_in planes.old ≤ 2 ^ 62 }
     requires other_reads { reads_in others.old ≤ 2 ^ 62 }
     ensures units { units_in planes.new ≡ units_in planes.old }
     ensures other_units { units_in others.new ≡ units_in others.old }
-    ensures reads { reads_in planes.new ≡ reads_in planes.old + (if some_below (len need.now) (row_at need.now) then segments_of (len need.now) * left.width else 0) }
-    ensures other_reads { reads_in others.new ≡ reads_in others.old + (if some_below (len need.now) (row_at need.now) then segments_of (len need.now) * right.width else 0) }
+    ensures reads { reads_in planes.new ≡ reads_in planes.old + (if some_below (len need.now) (row_at need.now) then segments_of 256 (len need.now) * left.width else 0) }
+    ensures other_reads { reads_in others.new ≡ reads_in others.old + (if some_below (len need.now) (row_at need.now) then segments_of 256 (len need.now) * right.width else 0) }
     ensures shape { SameShape out.new out.old }
     ensures rows { (i : ℕ) → row_at out.new i ≡ (row_at need.now i
         && int_compares op (left.base +ℤ pos (code_in left.width (units_in planes.old) i)) (right.base +ℤ pos (code_in right.width (units_in others.old) i))) }

@@ -78,7 +78,7 @@ impl Column {
     /// account. It is unknown where either is null and at every row that is not needed. Takes no memory. The meter is
     /// raised by what is read of both at the needed rows where neither is null (`units_of_columns`): a scan of both side by side
     /// where their layout and encoding are the same, the planes of both where only their bases or widths differ, and else
-    /// two fetches for each row.
+    /// two fetches for each row. Where one of them is in layout H, planes are counted and not read: values are compared.
     pub fn compare_column_in(
         &self,
         op: CmpOp,

@@ -4,7 +4,6 @@ ghost use Rattle.std.specs.Prelude.{is_some, length, negsuc, not, slice_index, t
 ghost use Rattle.bw_mask.specs.Masks.{SameShape, bit_of, len, row_at};
 ghost use Rattle.bw_cells.specs.Distances.{distance_from};
 ghost use Rattle.bw_code.specs.Meters.{raised};
-ghost use Rattle.bw_code.specs.Tests.{code_compares};
 ghost use Rattle.bw_code.specs.Units.{units_of_fetches};
 ghost use Rattle.bw_column.specs.Comparisons.{compare_so};
 ghost use Rattle.bw_column.specs.Costs.{needed_known, units_of_both, units_of_columns};
@@ -12,24 +11,8 @@ ghost use Rattle.bw_column.specs.Values.{value_at};
 
 use crate::column::Column;
 use bw_cells::Measured;
-use bw_code::{CmpOp, Meter};
+use bw_code::{CmpOp, Meter, compared_rows};
 use bw_mask::Mask;
-use std::simd::prelude::*;
-
-/// Bit i says whether the i-th numbers compare so.
-fn compared_bits(op: CmpOp, left: &[u64; 64], right: &[u64; 64]) -> u64
-    ensures { (i : ℕ) → i < 64 → bit_of result i ≡ code_compares op (slice_index left.now i) (slice_index right.now i) }
-{
-    let (x, y) = (u64x64::from_array(*left), u64x64::from_array(*right));
-    match op {
-        CmpOp::Eq => x.simd_eq(y).to_bitmask(),
-        CmpOp::Ne => x.simd_ne(y).to_bitmask(),
-        CmpOp::Lt => x.simd_lt(y).to_bitmask(),
-        CmpOp::Le => x.simd_le(y).to_bitmask(),
-        CmpOp::Gt => y.simd_lt(x).to_bitmask(),
-        CmpOp::Ge => y.simd_le(x).to_bitmask(),
-    }
-}
 
 /// The units of fetching two values at each row that is in.
 fn units_of_rows(rows: &Mask) -> u64
@@ -64,7 +47,7 @@ impl Column {
         let mut right = [0; 64];
         let present = self.rise_of_block(at, &mut left);
         let others = other.rise_of_block(at, &mut right);
-        present & others & compared_bits(op, &left, &right)
+        present & others & compared_rows(op, &left, &right)
     }
 
     /// Of the 64 rows from row `at` on, the needed ones whose values compare so.

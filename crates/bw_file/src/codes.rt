@@ -5,7 +5,7 @@ ghost use Rattle.bw_mask.specs.Masks.{bit_of};
 ghost use Rattle.bw_file.specs.Planes.{code_in, plane_bit};
 
 use crate::row_bits::bits_of_rows;
-use bw_vertical::codes_of_words;
+use bw_vertical::{codes_of_words, halves_of_words};
 
 /// Word b has bit b of the codes of so many rows from row `at` on, which is the first whose bit lies in its byte.
 fn words_at(planes: &[u8], size: usize, k: usize, at: usize, count: usize) -> [u64; 64]
@@ -61,12 +61,10 @@ pub(crate) fn read_codes(planes: &[u8], size: usize, k: usize, at: usize, out: &
 {
     let words = words_at(planes, size, k, at, out.len());
     if k <= 32 {
-        widen(&codes_of_words(&words, k), out);
+        let (halves, _) = words.as_chunks::<32>();
+        widen(&codes_of_words(&halves[0], k), out);
     } else {
-        join(
-            &codes_of_words(&words, 32),
-            &codes_of_words(&words[32..], k - 32),
-            out,
-        );
+        let (low, high) = halves_of_words(&words, k);
+        join(&low, &high, out);
     }
 }

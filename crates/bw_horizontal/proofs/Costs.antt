@@ -8,10 +8,10 @@ use Rattle.bw_code.specs.declared.compare.CodeTest.{CodeTest}
 use Rattle.bw_code.specs.declared.compare.CodeTest.TheVariants.{None, All, Cmp, Range}
 use Rattle.bw_code.specs.declared.kind.Layout.TheVariants.{H}
 use Rattle.bw_code.specs.Meters.{raised}
-use Rattle.bw_code.specs.Units.{by_words, cost_of, scan_units, segment_units, side_units, some_below, units_of_pair, units_of_scan}
+use Rattle.bw_code.specs.Units.{by_words, cost_of, scan_units, segment_units, segments_of, side_units, some_below, units_of_pair, units_of_scan}
 use Rattle.bw_code.proofs.Reach.{none_at, none_if}
 use Rattle.bw_code.proofs.UnitLemmas.{cost_same, sum_same}
-use Rattle.bw_horizontal.specs.Words.{segment_rows, segments_of}
+use Rattle.bw_horizontal.specs.Words.{segment_rows}
 
 pub cost_by_need : (k : ℕ) (test : CodeTest) (f g : ℕ → Bool) (a b : ℕ → ℕ) → ((r : ℕ) → r < segment_rows k → f r ≡ g r) → segment_units (by_words k) test f a ≡ segment_units (by_words k) test g b
 cost_by_need k None f g a b same = refl
@@ -63,16 +63,16 @@ module _ (k : ℕ) (test : CodeTest) (need : ℕ) (code : ℕ → ℕ) (not_none
   cost_some some clean = cost_is test not_none not_all ∙ words_all k need (λ r. 0) some clean
 
 -- what a scan of a column costs, by its words
-pub units_are : (k n : ℕ) (test : CodeTest) (needed : ℕ → Bool) (codes : List ℕ) (code : ℕ → ℕ) → length codes ≡ n → units_of_scan H k test needed codes ≡ scan_units (by_words k) test needed code (segments_of k n)
+pub units_are : (k n : ℕ) (test : CodeTest) (needed : ℕ → Bool) (codes : List ℕ) (code : ℕ → ℕ) → length codes ≡ n → units_of_scan H k test needed codes ≡ scan_units (by_words k) test needed code (segments_of (segment_rows k) n)
 unfolding units_of_scan
 units_are k n test needed codes code len =
-    ap (λ m. scan_units (by_words k) test needed (λ i. get_or codes i 0) (segments_of k m)) len
-    ∙ sum_same (segments_of k n) _ _ (λ q h. cost_by_need k test _ _ _ _ (λ r l. refl))
+    ap (λ m. scan_units (by_words k) test needed (λ i. get_or codes i 0) (segments_of (segment_rows k) m)) len
+    ∙ sum_same (segments_of (segment_rows k) n) _ _ (λ q h. cost_by_need k test _ _ _ _ (λ r l. refl))
 
 -- what a scan of two columns costs, by their words
-pub pair_units_are : (k n : ℕ) (needed : ℕ → Bool) (codes others : List ℕ) (code other : ℕ → ℕ) → length codes ≡ n → units_of_pair H k needed codes others ≡ 2 * side_units (by_words k) needed code other (segments_of k n)
+pub pair_units_are : (k n : ℕ) (needed : ℕ → Bool) (codes others : List ℕ) (code other : ℕ → ℕ) → length codes ≡ n → units_of_pair H k needed codes others ≡ 2 * side_units (by_words k) needed code other (segments_of (segment_rows k) n)
 unfolding units_of_pair
-pair_units_are k n needed codes others code other len = ap (λ m. 2 * side_units (by_words k) needed code other (segments_of k m)) len
+pair_units_are k n needed codes others code other len = ap (λ m. 2 * side_units (by_words k) needed code other (segments_of (segment_rows k) m)) len
 
 pub raised_twice : (units more : ℕ) → raised (raised units more) more ≡ raised units (2 * more)
 raised_twice units more = omega arith

@@ -13,7 +13,8 @@ use Rattle.bw_code.specs.Columns.{is_chosen}
 use Rattle.bw_code.specs.Lists.{made}
 use Rattle.bw_code.proofs.Lists.{made_at, made_len}
 use Rattle.bw_code.proofs.Runs.{chosen_above, chosen_from, put_here, put_left, put_to, run_is}
-use Rattle.bw_horizontal.specs.Words.{AreWords, code_in, codes_of, section_in, segment_rows, segments_of, word_of}
+use Rattle.bw_code.specs.Units.{segments_of}
+use Rattle.bw_horizontal.specs.Words.{AreWords, code_in, codes_of, section_in, segment_rows, word_of}
 use Rattle.bw_horizontal.proofs.Places.{rest_low, row_section, row_segment, row_word, rows_pos, section_low}
 use Rattle.bw_horizontal.proofs.Views.{segment_there}
 
@@ -54,10 +55,10 @@ near_word k j narrow h =
 pub from_segment : (k at j : ℕ) → k ≤ 32 → at ≤ j → j - at / segment_rows k * segment_rows k ≡ at % segment_rows k + (j - at)
 from_segment k at j narrow h = omega (arith, h, div-add-mod' at (segment_rows k))
 
-pub segment_words : (k n q : ℕ) → k ≤ 32 → q * segment_rows k < n → q * (k + 1) + (k + 1) ≤ segments_of k n * (k + 1)
+pub segment_words : (k n q : ℕ) → k ≤ 32 → q * segment_rows k < n → q * (k + 1) + (k + 1) ≤ segments_of (segment_rows k) n * (k + 1)
 segment_words k n q narrow h =
-    let there : q < segments_of k n = subst (λ m. m < segments_of k n) (mul-div_cancel q (rows_pos k narrow)) (segment_there (segment_rows k) n (q * segment_rows k) (rows_pos k narrow) h) in
-    omega (arith, mul-le-mul_right {m = q + 1} {n = segments_of k n} (k + 1) (omega (arith, there)))
+    let there : q < segments_of (segment_rows k) n = subst (λ m. m < segments_of (segment_rows k) n) (mul-div_cancel q (rows_pos k narrow)) (segment_there (segment_rows k) n (q * segment_rows k) (rows_pos k narrow) h) in
+    omega (arith, mul-le-mul_right {m = q + 1} {n = segments_of (segment_rows k) n} (k + 1) (omega (arith, there)))
 
 -- one word over and over
 pub all_stored_same : (k n word : ℕ) → IsStored k word → All (IsStored k) (replicate n word)

@@ -13,7 +13,8 @@ use Rattle.bw_mask.specs.Masks.{bit_of}
 use Rattle.bw_lane.specs.Sections.{IsStored, section_of, sections_in}
 use Rattle.bw_lane.proofs.Joins.{bit_of_section}
 use Rattle.bw_code.proofs.Lists.{made_at, made_len, made_more, made_set}
-use Rattle.bw_horizontal.specs.Words.{AreWords, code_in, codes_of, room_in, row_of_bit, section_in, segment_rows, segments_of, word_of}
+use Rattle.bw_code.specs.Units.{segments_of}
+use Rattle.bw_horizontal.specs.Words.{AreWords, code_in, codes_of, room_in, row_of_bit, section_in, segment_rows, word_of}
 use Rattle.bw_horizontal.proofs.Places.{row_section, row_segment, row_word, rows_pos, section_low}
 
 pub section_zero : (k t : ℕ) → section_of k t 0 ≡ 0
@@ -47,14 +48,14 @@ segment_there rows n j pos h =
       | inr l ↦ absurd (omega (arith, (div_ceil_times n rows pos).0, mul-le-mul_right {m = div_ceil n rows} {n = j / rows} rows l, div-add-mod' j rows))
     ]
 
-pub word_there : (k n j : ℕ) → k ≤ 32 → j < n → word_of k j < segments_of k n * (k + 1)
+pub word_there : (k n j : ℕ) → k ≤ 32 → j < n → word_of k j < segments_of (segment_rows k) n * (k + 1)
 word_there k n j narrow h =
     let segment = segment_there (segment_rows k) n j (rows_pos k narrow) h in
     let low : j % segment_rows k % (k + 1) < k + 1 = omega arith in
-    omega (arith, low, mul-le-mul_right {m = j / segment_rows k + 1} {n = segments_of k n} (k + 1) (omega (arith, segment)))
+    omega (arith, low, mul-le-mul_right {m = j / segment_rows k + 1} {n = segments_of (segment_rows k) n} (k + 1) (omega (arith, segment)))
 
 -- room in so many words is room for whole segments
-pub room_serves : (k n words : ℕ) → k ≤ 32 → n ≤ room_in k words → segments_of k n * (k + 1) ≤ words
+pub room_serves : (k n words : ℕ) → k ≤ 32 → n ≤ room_in k words → segments_of (segment_rows k) n * (k + 1) ≤ words
 room_serves k n words narrow h =
     let rows = segment_rows k in
     let full : n ≤ rows * (words / (k + 1)) = omega arith in
@@ -65,11 +66,11 @@ room_serves k n words narrow h =
     ] in
     omega (arith, mul-le-mul_right (k + 1) few, mul-div-le words (k + 1))
 
-pub room_made : (k n words : ℕ) → k ≤ 32 → n ≤ 2 ^ 24 → segments_of k n * (k + 1) ≤ words → n ≤ room_in k words
+pub room_made : (k n words : ℕ) → k ≤ 32 → n ≤ 2 ^ 24 → segments_of (segment_rows k) n * (k + 1) ≤ words → n ≤ room_in k words
 room_made k n words narrow few h =
     let rows = segment_rows k in
-    let full : segments_of k n ≤ words / (k + 1) = le-div (segments_of k n) words (k + 1) (omega arith) h in
-    let held : n ≤ rows * (words / (k + 1)) = omega (arith, (div_ceil_times n rows (rows_pos k narrow)).0, mul-le-mul_left {m = segments_of k n} {n = words / (k + 1)} rows full) in
+    let full : segments_of (segment_rows k) n ≤ words / (k + 1) = le-div (segments_of (segment_rows k) n) words (k + 1) (omega arith) h in
+    let held : n ≤ rows * (words / (k + 1)) = omega (arith, (div_ceil_times n rows (rows_pos k narrow)).0, mul-le-mul_left {m = segments_of (segment_rows k) n} {n = words / (k + 1)} rows full) in
     omega (arith, held, few)
 
 pub room_grows : (k words more : ℕ) → words ≤ more → room_in k words ≤ room_in k more
@@ -78,7 +79,7 @@ room_grows k words more h =
     omega (arith, mul-le-mul_left {m = words / (k + 1)} {n = more / (k + 1)} (segment_rows k) quotient)
 
 -- more rows take no fewer words
-pub words_more : (k n more : ℕ) → k ≤ 32 → n ≤ more → segments_of k n * (k + 1) ≤ segments_of k more * (k + 1)
+pub words_more : (k n more : ℕ) → k ≤ 32 → n ≤ more → segments_of (segment_rows k) n * (k + 1) ≤ segments_of (segment_rows k) more * (k + 1)
 words_more k n more narrow h =
     let rows = segment_rows k in
     let few : div_ceil n rows ≤ div_ceil more rows =
@@ -150,7 +151,7 @@ module _ (k n row code : ℕ) (words new : List ℕ) (h : AreWords k n words) (l
 
 -- codes put behind the last
 module _ (k n : ℕ) (codes words filled new : List ℕ) (h : AreWords k n words) (few : n + length codes ≤ 2 ^ 24)
-    (same : (i : ℕ) → get_or filled i 0 ≡ get_or words i 0) (len : length new ≡ segments_of k (n + length codes) * (k + 1)) (stored : All (IsStored k) new)
+    (same : (i : ℕ) → get_or filled i 0 ≡ get_or words i 0) (len : length new ≡ segments_of (segment_rows k) (n + length codes) * (k + 1)) (stored : All (IsStored k) new)
     (put : (i : ℕ) → i < length codes → code_in k new (n + i) ≡ get_or codes i 0)
     (other : (j : ℕ) → (n ≤ j → n + length codes ≤ j) → code_in k new j ≡ code_in k filled j) where
   kept : (j : ℕ) → (n ≤ j → n + length codes ≤ j) → code_in k new j ≡ code_in k words j

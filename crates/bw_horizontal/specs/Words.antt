@@ -1,9 +1,9 @@
 -- Codes of k bits as words of sections: unit q * (k + 1) + i is word i of segment q. A section is a code and above it a
 -- delimiter bit, and a word holds as many sections as fit 64 bits, from the low end.
 use Rattle.std.specs.Prelude.{Bool, List, length, min, nat_lt, slice_index, ℕ, ◌%◌, ◌&&◌, ◌*◌, ◌+◌, ◌/◌, ◌==◌, ◌^◌, ◌≡◌, ◌≤◌}
-use Rattle.std.specs.Int.{div_ceil}
 use Rattle.std.specs.List.{All}
 use Rattle.bw_code.specs.Lists.{made}
+use Rattle.bw_code.specs.Units.{segments_of}
 use Rattle.bw_lane.specs.Sections.{IsStored, on, section_of, sections_in}
 
 -- how many rows a segment has
@@ -29,10 +29,6 @@ code_in k units j = section_of k (section_in k j) (slice_index units (word_of k 
 abbrev pub codes_of : ℕ → ℕ → List ℕ → List ℕ
 codes_of k n units = made n (code_in k units)
 
--- how many segments n rows take
-abbrev pub segments_of : ℕ → ℕ → ℕ
-segments_of k n = div_ceil n (segment_rows k)
-
 -- the words of so many segments, in which delimiters and spare bits are 0
 pub record AreSegments (k segments : ℕ) (units : List ℕ) : Type 0 where
   pub count : length units ≡ segments * (k + 1)
@@ -47,7 +43,7 @@ pub record AreWords (k n : ℕ) (words : List ℕ) : Type 0 where
   pub some : 1 ≤ k
   pub narrow : k ≤ 32
   pub few : n ≤ 2 ^ 24
-  pub segments : AreSegments k (segments_of k n) words
+  pub segments : AreSegments k (segments_of (segment_rows k) n) words
   pub clean : (j : ℕ) → n ≤ j → code_in k words j ≡ 0
 
 -- for how many rows so many words have room: whole segments, and at most 2^24 rows

@@ -5,7 +5,8 @@ ghost use Rattle.bw_mask.specs.Masks.{bit_of};
 ghost use Rattle.bw_lane.specs.Sections.{sections_in};
 ghost use Rattle.bw_code.specs.Columns.{code_at, count};
 ghost use Rattle.bw_code.specs.declared.kind.Layout.TheVariants as layouts;
-ghost use Rattle.bw_horizontal.specs.Words.{row_of_bit, segments_of};
+ghost use Rattle.bw_code.specs.Units.{segments_of};
+ghost use Rattle.bw_horizontal.specs.Words.{row_of_bit, segment_rows};
 
 use crate::pair::pair_from;
 use crate::place::Place;
@@ -44,7 +45,7 @@ impl HorizontalColumn {
     /// The words: bit p of section t of word i of segment q is bit p of the code of the row that lies there. Delimiters,
     /// bits above the last section and the places of no row are 0.
     pub fn words(&self) -> &[u64]
-        ensures count { length result.now ≡ segments_of self.now.width (count self.now) * (self.now.width + 1) }
+        ensures count { length result.now ≡ segments_of (segment_rows self.now.width) (count self.now) * (self.now.width + 1) }
         ensures bits { (w p : ℕ) → bit_of (slice_index result.now w) p ≡ (nat_lt p (sections_in self.now.width * (self.now.width + 1)) && bit_of (code_at self.now (row_of_bit self.now.width w p)) (p % (self.now.width + 1))) }
     {
         let HorizontalColumn {

@@ -6,8 +6,8 @@ ghost use Rattle.std.specs.List.{All};
 ghost use Rattle.bw_lane.specs.Sections.{IsStored, holds, on};
 ghost use Rattle.bw_mask.specs.Masks.{SameShape, len, row_at};
 ghost use Rattle.bw_code.specs.Tests.{code_compares};
-ghost use Rattle.bw_code.specs.Units.{by_words, cost_of, side_units};
-ghost use Rattle.bw_horizontal.specs.Words.{AreSegments, code_at, code_in, segment_rows, segments_of};
+ghost use Rattle.bw_code.specs.Units.{by_words, cost_of, segments_of, side_units};
+ghost use Rattle.bw_horizontal.specs.Words.{AreSegments, code_at, code_in, segment_rows};
 
 use crate::gather::{finish, gather};
 use crate::scan::lane_op;
@@ -92,14 +92,14 @@ pub fn pair_from<A: Source<u64>, B: Source<u64>>(
     requires narrow { width ≤ 32 }
     requires few { len need.now ≤ 2 ^ 24 }
     requires out { len out.old ≡ len need.now }
-    requires units { AreSegments width (segments_of width (len need.now)) (A.units a.old) }
-    requires other_units { AreSegments width (segments_of width (len need.now)) (B.units b.old) }
+    requires units { AreSegments width (segments_of (segment_rows width) (len need.now)) (A.units a.old) }
+    requires other_units { AreSegments width (segments_of (segment_rows width) (len need.now)) (B.units b.old) }
     requires reads { A.reads a.old ≤ 2 ^ 62 }
     requires other_reads { B.reads b.old ≤ 2 ^ 62 }
     ensures units { A.units a.new ≡ A.units a.old }
     ensures other_units { B.units b.new ≡ B.units b.old }
-    ensures reads { A.reads a.new ≡ A.reads a.old + side_units (by_words width) (row_at need.now) (code_in width (A.units a.old)) (code_in width (B.units b.old)) (segments_of width (len need.now)) }
-    ensures other_reads { B.reads b.new ≡ B.reads b.old + side_units (by_words width) (row_at need.now) (code_in width (A.units a.old)) (code_in width (B.units b.old)) (segments_of width (len need.now)) }
+    ensures reads { A.reads a.new ≡ A.reads a.old + side_units (by_words width) (row_at need.now) (code_in width (A.units a.old)) (code_in width (B.units b.old)) (segments_of (segment_rows width) (len need.now)) }
+    ensures other_reads { B.reads b.new ≡ B.reads b.old + side_units (by_words width) (row_at need.now) (code_in width (A.units a.old)) (code_in width (B.units b.old)) (segments_of (segment_rows width) (len need.now)) }
     ensures shape { SameShape out.new out.old }
     ensures rows { (j : ℕ) → row_at out.new j ≡ (row_at need.now j && code_compares op (code_in width (A.units a.old) j) (code_in width (B.units b.old) j)) }
 {

@@ -6,8 +6,8 @@ ghost use Rattle.std.specs.List.{All};
 ghost use Rattle.bw_lane.specs.Sections.{IsStored, holds, on};
 ghost use Rattle.bw_mask.specs.Masks.{SameShape, len, row_at};
 ghost use Rattle.bw_code.specs.Tests.{TestFits, code_compares, meets};
-ghost use Rattle.bw_code.specs.Units.{by_words, scan_units, segment_units};
-ghost use Rattle.bw_horizontal.specs.Words.{AreDelimiters, AreSegments, code_at, code_in, segment_rows, segments_of};
+ghost use Rattle.bw_code.specs.Units.{by_words, scan_units, segment_units, segments_of};
+ghost use Rattle.bw_horizontal.specs.Words.{AreDelimiters, AreSegments, code_at, code_in, segment_rows};
 
 use crate::gather::{finish, gather};
 use bw_code::{CmpOp, CodeTest, Source};
@@ -113,10 +113,10 @@ pub fn scan_from<S: Source<u64>>(
     requires test { TestFits width test }
     requires few { len need.now ≤ 2 ^ 24 }
     requires out { len out.old ≡ len need.now }
-    requires units { AreSegments width (segments_of width (len need.now)) (S.units source.old) }
+    requires units { AreSegments width (segments_of (segment_rows width) (len need.now)) (S.units source.old) }
     requires reads { S.reads source.old ≤ 2 ^ 62 }
     ensures units { S.units source.new ≡ S.units source.old }
-    ensures reads { S.reads source.new ≡ S.reads source.old + scan_units (by_words width) test (row_at need.now) (code_in width (S.units source.old)) (segments_of width (len need.now)) }
+    ensures reads { S.reads source.new ≡ S.reads source.old + scan_units (by_words width) test (row_at need.now) (code_in width (S.units source.old)) (segments_of (segment_rows width) (len need.now)) }
     ensures shape { SameShape out.new out.old }
     ensures rows { (j : ℕ) → row_at out.new j ≡ (row_at need.now j && meets test (code_in width (S.units source.old) j)) }
 {

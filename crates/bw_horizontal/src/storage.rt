@@ -3,7 +3,8 @@
 ghost use Rattle.std.specs.Prelude.{All, length, slice_index, vec_capacity, vec_len, ℕ, ◌*◌, ◌+◌, ◌<◌, ◌^◌, ◌≡◌, ◌≤◌};
 ghost use Rattle.bw_lane.specs.Sections.{IsStored};
 ghost use Rattle.bw_code.specs.Columns.{Fit};
-ghost use Rattle.bw_horizontal.specs.Words.{code_in, segments_of, word_of};
+ghost use Rattle.bw_code.specs.Units.{segments_of};
+ghost use Rattle.bw_horizontal.specs.Words.{code_in, segment_rows, word_of};
 
 use crate::place::Place;
 
@@ -14,7 +15,7 @@ const LEAST_IN_RUNS: u32 = 6;
 pub(crate) fn words_for(width: u32, rows: usize) -> usize
     requires narrow { width ≤ 32 }
     requires few { rows ≤ 2 ^ 24 }
-    ensures { result ≡ segments_of width rows * (width + 1) }
+    ensures { result ≡ segments_of (segment_rows width) rows * (width + 1) }
 {
     let words = width as usize + 1;
     rows.div_ceil(words * (64 / words)) * words
@@ -24,10 +25,10 @@ pub(crate) fn words_for(width: u32, rows: usize) -> usize
 pub(crate) fn fill_up(words: &mut Vec<u64>, width: u32, rows: usize)
     requires narrow { width ≤ 32 }
     requires few { rows ≤ 2 ^ 24 }
-    requires most { vec_len words.old ≤ segments_of width rows * (width + 1) }
-    requires room { segments_of width rows * (width + 1) ≤ vec_capacity words.old }
+    requires most { vec_len words.old ≤ segments_of (segment_rows width) rows * (width + 1) }
+    requires room { segments_of (segment_rows width) rows * (width + 1) ≤ vec_capacity words.old }
     ensures capacity { vec_capacity words.old ≤ vec_capacity words.new }
-    ensures len { vec_len words.new ≡ segments_of width rows * (width + 1) }
+    ensures len { vec_len words.new ≡ segments_of (segment_rows width) rows * (width + 1) }
     ensures words { (i : ℕ) → slice_index words.new.items i ≡ slice_index words.old.items i }
 {
     let Ok(()) = words.resize(words_for(width, rows), 0) else {

@@ -8,7 +8,8 @@ use Rattle.std.proofs.lemmas.Nat.{div-mul-add, mod-mul-add}
 use Rattle.bw_mask.specs.Masks.{bit_of, row_in}
 use Rattle.bw_mask.proofs.Bits.{bit_of_zero}
 use Rattle.bw_code.proofs.Lists.{made_at, made_len, made_more, made_set}
-use Rattle.bw_vertical.specs.Planes.{code_in, in_plane, segments_of}
+use Rattle.bw_code.specs.Units.{segments_of}
+use Rattle.bw_vertical.specs.Planes.{code_in, in_plane}
 use Rattle.bw_vertical.specs.Storage.{AreGroups, HasSegment, HoldsUnits, KeepsSizes, code_of, codes_of, is_set, lists, plane_at, planes_in, units_of}
 use Rattle.bw_vertical.proofs.Numbers.{number_bit, number_is, number_lt, number_same}
 
@@ -28,8 +29,8 @@ pub code_same : (k j : ℕ) (new old : List (List (List ℕ))) → ((i : ℕ) �
 code_same k j new old each = number_same (λ i. is_set k new i j) (λ i. is_set k old i j) k each
 
 module _ (k n : ℕ) (gs : List (List (List ℕ))) (held : AreGroups k gs n) where
-  pub has_segment : (q : ℕ) → q < segments_of n → HasSegment k gs q
-  has_segment q h g l = let more : q + 1 ≤ segments_of n = omega arith in omega (arith, held.sizes g l, mul-le-mul_right (planes_in k g) more)
+  pub has_segment : (q : ℕ) → q < segments_of 256 n → HasSegment k gs q
+  has_segment q h g l = let more : q + 1 ≤ segments_of 256 n = omega arith in omega (arith, held.sizes g l, mul-le-mul_right (planes_in k g) more)
 
   -- past the last row every code is 0
   pub codes_at : (j : ℕ) → get_or (codes_of k gs n) j 0 ≡ code_of k gs j
@@ -66,34 +67,34 @@ group_row k q g i r gs low h =
 
 -- the planes as units
 module _ (k n : ℕ) (gs : List (List (List ℕ))) where
-  pub units_len : length (units_of k gs n) ≡ segments_of n * k
-  units_len = made_len (segments_of n * k) (λ u. plane_at k gs (u / k) (u % k))
+  pub units_len : length (units_of k gs n) ≡ segments_of 256 n * k
+  units_len = made_len (segments_of 256 n * k) (λ u. plane_at k gs (u / k) (u % k))
 
-  pub unit_at : (u : ℕ) (d : List ℕ) → u < segments_of n * k → get_or (units_of k gs n) u d ≡ plane_at k gs (u / k) (u % k)
-  unit_at u d h = made_at (segments_of n * k) (λ v. plane_at k gs (v / k) (v % k)) u d h
+  pub unit_at : (u : ℕ) (d : List ℕ) → u < segments_of 256 n * k → get_or (units_of k gs n) u d ≡ plane_at k gs (u / k) (u % k)
+  unit_at u d h = made_at (segments_of 256 n * k) (λ v. plane_at k gs (v / k) (v % k)) u d h
 
-  pub unit_held : (run : List (List ℕ)) (first u : ℕ) (d : List ℕ) → HoldsUnits k gs run first → first ≤ u → u - first < length run → u < segments_of n * k
+  pub unit_held : (run : List (List ℕ)) (first u : ℕ) (d : List ℕ) → HoldsUnits k gs run first → first ≤ u → u - first < length run → u < segments_of 256 n * k
       → get_or run (u - first) [] ≡ get_or (units_of k gs n) u d
   unit_held run first u d held from to h =
       let unit : first + (u - first) ≡ u = omega (arith, from) in
       held (u - first) to ∙ ap (λ v. plane_at k gs (v / k) (v % k)) unit ∙ sym (unit_at u d h)
 
-  pub unit_row : (q i r : ℕ) → q < segments_of n → i < k → r < 256 → row_in (get_or (units_of k gs n) (q * k + i) []) r ≡ is_set k gs i (256 * q + r)
+  pub unit_row : (q i r : ℕ) → q < segments_of 256 n → i < k → r < 256 → row_in (get_or (units_of k gs n) (q * k + i) []) r ≡ is_set k gs i (256 * q + r)
   unit_row q i r within low h =
-      let more : q + 1 ≤ segments_of n = omega (arith, within) in
-      let inside : q * k + i < segments_of n * k = omega (arith, low, mul-le-mul_right k more) in
+      let more : q + 1 ≤ segments_of 256 n = omega (arith, within) in
+      let inside : q * k + i < segments_of 256 n * k = omega (arith, low, mul-le-mul_right k more) in
       ap (λ p. row_in p r) (
       unit_at (q * k + i) [] inside
       ∙ ap (λ s. plane_at k gs s ((q * k + i) % k)) (div-mul-add q k i low)
       ∙ ap (plane_at k gs q) (mod-mul-add q k i low))
       ∙ plane_row k q i r gs h
 
-  plane_is : (i j : ℕ) → i < k → j / 256 < segments_of n → in_plane k (units_of k gs n) i j ≡ is_set k gs i j
+  plane_is : (i j : ℕ) → i < k → j / 256 < segments_of 256 n → in_plane k (units_of k gs n) i j ≡ is_set k gs i j
   plane_is i j low h =
       let row : 256 * (j / 256) + j % 256 ≡ j = omega arith in
       unit_row (j / 256) i (j % 256) h low (omega arith) ∙ ap (is_set k gs i) row
 
-  pub code_in_is : (j : ℕ) → j / 256 < segments_of n → code_in k (units_of k gs n) j ≡ code_of k gs j
+  pub code_in_is : (j : ℕ) → j / 256 < segments_of 256 n → code_in k (units_of k gs n) j ≡ code_of k gs j
   code_in_is j h = number_same (λ i. in_plane k (units_of k gs n) i j) (λ i. is_set k gs i j) k (λ i low. plane_is i j low h)
 
 -- planes side by side without the first m
@@ -138,7 +139,7 @@ held_set k n new old held keeps rest = record {
 }
 
 -- rows are put behind the others
-pub held_more : (k n m : ℕ) (new mid old : List (Vec (List ℕ) Global)) → AreGroups k (lists old) n → m ≤ 2 ^ 24 → segments_of m ≡ n / 256 + 1 → length mid ≡ length old
+pub held_more : (k n m : ℕ) (new mid old : List (Vec (List ℕ) Global)) → AreGroups k (lists old) n → m ≤ 2 ^ 24 → segments_of 256 m ≡ n / 256 + 1 → length mid ≡ length old
     → ((g : ℕ) → 4 * g < k → length (get_or (lists mid) g []) ≡ (n / 256 + 1) * planes_in k g) → KeepsSizes new mid
     → ((i j : ℕ) → i < k → m ≤ j → is_set k (lists new) i j ≡ false) → AreGroups k (lists new) m
 held_more k n m new mid old held few segments count sizes keeps clean = record {

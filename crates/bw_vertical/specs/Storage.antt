@@ -6,7 +6,7 @@ use Rattle.std.specs.Global.{Vec}
 use Rattle.std.specs.Simd.Lanes.{mask_l}
 use Rattle.bw_mask.specs.Masks.{bit_of, rows_of}
 use Rattle.bw_code.specs.Lists.{made}
-use Rattle.bw_vertical.specs.Planes.{segments_of}
+use Rattle.bw_code.specs.Units.{segments_of}
 
 -- how many groups k planes make, and how many planes group g has
 abbrev pub groups_of : ℕ → ℕ
@@ -41,7 +41,7 @@ pub record AreGroups (k : ℕ) (groups : List (List (List ℕ))) (n : ℕ) : Typ
   pub narrow : k ≤ 64
   pub few : n ≤ 2 ^ 24
   pub count : length groups ≡ groups_of k
-  pub sizes : (g : ℕ) → 4 * g < k → length (slice_index_or groups g []) ≡ segments_of n * planes_in k g
+  pub sizes : (g : ℕ) → 4 * g < k → length (slice_index_or groups g []) ≡ segments_of 256 n * planes_in k g
   pub clean : (i j : ℕ) → i < k → n ≤ j → is_set k groups i j ≡ false
 
 -- what the vectors hold, and for how many planes each has capacity
@@ -74,13 +74,9 @@ blended rows new old = bit_or (bit_and old (2 ^ 64 - 1 - rows)) (bit_and new row
 abbrev pub codes_of : ℕ → List (List (List ℕ)) → ℕ → List ℕ
 codes_of k groups n = made n (code_of k groups)
 
--- the planes as units of a scan, and how many of them were read
+-- the planes as units of a scan
 abbrev pub units_of : ℕ → List (List (List ℕ)) → ℕ → List (List ℕ)
-units_of k groups n = made (segments_of n * k) (λ u. plane_at k groups (u / k) (u % k))
-
-pub record PlanesRead : Type 0 where
-  pub units : List (List ℕ)
-  pub reads : ℕ
+units_of k groups n = made (segments_of 256 n * k) (λ u. plane_at k groups (u / k) (u % k))
 
 -- these are units first, first + 1, ..
 abbrev pub HoldsUnits : ℕ → List (List (List ℕ)) → List (List ℕ) → ℕ → Type 0

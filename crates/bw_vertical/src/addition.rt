@@ -5,10 +5,10 @@ ghost use Rattle.std.specs.Prelude.{if◌then◌else◌, length, min, nat_le, na
 ghost use Rattle.bw_mask.specs.Masks.{SameShape, bit_of, len, row_at, row_in};
 ghost use Rattle.bw_code.specs.Choosing.{by_masks};
 ghost use Rattle.bw_code.specs.Tests.{code_compares, int_compares};
-ghost use Rattle.bw_code.specs.Units.{some_below};
+ghost use Rattle.bw_code.specs.Units.{segments_of, some_below};
 ghost use Rattle.bw_code.specs.declared.compare.CmpOp.{CmpOp as Op};
 ghost use Rattle.bw_vertical.specs.Carries.{AreCompared};
-ghost use Rattle.bw_vertical.specs.Planes.{code_in, segments_of};
+ghost use Rattle.bw_vertical.specs.Planes.{code_in};
 
 use crate::rows::{both, differing, either, lanes_at, put_lanes, without};
 use crate::scan::chosen;
@@ -262,14 +262,14 @@ pub fn add_from<A: Source<[u64; 4]>, B: Source<[u64; 4]>>(
     requires other_narrow { right.width ≤ 64 }
     requires few { len need.now ≤ 2 ^ 24 }
     requires out { len out.old ≡ len need.now }
-    requires units { length (A.units a.old) ≡ segments_of (len need.now) * left.width }
-    requires other_units { length (B.units b.old) ≡ segments_of (len need.now) * right.width }
+    requires units { length (A.units a.old) ≡ segments_of 256 (len need.now) * left.width }
+    requires other_units { length (B.units b.old) ≡ segments_of 256 (len need.now) * right.width }
     requires reads { A.reads a.old ≤ 2 ^ 62 }
     requires other_reads { B.reads b.old ≤ 2 ^ 62 }
     ensures units { A.units a.new ≡ A.units a.old }
     ensures other_units { B.units b.new ≡ B.units b.old }
-    ensures reads { A.reads a.new ≡ A.reads a.old + (if some_below (len need.now) (row_at need.now) then segments_of (len need.now) * left.width else 0) }
-    ensures other_reads { B.reads b.new ≡ B.reads b.old + (if some_below (len need.now) (row_at need.now) then segments_of (len need.now) * right.width else 0) }
+    ensures reads { A.reads a.new ≡ A.reads a.old + (if some_below (len need.now) (row_at need.now) then segments_of 256 (len need.now) * left.width else 0) }
+    ensures other_reads { B.reads b.new ≡ B.reads b.old + (if some_below (len need.now) (row_at need.now) then segments_of 256 (len need.now) * right.width else 0) }
     ensures shape { SameShape out.new out.old }
     ensures rows { (i : ℕ) → row_at out.new i ≡ (row_at need.now i
         && int_compares op (left.base +ℤ pos (code_in left.width (A.units a.old) i)) (right.base +ℤ pos (code_in right.width (B.units b.old) i))) }

@@ -4,7 +4,7 @@ ghost use Rattle.std.specs.Prelude.{All, [], cond, false, length, slice_index, s
 ghost use Rattle.bw_mask.specs.Masks.{bit_of};
 ghost use Rattle.bw_vertical.specs.Storage.{HasSegment, KeepsSizes, code_of, groups_of, is_set, lists};
 
-use crate::bytes::{codes_of_words, put_codes};
+use crate::bytes::{codes_of_words, halves_of_words, put_codes};
 use crate::storage::{add_words, take_planes};
 
 /// The codes of rows 64 w to 64 w + 63, of at most 32 bits.
@@ -31,10 +31,7 @@ fn halves_at(groups: &[Vec<[u64; 4]>], k: usize, w: usize) -> ([u32; 64], [u32; 
 {
     let mut words = [0; 64];
     take_planes(groups, k, w, &mut words);
-    (
-        codes_of_words(&words, 32),
-        codes_of_words(&words[32..], k - 32),
-    )
+    halves_of_words(&words, k)
 }
 
 /// Copies n numbers from a place of a block to a place of `out`.

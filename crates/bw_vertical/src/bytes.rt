@@ -154,18 +154,16 @@ fn joined(bytes: &[[u8; 64]; 4]) -> [u32; 64]
 }
 
 /// The codes of at most 8 bits of which these are the words.
-fn codes_of_byte(words: &[u64]) -> [u32; 64]
-    requires long { 8 ≤ length words.now }
-    requires rest { (b : ℕ) → 8 ≤ b → b < 32 → slice_index words.now b ≡ 0 }
+fn codes_of_byte(words: &[u64; 32]) -> [u32; 64]
+    requires { (b : ℕ) → 8 ≤ b → b < 32 → slice_index words.now b ≡ 0 }
     ensures bits { (r b : ℕ) → r < 64 → b < 32 → bit_of (slice_index result r) b ≡ bit_of (slice_index words.now b) r }
     ensures fit { (r : ℕ) → r < 64 → slice_index result r < 2 ^ 32 }
 {
     widened(&bytes_of_words(words))
 }
 
-/// The codes of k bits of which the first 32 of these are the words.
-pub fn codes_of_words(words: &[u64], k: usize) -> [u32; 64]
-    requires long { 32 ≤ length words.now }
+/// The codes of k bits of which these are the words. They are quicker to turn where their number is known.
+pub fn codes_of_words(words: &[u64; 32], k: usize) -> [u32; 64]
     requires narrow { k ≤ 32 }
     requires rest { (b : ℕ) → k ≤ b → b < 32 → slice_index words.now b ≡ 0 }
     ensures bits { (r b : ℕ) → r < 64 → b < 32 → bit_of (slice_index result r) b ≡ bit_of (slice_index words.now b) r }
@@ -179,4 +177,21 @@ pub fn codes_of_words(words: &[u64], k: usize) -> [u32; 64]
         bytes[j] = bytes_of_words(&words[8 * j..]);
     }
     joined(&bytes)
+}
+
+/// The codes of k bits of which these are the words, in halves: the 32 lowest bits of each code, and those above them.
+pub fn halves_of_words(words: &[u64; 64], k: usize) -> ([u32; 64], [u32; 64])
+    requires wide { 32 ≤ k }
+    requires narrow { k ≤ 64 }
+    requires rest { (b : ℕ) → k ≤ b → b < 64 → slice_index words.now b ≡ 0 }
+    ensures low { (r b : ℕ) → r < 64 → b < 32 → bit_of (slice_index result.0 r) b ≡ bit_of (slice_index words.now b) r }
+    ensures high { (r b : ℕ) → r < 64 → b < 32 → bit_of (slice_index result.1 r) b ≡ bit_of (slice_index words.now (32 + b)) r }
+    ensures low_fit { (r : ℕ) → r < 64 → slice_index result.0 r < 2 ^ 32 }
+    ensures high_fit { (r : ℕ) → r < 64 → slice_index result.1 r < 2 ^ 32 }
+{
+    let (halves, _) = words.as_chunks::<32>();
+    (
+        codes_of_words(&halves[0], 32),
+        codes_of_words(&halves[1], k - 32),
+    )
 }

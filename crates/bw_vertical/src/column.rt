@@ -5,7 +5,8 @@ ghost use Rattle.bw_mask.specs.Masks.{bit_of, len, row_at, row_in};
 ghost use Rattle.bw_code.specs.Columns.{code_at, count, Fit, KeepsShape};
 ghost use Rattle.bw_code.specs.Shifts.{StaysBelow, shifted};
 ghost use Rattle.bw_code.specs.declared.kind.Layout.TheVariants as layouts;
-ghost use Rattle.bw_vertical.specs.Planes.{code_in, segments_of};
+ghost use Rattle.bw_code.specs.Units.{segments_of};
+ghost use Rattle.bw_vertical.specs.Planes.{code_in};
 ghost use Rattle.bw_vertical.specs.Storage.{groups_of, planes_in};
 
 use crate::growing::{begin_segment, empty_groups, reserve_segments};
@@ -46,7 +47,7 @@ impl VerticalColumn {
     #[tactic(auto, using(crate::proofs::Holding::codes_len))]
     pub fn group(&self, g: usize) -> &[[u64; 4]]
         requires { g < groups_of self.now.width }
-        ensures count { length result.now ≡ segments_of (count self.now) * planes_in self.now.width g }
+        ensures count { length result.now ≡ segments_of 256 (count self.now) * planes_in self.now.width g }
         ensures rows { (q i r : ℕ) → i < planes_in self.now.width g → r < 256
             → row_in (slice_index_or result.now (q * planes_in self.now.width g + i) []) r ≡ bit_of (code_at self.now (256 * q + r)) (self.now.width - 1 - (4 * g + i)) }
     {
@@ -61,10 +62,10 @@ impl VerticalColumn {
     /// The planes as units that are read one at a time, none of them read yet: unit q * width + i is plane i of segment q.
     #[tactic(auto, using(crate::proofs::Holding::codes_len))]
     pub fn planes(&self) -> PlaneSource<'_>
-        ensures units { length result.units ≡ segments_of (count self.now) * self.now.width }
-        ensures rows { (q i r : ℕ) → q < segments_of (count self.now) → i < self.now.width → r < 256
+        ensures units { length result.units ≡ segments_of 256 (count self.now) * self.now.width }
+        ensures rows { (q i r : ℕ) → q < segments_of 256 (count self.now) → i < self.now.width → r < 256
             → row_in (slice_index_or result.units (q * self.now.width + i) []) r ≡ bit_of (code_at self.now (256 * q + r)) (self.now.width - 1 - i) }
-        ensures codes { (j : ℕ) → j / 256 < segments_of (count self.now) → code_in self.now.width result.units j ≡ code_at self.now j }
+        ensures codes { (j : ℕ) → j / 256 < segments_of 256 (count self.now) → code_in self.now.width result.units j ≡ code_at self.now j }
         ensures none { result.reads ≡ 0 }
     {
         PlaneSource::new(&self.groups, self.width, self.len)

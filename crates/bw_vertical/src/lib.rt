@@ -18,7 +18,7 @@ mod storage;
 
 pub use addition::add_from;
 pub use blocks::{plane_words, wide_plane_words};
-pub use bytes::codes_of_words;
+pub use bytes::{codes_of_words, halves_of_words};
 pub use column::VerticalColumn;
 pub use pair::pair_from;
 pub use scan::scan_from;

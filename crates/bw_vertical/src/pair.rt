@@ -4,8 +4,8 @@
 ghost use Rattle.std.specs.Prelude.{[], if◌then◌else◌, length, nat_lt, not, true, slice_index_or, ℕ, ◌&&◌, ◌*◌, ◌+◌, ◌<◌, ◌==◌, ◌^◌, ◌||◌, ◌≡◌, ◌≤◌};
 ghost use Rattle.bw_mask.specs.Masks.{SameShape, len, row_at, row_in};
 ghost use Rattle.bw_code.specs.Tests.{code_compares};
-ghost use Rattle.bw_code.specs.Units.{agreement, by_planes, cost_of, side_units, some_below};
-ghost use Rattle.bw_vertical.specs.Planes.{code_in, segments_of};
+ghost use Rattle.bw_code.specs.Units.{agreement, by_planes, cost_of, segments_of, side_units, some_below};
+ghost use Rattle.bw_vertical.specs.Planes.{code_in};
 
 use crate::rows::{is_empty, lanes_at, put_lanes};
 use crate::scan::chosen;
@@ -134,14 +134,14 @@ pub fn pair_from<A: Source<[u64; 4]>, B: Source<[u64; 4]>>(
     requires narrow { width ≤ 64 }
     requires few { len need.now ≤ 2 ^ 24 }
     requires out { len out.old ≡ len need.now }
-    requires units { length (A.units a.old) ≡ segments_of (len need.now) * width }
-    requires other_units { length (B.units b.old) ≡ segments_of (len need.now) * width }
+    requires units { length (A.units a.old) ≡ segments_of 256 (len need.now) * width }
+    requires other_units { length (B.units b.old) ≡ segments_of 256 (len need.now) * width }
     requires reads { A.reads a.old ≤ 2 ^ 62 }
     requires other_reads { B.reads b.old ≤ 2 ^ 62 }
     ensures units { A.units a.new ≡ A.units a.old }
     ensures other_units { B.units b.new ≡ B.units b.old }
-    ensures reads { A.reads a.new ≡ A.reads a.old + side_units (by_planes width) (row_at need.now) (code_in width (A.units a.old)) (code_in width (B.units b.old)) (segments_of (len need.now)) }
-    ensures other_reads { B.reads b.new ≡ B.reads b.old + side_units (by_planes width) (row_at need.now) (code_in width (A.units a.old)) (code_in width (B.units b.old)) (segments_of (len need.now)) }
+    ensures reads { A.reads a.new ≡ A.reads a.old + side_units (by_planes width) (row_at need.now) (code_in width (A.units a.old)) (code_in width (B.units b.old)) (segments_of 256 (len need.now)) }
+    ensures other_reads { B.reads b.new ≡ B.reads b.old + side_units (by_planes width) (row_at need.now) (code_in width (A.units a.old)) (code_in width (B.units b.old)) (segments_of 256 (len need.now)) }
     ensures shape { SameShape out.new out.old }
     ensures rows { (i : ℕ) → row_at out.new i ≡ (row_at need.now i && code_compares op (code_in width (A.units a.old) i) (code_in width (B.units b.old) i)) }
 {

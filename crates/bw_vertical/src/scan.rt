@@ -3,9 +3,9 @@
 ghost use Rattle.std.specs.Prelude.{[], if◌then◌else◌, length, max, nat_le, nat_lt, not, true, slice_index_or, ℕ, ◌%◌, ◌&&◌, ◌*◌, ◌+◌, ◌-◌, ◌<◌, ◌==◌, ◌^◌, ◌||◌, ◌≡◌, ◌≤◌};
 ghost use Rattle.bw_mask.specs.Masks.{SameShape, bit_of, len, row_at, row_in};
 ghost use Rattle.bw_code.specs.Tests.{TestFits, meets};
-ghost use Rattle.bw_code.specs.Units.{agreement, by_planes, cost_of, scan_units, segment_units, some_below};
+ghost use Rattle.bw_code.specs.Units.{agreement, by_planes, cost_of, scan_units, segment_units, segments_of, some_below};
 ghost use Rattle.bw_code.specs.Choosing.{by_masks};
-ghost use Rattle.bw_vertical.specs.Planes.{code_in, segments_of};
+ghost use Rattle.bw_vertical.specs.Planes.{code_in};
 
 use crate::rows::{either, is_empty, lanes_at, put_lanes, without};
 use bw_code::{CmpOp, CodeTest, Source};
@@ -254,10 +254,10 @@ pub fn scan_from<S: Source<[u64; 4]>>(
     requires test { TestFits width test }
     requires few { len need.now ≤ 2 ^ 24 }
     requires out { len out.old ≡ len need.now }
-    requires units { length (S.units source.old) ≡ segments_of (len need.now) * width }
+    requires units { length (S.units source.old) ≡ segments_of 256 (len need.now) * width }
     requires reads { S.reads source.old ≤ 2 ^ 62 }
     ensures units { S.units source.new ≡ S.units source.old }
-    ensures reads { S.reads source.new ≡ S.reads source.old + scan_units (by_planes width) test (row_at need.now) (code_in width (S.units source.old)) (segments_of (len need.now)) }
+    ensures reads { S.reads source.new ≡ S.reads source.old + scan_units (by_planes width) test (row_at need.now) (code_in width (S.units source.old)) (segments_of 256 (len need.now)) }
     ensures shape { SameShape out.new out.old }
     ensures rows { (i : ℕ) → row_at out.new i ≡ (row_at need.now i && meets test (code_in width (S.units source.old) i)) }
 {

@@ -174,7 +174,8 @@ pub struct PlaneSource<'a> {
 }
 
 impl<'a> Model for PlaneSource<'a> {
-    ghost use Rattle.bw_vertical.specs.Storage.{IsInPlace, PlanesRead, lists, units_of};
+    ghost use Rattle.bw_code.specs.Units.{PlanesRead};
+    ghost use Rattle.bw_vertical.specs.Storage.{IsInPlace, lists, units_of};
 
     ghost Value = { PlanesRead };
 

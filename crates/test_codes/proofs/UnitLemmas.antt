@@ -106,32 +106,32 @@ module _ (layout : Layout) (width n : ℕ) (needed : ℕ → Bool) (codes : List
 
   pub units_of_none : units_of_scan layout width None needed codes ≡ 0
   unfolding units_of_scan
-  units_of_none = no_units (segments_of cut (length codes))
+  units_of_none = no_units (segments_of cut.rows (length codes))
 
   pub units_of_all : units_of_scan layout width All needed codes ≡ 0
   unfolding units_of_scan
-  units_of_all = no_units (segments_of cut (length codes))
+  units_of_all = no_units (segments_of cut.rows (length codes))
 
   -- a comparison costs what the range from its constant to its constant does
   pub units_of_cmp : (op : CmpOp) (constant : ℕ) → units_of_scan layout width (Cmp op constant) needed codes ≡ units_of_scan layout width (Range constant constant) needed codes
   unfolding units_of_scan
   units_of_cmp op constant =
       let agreed : ℕ → ℕ = λ i. cut.agree (slice_index codes i) constant in
-      costs_same cut (segments_of cut (length codes)) needed agreed (λ i. max (agreed i) (agreed i)) (λ i e. sym (max_same (agreed i)))
+      costs_same cut (segments_of cut.rows (length codes)) needed agreed (λ i. max (agreed i) (agreed i)) (λ i e. sym (max_same (agreed i)))
 
   pub units_of_range : (low high : ℕ) (agreed : ℕ → ℕ) → length codes ≡ n → ((i : ℕ) → needed i ≡ true → agreed i ≡ max (cut.agree (slice_index codes i) low) (cut.agree (slice_index codes i) high))
-      → sum_below (segments_of cut n) (λ q. cost_of cut (λ j. needed (cut.rows * q + j)) (λ j. agreed (cut.rows * q + j))) ≡ units_of_scan layout width (Range low high) needed codes
+      → sum_below (segments_of cut.rows n) (λ q. cost_of cut (λ j. needed (cut.rows * q + j)) (λ j. agreed (cut.rows * q + j))) ≡ units_of_scan layout width (Range low high) needed codes
   unfolding units_of_scan
   units_of_range low high agreed same each =
-      ap (λ m. sum_below (segments_of cut m) (λ q. cost_of cut (λ j. needed (cut.rows * q + j)) (λ j. agreed (cut.rows * q + j)))) (sym same)
-      ∙ costs_same cut (segments_of cut (length codes)) needed agreed (λ i. max (cut.agree (slice_index codes i) low) (cut.agree (slice_index codes i) high)) each
+      ap (λ m. sum_below (segments_of cut.rows m) (λ q. cost_of cut (λ j. needed (cut.rows * q + j)) (λ j. agreed (cut.rows * q + j)))) (sym same)
+      ∙ costs_same cut (segments_of cut.rows (length codes)) needed agreed (λ i. max (cut.agree (slice_index codes i) low) (cut.agree (slice_index codes i) high)) each
 
   pub units_of_two : (others : List ℕ) (agreed : ℕ → ℕ) → length codes ≡ n → ((i : ℕ) → needed i ≡ true → agreed i ≡ cut.agree (slice_index codes i) (slice_index others i))
-      → 2 * sum_below (segments_of cut n) (λ q. cost_of cut (λ j. needed (cut.rows * q + j)) (λ j. agreed (cut.rows * q + j))) ≡ units_of_pair layout width needed codes others
+      → 2 * sum_below (segments_of cut.rows n) (λ q. cost_of cut (λ j. needed (cut.rows * q + j)) (λ j. agreed (cut.rows * q + j))) ≡ units_of_pair layout width needed codes others
   unfolding units_of_pair
   units_of_two others agreed same each =
-      ap (λ m. 2 * sum_below (segments_of cut m) (λ q. cost_of cut (λ j. needed (cut.rows * q + j)) (λ j. agreed (cut.rows * q + j)))) (sym same)
-      ∙ ap (λ x. 2 * x) (costs_same cut (segments_of cut (length codes)) needed agreed (λ i. cut.agree (slice_index codes i) (slice_index others i)) each)
+      ap (λ m. 2 * sum_below (segments_of cut.rows m) (λ q. cost_of cut (λ j. needed (cut.rows * q + j)) (λ j. agreed (cut.rows * q + j)))) (sym same)
+      ∙ ap (λ x. 2 * x) (costs_same cut (segments_of cut.rows (length codes)) needed agreed (λ i. cut.agree (slice_index codes i) (slice_index others i)) each)
 
 module _ (width other n : ℕ) (needed : ℕ → Bool) where
   pub addition_of_some : some_below n needed ≡ true → units_of_addition width other needed n ≡ (width + other) * div_ceil n 256

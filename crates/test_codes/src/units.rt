@@ -128,7 +128,7 @@ fn column_units(layout: Layout, width: u32, need: &Mask, agreed: &[u64]) -> u64
     requires rows { 1 ≤ (segmentation layout width).rows }
     requires few { len need.now ≤ 2 ^ 24 }
     requires agreed { length agreed.now ≡ len need.now }
-    ensures units { result ≡ (let cut = segmentation layout width in sum_below (segments_of cut (len need.now)) (λ q. cost_of cut (λ j. row_at need.now (cut.rows * q + j)) (λ j. slice_index agreed.now (cut.rows * q + j)))) }
+    ensures units { result ≡ (let cut = segmentation layout width in sum_below (segments_of cut.rows (len need.now)) (λ q. cost_of cut (λ j. row_at need.now (cut.rows * q + j)) (λ j. slice_index agreed.now (cut.rows * q + j)))) }
     ensures most { result ≤ 2 ^ 40 }
 {
     let mut units = 0;

@@ -1,6 +1,7 @@
 //! The planes of slices, compared with the bits of the codes.
 
 ghost use Rattle.std.specs.Prelude.{length, ◌*◌, ◌+◌, ◌/◌, ◌<◌, ◌≡◌, ◌≤◌};
+ghost use Rattle.bw_code.specs.Units.{segments_of};
 
 use crate::codes::{code_at, codes_of, column_of};
 use crate::seen::{see, see_at};
@@ -35,7 +36,7 @@ fn count_of_planes(column: &SliceColumn) -> usize
     requires narrow { column.now.width ≤ 64 }
     requires some_rows { 1 ≤ length column.now.codes }
     requires few_rows { length column.now.codes ≤ 1000 }
-    ensures planes { result ≡ (length column.now.codes + 255) / 256 * column.now.width }
+    ensures planes { result ≡ segments_of 256 (length column.now.codes) * column.now.width }
     ensures some { 1 ≤ result }
     ensures few { result ≤ 256 }
 {

@@ -2,10 +2,10 @@ use Rattle.std.proofs.Common.{Bool, ap, arith, false, length, refl, ℕ, ◌&&�
 use Rattle.std.proofs.lemmas.List.{get_or_past}
 use Rattle.bw_mask.specs.Masks.{bit_of, len, row_at}
 use Rattle.bw_code.specs.Tests.{meets}
-use Rattle.bw_code.specs.Units.{segment_units}
+use Rattle.bw_code.specs.Units.{segment_units, segments_of}
 use Rattle.bw_code.proofs.Reach.{sum_none}
 use Rattle.bw_code.proofs.UnitLemmas.{segment_none, segment_same}
-use Rattle.bw_byteslice.specs.Slices.{by_bytes, number_in, segments_of}
+use Rattle.bw_byteslice.specs.Slices.{by_bytes, number_in}
 use Rattle.bw_byteslice.proofs.Words.{halves_found, none_past, segment_there, sum_by_twos, sum_two_more, word_put, word_row}
 use Rattle.bw_byteslice.proofs.scan.scan_numbers.Goals as goal
 
@@ -70,6 +70,6 @@ returns-clause-reads g c =
     let need = row_at c.args.need.now in
     let cost : ℕ → ℕ = λ p. segment_units (by_bytes m) test (λ r. need (32 * p + r)) (λ r. number_in m units (32 * p + r)) in
     let past : (j : ℕ) → n ≤ j → need j ≡ false = λ j h. get_or_past c.args.need.now.rows j false h in
-    let last : segments_of n < 2 * c.loop-w.w → cost (segments_of n) ≡ 0 = λ _.
-    segment_none (by_bytes m) test (λ r. need (32 * segments_of n + r)) (λ r. number_in m units (32 * segments_of n + r)) (none_past n (segments_of n) (λ r. need (32 * segments_of n + r)) need (λ r h. refl) past (omega arith)) in
+    let last : segments_of 32 n < 2 * c.loop-w.w → cost (segments_of 32 n) ≡ 0 = λ _.
+    segment_none (by_bytes m) test (λ r. need (32 * segments_of 32 n + r)) (λ r. number_in m units (32 * segments_of 32 n + r)) (none_past n (segments_of 32 n) (λ r. need (32 * segments_of 32 n + r)) need (λ r h. refl) past (omega arith)) in
     omega (arith, c.loop-w.invariant.reads, sum_by_twos n c.loop-w.w cost (omega (arith, c.words-words.ensures.count, c.loop-w-test.false, c.loop-w.auto.w-end)) last)

@@ -5,10 +5,10 @@ use Rattle.std.proofs.Math.Nat.{mul-le-mul_right}
 use Rattle.bw_mask.specs.Masks.{len, row_at}
 use Rattle.bw_lane.specs.Sections.{on}
 use Rattle.bw_code.specs.Tests.{code_compares}
-use Rattle.bw_code.specs.Units.{by_words, cost_of}
+use Rattle.bw_code.specs.Units.{by_words, cost_of, segments_of}
 use Rattle.bw_code.proofs.Reach.{sum_more, sum_none}
 use Rattle.bw_code.proofs.UnitLemmas.{cost_same}
-use Rattle.bw_horizontal.specs.Words.{code_at, code_in, segment_rows, segments_of}
+use Rattle.bw_horizontal.specs.Words.{code_at, code_in, segment_rows}
 use Rattle.bw_horizontal.specs.Gathering.{AreGathered}
 use Rattle.bw_horizontal.proofs.Costs.{words_most}
 use Rattle.bw_horizontal.proofs.Gathered.{none_gathered}
@@ -83,13 +83,13 @@ loop-q-preserved g c =
 pub returns-clause-reads : goal.returns-clause-reads
 returns-clause-reads g c =
     let count = c.div_ceil-segments.ensures ∙ ap (λ n. div_ceil n (segment_rows c.args.width)) c.len.ensures.rows in
-    let all : c.loop-q.q ≡ segments_of c.args.width (len c.args.need.now) = omega (arith, count, c.loop-q-test.false) in
+    let all : c.loop-q.q ≡ segments_of (segment_rows c.args.width) (len c.args.need.now) = omega (arith, count, c.loop-q-test.false) in
     rw all at c.loop-q.invariant.reads
 
 pub returns-clause-other_reads : goal.returns-clause-other_reads
 returns-clause-other_reads g c =
     let count = c.div_ceil-segments.ensures ∙ ap (λ n. div_ceil n (segment_rows c.args.width)) c.len.ensures.rows in
-    let all : c.loop-q.q ≡ segments_of c.args.width (len c.args.need.now) = omega (arith, count, c.loop-q-test.false) in
+    let all : c.loop-q.q ≡ segments_of (segment_rows c.args.width) (len c.args.need.now) = omega (arith, count, c.loop-q-test.false) in
     rw all at c.loop-q.invariant.other_reads
 
 pub returns-clause-rows : goal.returns-clause-rows

@@ -4,9 +4,9 @@ use Rattle.std.proofs.lemmas.Int.{to_z-of_z}
 use Rattle.std.proofs.lemmas.List.{get_or_past}
 use Rattle.bw_mask.specs.Masks.{len, row_at, row_in}
 use Rattle.bw_code.specs.Tests.{code_compares, int_compares}
-use Rattle.bw_code.specs.Units.{some_below}
+use Rattle.bw_code.specs.Units.{segments_of, some_below}
 use Rattle.bw_code.proofs.Reach.{none_if}
-use Rattle.bw_vertical.specs.Planes.{code_in, segments_of}
+use Rattle.bw_vertical.specs.Planes.{code_in}
 use Rattle.bw_vertical.proofs.Sums.{by_sums, some_row}
 use Rattle.bw_vertical.proofs.addition.add_from.Given.{Over}
 use Rattle.bw_vertical.proofs.addition.add_from.Goals as goal
@@ -74,7 +74,7 @@ loop-q-preserved g c =
 some : (g : Over) (c : goal.After-loop-q g) → some_below (len c.args.need.now) (row_at c.args.need.now) ≡ true
 some g c = some_row c.args.need.now.rows (sym c.any.ensures.rows ∙ c.if-not-any.false)
 
-end : (g : Over) (c : goal.After-loop-q g) → c.loop-q.q ≡ segments_of (len c.args.need.now)
+end : (g : Over) (c : goal.After-loop-q g) → c.loop-q.q ≡ segments_of 256 (len c.args.need.now)
 end g c = omega (arith, c.loop-q-test.false, c.loop-q.auto.q-end, c.div_ceil-q-end.ensures, c.len.ensures.rows)
 
 pub returns-clause-reads : goal.returns-clause-reads

@@ -13,7 +13,7 @@ returns-clause-bits c r b h l =
       | inl p ↦ c.bytes_of_words.ensures.bits r b h p
       | inr p ↦
           ap (λ x. x == 1) (bit_at_above byte 8 b (c.bytes_of_words.ensures.fit r) p)
-          ∙ sym (ap (λ x. bit_of x r) (c.requires.rest b p l) ∙ bit_of_zero r)
+          ∙ sym (ap (λ x. bit_of x r) (c.requires b p l) ∙ bit_of_zero r)
     ]
 
 pub returns-clause-fit : goal.returns-clause-fit

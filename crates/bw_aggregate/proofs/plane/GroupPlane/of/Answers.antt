@@ -1,7 +1,7 @@
 use Rattle.std.proofs.Common.{[], ap, arith, get_or, sym, ◌%◌, ◌*◌, ◌+◌, ◌-◌, ◌/◌, ◌<◌, ◌≡◌, ◌∙◌}
 use Rattle.bw_mask.specs.Masks.{bit_of, row_in}
 use Rattle.bw_code.specs.Columns.{code_at, count}
-use Rattle.bw_vertical.specs.Planes.{segments_of}
+use Rattle.bw_code.specs.Units.{segments_of}
 use Rattle.bw_vertical.specs.Storage.{planes_in}
 use Rattle.bw_aggregate.proofs.plane.GroupPlane.of.Goals as goal
 
@@ -14,7 +14,7 @@ returns c =
     let within : i % 4 < m = omega (arith, c.requires.within) in
     let bit : codes.width - 1 - (4 * (i / 4) + i % 4) ≡ codes.width - 1 - i = omega arith in
     record {
-      long = c.group.ensures.count ∙ ap (λ n. segments_of (count codes) * n) (sym many);
+      long = c.group.ensures.count ∙ ap (λ n. segments_of 256 (count codes) * n) (sym many);
       inside = omega (arith, within, many);
       rows = λ q j h.
           ap (λ n. row_in (get_or c.group.result.now (q * n + i % 4) []) j) many

@@ -1,7 +1,8 @@
 use Rattle.std.proofs.Common.{ap, arith, get_or, length, sym, ◌*◌, ◌+◌, ◌-◌, ◌/◌, ◌%◌, ◌<◌, ◌≡◌, ◌∙◌}
 use Rattle.std.proofs.lemmas.List.{get_or_past}
 use Rattle.bw_mask.specs.Masks.{bit_of}
-use Rattle.bw_byteslice.specs.Slices.{segments_of, shift_of, slices_of}
+use Rattle.bw_code.specs.Units.{segments_of}
+use Rattle.bw_byteslice.specs.Slices.{shift_of, slices_of}
 use Rattle.bw_byteslice.proofs.Planes.{bit_of_byte, digit_of_none}
 use Rattle.bw_byteslice.proofs.Views.{count_is, slice_bytes, slice_len, slices_count, width_is}
 use Rattle.bw_byteslice.proofs.column.SliceColumnCodeColumn.plane.Goals as goal
@@ -12,7 +13,7 @@ put_rows-requires-clause-few c = omega (arith, count_is c.self.inside.width c.se
 pub put_rows-requires-clause-long : goal.put_rows-requires-clause-long
 put_rows-requires-clause-long c =
     let low : c.len.result - 1 - (c.args.i + c.shift_of.result) / 8 < slices_of c.self.inside.width = omega (arith, slices_count c.self.inside.width c.self.inside.len c.self.inside.slices.items c.args.self.now c.self.invariant c.self.view_is, c.len.ensures, c.self.invariant.some) in
-    ap length c.deref.ensures.value ∙ slice_len c.self.inside.width c.self.inside.len c.self.inside.slices.items c.args.self.now c.self.invariant c.self.view_is _ c.index-slice.result.now low c.index-slice.ensures ∙ ap (λ n. 32 * segments_of n) (sym c.requires.out)
+    ap length c.deref.ensures.value ∙ slice_len c.self.inside.width c.self.inside.len c.self.inside.slices.items c.args.self.now c.self.invariant c.self.view_is _ c.index-slice.result.now low c.index-slice.ensures ∙ ap (λ n. 32 * segments_of 32 n) (sym c.requires.out)
 
 pub put_rows-requires-clause-clean : goal.put_rows-requires-clause-clean
 put_rows-requires-clause-clean c r past =

@@ -1,9 +1,9 @@
 use Rattle.std.proofs.Common.{ap, arith, get_or, length, subst, sym, ◌&&◌, ◌*◌, ◌≡◌, ◌∙◌}
 use Rattle.bw_mask.specs.Masks.{len, row_at}
 use Rattle.bw_code.specs.Tests.{code_compares}
-use Rattle.bw_code.specs.Units.{by_slices, side_units, units_of_pair}
+use Rattle.bw_code.specs.Units.{by_slices, segments_of, side_units, units_of_pair}
 use Rattle.bw_code.specs.declared.kind.Layout.TheVariants.{S}
-use Rattle.bw_byteslice.specs.Slices.{AreStored, code_in, segments_of, slices_of}
+use Rattle.bw_byteslice.specs.Slices.{AreStored, code_in, slices_of}
 use Rattle.bw_byteslice.specs.Storing.{bytes_of, units_of}
 use Rattle.bw_byteslice.proofs.InUnits.{code_here, stored_len, stored_units}
 use Rattle.bw_byteslice.proofs.Scanned.{pair_units_are}
@@ -17,14 +17,14 @@ pub pair_from-requires-clause-units : goal.pair_from-requires-clause-units
 pair_from-requires-clause-units c =
     let same = c.new-left.ensures.slices ∙ ap bytes_of c.deref.ensures.value in
     let rows : c.self.inside.len ≡ len c.args.need.now = omega (arith, count_is c.self.inside.width c.self.inside.len c.self.inside.slices.items c.args.self.now c.self.invariant c.self.view_is, c.requires.need) in
-    ap (λ slices. length (units_of slices)) same ∙ stored_len c.self.inside.width c.self.inside.len (bytes_of c.self.inside.slices.items) c.self.invariant ∙ ap (λ n. segments_of n * slices_of c.self.inside.width) rows
+    ap (λ slices. length (units_of slices)) same ∙ stored_len c.self.inside.width c.self.inside.len (bytes_of c.self.inside.slices.items) c.self.invariant ∙ ap (λ n. segments_of 32 n * slices_of c.self.inside.width) rows
 
 pub pair_from-requires-clause-other_units : goal.pair_from-requires-clause-other_units
 pair_from-requires-clause-other_units c =
     let also = c.new-right.ensures.slices ∙ ap bytes_of c.deref-2.ensures.value in
     let width = c.requires.width ∙ sym (width_is c.self.inside.width c.self.inside.len c.self.inside.slices.items c.args.self.now c.self.invariant c.self.view_is) in
     let rows : c.other.inside.len ≡ len c.args.need.now = omega (arith, count_is c.other.inside.width c.other.inside.len c.other.inside.slices.items c.args.other.now c.other.invariant c.other.view_is, c.requires.other, c.requires.need) in
-    ap (λ slices. length (units_of slices)) also ∙ stored_len c.self.inside.width c.other.inside.len (bytes_of c.other.inside.slices.items) (also_stored c.self.inside.width c.other.inside.width c.other.inside.len c.other.inside.slices.items c.args.other.now c.other.invariant c.other.view_is width) ∙ ap (λ n. segments_of n * slices_of c.self.inside.width) rows
+    ap (λ slices. length (units_of slices)) also ∙ stored_len c.self.inside.width c.other.inside.len (bytes_of c.other.inside.slices.items) (also_stored c.self.inside.width c.other.inside.width c.other.inside.len c.other.inside.slices.items c.args.other.now c.other.invariant c.other.view_is width) ∙ ap (λ n. segments_of 32 n * slices_of c.self.inside.width) rows
 
 pub pair_from-requires-clause-stored : goal.pair_from-requires-clause-stored
 pair_from-requires-clause-stored c =
@@ -63,8 +63,8 @@ returns-clause-units c =
     let codes = c.args.self.now.codes in
     let others = c.args.other.now.codes in
     let cost =
-    ap (λ slices. side_units (by_slices k (slices_of k)) need (code_in k (units_of slices)) (code_in k (units_of c.new-right.result.slices)) (segments_of n)) same
-    ∙ ap (λ slices. side_units (by_slices k (slices_of k)) need (code_in k (units_of (bytes_of c.self.inside.slices.items))) (code_in k (units_of slices)) (segments_of n)) also in
+    ap (λ slices. side_units (by_slices k (slices_of k)) need (code_in k (units_of slices)) (code_in k (units_of c.new-right.result.slices)) (segments_of 32 n)) same
+    ∙ ap (λ slices. side_units (by_slices k (slices_of k)) need (code_in k (units_of (bytes_of c.self.inside.slices.items))) (code_in k (units_of slices)) (segments_of 32 n)) also in
     let both =
     pair_units_are k c.self.inside.len c.other.inside.len (bytes_of c.self.inside.slices.items) (bytes_of c.other.inside.slices.items) c.self.invariant (also_stored c.self.inside.width c.other.inside.width c.other.inside.len c.other.inside.slices.items c.args.other.now c.other.invariant c.other.view_is width) need codes others (code_is c.self.inside.width c.self.inside.len c.self.inside.slices.items c.args.self.now c.self.invariant c.self.view_is) (also_code c.self.inside.width c.other.inside.width c.other.inside.len c.other.inside.slices.items c.args.other.now c.other.invariant c.other.view_is width) n c.requires.need
     ∙ ap (λ w. units_of_pair S w need codes others) (width_is c.self.inside.width c.self.inside.len c.self.inside.slices.items c.args.self.now c.self.invariant c.self.view_is) in

@@ -1,5 +1,5 @@
 use Rattle.std.proofs.Common.{ap, get_or, length, subst, sym, ◌<◌, ◌^◌, ◌∙◌}
-use Rattle.bw_byteslice.specs.BitPlanes.{PlanesRead}
+use Rattle.bw_code.specs.Units.{PlanesRead}
 use Rattle.bw_byteslice.specs.Storing.{bytes_of}
 use Rattle.bw_byteslice.proofs.BitPlanes.{plane_is, plane_read, segment_small, slice_at, slice_whole}
 use Rattle.bw_byteslice.proofs.plane_source.SlicePlanesSourceArrayU644.read.Goals as goal

@@ -4,9 +4,9 @@ use Rattle.bw_code.specs.Columns.{code_at, count}
 use Rattle.bw_code.specs.Encodings.{width}
 use Rattle.bw_code.specs.Meters.{raised}
 use Rattle.bw_code.specs.Tests.{int_compares}
-use Rattle.bw_code.specs.Units.{some_below, units_of_addition}
+use Rattle.bw_code.specs.Units.{segments_of, some_below, units_of_addition}
 use Rattle.bw_code.proofs.Lists.{made_len}
-use Rattle.bw_vertical.specs.Planes.{code_in, segments_of}
+use Rattle.bw_vertical.specs.Planes.{code_in}
 use Rattle.bw_column.specs.Codes.{value_from}
 use Rattle.bw_column.specs.PlaneSources.{units_in}
 use Rattle.bw_column.specs.Storing.{list_of}
@@ -18,14 +18,14 @@ add_planes-requires-clause-units c =
     let codes = list_of c.self.inside.codes in
     let rows : len c.args.known.now ≡ count codes = (rw (← c.self.view_is) at c.requires.known) ∙ made_len (count codes) (λ i. value_from c.self.inside.encoding (code_at codes i) (row_at c.self.inside.nonnull i)) in
     let width_is : codes.width ≡ c.in-Offset-Offset.left.width = c.self.invariant.width ∙ ap width c.in-Offset-Offset.is-0 in
-    c.in-Some-Some.ensures.units ∙ ap (λ n. segments_of n * codes.width) (sym rows) ∙ ap (λ k. segments_of (len c.args.known.now) * k) width_is
+    c.in-Some-Some.ensures.units ∙ ap (λ n. segments_of 256 n * codes.width) (sym rows) ∙ ap (λ k. segments_of 256 (len c.args.known.now) * k) width_is
 
 pub add_planes-requires-clause-other_units : goal.add_planes-requires-clause-other_units
 add_planes-requires-clause-other_units c =
     let codes = list_of c.other.inside.codes in
     let rows : len c.args.known.now ≡ count codes = (rw (← c.other.view_is) at (c.requires.known ∙ sym c.requires.other)) ∙ made_len (count codes) (λ i. value_from c.other.inside.encoding (code_at codes i) (row_at c.other.inside.nonnull i)) in
     let width_is : codes.width ≡ c.in-Offset-Offset.right.width = c.other.invariant.width ∙ ap width c.in-Offset-Offset.is-1 in
-    c.in-Some-Some.ensures'.units ∙ ap (λ n. segments_of n * codes.width) (sym rows) ∙ ap (λ k. segments_of (len c.args.known.now) * k) width_is
+    c.in-Some-Some.ensures'.units ∙ ap (λ n. segments_of 256 n * codes.width) (sym rows) ∙ ap (λ k. segments_of 256 (len c.args.known.now) * k) width_is
 
 pub returns-clause-rows : goal.returns-clause-rows
 returns-clause-rows c i =
@@ -61,8 +61,8 @@ returns-clause-units c =
     let n = len c.args.known.now in
     let known = row_at c.args.known.now in
     let old = c.args.meter.now in
-    let first : c.reads.result ≡ (if some_below n known then segments_of n * c.in-Offset-Offset.left.width else 0) = omega (arith, c.reads.ensures, c.add_planes.ensures.reads, c.in-Some-Some.ensures.unread) in
-    let second : c.reads-2.result ≡ (if some_below n known then segments_of n * c.in-Offset-Offset.right.width else 0) = omega (arith, c.reads-2.ensures, c.add_planes.ensures.other_reads, c.in-Some-Some.ensures'.unread) in
+    let first : c.reads.result ≡ (if some_below n known then segments_of 256 n * c.in-Offset-Offset.left.width else 0) = omega (arith, c.reads.ensures, c.add_planes.ensures.reads, c.in-Some-Some.ensures.unread) in
+    let second : c.reads-2.result ≡ (if some_below n known then segments_of 256 n * c.in-Offset-Offset.right.width else 0) = omega (arith, c.reads-2.ensures, c.add_planes.ensures.other_reads, c.in-Some-Some.ensures'.unread) in
     let width_is : c.in-Offset-Offset.left.width ≡ width e = sym (ap width c.in-Offset-Offset.is-0) in
     let other_width_is : c.in-Offset-Offset.right.width ≡ width d = sym (ap width c.in-Offset-Offset.is-1) in
     let rows = rw (← c.self.view_is) at c.requires.known in

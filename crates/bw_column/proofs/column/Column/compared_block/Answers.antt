@@ -13,6 +13,6 @@ returns c i h l =
     let left : IsNullOrStorable (value_at column.values row) = all_storable column.layout column.values c.len-held.ensures.held row None l in
     let inside : row < length other.values = omega (arith, l, c.requires.other) in
     let right : IsNullOrStorable (value_at other.values row) = all_storable other.layout other.values c.len-others_held.ensures.held row None inside in
-    bit_of_and _ c.compared_bits.result i
-    ∙ rw (bit_of_and c.rise_of_block-present.result c.rise_of_block-others.result i, c.rise_of_block-present.ensures.present i h l, c.rise_of_block-others.ensures.present i h inside, c.compared_bits.ensures i h, c.rise_of_block-present.ensures.rises i h l, c.rise_of_block-others.ensures.rises i h inside)
+    bit_of_and _ c.compared_rows.result i
+    ∙ rw (bit_of_and c.rise_of_block-present.result c.rise_of_block-others.result i, c.rise_of_block-present.ensures.present i h l, c.rise_of_block-others.ensures.present i h inside, c.compared_rows.ensures i h, c.rise_of_block-present.ensures.rises i h l, c.rise_of_block-others.ensures.rises i h inside)
     (rise_met c.args.op (value_at column.values row) (value_at other.values row) left right)

@@ -1,5 +1,6 @@
 use Rattle.std.proofs.Common.{arith, length, refl, vec_capacity, ◌*◌, ◌+◌, ◌^◌, ◌≡◌, ◌≤◌}
-use Rattle.bw_horizontal.specs.Words.{segments_of}
+use Rattle.bw_code.specs.Units.{segments_of}
+use Rattle.bw_horizontal.specs.Words.{segment_rows}
 use Rattle.bw_horizontal.proofs.Views.{all_stored, codes_longer, count_is, room_grows, room_serves, word_there, words_longer, words_more, written}
 use Rattle.bw_horizontal.proofs.column.HorizontalColumnCodeColumn.extend.Goals as goal
 
@@ -30,7 +31,7 @@ invariant_of-self c =
     let filled = c.fill_up.new.words in
     let new = c.put_codes.new.words in
     let few : inside.len + length c.args.codes.now ≤ 2 ^ 24 = grind (arith, count_is) in
-    let len : length new ≡ segments_of inside.width (inside.len + length c.args.codes.now) * (inside.width + 1) = omega (arith, c.put_codes.auto.words, c.deref_mut.ensures.len, c.fill_up.ensures.len) in
+    let len : length new ≡ segments_of (segment_rows inside.width) (inside.len + length c.args.codes.now) * (inside.width + 1) = omega (arith, c.put_codes.auto.words, c.deref_mut.ensures.len, c.fill_up.ensures.len) in
     let other = rw c.deref_mut.ensures.value at c.put_codes.ensures.other in
     rw (written filled.len new filled.items (omega (arith, len, c.fill_up.ensures.len))) (words_longer inside.width inside.len c.args.codes.now inside.words.items filled.items new c.self.invariant few c.fill_up.ensures.words len c.put_codes.ensures.stored c.put_codes.ensures.put other)
 
@@ -45,6 +46,6 @@ returns-clause-codes c =
     let filled = c.fill_up.new.words in
     let new = c.put_codes.new.words in
     let few : inside.len + length c.args.codes.now ≤ 2 ^ 24 = grind (arith, count_is) in
-    let len : length new ≡ segments_of inside.width (inside.len + length c.args.codes.now) * (inside.width + 1) = omega (arith, c.put_codes.auto.words, c.deref_mut.ensures.len, c.fill_up.ensures.len) in
+    let len : length new ≡ segments_of (segment_rows inside.width) (inside.len + length c.args.codes.now) * (inside.width + 1) = omega (arith, c.put_codes.auto.words, c.deref_mut.ensures.len, c.fill_up.ensures.len) in
     let other = rw c.deref_mut.ensures.value at c.put_codes.ensures.other in
     rw (written filled.len new filled.items (omega (arith, len, c.fill_up.ensures.len)), ← c.self.view_is) (codes_longer inside.width inside.len c.args.codes.now inside.words.items filled.items new c.self.invariant few c.fill_up.ensures.words len c.put_codes.ensures.stored c.put_codes.ensures.put other)

@@ -3,8 +3,8 @@ use Rattle.bw_mask.specs.Masks.{len, row_at}
 use Rattle.bw_code.specs.Columns.{CodeList}
 use Rattle.bw_code.specs.Meters.{raised}
 use Rattle.bw_code.specs.Tests.{code_compares}
-use Rattle.bw_code.specs.Units.{by_words, side_units}
-use Rattle.bw_horizontal.specs.Words.{code_in, codes_of, segments_of}
+use Rattle.bw_code.specs.Units.{by_words, segments_of, side_units}
+use Rattle.bw_horizontal.specs.Words.{code_in, codes_of, segment_rows}
 use Rattle.bw_horizontal.proofs.Costs.{pair_units_are, raised_twice}
 use Rattle.bw_horizontal.proofs.Views.{code_is, count_is}
 use Rattle.bw_horizontal.proofs.column.HorizontalColumnCodeColumn.scan_pair.Goals as goal
@@ -39,7 +39,7 @@ returns-clause-units c =
     let count : length codes ≡ len need = grind (arith, count_is) in
     let code = code_in inside.width c.new-words.result.words.now in
     let other = code_in inside.width c.new-others.result.words.now in
-    let side = side_units (by_words inside.width) (row_at need) code other (segments_of inside.width (len need)) in
+    let side = side_units (by_words inside.width) (row_at need) code other (segments_of (segment_rows inside.width) (len need)) in
     let first : c.reads.result ≡ side = omega (arith, c.reads.ensures, c.pair_from.ensures.reads, c.new-words.ensures.none) in
     let second : c.reads-2.result ≡ side = omega (arith, c.reads-2.ensures, c.pair_from.ensures.other_reads, c.new-others.ensures.none) in
     let units = pair_units_are inside.width (len need) (row_at need) codes c.args.other.now.codes code other count in

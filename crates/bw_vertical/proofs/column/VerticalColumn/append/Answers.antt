@@ -1,7 +1,7 @@
 use Rattle.std.proofs.Common.{ap, arith, length, refl, ◌%◌, ◌+◌, ◌/◌, ◌^◌, ◌≡◌, ◌≤◌, ◌∙◌}
 use Rattle.bw_mask.specs.Masks.{bit_of}
 use Rattle.bw_code.specs.Columns.{CodeList, Fit}
-use Rattle.bw_vertical.specs.Planes.{segments_of}
+use Rattle.bw_code.specs.Units.{segments_of}
 use Rattle.bw_vertical.specs.Storage.{capacities, lists}
 use Rattle.bw_vertical.proofs.Holding.{codes_len, codes_more, held_more}
 use Rattle.bw_vertical.proofs.Rooms.{room_more}
@@ -14,7 +14,7 @@ invariant_of-self c =
     let more = length c.args.codes.now in
     let few : n + more ≤ 2 ^ 24 = grind (arith, codes_len) in
     let word : n % 64 + more ≤ 64 = grind (arith, codes_len) in
-    let segments : segments_of (n + more) ≡ n / 256 + 1 = omega (arith, word, c.requires.some) in
+    let segments : segments_of 256 (n + more) ≡ n / 256 + 1 = omega (arith, word, c.requires.some) in
     held_more k n (n + more) c.put_block.new.groups.items c.begin_segment.new.groups.items c.self.inside.groups.items c.self.invariant few segments (omega (arith, c.begin_segment.ensures.count)) c.begin_segment.ensures.sizes c.put_block.ensures.sizes
     (λ i j h l. c.put_block.ensures.clean i j h l)
 

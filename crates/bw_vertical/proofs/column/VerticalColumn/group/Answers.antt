@@ -1,7 +1,7 @@
 use Rattle.std.proofs.Common.{[], ap, arith, get_or, length, sym, ◌*◌, ◌+◌, ◌<◌, ◌≡◌, ◌∙◌}
 use Rattle.bw_code.specs.Columns.{CodeList}
 use Rattle.bw_mask.specs.Masks.{row_in}
-use Rattle.bw_vertical.specs.Planes.{segments_of}
+use Rattle.bw_code.specs.Units.{segments_of}
 use Rattle.bw_vertical.specs.Storage.{groups_of, lists, planes_in}
 use Rattle.bw_vertical.proofs.Holding.{codes_bit, codes_len, group_row, lists_len}
 use Rattle.bw_vertical.proofs.Placing.{group_is}
@@ -19,7 +19,7 @@ returns-clause-count c =
     rw (← c.self.view_is) (
     ap length (c.deref.ensures.value ∙ sym (group_is vs g c.index.result.now within c.index.ensures))
     ∙ c.self.invariant.sizes g (omega (arith, low))
-    ∙ ap (λ m. segments_of m * planes_in k g) (sym (codes_len k n (lists vs))))
+    ∙ ap (λ m. segments_of 256 m * planes_in k g) (sym (codes_len k n (lists vs))))
 
 pub returns-clause-rows : goal.returns-clause-rows
 returns-clause-rows c =

@@ -1,6 +1,7 @@
 use Rattle.std.proofs.Common.{[], ap, arith, get_or, length, sym, ◌*◌, ◌+◌, ◌≡◌, ◌∙◌}
 use Rattle.bw_mask.specs.Masks.{row_in}
-use Rattle.bw_vertical.specs.Planes.{code_in, segments_of}
+use Rattle.bw_code.specs.Units.{segments_of}
+use Rattle.bw_vertical.specs.Planes.{code_in}
 use Rattle.bw_vertical.specs.Storage.{lists, units_of}
 use Rattle.bw_vertical.proofs.Holding.{code_in_is, codes_at, codes_bit, codes_len, unit_row, units_len}
 use Rattle.bw_vertical.proofs.column.VerticalColumn.planes.Goals as goal
@@ -11,7 +12,7 @@ returns-clause-units c =
     let n = c.self.inside.len in
     let gs = lists c.self.inside.groups.items in
     let units : c.new.result.units ≡ units_of k gs n = c.new.ensures.units ∙ ap (λ vs. units_of k (lists vs) n) c.deref.ensures.value in
-    rw (← c.self.view_is) (ap length units ∙ units_len k n gs ∙ ap (λ m. segments_of m * k) (sym (codes_len k n gs)))
+    rw (← c.self.view_is) (ap length units ∙ units_len k n gs ∙ ap (λ m. segments_of 256 m * k) (sym (codes_len k n gs)))
 
 pub returns-clause-rows : goal.returns-clause-rows
 returns-clause-rows c =

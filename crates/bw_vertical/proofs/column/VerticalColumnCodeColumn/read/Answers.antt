@@ -1,9 +1,14 @@
-use Rattle.std.proofs.Common.{ap, arith, drop, get_or, length, sym, take, ◌+◌, ◌≡◌, ◌≤◌, ◌∙◌}
+use Rattle.std.proofs.Common.{ap, arith, drop, get_or, length, subst, sym, take, ◌+◌, ◌/◌, ◌≡◌, ◌≤◌, ◌∙◌}
 use Rattle.std.proofs.lemmas.List.{get_or_default}
 use Rattle.bw_code.proofs.Lists.{part_is}
-use Rattle.bw_vertical.specs.Storage.{code_of, codes_of, lists}
-use Rattle.bw_vertical.proofs.Holding.{code_lt, codes_at, codes_len}
+use Rattle.bw_vertical.specs.Storage.{HasSegment, code_of, codes_of, lists}
+use Rattle.bw_vertical.proofs.Holding.{code_lt, codes_at, codes_len, has_segment}
 use Rattle.bw_vertical.proofs.column.VerticalColumnCodeColumn.read.Goals as goal
+
+pub read_codes-requires-clause-there : goal.read_codes-requires-clause-there
+read_codes-requires-clause-there c j h =
+    let inside : c.args.at + length c.args.out.now ≤ c.self.inside.len = grind (arith, codes_len) in
+    subst (λ gs. HasSegment c.self.inside.width (lists gs) (j / 256)) (sym c.deref.ensures.value) (has_segment c.self.inside.width c.self.inside.len (lists c.self.inside.groups.items) c.self.invariant (j / 256) (omega (arith, h, inside)))
 
 pub returns-clause-codes : goal.returns-clause-codes
 returns-clause-codes c =

@@ -2,8 +2,8 @@ use Rattle.std.proofs.Common.{ap, arith, length, sym, ℕ, ◌*◌, ◌≡◌, �
 use Rattle.bw_mask.specs.Masks.{len, row_at}
 use Rattle.bw_code.specs.Columns.{CodeList}
 use Rattle.bw_code.specs.Meters.{raised}
-use Rattle.bw_code.specs.Units.{by_planes, side_units}
-use Rattle.bw_vertical.specs.Planes.{code_in, segments_of}
+use Rattle.bw_code.specs.Units.{by_planes, segments_of, side_units}
+use Rattle.bw_vertical.specs.Planes.{code_in}
 use Rattle.bw_vertical.proofs.Scanned.{AreCodes, units_paired}
 use Rattle.bw_vertical.proofs.column.VerticalColumnCodeColumn.scan_pair.Goals as goal
 
@@ -20,7 +20,7 @@ returns-clause-units c =
     let vs = c.planes-right.result.units in
     let wide : c.self.inside.width ≡ k = ap (λ (v : CodeList). v.width) c.self.view_is in
     let also : AreCodes k vs others = λ j h. ap (λ w. code_in w vs j) (sym c.requires.width) ∙ c.planes-right.ensures.codes j h in
-    let price : ℕ → ℕ → ℕ = λ w n. side_units (by_planes w) (row_at need) (code_in w us) (code_in w vs) (segments_of n) in
+    let price : ℕ → ℕ → ℕ = λ w n. side_units (by_planes w) (row_at need) (code_in w us) (code_in w vs) (segments_of 256 n) in
     let side : price c.self.inside.width (len need) ≡ price k (length codes) = ap (λ w. price w (len need)) wide ∙ ap (price k) c.requires.need in
     let left : c.reads.result ≡ price k (length codes) = c.reads.ensures ∙ c.pair_from.ensures.reads ∙ omega (arith, c.planes-left.ensures.none, side) in
     let right : c.reads-2.result ≡ price k (length codes) = c.reads-2.ensures ∙ c.pair_from.ensures.other_reads ∙ omega (arith, c.planes-right.ensures.none, side) in

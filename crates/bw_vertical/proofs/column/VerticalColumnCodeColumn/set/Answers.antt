@@ -1,9 +1,14 @@
-use Rattle.std.proofs.Common.{ap, arith, refl, ◌<◌, ◌^◌, ◌≡◌}
+use Rattle.std.proofs.Common.{ap, arith, refl, ◌/◌, ◌<◌, ◌^◌, ◌≡◌}
 use Rattle.bw_code.specs.Columns.{CodeList}
 use Rattle.bw_vertical.specs.Storage.{capacities, lists}
-use Rattle.bw_vertical.proofs.Holding.{codes_len, codes_set, held_set}
+use Rattle.bw_vertical.proofs.Holding.{codes_len, codes_set, has_segment, held_set}
 use Rattle.bw_vertical.proofs.Rooms.{room_more}
 use Rattle.bw_vertical.proofs.column.VerticalColumnCodeColumn.set.Goals as goal
+
+pub put_code-requires-clause-there : goal.put_code-requires-clause-there
+put_code-requires-clause-there c =
+    let low : c.args.i < c.self.inside.len = grind (arith, codes_len) in
+    has_segment c.self.inside.width c.self.inside.len (lists c.self.inside.groups.items) c.self.invariant (c.args.i / 256) (omega (arith, low))
 
 pub invariant_of-self : goal.invariant_of-self
 invariant_of-self c =

@@ -2,8 +2,8 @@ use Rattle.std.proofs.Common.{Global, List, Vec, [], ap, arith, drop, get_or, le
 use Rattle.std.proofs.Math.Nat.{div-lt_iff_lt-mul, mul-le-mul_left}
 use Rattle.std.proofs.lemmas.List.{length-drop, length-take}
 use Rattle.bw_vertical.specs.declared.source.Standing.{Standing}
-use Rattle.bw_vertical.specs.Planes.{segments_of}
-use Rattle.bw_vertical.specs.Storage.{PlanesRead, Stands, lists, plane_at}
+use Rattle.bw_code.specs.Units.{PlanesRead, segments_of}
+use Rattle.bw_vertical.specs.Storage.{Stands, lists, plane_at}
 use Rattle.bw_vertical.proofs.Holding.{has_segment, held_past, unit_at, units_len}
 use Rattle.bw_vertical.proofs.source.PlaneSourceSourceArrayU644.read.Goals as goal
 use Rattle.bw_vertical.proofs.source.PlaneSourceSourceArrayU644.read.Goals.{then-i-at, else-i-at+then-is_empty, else-i-at+else-is_empty}
@@ -13,18 +13,18 @@ moved-at-requires-clause-low c =
     let k = c.self.inside.width in
     let n = c.self.inside.len in
     let gs = lists c.self.inside.groups.now in
-    let there : c.args.i < segments_of n * k =
+    let there : c.args.i < segments_of 256 n * k =
     subst (λ m. c.args.i < m) (units_len k n gs) (subst (λ (s : PlanesRead). c.args.i < length s.units) (sym c.self.view_is) c.requires.there) in
-    omega (arith, there, mul-le-mul_left (segments_of n) c.self.invariant.planes.narrow, c.self.invariant.planes.few)
+    omega (arith, there, mul-le-mul_left (segments_of 256 n) c.self.invariant.planes.narrow, c.self.invariant.planes.few)
 
 pub moved-at-requires-clause-there : goal.moved-at-requires-clause-there
 moved-at-requires-clause-there c =
     let k = c.self.inside.width in
     let n = c.self.inside.len in
     let gs = lists c.self.inside.groups.now in
-    let there : c.args.i < segments_of n * k =
+    let there : c.args.i < segments_of 256 n * k =
     subst (λ m. c.args.i < m) (units_len k n gs) (subst (λ (s : PlanesRead). c.args.i < length s.units) (sym c.self.view_is) c.requires.there) in
-    let inside : c.args.i / k < segments_of n = (div-lt_iff_lt-mul {k = k} {x = c.args.i} {y = segments_of n} c.self.invariant.planes.some).1 there in
+    let inside : c.args.i / k < segments_of 256 n = (div-lt_iff_lt-mul {k = k} {x = c.args.i} {y = segments_of 256 n} c.self.invariant.planes.some).1 there in
     has_segment k n gs c.self.invariant.planes (c.args.i / k) inside
 
 pub stepped-at-requires-clause-low : goal.stepped-at-requires-clause-low
@@ -32,18 +32,18 @@ stepped-at-requires-clause-low c =
     let k = c.self.inside.width in
     let n = c.self.inside.len in
     let gs = lists c.self.inside.groups.now in
-    let there : c.args.i < segments_of n * k =
+    let there : c.args.i < segments_of 256 n * k =
     subst (λ m. c.args.i < m) (units_len k n gs) (subst (λ (s : PlanesRead). c.args.i < length s.units) (sym c.self.view_is) c.requires.there) in
-    omega (arith, there, mul-le-mul_left (segments_of n) c.self.invariant.planes.narrow, c.self.invariant.planes.few)
+    omega (arith, there, mul-le-mul_left (segments_of 256 n) c.self.invariant.planes.narrow, c.self.invariant.planes.few)
 
 pub stepped-at-requires-clause-there : goal.stepped-at-requires-clause-there
 stepped-at-requires-clause-there c =
     let k = c.self.inside.width in
     let n = c.self.inside.len in
     let gs = lists c.self.inside.groups.now in
-    let there : c.args.i < segments_of n * k =
+    let there : c.args.i < segments_of 256 n * k =
     subst (λ m. c.args.i < m) (units_len k n gs) (subst (λ (s : PlanesRead). c.args.i < length s.units) (sym c.self.view_is) c.requires.there) in
-    let inside : c.args.i / k < segments_of n = (div-lt_iff_lt-mul {k = k} {x = c.args.i} {y = segments_of n} c.self.invariant.planes.some).1 there in
+    let inside : c.args.i / k < segments_of 256 n = (div-lt_iff_lt-mul {k = k} {x = c.args.i} {y = segments_of 256 n} c.self.invariant.planes.some).1 there in
     has_segment k n gs c.self.invariant.planes (c.args.i / k) inside
 
 -- where the source stands to read unit i
@@ -93,7 +93,7 @@ returns-clause-unit c =
     let k = c.self.inside.width in
     let n = c.self.inside.len in
     let gs = lists c.self.inside.groups.now in
-    let there : c.args.i < segments_of n * k =
+    let there : c.args.i < segments_of 256 n * k =
     subst (λ m. c.args.i < m) (units_len k n gs) (subst (λ (s : PlanesRead). c.args.i < length s.units) (sym c.self.view_is) c.requires.there) in
     let p = ready c in
     let zero : c.args.i + 0 ≡ c.args.i = omega arith in

@@ -1,7 +1,7 @@
 use Rattle.std.proofs.Common.{ap, get_or, nat_le, nat_lt, not, sym, ◌==◌, ◌∙◌}
 use Rattle.bw_code.specs.Tests.{code_compares}
 use Rattle.bw_code.proofs.LaneLemmas.{both_firsts_64}
-use Rattle.bw_code.proofs.wide_lanes.compared.Goals as goal
+use Rattle.bw_code.proofs.wide_lanes.compared_rows.Goals as goal
 
 pub returns-in-Eq : goal.returns-in-Eq
 returns-in-Eq c i h =
