@@ -1,6 +1,7 @@
 pub mod Bases
 pub mod Between
 pub mod Blocks
+pub mod Bounded
 pub mod Changed
 pub mod Chosen
 pub mod Coded

@@ -1,6 +1,7 @@
 //! Columns of integers and nulls, kept as codes.
 #![tactic(auto)]
 
+mod bounds;
 mod building;
 mod change;
 mod codes;

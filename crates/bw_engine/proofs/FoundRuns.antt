@@ -6,10 +6,11 @@ use Rattle.std.proofs.lemmas.List.{length-map}
 use Rattle.std.proofs.lemmas.List.Elements.{All-cons, All-head, All-tail}
 use Rattle.std.proofs.lemmas.List.FromFn.{get_or-map-range_with_len, length-map-range_with_len}
 use Rattle.bw_mask.specs.Masks.{MaskRows, len, row_at}
+use Rattle.bw_code.specs.Fittings.{AreEnds}
+use Rattle.bw_column.specs.Extremes.{AreBounds}
 use Rattle.bw_column.specs.Values as columns
 use Rattle.bw_aggregate.proofs.Counting.{count_cons}
 use Rattle.bw_cells.specs.SetFunctions.{known}
-use Rattle.bw_code.specs.Fittings.{AreEnds}
 use Rattle.bw_code.specs.declared.ends.Ends.{Ends}
 use Rattle.bw_groups.specs.Runs.{IsWithin, values_in}
 use Rattle.bw_table.specs.Slots.{Slot, slot_at, slot_column}
@@ -158,12 +159,17 @@ module _ (P : ℤ → Type 0) where
           (value_all (columns.value_at row place) (map (λ r. columns.value_at r place) rows) (column_in (rows_where (λ i. passes (suc i)) rows) place) all rest)
       by false rest = rest
 
--- the ends of a column bound its values in the found slots
-pub runs_bounded : (place : ℕ) (slots : List Slot) (passes : ℕ → Bool) (ends : Option Ends) → AreEnds (known (slot_column slots place)) ends → IfSome ends (λ bounds. All (IsWithin bounds) (known (values_in (found_runs place slots passes))))
+-- ends between which the values of a column lie bound those in the found slots
+pub runs_bounded : (place : ℕ) (slots : List Slot) (passes : ℕ → Bool) (ends : Option Ends) → AreBounds (known (slot_column slots place)) ends → IfSome ends (λ bounds. All (IsWithin bounds) (known (values_in (found_runs place slots passes))))
 runs_bounded place slots passes None are = tt
 runs_bounded place slots passes (Some ends) are =
     subst (λ values. All (IsWithin ends) (known values)) (sym (runs_column place slots passes))
-    (found_all (IsWithin ends) place passes (rows_of_slots slots) (λ k d h. (are.0.bound k d h, are.1.bound k d h)))
+    (found_all (IsWithin ends) place passes (rows_of_slots slots) are)
+
+-- so do its least and its greatest value
+pub runs_ended : (place : ℕ) (slots : List Slot) (passes : ℕ → Bool) (ends : Option Ends) → AreEnds (known (slot_column slots place)) ends → IfSome ends (λ bounds. All (IsWithin bounds) (known (values_in (found_runs place slots passes))))
+runs_ended place slots passes None are = tt
+runs_ended place slots passes (Some ends) are = runs_bounded place slots passes (Some ends) (λ k d h. (are.0.bound k d h, are.1.bound k d h))
 
 -- one that is true
 any_at : (tests : List Bool) → list_any (λ test. test) tests ≡ true → (i : ℕ) × (i < length tests) × (get_or tests i false ≡ true)

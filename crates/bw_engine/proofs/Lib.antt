@@ -16,6 +16,7 @@ pub mod LiveRows
 pub mod LiveValues
 pub mod Loaded
 pub mod Loading
+pub mod MeasuredRuns
 pub mod NewTables
 pub mod OneStored
 pub mod Opened

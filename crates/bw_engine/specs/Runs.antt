@@ -22,6 +22,10 @@ lines_from line passes at n = joined (map line (filter passes (range_with_len at
 abbrev pub slot_line : List ℕ → List Slot → ℕ → List Value
 slot_line places slots i = line_at places (slot_at slots i).row
 
+-- the value of row `at + i` of a column, as a line
+abbrev pub value_line : List Value → ℕ → ℕ → List Value
+value_line values at i = columns.value_at values (at + i) ∷ []
+
 -- columns of which each holds the values at its place of n slots, from slot `at` on
 pub record AreRead (slots : List Slot) (places : List ℕ) (at n : ℕ) (runs : List (List Value)) : Type 0 where
   pub count : length runs ≡ length places

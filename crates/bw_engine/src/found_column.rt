@@ -1,17 +1,22 @@
 //! The values of a column in the found slots, read by runs of 64 slots.
 
-ghost use Rattle.std.specs.Prelude.{OnOk, [], length, min, ◌++◌, ◌-◌, ◌<◌, ◌∷◌, ◌≡◌};
-ghost use Rattle.bw_mask.specs.Masks.{len, row_at};
-ghost use Rattle.bw_engine.specs.Runs.{found_runs, lines_from, slot_line};
+ghost use Rattle.std.specs.Prelude.{OnOk, [], length, min, ◌+◌, ◌++◌, ◌-◌, ◌<◌, ◌∷◌, ◌≡◌, ◌≤◌};
+ghost use Rattle.bw_mask.specs.Masks.{bit_of, len, row_at};
+ghost use Rattle.bw_groups.specs.Runs.{IsMeasured};
+ghost use Rattle.bw_engine.specs.Runs.{found_runs, lines_from, slot_line, value_line};
 
 use crate::shown::show_slots;
 use bw_cells::Measured;
 use bw_code::Ends;
-use bw_groups::ValueRuns;
-use bw_mask::Mask;
+use bw_column::Column;
+use bw_groups::{MeasuredRun, ValueRuns, distance_of, filled_run, put_distance};
+use bw_mask::{Mask, has_bit};
 use bw_sql::{Name, Value};
 use bw_table::Table;
 use std::alloc::AllocError;
+
+/// Up to so many of 64 slots are fetched value by value: reading a whole run of the column would take longer.
+const FEW: u32 = 16;
 
 /// The column at a place, and which of its slots are found. A run has the values of the found ones of 64 slots.
 #[derive(Drop)]
@@ -34,11 +39,17 @@ impl<'a> ValueRuns for FoundColumn<'a> {
     }
 
     fn bounds(&self) -> Option<Ends> {
-        // The ends are found by a pass over the whole column, which takes longer than to gather a few values.
+        let column = self.table.column(self.place);
+        let told = column.bounds();
+        if are_close(told) {
+            return told;
+        }
+        // Codes of 32 bits reach further than the values may. Their ends are found by a pass over the whole column, which
+        // takes longer than to gather a few values.
         if self.found.count() < self.found.len() / 16 {
             return None;
         }
-        self.table.column(self.place).ends()
+        column.ends()
     }
 
     fn run_count(&self) -> usize {
@@ -53,11 +64,26 @@ impl<'a> ValueRuns for FoundColumn<'a> {
         put_slots(run, self.table, self.place, self.found, 64 * q)
     }
 
+    fn measure_run(&self, q: usize, base: i64, out: &mut [u64; 64]) -> MeasuredRun {
+        if self.found.words()[q] == 0 {
+            return MeasuredRun { len: 0, present: 0 };
+        }
+        measure_slots(self.table, self.place, self.found, 64 * q, base, out)
+    }
+
     fn all_known(&self) -> Result<bool, AllocError> {
         let column = self.table.column(self.place);
         let mut nulls = self.found.try_clone()?;
         nulls.andnot_in(column.nonnull());
         Ok(!nulls.any())
+    }
+}
+
+/// Whether numbers of 32 bits are enough for what lies between ends, and for NULL.
+fn are_close(ends: Option<Ends>) -> bool {
+    match ends {
+        Some(ends) => ends.greatest.abs_diff(ends.least) < u64::from(u32::MAX),
+        None => true,
     }
 }
 
@@ -84,4 +110,90 @@ fn put_slots(
     }
     let mut runs = [[None; 64]];
     show_slots(values, &mut runs, table, &[place], found, at)
+}
+
+/// The same values by how far each lies above a base.
+fn measure_slots(
+    table: &Table<Name>,
+    place: usize,
+    found: &Mask,
+    at: usize,
+    base: i64,
+    out: &mut [u64; 64],
+) -> MeasuredRun
+    requires found { len found.now ≡ length table.now.slots }
+    requires place { place < length table.now.headers }
+    requires inside { at < length table.now.slots }
+    ensures { IsMeasured base (lines_from (slot_line (place ∷ []) table.now.slots) (row_at found.now) at (min (length table.now.slots - at) 64)) result.len result.present out.new }
+{
+    let column = table.column(place);
+    if found.bits(at, 64) == u64::MAX {
+        let present = column.distances(at, base, out);
+        return MeasuredRun { len: 64, present };
+    }
+    let n = (found.len() - at).min(64);
+    let word = found.bits(at, n);
+    if word.count_ones() <= FEW {
+        return fetch_distances(column, at, word, n, base, out);
+    }
+    gather_distances(column, at, word, n, base, out)
+}
+
+/// Measures the values of those of n rows whose bit is set, from row `at` on, each fetched by itself.
+fn fetch_distances(
+    column: &Column,
+    at: usize,
+    word: u64,
+    n: usize,
+    base: i64,
+    out: &mut [u64; 64],
+) -> MeasuredRun
+    requires few { n ≤ 64 }
+    requires inside { at + n ≤ length column.now.values }
+    ensures { IsMeasured base (lines_from (value_line column.now.values at) (bit_of word) 0 n) result.len result.present out.new }
+{
+    let _few = column.len();
+    let mut there = [0; 64];
+    let mut len = 0;
+    'rows: for i in 0..n {
+        if has_bit(word, i) {
+            let value = column.get(at + i);
+            put_distance(
+                out,
+                &mut there,
+                len,
+                distance_of(value, base),
+                value.is_some(),
+            );
+            len += 1;
+        }
+    }
+    filled_run(len, &there)
+}
+
+/// The same, by all of the n rows at once.
+fn gather_distances(
+    column: &Column,
+    at: usize,
+    word: u64,
+    n: usize,
+    base: i64,
+    out: &mut [u64; 64],
+) -> MeasuredRun
+    requires few { n ≤ 64 }
+    requires inside { at + n ≤ length column.now.values }
+    ensures { IsMeasured base (lines_from (value_line column.now.values at) (bit_of word) 0 n) result.len result.present out.new }
+{
+    let _held = column.len();
+    let mut list = [0; 64];
+    let run = &mut list[..n];
+    let present = column.distances(at, base, run);
+    let mut there = [0; 64];
+    let mut len = 0;
+    // No branch a row: a value that is not found is put, too, and the next one takes its place.
+    'rows: for i in 0..n {
+        put_distance(out, &mut there, len, run[i], has_bit(present, i));
+        len += usize::from(has_bit(word, i));
+    }
+    filled_run(len, &there)
 }

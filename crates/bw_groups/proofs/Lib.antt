@@ -4,6 +4,7 @@ pub mod Distinct
 pub mod Ends
 pub mod Grouped
 pub mod KnownMore
+pub mod Measured
 pub mod Placing
 pub mod RanksMake
 pub mod RunLists

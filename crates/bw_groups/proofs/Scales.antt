@@ -1,5 +1,5 @@
 -- Ranks of values as numbers on a scale make the groups of the values.
-use Rattle.std.proofs.Common.{All, Bool, List, None, Option, Some, [], ap, append-nil, arith, false, get_or, if◌then◌else◌, length, map, nat_eq, pos, refl, subst, suc, sym, true, unsigned_abs, zero, inl, inr, ℕ, ℤ, ◌%◌, ◌&&◌, ◌++◌, ◌+ℤ◌, ◌<ℤ◌, ◌<◌, ◌==◌, ◌^◌, ◌||◌, ◌∙◌, ◌∷◌, ◌≡◌, ◌≤◌, ◌≤ℤ◌}
+use Rattle.std.proofs.Common.{All, Bool, List, None, Option, Some, [], ap, append-nil, arith, false, get_or, if◌then◌else◌, length, map, nat_eq, pos, refl, subst, suc, sym, true, unsigned_abs, zero, inl, inr, ℕ, ℤ, ◌&&◌, ◌++◌, ◌+ℤ◌, ◌<ℤ◌, ◌<◌, ◌==◌, ◌^◌, ◌||◌, ◌∙◌, ◌∷◌, ◌≡◌, ◌≤◌, ◌≤ℤ◌}
 use Rattle.std.specs.List.{dedup, list_any}
 use Rattle.std.specs.Ordering.{int_eq}
 use Rattle.std.specs.Prelude.{is_none, unwrap_or, ◌-ℤ◌}
@@ -34,12 +34,8 @@ stand least null narrow (Some x ∷ values) all =
     ap (λ y. y ∷ map (λ n. least +ℤ pos n) (map (number_on least null) values)) (back here.0 here.1)
     ∙ ap (λ ys. x ∷ ys) (stand least null narrow values (All-tail (IsBelowNull least null) x (known values) all))
   where
-    back : least ≤ℤ x → x <ℤ (least +ℤ pos null) → (least +ℤ pos (unsigned_abs (x -ℤ least) % 2 ^ 32)) ≡ x
-    back low high =
-        let small : unsigned_abs (x -ℤ least) < 2 ^ 32 = omega (arith, ints, low, high, narrow) in
-        let whole : unsigned_abs (x -ℤ least) % 2 ^ 32 ≡ unsigned_abs (x -ℤ least) = omega (arith, small) in
-        let is : (least +ℤ pos (unsigned_abs (x -ℤ least))) ≡ x = omega (arith, ints, low) in
-        ap (λ n. least +ℤ pos n) whole ∙ is
+    back : least ≤ℤ x → x <ℤ (least +ℤ pos null) → (least +ℤ pos (unsigned_abs (x -ℤ least))) ≡ x
+    back low high = omega (arith, ints, low)
 
 -- no number is above that of null
 pub few_numbers : (least : ℤ) (null : ℕ) → null < 2 ^ 32 → (values : List (Option ℤ)) → All (IsBelowNull least null) (known values) → All (λ n. n ≤ null) (map (number_on least null) values)
@@ -49,10 +45,8 @@ few_numbers least null narrow (None ∷ values) all (suc k) d h = few_numbers le
 few_numbers least null narrow (Some x ∷ values) all (suc k) d h = few_numbers least null narrow values (All-tail (IsBelowNull least null) x (known values) all) k d (omega (arith, h))
 few_numbers least null narrow (Some x ∷ values) all zero d h = let here = All-head (IsBelowNull least null) x (known values) all in most here.0 here.1
   where
-    most : least ≤ℤ x → x <ℤ (least +ℤ pos null) → unsigned_abs (x -ℤ least) % 2 ^ 32 ≤ null
-    most low high =
-        let small : unsigned_abs (x -ℤ least) ≤ null = omega (arith, ints, low, high) in
-        omega (arith, small)
+    most : least ≤ℤ x → x <ℤ (least +ℤ pos null) → unsigned_abs (x -ℤ least) ≤ null
+    most low high = omega (arith, ints, low, high)
 
 -- what lies between the ends has a number below that of null
 pub below_null : (ends : Ends) (null : ℕ) (xs : List ℤ) → (ends.least +ℤ pos null) ≡ (ends.greatest +ℤ pos 1) → All (IsWithin ends) xs → All (IsBelowNull ends.least null) xs

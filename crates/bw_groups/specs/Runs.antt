@@ -1,6 +1,9 @@
 -- Values of a column in runs.
-use Rattle.std.specs.Prelude.{List, Option, drop, length, map, take, ℕ, ℤ, ◌*◌, ◌+◌, ◌/◌, ◌≤ℤ◌}
+use Rattle.std.specs.Prelude.{FitsSigned, List, None, Option, Some, drop, is_some, length, map, nat_lt, slice_index, slice_index_or, take, ℕ, ℤ, ◌*◌, ◌+◌, ◌/◌, ◌<◌, ◌≡◌, ◌≤◌, ◌≤ℤ◌}
+use Rattle.std.specs.Int.{w64}
 use Rattle.std.specs.List.{flat_map, range_with_len}
+use Rattle.bw_mask.specs.Masks.{bit_of}
+use Rattle.bw_cells.specs.Distances.{distance_from}
 use Rattle.bw_code.specs.declared.ends.Ends.{Ends}
 
 -- the values of all runs, one run after the other
@@ -14,3 +17,20 @@ runs_of values = map (λ q. take 64 (drop (64 * q) values)) (range_with_len 0 ((
 -- a value lies between ends
 abbrev pub IsWithin : Ends → ℤ → Type 0
 IsWithin ends x = (ends.least ≤ℤ x) × (x ≤ℤ ends.greatest)
+
+-- a run of at most 64 values of 64 bits was measured: to its length, to a bit for each value that says whether it is there,
+-- and to how far each lies above a base
+pub record IsMeasured (base : ℤ) (run : List (Option ℤ)) (len present : ℕ) (distances : List ℕ) : Type 0 where
+  pub few : length run ≤ 64
+  pub long : len ≡ length run
+  pub fits : (i : ℕ) (x : ℤ) → slice_index_or run i None ≡ Some x → FitsSigned w64 x
+  pub there : (i : ℕ) → i < length run → bit_of present i ≡ is_some (slice_index_or run i None)
+  pub far : (i : ℕ) → i < length run → slice_index distances i ≡ distance_from base (slice_index_or run i None)
+
+-- the same with a byte for each value in place of its bit
+pub record AreFilled (base : ℤ) (run : List (Option ℤ)) (len : ℕ) (distances bytes : List ℕ) : Type 0 where
+  pub few : length run ≤ 64
+  pub long : len ≡ length run
+  pub fits : (i : ℕ) (x : ℤ) → slice_index_or run i None ≡ Some x → FitsSigned w64 x
+  pub there : (i : ℕ) → i < length run → nat_lt 0 (slice_index bytes i) ≡ is_some (slice_index_or run i None)
+  pub far : (i : ℕ) → i < length run → slice_index distances i ≡ distance_from base (slice_index_or run i None)

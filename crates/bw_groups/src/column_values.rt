@@ -4,6 +4,7 @@ ghost use Rattle.std.specs.Prelude.{IfOk, None, [], length, slice_index_or, ◌+
 ghost use Rattle.std.specs.List.{list_all};
 ghost use Rattle.bw_groups.specs.Runs.{values_in};
 
+use crate::measured_run::{MeasuredRun, distance_of, filled_run, put_distance};
 use crate::numbers::known_ends;
 use crate::value_runs::ValueRuns;
 use bw_code::Ends;
@@ -120,6 +121,25 @@ impl ValueRuns for ColumnValues {
             run.push(self.get(start + k))?;
         }
         Ok(())
+    }
+
+    fn measure_run(&self, q: usize, base: i64, out: &mut [u64; 64]) -> MeasuredRun {
+        let len = self.len();
+        let start = 64 * q;
+        let rest = len - start;
+        let n = rest.min(64);
+        let mut there = [0; 64];
+        'run: for k in 0..n {
+            let value = self.get(start + k);
+            put_distance(
+                out,
+                &mut there,
+                k,
+                distance_of(value, base),
+                value.is_some(),
+            );
+        }
+        filled_run(n, &there)
     }
 
     fn all_known(&self) -> Result<bool, AllocError> {

@@ -1,15 +1,17 @@
 //! What is told of values one by one.
 
-ghost use Rattle.std.specs.Prelude.{All, IfOk, IsTrue, List, Option, [], length, unsigned_abs, ℕ, ℤ, ◌*◌, ◌+ℤ◌, ◌+◌, ◌++◌, ◌<◌, ◌^◌, ◌∷◌, ◌≡◌, ◌≤◌};
+ghost use Rattle.std.specs.Prelude.{All, IfOk, IsTrue, List, Option, [], length, pos, unsigned_abs, ℕ, ℤ, ◌*◌, ◌+ℤ◌, ◌+◌, ◌++◌, ◌<◌, ◌^◌, ◌∷◌, ◌≡◌, ◌≤◌};
 ghost use Rattle.bw_code.specs.Fittings.{AreEnds};
 ghost use Rattle.bw_cells.specs.SetFunctions.{total};
 ghost use Rattle.bw_groups.specs.Folding.{AreFolds};
-ghost use Rattle.bw_groups.specs.Runs.{values_in};
+ghost use Rattle.bw_groups.specs.Runs.{IsMeasured, values_in};
 
 use crate::groups::Groups;
+use crate::measured_run::MeasuredRun;
 use crate::value_runs::ValueRuns;
 use bw_cells::ends_of_both;
 use bw_code::Ends;
+use bw_mask::has_bit;
 use std::alloc::{AllocError, Global};
 
 /// What is told of values that come one by one.
@@ -92,17 +94,17 @@ fn none_each<F: Fold>(alloc: Global, count: usize) -> Result<Vec<F>, AllocError>
 
 /// Adds what a run of values tells to what was told of each group before. The ranks are those of the groups of the run's
 /// rows.
-fn fold_run<F: Fold>(folds: &mut Vec<F>, ranks: &[u32], run: &[Option<i64>])
-    requires as_many { length run.now ≡ length ranks.now }
+fn fold_run<F: Fold>(folds: &mut Vec<F>, ranks: &[u32], run: &[u64; 64], present: u64)
+    requires few { length ranks.now ≤ 64 }
     requires inside { All (λ r. r < length folds.old.items) ranks.now }
-    requires tells { (rows : List ℕ) × (values : List (Option ℤ)) × (length values ≡ length rows) × (length rows + length ranks.now ≤ 2 ^ 24) × AreFolds F.tells rows values folds.old.items }
+    requires tells { (rows : List ℕ) × (values run_values : List (Option ℤ)) × (length values ≡ length rows) × (length rows + length ranks.now ≤ 2 ^ 24) × IsMeasured (pos 0) run_values (length ranks.now) present run.now × AreFolds F.tells rows values folds.old.items }
     ensures count { length folds.new.items ≡ length folds.old.items }
-    ensures tells { (rows : List ℕ) (values : List (Option ℤ)) → length values ≡ length rows → length rows + length ranks.now ≤ 2 ^ 24 → AreFolds F.tells rows values folds.old.items → AreFolds F.tells (rows ++ ranks.now) (values ++ run.now) folds.new.items }
+    ensures tells { (rows : List ℕ) (values run_values : List (Option ℤ)) → length values ≡ length rows → length rows + length ranks.now ≤ 2 ^ 24 → IsMeasured (pos 0) run_values (length ranks.now) present run.now → AreFolds F.tells rows values folds.old.items → AreFolds F.tells (rows ++ ranks.now) (values ++ run_values) folds.new.items }
 {
     'rows: for i in 0..ranks.len() {
-        if let Some(value) = run[i] {
+        if has_bit(present, i) {
             let g = ranks[i] as usize;
-            folds[g] = folds[g].with(value);
+            folds[g] = folds[g].with(run[i].cast_signed());
         }
     }
 }
@@ -118,13 +120,13 @@ pub(crate) fn fold_each<F: Fold, C: ValueRuns>(
     ensures tells { IfOk result (λ folds. AreFolds F.tells groups.now.ranks (values_in (C.runs column.now)) folds.items) }
 {
     let mut folds = none_each::<F>(alloc, groups.times().len())?;
-    let mut run = Vec::with_capacity(alloc, 64)?;
+    let mut run = [0; 64];
     let ranks = groups.ranks();
     let mut at = 0;
     'runs: for q in 0..column.run_count() {
-        column.read_run(q, &mut run)?;
-        let end = at + run.len();
-        fold_run(&mut folds, &ranks[at..end], &run);
+        let MeasuredRun { len, present } = column.measure_run(q, 0, &mut run);
+        let end = at + len;
+        fold_run(&mut folds, &ranks[at..end], &run, present);
         at = end;
     }
     Ok(folds)

@@ -1,12 +1,16 @@
 //! The values of a column as numbers of 32 bits that keep their order, that of NULL last.
 
-ghost use Rattle.std.specs.Prelude.{All, IfOk, IfSome, OnOk, length, map, pos, ◌++◌, ◌+ℤ◌, ◌<◌, ◌^◌, ◌≡◌, ◌≤◌};
-ghost use Rattle.bw_groups.specs.Runs.{values_in};
-ghost use Rattle.bw_groups.specs.Scales.{number_on, value_on};
+ghost use Rattle.std.specs.Prelude.{All, FitsSigned, IfOk, IfSome, List, OnOk, Option, if◌then◌else◌, map, pos, ℤ, ◌%◌, ◌++◌, ◌+ℤ◌, ◌<◌, ◌^◌, ◌≡◌, ◌≤◌};
+ghost use Rattle.std.specs.Int.{w64};
+ghost use Rattle.bw_cells.specs.SetFunctions.{known};
+ghost use Rattle.bw_groups.specs.Runs.{IsMeasured, IsWithin, values_in};
+ghost use Rattle.bw_groups.specs.Scales.{IsBelowNull, number_on, value_on};
 
+use crate::measured_run::MeasuredRun;
 use crate::numbers::value_at;
 use crate::value_runs::ValueRuns;
 use bw_code::Ends;
+use bw_mask::has_bit;
 use std::alloc::{AllocError, Global};
 
 /// How values between two ends are taken as numbers: each as how far it lies above the lower end, and NULL as the
@@ -17,6 +21,7 @@ pub(crate) struct Scale {
     pub(crate) null: u32,
     ghost above: { (ends.least +ℤ pos null) ≡ (ends.greatest +ℤ pos 1) },
     ghost narrow: { null < 2 ^ 32 },
+    ghost held: { FitsSigned w64 ends.least },
 }
 
 impl Scale {
@@ -35,16 +40,6 @@ impl Scale {
             ends,
             null: span as u32 + 1,
         })
-    }
-
-    /// The number of a value between the ends, or of NULL.
-    fn number(&self, value: Option<i64>) -> u32
-        ensures { result ≡ number_on self.now.ends.least self.now.null value }
-    {
-        match value {
-            Some(value) => (value.abs_diff(self.ends.least) % (1 << 32)) as u32,
-            None => self.null,
-        }
     }
 
     /// The value of a number.
@@ -74,34 +69,50 @@ impl Scale {
         Ok(values)
     }
 
-    /// The numbers of a column's values, run by run.
+    /// The numbers of a column's values, which lie between the ends, run by run.
     pub(crate) fn numbers<C: ValueRuns>(
         &self,
         alloc: Global,
         column: &C,
     ) -> Result<Vec<u32>, AllocError>
+        requires { All (IsWithin self.now.ends) (known (values_in (C.runs column.now))) }
         ensures { IfOk result (λ numbers. numbers.items ≡ map (number_on self.now.ends.least self.now.null) (values_in (C.runs column.now))) }
     {
         let mut numbers = Vec::with_capacity(alloc, column.len())?;
-        let mut run = Vec::with_capacity(alloc, 64)?;
+        let mut run = [0; 64];
         'runs: for q in 0..column.run_count() {
-            column.read_run(q, &mut run)?;
-            put_numbers(&mut numbers, self, &run)?;
+            let measured = column.measure_run(q, self.ends.least, &mut run);
+            put_numbers(&mut numbers, self, &run, measured)?;
         }
         Ok(numbers)
     }
 }
 
-/// Puts the numbers of at most 64 values last.
-fn put_numbers(numbers: &mut Vec<u32>, scale: &Scale, run: &[Option<i64>]) -> Result<(), AllocError>
-    requires { length run.now ≤ 64 }
-    ensures { OnOk result (numbers.new.items ≡ numbers.old.items ++ map (number_on scale.now.ends.least scale.now.null) run.now) }
+/// Puts the numbers of a run's values last, by how far each lies above the least.
+fn put_numbers(
+    numbers: &mut Vec<u32>,
+    scale: &Scale,
+    run: &[u64; 64],
+    measured: MeasuredRun,
+) -> Result<(), AllocError>
+    requires { measured.len ≤ 64 }
+    ensures { (values : List (Option ℤ)) → IsMeasured scale.now.ends.least values measured.len measured.present run.now → All (IsBelowNull scale.now.ends.least scale.now.null) (known values) → OnOk result (numbers.new.items ≡ numbers.old.items ++ map (number_on scale.now.ends.least scale.now.null) values) }
 {
     let mut new = [0; 64];
     // No branch a value, so that values are taken side by side.
-    'run: for i in 0..run.len() {
-        new[i] = scale.number(run[i]);
+    'run: for i in 0..measured.len {
+        new[i] = number_where(has_bit(measured.present, i), run[i], scale.null);
     }
-    numbers.extend_from_slice(&new[..run.len()])?;
+    numbers.extend_from_slice(&new[..measured.len])?;
     Ok(())
+}
+
+/// The number of a value that lies so far above the least, or of NULL. It is made at a NULL, too: what is left to choose
+/// takes no branch.
+#[inline]
+fn number_where(there: bool, distance: u64, null: u32) -> u32
+    ensures { result ≡ (if there then distance % 2 ^ 32 else null) }
+{
+    let number = (distance % (1 << 32)) as u32;
+    if there { number } else { null }
 }

@@ -3,8 +3,9 @@
 ghost use Rattle.std.specs.Prelude.{All, IfOk, IfSome, List, OnOk, Option, [], is_some, length, slice_index_or, ℤ, ◌<◌, ◌≡◌, ◌≤◌};
 ghost use Rattle.std.specs.List.{list_all};
 ghost use Rattle.bw_cells.specs.SetFunctions.{known};
-ghost use Rattle.bw_groups.specs.Runs.{IsWithin, values_in};
+ghost use Rattle.bw_groups.specs.Runs.{IsMeasured, IsWithin, values_in};
 
+use crate::measured_run::MeasuredRun;
 use bw_code::Ends;
 use std::alloc::AllocError;
 
@@ -31,6 +32,12 @@ pub trait ValueRuns {
         requires { q < length (runs self.now) }
         ensures few { OnOk result (length run.new.items ≤ 64) }
         ensures values { OnOk result (run.new.items ≡ slice_index_or (runs self.now) q []) };
+
+    /// Fills the front of `out` with how far each value of run q lies above a base, modulo 2^64, and 0 for a NULL. Takes no
+    /// memory.
+    fn measure_run(&self, q: usize, base: i64, out: &mut [u64; 64]) -> MeasuredRun
+        requires { q < length (runs self.now) }
+        ensures { IsMeasured base (slice_index_or (runs self.now) q []) result.len result.present out.new };
 
     /// Whether none of the values is NULL.
     fn all_known(&self) -> Result<bool, AllocError>

@@ -1,8 +1,8 @@
-use Rattle.std.proofs.Common.{All, [], ap, arith, drop, get_or, length, length-append, length-take, refl, subst, sym, take, ◌++◌, ◌+◌, ◌-◌, ◌<◌, ◌∙◌, ◌≡◌, ◌≤◌}
+use Rattle.std.proofs.Common.{All, [], ap, arith, drop, get_or, length, length-append, length-take, pos, refl, subst, sym, take, ◌++◌, ◌+◌, ◌-◌, ◌<◌, ◌∙◌, ◌≡◌, ◌≤◌}
 use Rattle.std.proofs.lemmas.List.{length-drop, length-take-le, take_all}
 use Rattle.std.proofs.lemmas.List.Elements.{All-drop, All-take}
 use Rattle.bw_groups.specs.Folding.{AreFolds}
-use Rattle.bw_groups.specs.Runs.{values_in}
+use Rattle.bw_groups.specs.Runs.{IsMeasured, values_in}
 use Rattle.bw_groups.proofs.Runs.{run_inside, runs_all, runs_more, runs_none, runs_reach, take_none, take_parts}
 use Rattle.bw_groups.proofs.Telling.{before_any}
 use Rattle.bw_groups.proofs.fold.fold_each.Goals as goal
@@ -20,14 +20,14 @@ pub overflow_add-end : goal.overflow_add-end
 overflow_add-end g c =
     let runs = g.C.ValueRuns.runs c.args.column.now in
     let low : c.runs.q < length runs = omega (arith, c.runs-test.true, c.run_count-q-end.ensures) in
-    let inside = run_inside runs c.runs.q c.runs.at c.read_run.new.run.items low c.in_ok-read_run.ensures.values c.runs.invariant.at in
-    omega (arith, inside, c.len.ensures, c.read_run.new.run.ok, c.requires, c.times.ensures.counted.few)
+    let inside = run_inside runs c.runs.q c.runs.at (get_or runs c.runs.q []) low refl c.runs.invariant.at in
+    omega (arith, inside, c.measure_run-len.ensures.long, c.requires, c.times.ensures.counted.few)
 
 pub offset_bounds-ranks-at : goal.offset_bounds-ranks-at
 offset_bounds-ranks-at g c =
     let runs = g.C.ValueRuns.runs c.args.column.now in
     let low : c.runs.q < length runs = omega (arith, c.runs-test.true, c.run_count-q-end.ensures) in
-    let inside = run_inside runs c.runs.q c.runs.at c.read_run.new.run.items low c.in_ok-read_run.ensures.values c.runs.invariant.at in
+    let inside = run_inside runs c.runs.q c.runs.at (get_or runs c.runs.q []) low refl c.runs.invariant.at in
     omega (arith, inside, c.requires, c.times.ensures.counted.few)
 
 pub slice_bounds-fold_run-start : goal.slice_bounds-fold_run-start
@@ -37,31 +37,32 @@ pub slice_bounds-fold_run-end : goal.slice_bounds-fold_run-end
 slice_bounds-fold_run-end g c =
     let runs = g.C.ValueRuns.runs c.args.column.now in
     let low : c.runs.q < length runs = omega (arith, c.runs-test.true, c.run_count-q-end.ensures) in
-    let inside = run_inside runs c.runs.q c.runs.at c.read_run.new.run.items low c.in_ok-read_run.ensures.values c.runs.invariant.at in
-    omega (arith, inside, c.len.ensures, c.read_run.new.run.ok, c.requires, ap length c.ranks-ranks.ensures)
+    let inside = run_inside runs c.runs.q c.runs.at (get_or runs c.runs.q []) low refl c.runs.invariant.at in
+    omega (arith, inside, c.measure_run-len.ensures.long, c.requires, ap length c.ranks-ranks.ensures)
 
 pub fold_run-requires : goal.fold_run-requires
 fold_run-requires g c =
     let ranks = c.ranks-ranks.result.now in
     let runs = g.C.ValueRuns.runs c.args.column.now in
-    let run = c.read_run.new.run.items in
+    let run = get_or runs c.runs.q [] in
     let at = c.runs.at in
-    let end = at + c.len.result in
+    let end = at + c.measure_run-len.result.len in
     let low : c.runs.q < length runs = omega (arith, c.runs-test.true, c.run_count-q-end.ensures) in
-    let inside = run_inside runs c.runs.q at run low c.in_ok-read_run.ensures.values c.runs.invariant.at in
-    let here : c.deref.result.now ≡ run = c.deref.ensures.value in
+    let inside = run_inside runs c.runs.q at run low refl c.runs.invariant.at in
     let many = ap length c.ranks-ranks.ensures in
-    let part = length-take-le (end - at) (drop at ranks) (omega (arith, length-drop at ranks, inside, c.len.ensures, c.read_run.new.run.ok, c.requires, many)) in
+    let part = length-take-le (end - at) (drop at ranks) (omega (arith, length-drop at ranks, inside, c.measure_run-len.ensures.long, c.requires, many)) in
     let front = length-take-le at ranks (omega (arith, inside, c.requires, many)) in
     let all : All (λ r. r < length c.runs.folds.items) ranks = λ k d h. let one = rw (sym c.ranks-ranks.ensures) at c.times.ensures.counted.inside k d h in omega (arith, one, c.times.ensures.count, c.runs.invariant.count) in
     record {
-      as_many = omega (arith, ap length here, part, c.len.ensures, c.read_run.new.run.ok);
+      few = omega (arith, part, c.measure_run-len.ensures.long, c.measure_run-len.ensures.few);
       inside = All-take (λ r. r < length c.runs.folds.items) (end - at) (drop at ranks) (All-drop (λ r. r < length c.runs.folds.items) at ranks all);
       tells = (
         take at ranks,
         values_in (take c.runs.q runs),
+        run,
         omega (arith, front, c.runs.invariant.at),
-        omega (arith, front, part, inside, many, c.requires, c.times.ensures.counted.few, c.len.ensures, c.read_run.new.run.ok),
+        omega (arith, front, part, inside, many, c.requires, c.times.ensures.counted.few, c.measure_run-len.ensures.long),
+        subst (λ m. IsMeasured (pos 0) run m c.measure_run-len.result.present c.measure_run-len.new.out) (omega (arith, part)) c.measure_run-len.ensures,
         c.runs.invariant.tells,
       );
     }
@@ -70,25 +71,24 @@ pub runs-preserved : goal.runs-preserved
 runs-preserved g c =
     let ranks = c.ranks-ranks.result.now in
     let runs = g.C.ValueRuns.runs c.args.column.now in
-    let run = c.read_run.new.run.items in
+    let run = get_or runs c.runs.q [] in
     let at = c.runs.at in
-    let n = c.len.result in
+    let n = c.measure_run-len.result.len in
     let end = at + n in
     let low : c.runs.q < length runs = omega (arith, c.runs-test.true, c.run_count-q-end.ensures) in
-    let is = c.in_ok-read_run.ensures.values in
-    let inside = run_inside runs c.runs.q at run low is c.runs.invariant.at in
-    let here : c.deref.result.now ≡ run = c.deref.ensures.value in
+    let inside = run_inside runs c.runs.q at run low refl c.runs.invariant.at in
     let many = ap length c.ranks-ranks.ensures in
-    let long : n ≡ length run = omega (arith, c.len.ensures, c.read_run.new.run.ok) in
+    let long : n ≡ length run = c.measure_run-len.ensures.long in
     let part = length-take-le (end - at) (drop at ranks) (omega (arith, length-drop at ranks, inside, long, c.requires, many)) in
     let front = length-take-le at ranks (omega (arith, inside, c.requires, many)) in
-    let told = c.fold_run.ensures.tells (take at ranks) (values_in (take c.runs.q runs)) (omega (arith, front, c.runs.invariant.at)) (omega (arith, front, part, inside, many, c.requires, c.times.ensures.counted.few, long)) c.runs.invariant.tells in
     let size : end - at ≡ n = omega arith in
+    let measured = subst (λ m. IsMeasured (pos 0) run m c.measure_run-len.result.present c.measure_run-len.new.out) (omega (arith, part)) c.measure_run-len.ensures in
+    let told = c.fold_run.ensures.tells (take at ranks) (values_in (take c.runs.q runs)) run (omega (arith, front, c.runs.invariant.at)) (omega (arith, front, part, inside, many, c.requires, c.times.ensures.counted.few, long)) measured c.runs.invariant.tells in
     let rows : take at ranks ++ take (end - at) (drop at ranks) ≡ take end ranks = ap (λ m. take at ranks ++ take m (drop at ranks)) size ∙ take_parts at n ranks in
-    let values : values_in (take c.runs.q runs) ++ c.deref.result.now ≡ values_in (take (c.runs.q + 1) runs) = ap (λ l. values_in (take c.runs.q runs) ++ l) (here ∙ is) ∙ sym (runs_more runs c.runs.q low) in
+    let values : values_in (take c.runs.q runs) ++ run ≡ values_in (take (c.runs.q + 1) runs) = sym (runs_more runs c.runs.q low) in
     record {
       count = c.fold_run.ensures.count ∙ c.runs.invariant.count;
-      at = ap (λ m. at + m) long ∙ runs_reach runs c.runs.q at run low is c.runs.invariant.at;
+      at = ap (λ m. at + m) long ∙ runs_reach runs c.runs.q at run low refl c.runs.invariant.at;
       tells = subst (λ xs. AreFolds g.F.Fold.tells xs (values_in (take (c.runs.q + 1) runs)) c.fold_run.new.folds.items) rows
           (subst (λ ys. AreFolds g.F.Fold.tells (take at ranks ++ take (end - at) (drop at ranks)) ys c.fold_run.new.folds.items) values told);
     }
