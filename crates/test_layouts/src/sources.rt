@@ -40,9 +40,10 @@ fn scanned<R: Abort + AllocGlobal>(
 ) -> (u64, u64)
     requires some { 1 ≤ length planes.now }
     requires few { length planes.now ≤ 64 }
+    requires any { 1 ≤ rows }
+    requires segment { rows ≤ 256 }
     requires fits { TestFits (length planes.now) test }
 {
-    assert!(rt; 1 <= rows && rows <= 256);
     let mut list = PlaneList {
         planes: Vec::from_slice(rt.alloc(), planes).expect(rt, "memory"),
         reads: 0,
