@@ -13,7 +13,8 @@ import subprocess
 from common import Number, built, options
 from report import Report, figure, times
 
-FIGURE = re.compile(r"(\w+) (\d+) ns")
+# A line that begins with the work; those of the layouts begin with a layout and a width.
+FIGURE = re.compile(r"^(\w+) (\d+) ns", re.MULTILINE)
 
 # What is timed, and what it is measured by.
 COMPARED = {
