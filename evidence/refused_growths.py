@@ -208,7 +208,36 @@ WORKED = {
         "REBUILD t (a USING H);",
         "CREATE TABLE u (a BIGINT USING H);",
     ],
+    "sparse groups": [
+        "CREATE TABLE t (a BIGINT, b BIGINT USING S);",
+        "INSERT INTO t VALUES (-9223372036854775808, 1), (9223372036854775807, 2), (NULL, 3), (0, NULL), (0, -4);",
+        "SELECT a, SUM(b), MEDIAN(b), COUNT(*) FROM t GROUP BY a;",
+        "SELECT b, MAX(a) FROM t WHERE NOT b = 2 GROUP BY b;",
+        "SELECT * FROM t GROUP BY a;",
+    ],
+    "units": [
+        *HALVED,
+        "STATS SELECT a FROM t WHERE a < 7 AND b = 0;",
+        "DELETE FROM t WHERE b = 0;",
+        "STATS SELECT COUNT(*) FROM t WHERE a < 7 OR a < b;",
+        "STATS SELECT c FROM t;",
+    ],
 }
+
+
+def groups_in(layout, kind):
+    """A report by groups over columns that are laid so."""
+    return [
+        f"CREATE TABLE t (a INT USING {layout} {kind}, b INT USING {layout} {kind});",
+        "INSERT INTO t VALUES (2, 7), (1, NULL), (2, -3), (NULL, 4), (1, 5), (-8, 0);",
+        "SELECT a, COUNT(*), COUNT(b), SUM(b), MIN(b), MAX(b), MEDIAN(b) FROM t GROUP BY a;",
+        "SELECT SUM(b), a FROM t WHERE b > 0 GROUP BY a;",
+        "STATS SELECT a, COUNT(*) FROM t WHERE b > 0 GROUP BY a;",
+    ]
+
+
+LAID = itertools.product("PVHS", ("OFFSET", "DICTIONARY"))
+GROUPED = {f"groups in {layout} {kind}": groups_in(layout, kind) for layout, kind in LAID}
 
 FILES = {
     "rows.csv": b"a,b\r\n1,2\r\n,-3\r\n\"2\",\r\n",
@@ -325,7 +354,7 @@ def main():
         source.write_text(LIBRARY)
         subprocess.run(["cc", "-shared", "-fPIC", "-O1", "-o", library, source, "-ldl"], check=True)
         program = Program(library, Path(folder) / "note")
-        scripts = SCRIPTS | WORKED
+        scripts = SCRIPTS | WORKED | GROUPED
         progress = Progress("refused growths", 2 * len(scripts))
         for name, statements in scripts.items():
             for stop in (False, True):
