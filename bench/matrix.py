@@ -81,7 +81,7 @@ STATEMENTS = (
     Statement("OPEN", "OPEN u FROM 'again.table'", ("DROP TABLE u", "SAVE t TO 'again.table'"), shared=False),
     Statement("STATS, a < x", "STATS SELECT a FROM t WHERE a < {mid}", shared=False),
     Statement("INSERT, one row", ONE, is_small=True),
-    Statement("INSERT, one new value", ONE.replace("({x}", "(2147483647"), (REFILL,), is_small=True),
+    Statement("INSERT, new value", ONE.replace("({x}", "(2147483647"), (REFILL,), is_small=True),
     Statement("DELETE, one row", "DELETE FROM t WHERE d = 1000", (REFILL, ONE), is_small=True),
 )
 
