@@ -96,16 +96,22 @@ def integer(value: Any) -> int:
         ) from None
 
 
-def quoted(path: PathLike) -> str:
-    """A file's name as a text of a statement, quotes included.
-
-    Raises ProgrammingError where no statement can name the file: the name is no str and no path of str, is empty, has
-    a zero byte, more than 255 bytes, or isn't UTF-8.
-    """
+def path_of(path: PathLike) -> str:
+    """A file's name as a str. ProgrammingError where it is no str and no path of str, or has a zero byte."""
     if not isinstance(path, (str, os.PathLike)) or not isinstance(name := os.fspath(path), str):
         raise ProgrammingError(f"a file's name is to be a str or a path of str, not a {type(path).__name__}")
     if "\0" in name:
         raise ProgrammingError("a file's name has no zero byte")
+    return name
+
+
+def quoted(path: PathLike) -> str:
+    """A file's name as a text of a statement, quotes included.
+
+    Raises ProgrammingError where no statement can name the file: where path_of does, or the name is empty, has more
+    than 255 bytes, or isn't UTF-8.
+    """
+    name = path_of(path)
     if not 1 <= len(_encoded(name)) <= FILE_NAME_BYTES:
         raise ProgrammingError(f"a file's name has 1 to {FILE_NAME_BYTES} bytes, not {len(_encoded(name))}: {name!r}")
     return "'" + name.replace("'", "''") + "'"
