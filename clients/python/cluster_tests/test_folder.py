@@ -215,8 +215,8 @@ class BadInput(PartsTestCase):
             told = f"{folder}: the folder can't be made: "
             self.refused(told, lambda: cluster.create(self.client, folder, "t", "a INT"), bitcol.OperationalError)
         for name, told in (("a\0b", "no zero byte"), (b"a", "not a bytes"), (None, "not a NoneType")):
-            for call in (lambda: cluster.create(self.client, name, "t", "a INT"), lambda: cluster.open(self.client, name)):
-                self.refused(told, call, bitcol.ProgrammingError)
+            self.refused(told, lambda: cluster.create(self.client, name, "t", "a INT"), bitcol.ProgrammingError)
+            self.refused(told, lambda: cluster.open(self.client, name), bitcol.ProgrammingError)
 
     def test_files_that_are_none(self) -> None:
         """One path in place of a list would be gone through letter by letter."""

@@ -70,7 +70,8 @@ class Manual(unittest.TestCase):
         words = set(re.findall(r"\b[A-Z]{2,}\b", grammar))
         self.assertGreaterEqual(len(words), 20)
         page = MANUAL.read_text().partition("\n.SH STATEMENTS\n")[2].partition("\n.fi\n")[0]
-        self.assertEqual(words - set(re.findall(r"\b[A-Z]{2,}\b", page.replace("\\fB", " ").replace("\\fR", " "))), set())
+        plain = page.replace("\\fB", " ").replace("\\fR", " ")
+        self.assertEqual(words - set(re.findall(r"\b[A-Z]{2,}\b", plain)), set())
 
 
 class Wheel(InFolder):

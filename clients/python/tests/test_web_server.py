@@ -346,7 +346,7 @@ class Files(WebTestCase):
             ("a.csv", "day,seconds\n1,30\n2,half\n", "line 3, column 'seconds': 'half' is no integer"),
             ("a.csv", f"day,bytes\n1,{'9' * 20}\n", f"line 2, column 'bytes': {wide}"),
             ("a.csv", "1,2\n3,4\n", "line 1 has integers alone, and a CSV file begins with a header"),
-            ("a.csv", "a,b\n1\n", "line 2 has 1 fields, and the header has 2"),
+            ("a.csv", "a,b\n1\n", "line 2 has 1 field, and the header has 2"),
             ("a.table", b"BITCOL\1", "error 44: not a table file"),
             ("a.db", b"SQLite format 3\0", "SQLite: "),
         ):
