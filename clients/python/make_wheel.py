@@ -52,8 +52,10 @@ def program() -> Path:
 
 
 def library() -> Path | None:
-    """The shared library that goes into the wheel, if one is to."""
+    """The shared library that goes into the wheel, if one is to. Ends this script where it is named and isn't there."""
     named = os.environ.get("BITCOL_LIBRARY")
+    if named and not Path(named).is_file():
+        sys.exit(f"{named} isn't there: build it by make -C clients library, or unset BITCOL_LIBRARY")
     return Path(named) if named else None
 
 

@@ -8,8 +8,12 @@ fn main() {
         || PathBuf::from(env::var_os("CARGO_MANIFEST_DIR").expect("cargo sets it")).join("../out"),
         PathBuf::from,
     );
+    let archive = folder.join("libbitcol.a");
+    if !archive.exists() {
+        println!("cargo:warning={} isn't there: `make -C clients library` makes it", archive.display());
+    }
     println!("cargo:rustc-link-search=native={}", folder.display());
     println!("cargo:rustc-link-lib=static=bitcol");
-    println!("cargo:rerun-if-changed={}", folder.join("libbitcol.a").display());
+    println!("cargo:rerun-if-changed={}", archive.display());
     println!("cargo:rerun-if-env-changed=BITCOL_ARCHIVE_FOLDER");
 }

@@ -15,7 +15,7 @@ from .column_type import ColumnType
 from .door import Bytes
 from .errors import DataError, ProgrammingError
 from .optional import imported, is_numpy_array, is_pandas_series, numpy_module
-from .script import integer
+from .script import UNLISTED, integer
 
 _TYPECODES = {
     ColumnType.INTEGER: next(code for code in "il" if array.array(code).itemsize == 4),
@@ -116,11 +116,13 @@ def cells_of(column: Iterable[Any], column_type: ColumnType | None = None) -> Ce
 
 
 def check_widths(rows: Sequence[Sequence[Any]], width: int, before: int) -> None:
-    """Raises ProgrammingError where a row hasn't so many values. So many rows came before these."""
-    try:
-        widths = list(map(len, rows))
-    except TypeError:
-        raise ProgrammingError("each row is to be a list or a tuple of values") from None
+    """Raises ProgrammingError where a row is no list of values, or hasn't so many. So many rows came before these."""
+    if not set(map(type, rows)) <= {list, tuple}:
+        for row, values in enumerate(rows, before):
+            if isinstance(values, UNLISTED) or not hasattr(values, "__len__"):
+                kind = type(values).__name__
+                raise ProgrammingError(f"row {row}: it is to be a list or a tuple of values, not a {kind}")
+    widths = list(map(len, rows))
     if widths.count(width) < len(rows):
         row = next(row for row, found in enumerate(widths) if found != width)
         raise ProgrammingError(f"row {before + row}: {widths[row]} values, and {width} are wanted")

@@ -37,12 +37,13 @@ class Coprocess:
     """A store in a process of its own, which ends with it. Calls from several threads take turns."""
 
     def __init__(self, program: PathLike, folder: PathLike | None = None) -> None:
-        """Starts the program. `folder` is where it looks for the files that statements name; by default where this
-        process is. OperationalError where it can't be started."""
+        """Starts the program, whose path is one from where this process is, or a name on PATH. `folder` is where it
+        looks for the files that statements name; by default where this process is. OperationalError where it can't be
+        started."""
         try:
             # A session of its own keeps an interrupt from the keyboard away from the program.
             self._child = subprocess.Popen(
-                [os.fspath(program)],
+                [_path_from_here(os.fspath(program))],
                 stdin=subprocess.PIPE,
                 stdout=subprocess.PIPE,
                 stderr=subprocess.PIPE,
@@ -176,7 +177,7 @@ class Coprocess:
     def _died(self) -> NoReturn:
         """Raises ProgramEnded with what is known of the end of a program that ended by itself."""
         status, said = self._reap()
-        how = f"was killed by {signal.Signals(-status).name}" if status < 0 else f"ended with status {status}"
+        how = f"was killed by {_signal_name(-status)}" if status < 0 else f"ended with status {status}"
         self._end = f"the program {how}{': ' + said if said else ''}"
         raise ProgramEnded(f"{self._end}; its tables are gone")
 
@@ -197,6 +198,19 @@ class Coprocess:
         """The status of the program, which has no more to do, and what it wrote to standard error."""
         self._finalizer.detach()
         return _reaped(self._child)
+
+
+def _path_from_here(program: str) -> str:
+    """The path of a program as it is from any folder. A name without a slash is looked up on PATH, and stays."""
+    return os.path.abspath(program) if os.sep in program else program
+
+
+def _signal_name(number: int) -> str:
+    """What a signal is called. One of real time may have no name."""
+    try:
+        return signal.Signals(number).name
+    except ValueError:
+        return f"signal {number}"
 
 
 def _drop(child: subprocess.Popen[bytes], owner: int) -> None:

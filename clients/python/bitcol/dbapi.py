@@ -14,7 +14,7 @@ from typing import Any
 
 from . import errors
 from .door import Door
-from .errors import InterfaceError, NotSupportedError
+from .errors import InterfaceError, NotSupportedError, ProgrammingError
 from .reply import Reply, Row
 from .script import PathLike
 from .session import Session
@@ -135,8 +135,11 @@ class Cursor:
         return next(self._remaining(), None)
 
     def fetchmany(self, size: int | None = None) -> list[Row]:
-        """The next rows, at most so many, or `arraysize`."""
-        return list(islice(self._remaining(), self.arraysize if size is None else size))
+        """The next rows, at most so many, or `arraysize`. ProgrammingError where that is no number of rows."""
+        limit = self.arraysize if size is None else size
+        if not isinstance(limit, int) or limit < 0:
+            raise ProgrammingError(f"a number of rows is an integer from 0 on, not {limit!r}")
+        return list(islice(self._remaining(), limit))
 
     def fetchall(self) -> list[Row]:
         """All rows that are left."""

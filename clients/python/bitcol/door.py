@@ -6,11 +6,32 @@ stand behind the same session.
 
 from __future__ import annotations
 
-from collections.abc import Iterable
+from collections.abc import Iterable, Iterator
 from contextlib import AbstractContextManager
 from typing import Protocol, Union
 
+from .errors import ProgrammingError
+
 Bytes = Union[bytes, bytearray, memoryview]
+
+
+def pieces_of(pieces: Iterable[Bytes]) -> Iterator[Bytes]:
+    """The pieces, one after the other. ProgrammingError where one isn't bytes, or where bytes or a text stand in place
+    of a list of pieces."""
+    fault = ProgrammingError(f"the pieces are to be a list of bytes, not a {type(pieces).__name__}")
+    if isinstance(pieces, (str, bytes, bytearray, memoryview)):
+        raise fault
+    try:
+        return map(_piece, pieces)
+    except TypeError:
+        raise fault from None
+
+
+def _piece(piece: Bytes) -> Bytes:
+    try:
+        return memoryview(piece)
+    except TypeError:
+        raise ProgrammingError(f"a piece is to be bytes, not a {type(piece).__name__}") from None
 
 
 class File(Protocol):

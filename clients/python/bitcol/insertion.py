@@ -77,7 +77,16 @@ class Inserter:
             tuples.append(tuples_of(cells, self._insertion.places))
             if sum(map(len, tuples)) > STATEMENT_BYTES:
                 return self._load(chain(held, batches))
-        return self._execute(self._insertion.statement(",".join(tuples))).count or 0 if tuples else 0
+        return self._insert(tuples, held) if tuples else 0
+
+    def _insert(self, tuples: Sequence[str], batches: Sequence[Batch]) -> int:
+        """The number of rows that one INSERT of these tuples adds, which have the cells of these batches."""
+        try:
+            return self._execute(self._insertion.statement(",".join(tuples))).count or 0
+        except DataRefused as refusal:
+            order = self._order()
+            lines = [lines_of(cells, self._insertion.places, order) for cells in batches]
+            raise self._located(refusal, lines) from None
 
     def _load(self, batches: Iterable[Batch]) -> int:
         order = self._order()
@@ -90,14 +99,19 @@ class Inserter:
         return added
 
     def _load_file(self, name: str, lines: Sequence[bytes], before: int) -> int:
-        """The number of rows that LOAD adds. LOAD doesn't say which value is out of range, so it is looked for."""
+        """The number of rows that LOAD adds. So many rows came before these."""
         try:
             return self._execute(f"LOAD {self._insertion.table} FROM {quoted(name)}").count or 0
         except DataRefused as refusal:
-            if refusal.number != ErrorNumber.VALUE_OUT_OF_RANGE:
-                raise
-            types = list(column_types(self._execute, self._insertion.table).values())
-            raise DataRefused(refusal.number, f"{refusal.text}: {_first_outside(lines, types, before)}") from None
+            raise self._located(refusal, lines, before) from None
+
+    def _located(self, refusal: DataRefused, lines: Sequence[bytes], before: int = 0) -> DataRefused:
+        """The refusal of lines, with the value that is at fault: neither INSERT nor LOAD says which is out of range, so
+        it is looked for. So many rows came before these."""
+        if refusal.number not in (ErrorNumber.NUMBER_TOO_LARGE, ErrorNumber.VALUE_OUT_OF_RANGE):
+            return refusal
+        types = list(column_types(self._execute, self._insertion.table).values())
+        return DataRefused(refusal.number, f"{refusal.text}: {_first_outside(lines, types, before)}")
 
     def _order(self) -> list[int | None]:
         """For each column of the table the place of its value in a row, or None where the statement lists it not."""

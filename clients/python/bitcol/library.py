@@ -11,10 +11,10 @@ from collections.abc import Iterable, Iterator
 from enum import IntEnum
 from pathlib import Path
 
-from .door import Bytes
+from .door import Bytes, pieces_of
 from .errors import InterfaceError, NotSupportedError, OperationalError
 from .reply import ReplyBuffer
-from .script import PathLike
+from .script import PathLike, quoted
 
 VARIABLE = "BITCOL_LIBRARY"
 # A wheel may have the library beside this module.
@@ -88,7 +88,8 @@ class Library:
             self._ensure_usable()
             end = self._calls.bitcol_answer(self._address, script, len(script))
             if end != Status.DONE:
-                raise OperationalError("there is no memory for a reply: its statement was carried out, and none after it")
+                said = "there is no memory for a reply: its statement was carried out, and none after it"
+                raise OperationalError(said)
             data = self._replies()
         if statements == 1:
             return [data]
@@ -97,17 +98,19 @@ class Library:
         return [buffer.take() or b"" for _ in range(statements)]
 
     def put_file(self, name: str, data: Bytes) -> None:
-        """Makes one of the store's own files anew. OperationalError where there is no memory for it."""
-        held = data if isinstance(data, bytes) else memoryview(data).tobytes()
-        path = name.encode()
+        """Makes one of the store's own files anew. OperationalError where there is no memory for it, ProgrammingError
+        where no statement can have the name, or the data isn't bytes."""
+        held = data if isinstance(data, bytes) else b"".join(pieces_of([data]))
+        path = _name_bytes(name)
         with self._lock:
             self._ensure_usable()
             if self._calls.bitcol_put_file(self._address, path, len(path), held, len(held)) != Status.DONE:
                 raise OperationalError(f"no memory for the file {name!r}")
 
     def file(self, name: str) -> bytes:
-        """One of the store's own files. OperationalError where it isn't there."""
-        path = name.encode()
+        """One of the store's own files. OperationalError where it isn't there, ProgrammingError where no statement can
+        have the name."""
+        path = _name_bytes(name)
         with self._lock:
             self._ensure_usable()
             length = _Size()
@@ -173,11 +176,17 @@ class StoreFile:
 
     def write(self, pieces: Iterable[Bytes]) -> None:
         """See File. OperationalError where there is no memory for it."""
-        self._library.put_file(self._name, b"".join(pieces))
+        self._library.put_file(self._name, b"".join(pieces_of(pieces)))
 
     def read(self) -> bytes:
         """See File."""
         return self._library.file(self._name)
+
+
+def _name_bytes(name: str) -> bytes:
+    """The bytes of a file's name, of which a statement can have each. ProgrammingError where it can't."""
+    quoted(name)
+    return os.fspath(name).encode()
 
 
 def _loaded(path: str) -> ctypes.CDLL:

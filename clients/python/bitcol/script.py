@@ -8,7 +8,7 @@ from __future__ import annotations
 
 import os
 import re
-from collections.abc import Mapping, Sequence
+from collections.abc import Mapping, Sequence, Set
 from functools import lru_cache
 from operator import index
 from typing import Any, Union
@@ -19,6 +19,8 @@ PathLike = Union[str, "os.PathLike[str]"]
 
 LEAST_NUMBER, GREATEST_NUMBER = -(2**63), 2**63 - 1
 FILE_NAME_BYTES = 255
+# What has a length and can be gone through, and is no list of values all the same: texts, and what has no order.
+UNLISTED = (str, bytes, bytearray, Mapping, Set)
 NAME = re.compile(r"[A-Za-z][A-Za-z0-9_]{0,127}")
 RESERVED = frozenset(
     """AND BETWEEN BIGINT BY COUNT CREATE DELETE DROP FALSE FROM GROUP IN INSERT INT INTEGER INTO IS MAX MEDIAN MIN NOT
@@ -60,7 +62,7 @@ def bound(statement: str, values: Sequence[Any]) -> str:
     A value is None or an integer. Raises ProgrammingError where it is neither, or where there are fewer values than
     places or more, and DataError where an integer has more than 64 bits.
     """
-    if isinstance(values, (str, bytes, Mapping)) or not hasattr(values, "__len__"):
+    if isinstance(values, UNLISTED) or not hasattr(values, "__len__"):
         raise ProgrammingError(f"the values are to be a list or a tuple, not a {type(values).__name__}")
     pieces = _between_places(statement)
     if len(values) != len(pieces) - 1:
@@ -94,17 +96,22 @@ def integer(value: Any) -> int:
         ) from None
 
 
+def path_of(path: PathLike) -> str:
+    """A file's name as a str. ProgrammingError where it is no str and no path of str, or has a zero byte."""
+    if not isinstance(path, (str, os.PathLike)) or not isinstance(name := os.fspath(path), str):
+        raise ProgrammingError(f"a file's name is to be a str or a path of str, not a {type(path).__name__}")
+    if "\0" in name:
+        raise ProgrammingError("a file's name has no zero byte")
+    return name
+
+
 def quoted(path: PathLike) -> str:
     """A file's name as a text of a statement, quotes included.
 
-    Raises ProgrammingError where no statement can name the file: the name is empty, has a zero byte, more than 255
-    bytes, or isn't UTF-8.
+    Raises ProgrammingError where no statement can name the file: where path_of does, or the name is empty, has more
+    than 255 bytes, or isn't UTF-8.
     """
-    name = os.fspath(path)
-    if not isinstance(name, str):
-        raise ProgrammingError("a file's name is to be a str or a path of str")
-    if "\0" in name:
-        raise ProgrammingError("a file's name has no zero byte")
+    name = path_of(path)
     if not 1 <= len(_encoded(name)) <= FILE_NAME_BYTES:
         raise ProgrammingError(f"a file's name has 1 to {FILE_NAME_BYTES} bytes, not {len(_encoded(name))}: {name!r}")
     return "'" + name.replace("'", "''") + "'"

@@ -10,7 +10,8 @@ from typing import Any
 
 from .column_type import ColumnType, column_types
 from .coprocess import Coprocess
-from .door import Bytes, Door, File
+from .door import Bytes, Door, File, pieces_of
+from .errors import ProgrammingError
 from .insertion import Inserter, insertion_of
 from .program import find_program
 from .reply import Reply, reply_of
@@ -58,9 +59,13 @@ class Session:
         up to the first that is refused.
         """
         insertion = insertion_of(checked_text(statement))
+        try:
+            remaining = iter(rows)
+        except TypeError:
+            raise ProgrammingError(f"the rows are to be a list of rows, not a {type(rows).__name__}") from None
         if insertion is not None:
-            return Inserter(insertion, self.execute, self._door).insert(rows)
-        return sum(self.execute(statement, row).count or 0 for row in rows)
+            return Inserter(insertion, self.execute, self._door).insert(remaining)
+        return sum(self.execute(statement, row).count or 0 for row in remaining)
 
     def run(self, script: str) -> list[Reply]:
         """The replies to all statements of a script, refusals among them. Nothing is raised for a refusal, and the
@@ -73,6 +78,8 @@ class Session:
     def answers(self, statements: Sequence[str], seconds: float | None = None) -> list[bytes]:
         """The bytes of the reply to each statement, as the program wrote them, refusals among them. All are sent at
         once. Where they take longer than these seconds the store is ended, and OutOfTime is raised."""
+        if isinstance(statements, str):
+            raise ProgrammingError("the statements are to be a list of str, not a str")
         scripts = [statement_of(checked_text(statement)) for statement in statements]
         # A door that knows no limit of time serves as well, where none is given.
         limit = () if seconds is None else (seconds,)
@@ -81,7 +88,7 @@ class Session:
     def put_table(self, table: str, data: Bytes) -> int:
         """OPEN of these bytes of a table file: makes a new table of them, and gives the number of rows."""
         with self._door.scratch() as file:
-            file.write([data])
+            file.write(pieces_of([data]))
             return self.open(table, file.name)
 
     def table_bytes(self, table: str) -> bytes:
@@ -116,9 +123,10 @@ class Session:
         return self._count(f"LOAD {checked_name(table)} FROM {quoted(path)}{' WITH HEADER' if header else ''}")
 
     def load_bytes(self, table: str, pieces: Iterable[Bytes], header: bool = False) -> int:
-        """LOAD of these bytes in place of a CSV file: adds their rows, all or none, and gives their number."""
+        """LOAD of these bytes in place of a CSV file: adds their rows, all or none, and gives their number.
+        ProgrammingError where a piece isn't bytes."""
         with self._door.scratch() as file:
-            file.write(pieces)
+            file.write(pieces_of(pieces))
             return self.load(table, file.name, header)
 
     def save(self, table: str, path: PathLike) -> int:

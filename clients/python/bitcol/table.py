@@ -4,8 +4,9 @@ from __future__ import annotations
 
 import array
 from collections.abc import Iterable, Iterator, Mapping, Sequence
+from enum import IntEnum
 from itertools import chain
-from typing import Any
+from typing import Any, TypeVar
 
 from .cells import cells_of, check_widths
 from .column_type import ColumnType
@@ -13,6 +14,8 @@ from .door import Bytes
 from .errors import DataError, ProgrammingError
 from .optional import pandas_module
 from .table_file import Column, Kind, Layout, decode, encode
+
+Choice = TypeVar("Choice", bound=IntEnum)
 
 
 class Table:
@@ -110,6 +113,16 @@ def _column(
     name: str, cells: Iterable[Any], layout: Layout, kind: Kind, column_type: ColumnType | None
 ) -> Column:
     try:
-        return Column(name, cells_of(cells, column_type), Layout(layout), Kind(kind))
+        chosen = None if column_type is None else _chosen(ColumnType, column_type)
+        return Column(name, cells_of(cells, chosen), _chosen(Layout, layout), _chosen(Kind, kind))
     except (DataError, ProgrammingError) as fault:
         raise type(fault)(f"column {name}: {fault}") from None
+
+
+def _chosen(choices: type[Choice], value: Any) -> Choice:
+    """The choice that a value is. ProgrammingError where it is none."""
+    try:
+        return choices(value)
+    except ValueError:
+        words = ", ".join(f"{choices.__name__}.{choice.name}" for choice in choices)
+        raise ProgrammingError(f"{value!r} is none of {words}") from None

@@ -209,6 +209,35 @@ class BadInput(PartsTestCase):
         self.refused("there is a table", lambda: cluster.create(self.client, self.folder / "table", "t", "a INT"))
         self.refused("no table in", lambda: cluster.open(self.client, self.folder / "none"), bitcol.OperationalError)
 
+    def test_folders_that_are_none(self) -> None:
+        (self.folder / "file").write_text("")
+        for folder in (self.folder / "file", self.folder / "file/below"):
+            told = f"{folder}: the folder can't be made: "
+            self.refused(told, lambda: cluster.create(self.client, folder, "t", "a INT"), bitcol.OperationalError)
+        for name, told in (("a\0b", "no zero byte"), (b"a", "not a bytes"), (None, "not a NoneType")):
+            self.refused(told, lambda: cluster.create(self.client, name, "t", "a INT"), bitcol.ProgrammingError)
+            self.refused(told, lambda: cluster.open(self.client, name), bitcol.ProgrammingError)
+
+    def test_files_that_are_none(self) -> None:
+        """One path in place of a list would be gone through letter by letter."""
+        path = write_csv(self.folder / "good.csv", [(7, 8)])
+        for call in (self.table.load, self.table.attach):
+            for one in (str(path), os.fsencode(path), path):
+                self.refused(f"a list of paths, not one path: {one!r}", lambda: call(one), bitcol.ProgrammingError)
+            self.refused("no zero byte", lambda: call([path, "a\0b"]), bitcol.ProgrammingError)
+            self.refused("not a int", lambda: call([5]), bitcol.ProgrammingError)
+
+    def test_a_host_that_writes_nothing(self) -> None:
+        """The file that can't be written is named, and not the CSV file whose rows it was to have."""
+        path = write_csv(self.folder / "good.csv", [(7, 8)])
+        for call in ("link", "replace"):
+            with mock.patch.object(os, call, side_effect=OSError(28, "No space left on device")):
+                changed = f"{self.folder / 'table'}/"
+                told = self.refused("No space left on device", lambda: self.table.load([path]), bitcol.OperationalError)
+                self.assertIn(changed, str(told))
+                self.assertNotIn("good.csv", str(told))
+        self.assertEqual(self.table.vacuum(0), 3)
+
     def test_damaged_parts_and_manifests(self) -> None:
         path = Path(self.folder / "table" / self.table.manifest.parts[1].file)
         whole = path.read_bytes()
@@ -232,6 +261,10 @@ class BadInput(PartsTestCase):
             self.refused(told, lambda: cluster.open(self.client, folder), bitcol.DataError)
         newest.unlink()
         self.table = cluster.open(self.client, self.folder / "table")
+        alone = cluster.create(self.client, self.folder / "alone", "t", "a INT")
+        (self.folder / "alone" / alone.manifest.file).write_text("")
+        told = "v00000001.json is damaged; there is no other version"
+        self.refused(told, lambda: cluster.open(self.client, self.folder / "alone"), bitcol.DataError)
 
 
 class BrokenOff(PartsTestCase):

@@ -71,6 +71,25 @@ class Ends(SessionTestCase):
             with self.assertRaisesRegex(bitcol.OperationalError, "ended with status 2: no memory to begin with"):
                 session.execute("TABLES -- \n")
 
+    def test_a_program_that_is_killed_by_a_signal_without_a_name(self) -> None:
+        number = signal.SIGRTMIN + 6
+        door_of(self.session)._child.send_signal(number)
+        for _ in range(2):
+            with self.assertRaisesRegex(bitcol.ProgramEnded, f"the program was killed by signal {number}; its tables"):
+                self.session.execute("TABLES")
+
+    def test_a_relative_path_of_the_program_is_not_looked_up_in_the_folder_of_files(self) -> None:
+        program = os.path.abspath(bitcol.find_program())
+        self.addCleanup(os.chdir, os.getcwd())
+        with tempfile.TemporaryDirectory() as folder:
+            (Path(folder) / "program").symlink_to(program)
+            (Path(folder) / "files").mkdir()
+            os.chdir(folder)
+            session = self.new_session(program="./program", folder="files")
+            session.write_table("t", {"a": [1]})
+            session.save("t", "t.table")
+            self.assertTrue((Path(folder) / "files/t.table").is_file())
+
     def test_a_program_that_is_not_there(self) -> None:
         for program in ("/no/such/program", os.devnull, "a\0b"):
             with self.assertRaisesRegex(bitcol.OperationalError, "can't be started"):

@@ -48,6 +48,13 @@ class Cursors(unittest.TestCase):
             with self.assertRaises(bitcol.InterfaceError):
                 fetch()
 
+    def test_what_is_no_number_of_rows(self) -> None:
+        self.cursor.execute("SELECT a FROM t")
+        for size in (-1, 1.5, "2"):
+            with self.assertRaisesRegex(bitcol.ProgrammingError, f"an integer from 0 on, not {size!r}"):
+                self.cursor.fetchmany(size)  # type: ignore[arg-type]
+        self.assertEqual(self.cursor.fetchmany(0), [])
+
     def test_rows(self) -> None:
         self.cursor.executemany("INSERT INTO t VALUES (?, ?)", [(row, -row) for row in range(100)])
         self.assertEqual((self.cursor.rowcount, self.cursor.description), (100, None))

@@ -2,6 +2,7 @@
 
 import importlib.util
 import os
+import re
 import shutil
 import subprocess
 import sys
@@ -13,6 +14,7 @@ import bitcol
 
 CLIENTS = Path(__file__).resolve().parent.parent.parent
 MANUAL = CLIENTS / "share/bitcol.1"
+LANGUAGE = CLIENTS.parent / "docs/LANGUAGE.md"
 SCRIPT = "CREATE TABLE t (a INT); INSERT INTO t VALUES (3), (NULL), (-1); SELECT a FROM t WHERE a < 3;"
 REPLIES = "ok\nok 3\nA\n-1\nrows 1\n"
 
@@ -40,13 +42,14 @@ class InFolder(unittest.TestCase):
 @unittest.skipUnless(shutil.which("make"), "make is not installed")
 class Install(InFolder):
     def test_install_and_uninstall(self) -> None:
-        words = ("make", "-C", CLIENTS, f"DESTDIR={self.folder}", "PREFIX=/opt/bitcol", f"BITCOL={self.program}")
-        run(*words, "install")
-        top = self.folder / "opt/bitcol"
-        self.assertEqual(run(top / "bin/bitcol"), REPLIES)
-        self.assertEqual((top / "share/man/man1/bitcol.1").read_bytes(), MANUAL.read_bytes())
-        run(*words, "uninstall")
-        self.assertEqual([path for path in self.folder.rglob("*") if path.is_file()], [])
+        for prefix in ("opt/bitcol", "two words"):
+            words = ("make", "-C", CLIENTS, f"DESTDIR={self.folder}", f"PREFIX=/{prefix}", f"BITCOL={self.program}")
+            run(*words, "install")
+            top = self.folder / prefix
+            self.assertEqual(run(top / "bin/bitcol"), REPLIES)
+            self.assertEqual((top / "share/man/man1/bitcol.1").read_bytes(), MANUAL.read_bytes())
+            run(*words, "uninstall")
+            self.assertEqual([path for path in self.folder.rglob("*") if path.is_file()], [])
 
 
 @unittest.skipUnless(shutil.which("groff"), "groff is not installed")
@@ -61,6 +64,15 @@ class Manual(unittest.TestCase):
         self.assertIn(SCRIPT, lines[start])
         self.assertEqual(lines[start + 1 : start + 6], REPLIES.split("\n")[:-1])
 
+    def test_the_page_has_each_statement(self) -> None:
+        """The words of the statements are those of the grammar in the description of the language."""
+        grammar = LANGUAGE.read_text().partition("\nstatement = ")[2].partition("\ncoldef ")[0]
+        words = set(re.findall(r"\b[A-Z]{2,}\b", grammar))
+        self.assertGreaterEqual(len(words), 20)
+        page = MANUAL.read_text().partition("\n.SH STATEMENTS\n")[2].partition("\n.fi\n")[0]
+        plain = page.replace("\\fB", " ").replace("\\fR", " ")
+        self.assertEqual(words - set(re.findall(r"\b[A-Z]{2,}\b", plain)), set())
+
 
 class Wheel(InFolder):
     def make(self, folder: Path) -> Path:
@@ -70,6 +82,12 @@ class Wheel(InFolder):
     def test_the_same_files_make_the_same_bytes(self) -> None:
         first, second = self.make(self.folder / "a"), self.make(self.folder / "b")
         self.assertEqual(first.read_bytes(), second.read_bytes())
+
+    def test_a_program_or_a_library_that_is_not_there(self) -> None:
+        for names in ({"BITCOL": "/no/such"}, {"BITCOL": self.program, "BITCOL_LIBRARY": "/no/such"}):
+            with self.assertRaisesRegex(AssertionError, r"ended with 1: /no/such isn't there: build it by \w+ .*\n$"):
+                run(sys.executable, "-B", CLIENTS / "python/make_wheel.py", self.folder, **names)
+        self.assertEqual(list(self.folder.iterdir()), [])
 
     @unittest.skipUnless(importlib.util.find_spec("pip"), "pip is not installed")
     def test_it_is_installed_with_its_program(self) -> None:

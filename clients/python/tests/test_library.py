@@ -51,6 +51,7 @@ class Statements(LibraryTestCase):
     test_null_is_neither_less_nor_not_less = test_session.Statements.test_null_is_neither_less_nor_not_less
     test_a_long_statement = test_session.Statements.test_a_long_statement
     test_a_script = test_session.Statements.test_a_script
+    test_what_is_no_bytes = test_session.Statements.test_what_is_no_bytes
 
 
 class WholeTables(LibraryTestCase):
@@ -143,6 +144,17 @@ class BadUse(LibraryTestCase):
         for call in (session.tables, lambda: door.file("x"), lambda: door.put_file("x", b"")):
             with self.assertRaisesRegex(bitcol.InterfaceError, "the session is closed"):
                 call()
+
+    def test_files_that_are_none(self) -> None:
+        door = bitcol.Library()
+        self.addCleanup(door.close)
+        for name, said in (("a\0b", "no zero byte"), ("", "1 to 255"), ("\udcff", "no UTF-8"), (7, "not a int")):
+            for call in (lambda: door.file(name), lambda: door.put_file(name, b"1")):  # type: ignore[arg-type]
+                with self.assertRaisesRegex(bitcol.ProgrammingError, said):
+                    call()
+        for data in ("1", 1, None):
+            with self.assertRaisesRegex(bitcol.ProgrammingError, f"a piece is to be bytes, not a {type(data).__name__}"):
+                door.put_file("x", data)  # type: ignore[arg-type]
 
     def test_a_library_that_is_none(self) -> None:
         for path in ("/no/such/library.so", os.path.abspath(__file__), "a\0b"):

@@ -95,7 +95,7 @@ class Binding(unittest.TestCase):
                 bound("? ?", values)
 
     def test_values_that_are_no_sequence(self) -> None:
-        for values in ("1", {"a": 1}, 1, iter([1])):
+        for values in ("1", b"1", bytearray(b"1"), {"a": 1}, {1}, frozenset({1}), {1: 2}.keys(), 1, iter([1]), None):
             with self.assertRaisesRegex(ProgrammingError, "list or a tuple"):
                 bound("?", values)  # type: ignore[arg-type]
 
@@ -119,5 +119,6 @@ class FileNames(unittest.TestCase):
         ):
             with self.assertRaisesRegex(ProgrammingError, reason):
                 quoted(name)
-        with self.assertRaisesRegex(ProgrammingError, "str"):
-            quoted(b"a")  # type: ignore[arg-type]
+        for other in (b"a", None, 5, ["a"]):
+            with self.assertRaisesRegex(ProgrammingError, f"a str or a path of str, not a {type(other).__name__}"):
+                quoted(other)  # type: ignore[arg-type]

@@ -1,5 +1,6 @@
 """Sessions over the program: what statements answer, as the language's description or a plain fold says."""
 
+import array
 import random
 import tempfile
 from pathlib import Path
@@ -61,6 +62,8 @@ class Statements(SessionTestCase):
         self.assertEqual(self.session.answers(["SELECT a FROM t"], 60), wanted[2:3])
         with self.assertRaises(bitcol.ProgrammingError):
             self.session.answers(["SELECT a FROM t; TABLES"])
+        with self.assertRaisesRegex(bitcol.ProgrammingError, "a list of str, not a str"):
+            self.session.answers("SELECT a FROM t")
 
     def test_a_call_that_takes_longer_than_it_may(self) -> None:
         with tempfile.TemporaryDirectory() as folder:
@@ -82,6 +85,21 @@ class Statements(SessionTestCase):
         self.assertEqual(other.table_bytes("u"), data)
         with self.assertRaises(bitcol.DataRefused):
             other.put_table("v", data[:-1])
+        self.assertEqual(other.put_table("v", memoryview(data)), 2)
+
+    def test_what_is_no_bytes(self) -> None:
+        self.session.execute("CREATE TABLE t (a INT)")
+        for pieces in (b"1\n", bytearray(b"1\n"), memoryview(b"1\n"), "1\n", 5, None):
+            with self.assertRaisesRegex(bitcol.ProgrammingError, f"a list of bytes, not a {type(pieces).__name__}"):
+                self.session.load_bytes("t", pieces)  # type: ignore[arg-type]
+        for piece in ("1\n", 1, None):
+            said = f"a piece is to be bytes, not a {type(piece).__name__}"
+            with self.assertRaisesRegex(bitcol.ProgrammingError, said):
+                self.session.load_bytes("t", [b"1\n", piece])  # type: ignore[list-item]
+            with self.assertRaisesRegex(bitcol.ProgrammingError, said):
+                self.session.put_table("u", piece)  # type: ignore[arg-type]
+        self.assertEqual(self.session.load_bytes("t", iter([bytearray(b"1\n"), memoryview(b"2\n")])), 2)
+        self.assertEqual(self.session.execute("SELECT a FROM t").rows(), [(1,), (2,)])
 
     def test_files_of_statements(self) -> None:
         with tempfile.TemporaryDirectory() as folder:
@@ -199,21 +217,34 @@ class ManyRows(SessionTestCase):
         for number in (10, 19_999):
             for bad, kind, said in (
                 (2**31, bitcol.DataRefused, f"value out of range: row {number} has 2147483648"),
+                (2**64, bitcol.DataRefused, f"row {number} has 18446744073709551616"),
                 (10**5000, bitcol.DataError, "64 bits"),
                 (1.5, bitcol.ProgrammingError, f"row {number}: a value is to be an integer or None, not a float"),
                 ("7", bitcol.ProgrammingError, f"row {number}: .* not a str"),
             ):
                 rows = [*self.rows[:number], (1, bad, 2)]
-                with self.assertRaisesRegex(kind, said if number > 10 or kind is not bitcol.DataRefused else "range"):
+                with self.assertRaisesRegex(kind, said):
                     self.session.executemany("INSERT INTO t VALUES (?, ?, ?)", rows)
                 self.assertEqual(self.session.tables(), [TableSize("T", 3, 0)])
 
     def test_rows_of_other_widths(self) -> None:
         with self.assertRaisesRegex(bitcol.ProgrammingError, "row 15000: 2 values, and 3 are wanted"):
             self.session.executemany("INSERT INTO t VALUES (?, ?, ?)", [*self.rows[:15_000], (1, 2)])
-        with self.assertRaisesRegex(bitcol.ProgrammingError, "each row"):
-            self.session.executemany("INSERT INTO t VALUES (?, ?, ?)", [1, 2, 3])  # type: ignore[list-item]
         self.assertEqual(self.contents(), [])
+
+    def test_what_is_no_row(self) -> None:
+        """A text is one value and not many, and what has no order can't say which value is for which column."""
+        for row in (1, None, "abc", b"abc", bytearray(b"abc"), {1, 2, 3}, {1: 2, 3: 4, 5: 6}):
+            said = f"row 1: it is to be a list or a tuple of values, not a {type(row).__name__}"
+            with self.assertRaisesRegex(bitcol.ProgrammingError, said):
+                self.session.executemany("INSERT INTO t VALUES (?, ?, ?)", [(1, 2, 3), row])  # type: ignore[list-item]
+        for rows in (5, None):
+            for statement in ("INSERT INTO t VALUES (?, ?, ?)", "DELETE FROM t WHERE a = ?"):
+                with self.assertRaisesRegex(bitcol.ProgrammingError, "the rows are to be a list of rows, not a"):
+                    self.session.executemany(statement, rows)  # type: ignore[arg-type]
+        self.assertEqual(self.contents(), [])
+        added = self.session.executemany("INSERT INTO t VALUES (?, ?, ?)", [range(3), array.array("i", [4, 5, 6])])
+        self.assertEqual((added, self.contents()), (2, [(0, 1, 2), (4, 5, 6)]))
 
     def test_refusals_of_the_statement(self) -> None:
         many = self.rows

@@ -123,7 +123,7 @@ class Csv(ImportTestCase):
             (f"{'0' * 5000}7,-{'0' * 5000}\nx,1\n", ": line 3, column 'day': 'x' is no integer"),
             (f"{'9' * 5000},1\n", f": line 2, column 'day': {'9' * 40}.. {wide}"),
             ("1,2\n1,2,3\n", ": line 3 has 3 fields, and the header has 2"),
-            ("1,2\n1\n", ": line 3 has 1 fields, and the header has 2"),
+            ("1,2\n1\n", ": line 3 has 1 field, and the header has 2"),
             ('"1\n2",3\n', ": line 2, column 'day': '1\\n2' is no integer"),
             (f"1,{'x' * 200}\n", f": line 2, column 'seconds': '{'x' * 40}..' is no integer"),
             ("1,\u0663\n", ": line 2, column 'seconds': '\u0663' is no integer"),

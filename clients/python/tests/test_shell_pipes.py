@@ -37,6 +37,9 @@ class Commands(ShellTestCase):
         self.assert_fails(("-c", "TABLES; TABLES"), "error: one statement is to be given, and there are 2\n")
         self.assert_fails(("-c", ""), "error: one statement is to be given, and there are 0\n")
         self.assert_fails(("-c", "LOAD t FROM 'a"), "error: a text that begins at byte 12 is not closed\n")
+        said = "error: .export is no statement, and -c takes one: commands come by standard input\n"
+        self.assert_fails(("visits.csv", "-c", " .export visits v.csv"), said)
+        self.assertFalse((self.folder / "v.csv").exists())
 
     def test_a_file_that_is_not_there(self) -> None:
         """Nothing is answered over tables that aren't all there."""
@@ -268,6 +271,20 @@ class Ends(ShellTestCase):
             ended.stderr, "line 1: error: the program ended with status 2: out of everything; its tables are gone\n"
         )
         self.assertEqual((ended.stdout, ended.returncode), ("", 2))
+
+    def test_a_program_that_dies_is_told_once(self) -> None:
+        """Also where a file of the command line or of .read, or a table of a file, is under way."""
+        program, _ = self.observed_program()
+        program.write_text("#!/bin/sh\nexit 3\n")
+        self.write("t.csv", "a\n1\n")
+        self.write("more.sql", "\nTABLES;\n")
+        ended = self.run_shell("t.csv", "-c", "TABLES", BITCOL=str(program))
+        self.assertEqual(ended.stderr, "error: the program ended with status 3; its tables are gone\n")
+        self.assertEqual((ended.stdout, ended.returncode), ("", 2))
+        for typed, place in ((".read more.sql\nTABLES;\n", "more.sql, line 2"), (".import t.csv\nTABLES;\n", "line 1")):
+            ended = self.run_shell(typed=typed, BITCOL=str(program))
+            self.assertEqual(ended.stderr, f"{place}: error: the program ended with status 3; its tables are gone\n")
+            self.assertEqual((ended.stdout, ended.returncode), ("", 2))
 
     def test_an_interrupt(self) -> None:
         """The program takes the statement and never answers."""

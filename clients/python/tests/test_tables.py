@@ -222,6 +222,18 @@ class Format(unittest.TestCase):
         self.assertEqual(Table.of_rows(["a"], []).columns(), {"a": []})
         with self.assertRaisesRegex(bitcol.ProgrammingError, "row 1: 1 values, and 2 are wanted"):
             Table.of_rows(["a", "b"], [(1, 2), (3,)])
+        with self.assertRaisesRegex(bitcol.ProgrammingError, "row 1: .* not a set"):
+            Table.of_rows(["a", "b"], [(1, 2), {3, 4}])  # type: ignore[list-item]
+
+    def test_what_is_no_layout_kind_or_type(self) -> None:
+        for arguments, said in (
+            (("V",), "'V' is none of Layout.P, Layout.V, Layout.H, Layout.S"),
+            ((9,), "9 is none of Layout.P"),
+            ((Layout.V, "OFFSET"), "'OFFSET' is none of Kind.OFFSET, Kind.DICTIONARY"),
+            ((Layout.V, Kind.OFFSET, "BIGINT"), "'BIGINT' is none of ColumnType.INTEGER, ColumnType.BIGINT"),
+        ):
+            with self.assertRaisesRegex(bitcol.ProgrammingError, f"column a: {said}"):
+                Table.of({"a": [1]}, *arguments)
 
 
 class WholeTables(SessionTestCase):

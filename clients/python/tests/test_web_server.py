@@ -42,7 +42,8 @@ class Guarded(WebTestCase):
             reply = self.server.send("GET", target)
             self.assertEqual((reply.status, reply.json), (403, {"error": reason}), target)
         self.assertEqual(self.server.send("POST", "/run", "DROP TABLE visits").status, 403)
-        self.assertEqual(self.server.send("POST", "/wrong/run", "DROP TABLE visits").status, 403)
+        for method in ("POST", "HEAD", "PUT", "DELETE", "OPTIONS", "TRACE", "x"):
+            self.assertEqual(self.server.send(method, "/wrong/run", "DROP TABLE visits").status, 403, method)
         self.assertEqual([table["name"] for table in self.server.state()["tables"]], ["VISITS"])
 
     def test_words_differ(self) -> None:
@@ -342,7 +343,7 @@ class Files(WebTestCase):
             ("a.csv", "day,seconds\n1,30\n2,half\n", "line 3, column 'seconds': 'half' is no integer"),
             ("a.csv", f"day,bytes\n1,{'9' * 20}\n", f"line 2, column 'bytes': {wide}"),
             ("a.csv", "1,2\n3,4\n", "line 1 has integers alone, and a CSV file begins with a header"),
-            ("a.csv", "a,b\n1\n", "line 2 has 1 fields, and the header has 2"),
+            ("a.csv", "a,b\n1\n", "line 2 has 1 field, and the header has 2"),
             ("a.table", b"BITCOL\1", "error 44: not a table file"),
             ("a.db", b"SQLite format 3\0", "SQLite: "),
         ):

@@ -6,9 +6,9 @@ import os
 from collections.abc import Callable, Iterable, Sequence
 from typing import Any
 
-from ..errors import Error, Refused
+from ..errors import Error, ProgrammingError, Refused
 from ..reply import reply_of
-from ..script import PathLike
+from ..script import PathLike, path_of
 from . import making
 from .groups import RETRIES
 from .holding import Place
@@ -32,7 +32,7 @@ class Changes:
 
     def loaded(self, files: Iterable[PathLike], header: bool, most_bytes: int, most_rows: int) -> list[Part]:
         """The parts of the rows of CSV files, a file's in order, or the error that names each file at fault."""
-        paths = [os.path.abspath(file) for file in files]
+        paths = _paths(files)
         limits: dict[str, Any] = {"header": header, "most_bytes": most_bytes, "most_rows": most_rows}
         made = self._pieces_loaded(self._map(making.cut_csv, paths, is_forced=False, **limits))
         # What a table can't hold as a whole is cut.
@@ -57,7 +57,7 @@ class Changes:
 
     def attached(self, files: Iterable[PathLike]) -> list[Part]:
         """The parts of the rows of table files, or the error that names each file at fault."""
-        paths = [os.path.abspath(file) for file in files]
+        paths = _paths(files)
         found: list[Part | Error] = self._map(making.attach_file, paths, place=self._place, columns=self._columns)
         return _without_faults(found)
 
@@ -118,6 +118,14 @@ class Changes:
         futures = self._client.map(call, list(each), pure=False, retries=RETRIES, **rest)
         found: list[Any] = self._client.gather(futures)
         return found
+
+
+def _paths(files: Iterable[PathLike]) -> list[str]:
+    """The paths of files as workers reach them. ProgrammingError where they are one path, whose letters would be taken
+    for files, or one of them is no path."""
+    if isinstance(files, (str, bytes, os.PathLike)):
+        raise ProgrammingError(f"the files are to be a list of paths, not one path: {files!r}")
+    return [os.path.abspath(path_of(file)) for file in files]
 
 
 def _is_too_long(made: Part | Error) -> bool:

@@ -127,8 +127,8 @@ def read_manifest(storage: Storage, version: int | None = None) -> Manifest:
     except (ValueError, TypeError, LookupError):
         pass
     others = ", ".join(str(number) for number in there if number != wanted)
-    where = storage.where(manifest_file(wanted))
-    raise DataError(f"{where} is damaged; other versions can be opened by number: {others}")
+    left = f"other versions can be opened by number: {others}" if others else "there is no other version"
+    raise DataError(f"{storage.where(manifest_file(wanted))} is damaged; {left}")
 
 
 def _told(manifest: Manifest) -> dict[str, Any]:

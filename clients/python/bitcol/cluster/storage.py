@@ -6,17 +6,18 @@ table needs: its parts are named by their content, and each version has a number
 
 from __future__ import annotations
 
+import contextlib
 import inspect
 import os
 import secrets
 import time
-from collections.abc import Callable
+from collections.abc import Callable, Iterator
 from importlib import import_module
 from pathlib import Path
 from typing import Any, Protocol
 
 from ..errors import NotSupportedError, OperationalError
-from ..script import PathLike
+from ..script import PathLike, path_of
 
 # The end of a name of a file that isn't in place yet.
 UNFINISHED = ".new"
@@ -29,7 +30,7 @@ class Storage(Protocol):
         """How a person names a file of the folder."""
 
     def prepare(self) -> None:
-        """Makes the folder, if it isn't there."""
+        """Makes the folder, if it isn't there. OperationalError where it can't be made."""
 
     def names(self) -> list[str]:
         """The names of the files that are there."""
@@ -38,11 +39,11 @@ class Storage(Protocol):
         """All that a file holds. OperationalError where it can't be read."""
 
     def write(self, name: str, data: bytes) -> None:
-        """Puts a file in place, whole or not at all, over one that is there."""
+        """Puts a file in place, whole or not at all, over one that is there. OperationalError where the host can't."""
 
     def write_new(self, name: str, data: bytes) -> None:
         """Puts a file in place, whole or not at all. FileExistsError where one of this name is there: of two that come
-        at once, one is put in place."""
+        at once, one is put in place. OperationalError where the host can't."""
 
     def age(self, name: str) -> float:
         """For how many seconds a file has been as it is."""
@@ -52,8 +53,8 @@ class Storage(Protocol):
 
 
 def storage_of(folder: PathLike) -> Storage:
-    """The folder of this path, or of this address, which has a `://` in it."""
-    name = os.fspath(folder)
+    """The folder of this path, or of this address, which has a `://` in it. ProgrammingError where it is neither."""
+    name = path_of(folder)
     if "://" in name:
         return RemoteFolder(name)
     return HostFolder(os.path.abspath(name))
@@ -77,18 +78,20 @@ class HostFolder:
 
     def prepare(self) -> None:
         """See Storage."""
-        self._path.mkdir(parents=True, exist_ok=True)
+        try:
+            self._path.mkdir(parents=True, exist_ok=True)
+        except OSError as fault:
+            raise OperationalError(f"{self.where('')}: the folder can't be made: {fault.strerror}") from None
 
     def names(self) -> list[str]:
         """See Storage."""
-        return os.listdir(self._path) if self._path.is_dir() else []
+        with self._telling(""):
+            return os.listdir(self._path) if self._path.is_dir() else []
 
     def read(self, name: str) -> bytes:
         """See Storage."""
-        try:
+        with self._telling(name):
             return (self._path / name).read_bytes()
-        except OSError as fault:
-            raise OperationalError(f"{self.where(name)}: {fault.strerror}") from None
 
     def write(self, name: str, data: bytes) -> None:
         """See Storage. It outlives a loss of power."""
@@ -101,19 +104,31 @@ class HostFolder:
     def _place(self, name: str, data: bytes, put: Callable[[Path, Path], None]) -> None:
         path = self._path / name
         unfinished = self._path / f"{name}-{secrets.token_hex(4)}{UNFINISHED}"
+        with self._telling(name):
+            try:
+                with open(unfinished, "xb") as file:
+                    file.write(data)
+                    file.flush()
+                    os.fsync(file.fileno())
+                put(unfinished, path)
+            finally:
+                unfinished.unlink(missing_ok=True)
+            folder = os.open(self._path, os.O_RDONLY)
+            try:
+                os.fsync(folder)
+            finally:
+                os.close(folder)
+
+    @contextlib.contextmanager
+    def _telling(self, name: str) -> Iterator[None]:
+        """Raises OperationalError, with the name of a file, where the host can't do what is done with it. Where a file
+        of a new name is there already, it is told as it is."""
         try:
-            with open(unfinished, "xb") as file:
-                file.write(data)
-                file.flush()
-                os.fsync(file.fileno())
-            put(unfinished, path)
-        finally:
-            unfinished.unlink(missing_ok=True)
-        folder = os.open(self._path, os.O_RDONLY)
-        try:
-            os.fsync(folder)
-        finally:
-            os.close(folder)
+            yield
+        except FileExistsError:
+            raise
+        except OSError as fault:
+            raise OperationalError(f"{self.where(name)}: {fault.strerror}") from None
 
     def age(self, name: str) -> float:
         """See Storage."""
@@ -125,7 +140,8 @@ class HostFolder:
 
     def remove(self, name: str) -> None:
         """See Storage."""
-        (self._path / name).unlink(missing_ok=True)
+        with self._telling(name):
+            (self._path / name).unlink(missing_ok=True)
 
 
 class RemoteFolder:

@@ -21,6 +21,7 @@ from ..session import Session
 from ..table_file import COLUMN_LIMIT, with_types
 from .fault import Fault
 from .names import column_names
+from .render import counted
 from .store import Store
 from .types import NUMBER, value_of
 
@@ -210,7 +211,7 @@ def _records(reader: _Reader, first: int) -> Iterator[tuple[int, list[str]]]:
 def _fault_of(record: Sequence[str], columns: Sequence[str]) -> str | None:
     """Why a record is no row, as the program would see it: first its number of fields, then field by field."""
     if len(record) != len(columns):
-        return f" has {len(record)} fields, and the header has {len(columns)}"
+        return f" has {counted(len(record), 'field')}, and the header has {len(columns)}"
     for field, column in zip(record, columns):
         try:
             value_of(field, ColumnType.BIGINT)

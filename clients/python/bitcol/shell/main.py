@@ -14,7 +14,7 @@ from typing import TextIO
 
 from ..errors import OperationalError, ProgramEnded
 from .console import Console
-from .fault import reason_of
+from .fault import Fault, reason_of
 from .importing import split_word
 from .render import Mode
 from .shell import Settings, Shell
@@ -149,9 +149,16 @@ def _import_word(shell: Shell, word: str) -> None:
 def _carry_out(options: argparse.Namespace, shell: Shell) -> None:
     """Carries out the statement of -c, or the lines of standard input."""
     if options.command is not None:
-        shell.attempt(partial(shell.run, options.command))
+        shell.attempt(partial(_answer, shell, options.command))
     elif sys.stdin is not None:
         shell.read_lines(sys.stdin)
+
+
+def _answer(shell: Shell, statement: str) -> None:
+    """Carries out the statement of -c. A Fault where it is a command, which may not stand there."""
+    if statement.lstrip().startswith("."):
+        raise Fault(f"{statement.split()[0]} is no statement, and -c takes one: commands come by standard input")
+    shell.run(statement)
 
 
 def _drop_output() -> None:

@@ -147,10 +147,9 @@ class Shell:
         try:
             action()
         except ProgramEnded as fault:
-            self._report(str(fault))
+            self._take_end(str(fault))
             if not self._is_interactive:
                 raise
-            self._restart()
         except Refused as refusal:
             self._report(str(refusal), is_numbered=True)
         except Error as fault:
@@ -179,6 +178,17 @@ class Shell:
         """Writes an error. A refusal has its number, and the word `error` with it."""
         self.failures += 1
         self.console.fault(f"{self._place}{'' if is_numbered else 'error: '}{text}")
+
+    def _take_end(self, text: str) -> None:
+        """Tells the end of the program, and starts another where somebody types. Where nobody does, all that was under
+        way hears of the end, and it is told once."""
+        if not self.has_store:
+            return
+        self._report(text)
+        if self._is_interactive:
+            self._restart()
+        else:
+            self.has_store = False
 
     def _restart(self) -> None:
         self._catalog = None

@@ -60,8 +60,12 @@ class Handler(BaseHTTPRequestHandler):
         self._answer_by(POSTS)
 
     def send_error(self, code: int, message: str | None = None, explain: str | None = None) -> None:
-        """Answers a request that is none, or has a method that no address has."""
+        """Answers a request that is none, or has a method that no address has. The latter learns so where it would be
+        answered with another method, and else why it wouldn't."""
         status = HTTPStatus(code)
+        fault = self.server.guard.fault(self.path, self.headers) if status is HTTPStatus.NOT_IMPLEMENTED else None
+        if fault is not None:
+            status, message = HTTPStatus.FORBIDDEN, fault
         self.close_connection = True
         self._send(as_error(message or status.phrase, status))
 
