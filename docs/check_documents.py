@@ -25,6 +25,8 @@ from pathlib import Path
 ROOT = Path(__file__).resolve().parent.parent
 LONGEST_LINE = 120
 PRUNED = {".git", "out", "__pycache__", "must-fail"}
+# What the benches leave.
+MEASURED = ROOT / "bench" / "data"
 SOURCES = ("crates/*/src", "crates/*/specs", "crates/*/proofs", "bench", "evidence", "clients", "examples", "docs")
 SOURCE_KINDS = {".rt", ".antt", ".py", ".sql", ".c", ".h", ".rs"}
 FILE_KINDS = {"rt", "antt", "py", "md", "sql", "out", "csv", "svg", "txt", "toml", "json", "c", "h", "rs"}
@@ -49,7 +51,7 @@ REFERENCE = re.compile(r"^\s*\[[^\]]+\]:\s*(\S+)")
 def walk(top):
     """The files under a folder, but those that a build leaves."""
     for folder, folders, files in os.walk(top):
-        folders[:] = sorted(f for f in folders if f not in PRUNED)
+        folders[:] = sorted(f for f in folders if f not in PRUNED and Path(folder, f) != MEASURED)
         for name in sorted(files):
             yield Path(folder) / name
 

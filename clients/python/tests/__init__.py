@@ -1,0 +1,7 @@
+"""Tests of the client: `make -C clients check`."""
+
+import signal
+
+# A shell that starts this run in the background has it, and all that it starts, ignore interrupts. Tests send some.
+if signal.getsignal(signal.SIGINT) is signal.SIG_IGN:
+    signal.signal(signal.SIGINT, signal.default_int_handler)
