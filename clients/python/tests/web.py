@@ -7,6 +7,7 @@ import os
 import signal
 import subprocess
 import threading
+import time
 from dataclasses import dataclass
 from email.message import Message
 from http.client import HTTPConnection, HTTPResponse
@@ -128,4 +129,12 @@ class WebTestCase(ShellTestCase):
 
     def kill_program(self, number: Path) -> None:
         """Kills the program whose process has the number in this file."""
-        os.kill(int(number.read_text()), signal.SIGKILL)
+        os.kill(self.started_program(number), signal.SIGKILL)
+
+    def started_program(self, number: Path) -> int:
+        """The number of the program's process. The program writes it into this file as it starts, so it may come late."""
+        end = time.monotonic() + SECONDS
+        while not (number.exists() and number.read_text().strip()):
+            self.assertLess(time.monotonic(), end, "the program doesn't start")
+            time.sleep(0.01)
+        return int(number.read_text())
