@@ -416,9 +416,8 @@ class Ends(WebTestCase):
     def test_a_program_that_died_and_is_missing(self) -> None:
         program, number = self.observed_program()
         server = self.start(BITCOL=str(program))
-        self.started_program(number)
-        other = program.rename(program.with_name("elsewhere"))
         self.kill_program(number)
+        other = program.rename(program.with_name("elsewhere"))
         self.assertIn("was killed by SIGKILL", server.run("TABLES")[0]["error"])
         reply = server.post("run", "TABLES")
         self.assertEqual(reply.status, 503)
