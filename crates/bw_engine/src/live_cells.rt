@@ -12,6 +12,7 @@ use crate::shown::found_values;
 use crate::table::Table;
 use bw_cells::{Cells, Measured};
 use bw_column::Column;
+use bw_file::Planed;
 use bw_sql::Value;
 use std::alloc::{AllocError, Global};
 
@@ -52,6 +53,8 @@ impl Measured for LiveCells<'_> {
         }
     }
 }
+
+impl Planed for LiveCells<'_> {}
 
 /// The columns, each with its cells in the rows.
 pub(crate) fn live_columns<'a>(

@@ -16,7 +16,7 @@ use crate::live_ends::live_ends;
 use crate::outcome::Saving;
 use crate::table::Table;
 use bw_code::Ends;
-use bw_file::{encode, length_by_ends};
+use bw_file::{encode_by_ends, length_by_ends};
 use bw_model::{FILE_LIMIT, Refusal};
 use bw_sql::{Name, Save};
 use indexmap::IndexMap;
@@ -34,10 +34,15 @@ pub(crate) fn save(
     let Some(table) = tables.get(&table) else {
         return Err(Refusal::NoSuchTable);
     };
-    if filed_length(table) > FILE_LIMIT as u64 {
+    // There are at most 64 columns.
+    let width = table.headers().len();
+    let mut list = [None; COLUMN_LIMIT];
+    let ends = &mut list[..width];
+    take_ends(table, ends);
+    if filed_length(table, ends) > FILE_LIMIT as u64 {
         return Err(Refusal::FileTooLarge);
     }
-    let bytes = spelled(alloc, table)?;
+    let bytes = spelled(alloc, table, ends)?;
     Ok(Saving {
         file,
         bytes,
@@ -45,30 +50,35 @@ pub(crate) fn save(
     })
 }
 
-/// The bytes that hold a table.
-fn spelled(alloc: Global, table: &Table) -> Result<Vec<u8>, AllocError>
+/// The bytes that hold a table. These are the ends of each column's values.
+fn spelled(alloc: Global, table: &Table, ends: &[Option<Ends>]) -> Result<Vec<u8>, AllocError>
+    requires { AllZip AreEndsOf ends.now (filed (table_in table.now)).columns }
     ensures { IfOk result (λ bytes. HoldsBy Second bytes.items (table_in table.now)) }
 {
     // Each row has a value for each column, and there are 1 to 64 columns, each with a name of its own.
     let _wide = table.stored().live();
     let _valid = table.headers();
     let columns = live_columns(alloc, table)?;
-    encode(alloc, table.stored().headers(), table.row_count(), &columns)
+    encode_by_ends(
+        alloc,
+        table.stored().headers(),
+        table.row_count(),
+        &columns,
+        ends,
+    )
 }
 
-/// How many bytes hold a table. Takes no memory.
-fn filed_length(table: &Table) -> u64
+/// How many bytes hold a table of which these are the ends of each column's values. Takes no memory.
+fn filed_length(table: &Table, ends: &[Option<Ends>]) -> u64
+    requires { AllZip AreEndsOf ends.now (filed (table_in table.now)).columns }
     ensures { result ≡ filed_length (table_in table.now) }
 {
     // There are at most 64 columns.
-    let width = table.headers().len();
-    let mut list = [None; COLUMN_LIMIT];
-    let ends = &mut list[..width];
-    take_ends(table, ends);
+    let _few = table.headers();
     length_by_ends(table.stored().headers(), table.row_count(), ends)
 }
 
-/// Puts the ends of each column's values in its place.
+/// Puts the ends of each column's values in its place. Takes no memory.
 fn take_ends(table: &Table, ends: &mut [Option<Ends>])
     requires { length ends.old ≡ length table.now.headers }
     ensures { AllZip AreEndsOf ends.new (filed (table_in table.now)).columns }

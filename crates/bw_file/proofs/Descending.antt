@@ -1,15 +1,19 @@
 -- A descent over the planes of some rows, from the highest bit on: one plane more.
-use Rattle.std.proofs.Common.{Bool, List, add-one, ap, arith, bit_and, cond, false, inl, inr, nat_lt, refl, suc, sym, true, zero, ℕ, ◌%◌, ◌&&◌, ◌*◌, ◌+◌, ◌-◌, ◌/◌, ◌<◌, ◌==◌, ◌^◌, ◌≡◌, ◌≢◌, ◌≤◌, ◌∙◌, ◌⊎◌, not}
+use Rattle.std.proofs.Common.{Bool, List, add-one, ap, arith, bit_and, cond, false, inl, inr, nat_lt, refl, suc, sym, true, zero, get_or, ℕ, ◌%◌, ◌&&◌, ◌*◌, ◌+◌, ◌-◌, ◌/◌, ◌<◌, ◌==◌, ◌^◌, ◌≡◌, ◌≢◌, ◌≤◌, ◌∙◌, ◌⊎◌, not}
 use Rattle.std.specs.Int.{bit_at}
 use Rattle.std.proofs.Math.Nat.{pow-suc}
 use Rattle.std.proofs.lemmas.Bool.{cases_lt, lt-ltb}
 use Rattle.std.proofs.lemmas.Nat.Bits.{bit_at-suc, bit_at_lowest}
 use Rattle.bw_mask.specs.Masks.{bit_of}
 use Rattle.bw_mask.proofs.Bits.{and_true, bit_above, bit_of_and, bit_of_andnot, bit_of_zero}
-use Rattle.bw_file.specs.Descents.{AreCodeEnds, IsGreatestSoFar, IsLeastSoFar}
+use Rattle.std.specs.Simd.Lanes.{mask_l}
+use Rattle.bw_mask.specs.Masks.{rows_of}
+use Rattle.bw_mask.proofs.Views.{rows_are, rows_at, rows_len}
+use Rattle.bw_file.specs.Descents.{AreCodeEnds, IsGreatestSoFar, IsLeastSoFar, code_by}
+use Rattle.bw_file.specs.declared.code_ends.CodeEnds.{CodeEnds}
 use Rattle.bw_file.specs.Planes.{code_in, plane_bit}
 use Rattle.bw_file.specs.declared.descent.Reached.{Reached}
-use Rattle.bw_vertical.proofs.Numbers.{number_more}
+use Rattle.bw_vertical.proofs.Numbers.{number}
 
 by_bit : (b : Bool) → (b ≡ true) ⊎ (b ≡ false)
 by_bit true = inl refl
@@ -168,14 +172,29 @@ there_below has n within r on =
       | inr past ↦ (let no : false ≡ true = sym (within r past) ∙ on in absurd cc)
     ]
 
--- the codes of the planes so far, with one plane more
-pub plane_grows : (size at count p word there : ℕ) (planes : List ℕ) → ((r : ℕ) → count ≤ r → bit_of there r ≡ false)
-    → ((r : ℕ) → bit_of word r ≡ ((plane_bit size planes p (at + r) == 1) && nat_lt r count))
-    → (r : ℕ) → bit_of there r ≡ true → code_in (p + 1) size planes (at + r) ≡ cond (bit_of word r) 1 0 + 2 * code_in p size planes (at + r)
-plane_grows size at count p word there planes within plane r on =
-    let low : r < count = there_below (bit_of there) count within r on in
-    let bit : bit_of word r ≡ (plane_bit size planes p (at + r) == 1) = plane r ∙ rw (lt-ltb r count low) (and_true (plane_bit size planes p (at + r) == 1)) in
-    number_more (λ q. plane_bit size planes q (at + r) == 1) p ∙ ap (λ b. cond b 1 0 + 2 * code_in p size planes (at + r)) (sym bit)
+-- the number of all k bits of a row, from the highest on, is that of its words
+pub whole_number : (k : ℕ) (words : List ℕ) (r : ℕ) → number (λ q. bit_of (get_or words (k - 1 - q) 0) r) k ≡ code_by k words r
+whole_number k words r =
+    let f = λ (b : ℕ). bit_of (get_or words b 0) r in
+    ap mask_l (rows_are k (λ i. bit_of (get_or words (k - 1 - (k - 1 - i)) 0) r) (rows_of k f) (rows_len k f) (λ i l.
+    let back : k - 1 - (k - 1 - i) ≡ i = omega (arith, l) in
+    rows_at k f i l ∙ ap f (sym back)))
+
+-- the words of planes make the codes that lie in them
+pub words_make : (k size at count r : ℕ) (planes words : List ℕ) → ((b i : ℕ) → b < k → bit_of (get_or words b 0) i ≡ ((plane_bit size planes (k - 1 - b) (at + i) == 1) && nat_lt i count)) → r < count
+    → code_by k words r ≡ code_in k size planes (at + r)
+words_make k size at count r planes words bits low =
+    let f = λ (b : ℕ). plane_bit size planes (k - 1 - b) (at + r) == 1 in
+    ap mask_l (rows_are k (λ b. bit_of (get_or words b 0) r) (rows_of k f) (rows_len k f) (λ b l.
+    rows_at k f b l ∙ sym (bits b r l ∙ rw (lt-ltb r count low) (and_true (plane_bit size planes (k - 1 - b) (at + r) == 1)))))
+
+-- the same codes have the same ends
+pub same_ends : (has : ℕ → Bool) (code next : ℕ → ℕ) (n : ℕ) (ends : CodeEnds) → ((r : ℕ) → r < n → has r ≡ true → code r ≡ next r) → AreCodeEnds has code n ends → AreCodeEnds has next n ends
+same_ends has code next n ends same are = record {
+  bounds = λ i h on. let here = are.bounds i h on in (here.0, omega (arith, here.1, same i h on), omega (arith, here.2, same i h on));
+  least = λ any. let at = are.least any in (at.0, at.1, at.2, sym (same at.0 at.1 at.2) ∙ at.3);
+  greatest = λ any. let at = are.greatest any in (at.0, at.1, at.2, sym (same at.0 at.1 at.2) ∙ at.3);
+}
 
 -- what a descent to the last plane reached
 pub run_are : (has : ℕ → Bool) (code : ℕ → ℕ) (n : ℕ) (low high : Reached) → low.rows < 2 ^ 64 → high.rows < 2 ^ 64 → ((r : ℕ) → n ≤ r → has r ≡ false)

@@ -15,7 +15,7 @@ use Rattle.bw_file.proofs.PlanePlaces.{few_in}
 use Rattle.bw_file.proofs.Spelled.{same_bit}
 
 -- a distance modulo 2^64 is one
-near_code : (base z : ℤ) → FitsSigned w64 base → FitsSigned w64 z → base ≤ℤ z → distance_from base (Some z) ≡ distance z base
+pub near_code : (base z : ℤ) → FitsSigned w64 base → FitsSigned w64 z → base ≤ℤ z → distance_from base (Some z) ≡ distance z base
 near_code base z fits_base fits above = omega (arith, ints, fits_base, fits, above)
 
 near_bit : (base : ℤ) (k : ℕ) (c : Option ℤ) (b : ℕ) → FitsSigned w64 base → IsNear base k c → bit_at (distance_from base c) b ≡ bit_in base b c
@@ -23,7 +23,7 @@ near_bit base k None b fits near = bit_at-zero b
 near_bit base k (Some z) b fits near = ap (λ n. bit_at n b) (near_code base z fits near.0 near.1)
 
 module _ (base : ℤ) (k : ℕ) (cells : List (Option ℤ)) (fits : FitsSigned w64 base) (near : All (IsNear base k) cells) where
-  near_at : (i : ℕ) → IsNear base k (get_or cells i None)
+  pub near_at : (i : ℕ) → IsNear base k (get_or cells i None)
   near_at i =
       elim (cases_lt i (length cells)) [
         | inl here ↦ All-get_or (IsNear base k) cells i None here near
@@ -31,7 +31,7 @@ module _ (base : ℤ) (k : ℕ) (cells : List (Option ℤ)) (fits : FitsSigned w
       ]
 
   -- the distances of a run, of which the last may be short
-  distance_at : (at n r : ℕ) → r < n ⊎ (length cells ≤ at + n) → get_or (map (distance_from base) (take n (drop at cells))) r 0 ≡ distance_from base (get_or cells (at + r) None)
+  pub distance_at : (at n r : ℕ) → r < n ⊎ (length cells ≤ at + n) → get_or (map (distance_from base) (take n (drop at cells))) r 0 ≡ distance_from base (get_or cells (at + r) None)
   distance_at at n r ends =
       let run = take n (drop at cells) in
       elim (cases_lt r (length (take n (drop at cells)))) [

@@ -22,6 +22,7 @@ pub mod Near
 pub mod Parts
 pub mod Places
 pub mod PlaneColumns
+pub mod PlanedEnds
 pub mod PlaneEnds
 pub mod PlanePlaces
 pub mod PlaneRuns

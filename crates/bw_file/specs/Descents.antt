@@ -1,8 +1,13 @@
 -- The least and the greatest of some codes, one for each row, and the rows that have them.
-use Rattle.std.specs.Prelude.{Bool, true, ℕ, ◌<◌, ◌≡◌, ◌≢◌, ◌≤◌}
-use Rattle.bw_mask.specs.Masks.{bit_of}
+use Rattle.std.specs.Prelude.{Bool, List, slice_index, true, ℕ, ◌<◌, ◌≡◌, ◌≢◌, ◌≤◌}
+use Rattle.std.specs.Simd.Lanes.{mask_l}
+use Rattle.bw_mask.specs.Masks.{bit_of, rows_of}
 use Rattle.bw_file.specs.declared.code_ends.CodeEnds.{CodeEnds}
 use Rattle.bw_file.specs.declared.descent.Reached.{Reached}
+
+-- the number of k bits of a row, of which word b has bit b
+abbrev pub code_by : ℕ → List ℕ → ℕ → ℕ
+code_by k words r = mask_l (rows_of k (λ b. bit_of (slice_index words b) r))
 
 -- of the codes of those of the first n rows that have one: whether there is any, the least and the greatest
 pub record AreCodeEnds (has : ℕ → Bool) (code : ℕ → ℕ) (n : ℕ) (ends : CodeEnds) : Type 0 where

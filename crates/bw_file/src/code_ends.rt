@@ -1,6 +1,6 @@
 //! The least and the greatest code of a column of planes, and the values that they stand for.
 
-ghost use Rattle.std.specs.Prelude.{All, Bool, IfSome, List, None, Option, false, length, pos, ℕ, ℤ, ◌*◌, ◌+ℤ◌, ◌+◌, ◌<◌, ◌≡◌, ◌≤◌};
+ghost use Rattle.std.specs.Prelude.{All, Bool, IfSome, None, Option, false, length, pos, ℕ, ℤ, ◌*◌, ◌+ℤ◌, ◌+◌, ◌<◌, ◌≡◌, ◌≤◌};
 ghost use Rattle.bw_cells.specs.Known.{known};
 ghost use Rattle.bw_code.specs.Fittings.{AreEnds};
 ghost use Rattle.bw_code.specs.Types.{IsNullOrOfType, IsOfType};
@@ -12,11 +12,9 @@ ghost use Rattle.bw_file.specs.Planes.{cells_in, code_in, has_in};
 ghost use Rattle.bw_file.specs.declared.code_ends.Values.TheVariants as found;
 
 use crate::descent::run_ends;
+use crate::planes::RUN;
 use crate::row_bits::bits_of_rows;
 use bw_code::{ColumnType, Ends};
-
-// How many codes are looked at together: as many as one word has bits for.
-const RUN: usize = 64;
 
 /// What is known of some codes.
 #[derive(Clone, Copy)]
@@ -40,7 +38,7 @@ impl CodeEnds {
     }
 
     /// Of these codes, and of those of the rows behind theirs.
-    fn with(self, more: CodeEnds) -> CodeEnds
+    pub(crate) fn with(self, more: CodeEnds) -> CodeEnds
         ensures { (has f : ℕ → Bool) (code g : ℕ → ℕ) (n m : ℕ) → ((r : ℕ) → r < m → has (n + r) ≡ f r) → ((r : ℕ) → r < m → code (n + r) ≡ g r)
             → AreCodeEnds has code n self → AreCodeEnds f g m more → AreCodeEnds has code (n + m) result }
     {

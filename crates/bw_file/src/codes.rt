@@ -8,7 +8,7 @@ use crate::row_bits::bits_of_rows;
 use bw_vertical::{codes_of_words, halves_of_words};
 
 /// Word b has bit b of the codes of so many rows from row `at` on, which is the first whose bit lies in its byte.
-fn words_at(planes: &[u8], size: usize, k: usize, at: usize, count: usize) -> [u64; 64]
+pub(crate) fn words_at(planes: &[u8], size: usize, k: usize, at: usize, count: usize) -> [u64; 64]
     requires narrow { k ≤ 64 }
     requires few { count ≤ 64 }
     requires first { at % 8 ≡ 0 }

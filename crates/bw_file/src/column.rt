@@ -9,6 +9,7 @@ ghost use Rattle.bw_file.specs.Planes.{IsWideCell};
 ghost use Rattle.bw_file.specs.declared.version.Version.TheVariants.{First};
 
 use crate::plane_column::PlaneColumn;
+use crate::planed::Planed;
 use crate::version::Version;
 use crate::word_column::WordColumn;
 use bw_cells::{Cells, Measured};
@@ -130,3 +131,5 @@ impl<'a> Measured for FileColumn<'a> {
         }
     }
 }
+
+impl<'a> Planed for FileColumn<'a> {}

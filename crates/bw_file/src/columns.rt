@@ -1,19 +1,20 @@
 //! The columns of a table file, one after another.
 
 ghost use Rattle.std.specs.Prelude.{All, IfOk, IfSome, List, None, OnOk, Option, length, map, ◌*◌, ◌++◌, ◌≡◌, ◌≤◌, ℕ, ℤ};
-ghost use Rattle.std.specs.List.{flat_map, sum_by, AllZip};
-ghost use Rattle.bw_cells.specs.Known.{known};
-ghost use Rattle.bw_code.specs.Headers.{row_limit, column_limit};
-ghost use Rattle.bw_file.specs.Format.{column_bytes, column_size, HasType};
+ghost use Rattle.std.specs.List.{flat_map, AllZip};
+ghost use Rattle.bw_code.specs.Fittings.{AreEnds};
+ghost use Rattle.bw_code.specs.Headers.{column_limit, row_limit};
+ghost use Rattle.bw_file.specs.Format.{column_bytes, AreEndsOf, HasType};
 ghost use Rattle.bw_file.specs.Planes.{column_size as plane_column_size, frame_of, IsWideCell};
 ghost use Rattle.bw_code.specs.Types.{IsTyped};
 ghost use Rattle.bw_file.specs.declared.version.Version.TheVariants.{Second};
 
 use crate::column::FileColumn;
+use crate::planed::Planed;
 use crate::planes::write_column;
 use crate::version::Version;
 use bw_cells::Measured;
-use bw_code::{Header, Offset};
+use bw_code::{Ends, Header, Offset};
 use bw_sql::Name;
 use std::alloc::{AllocError, Global};
 
@@ -47,12 +48,12 @@ pub(crate) fn columns_in<'a>(
     Ok(Some((columns, rest)))
 }
 
-/// The base and the width of a column's codes in version 2.
-fn frame<C: Measured>(column: &C) -> Offset
-    ensures base { result.base ≡ (frame_of (known (C.cells column.now))).base }
-    ensures width { result.width ≡ (frame_of (known (C.cells column.now))).width }
+/// The base and the width of the codes, in version 2, of a column whose integers have these ends.
+fn frame(ends: Option<Ends>) -> Offset
+    ensures base { (values : List ℤ) → AreEnds values ends → result.base ≡ (frame_of values).base }
+    ensures width { (values : List ℤ) → AreEnds values ends → result.width ≡ (frame_of values).width }
 {
-    Offset::spanning(column.ends())
+    Offset::spanning(ends)
 }
 
 /// How many bytes planes of so many bits and of so many rows have, with what stands before them in a column.
@@ -65,46 +66,51 @@ pub(crate) fn planes_size(width: u32, rows: usize) -> u64
     9 + (u64::from(width) + 1) * rows.div_ceil(8) as u64
 }
 
-/// How many bytes columns of so many rows have in version 2. Takes no memory.
-pub(crate) fn columns_size<C: Measured>(columns: &[C], rows: usize) -> u64
-    requires some { length columns.now ≤ column_limit }
-    requires few { rows ≤ row_limit }
-    requires long { All (λ cells. length cells ≡ rows) (map C.cells columns.now) }
-    ensures size { result ≡ sum_by (column_size Second) (map C.cells columns.now) }
-    ensures short { result ≤ 136314889 * length columns.now }
+/// Puts the ends of each column's integers in its place. Takes no memory.
+pub(crate) fn take_ends<C: Measured>(columns: &[C], ends: &mut [Option<Ends>])
+    requires { length ends.old ≡ length columns.now }
+    ensures len { length ends.new ≡ length columns.now }
+    ensures ends { AllZip AreEndsOf ends.new (map C.cells columns.now) }
 {
-    let mut size = 0;
     'columns: for i in 0..columns.len() {
-        size += planes_size(frame(&columns[i]).width, rows);
+        ends[i] = columns[i].ends();
     }
-    size
 }
 
-/// Puts the bytes of columns of so many rows last, by version 2.
-pub(crate) fn put_columns<C: Measured>(
+/// Puts the bytes of columns of so many rows last, by version 2. These are the ends of each column's integers.
+pub(crate) fn put_columns<C: Planed>(
     bytes: &mut Vec<u8>,
     rows: usize,
     columns: &[C],
+    ends: &[Option<Ends>],
 ) -> Result<(), AllocError>
     requires few { rows ≤ row_limit }
     requires long { All (λ cells. length cells ≡ rows) (map C.cells columns.now) }
     requires wide { All (All IsWideCell) (map C.cells columns.now) }
+    requires some { length ends.now ≤ column_limit }
+    requires ends { AllZip AreEndsOf ends.now (map C.cells columns.now) }
     ensures { OnOk result (bytes.new.items ≡ bytes.old.items ++ flat_map (column_bytes Second) (map C.cells columns.now)) }
 {
     'columns: for i in 0..columns.len() {
-        put_column(bytes, rows, &columns[i])?;
+        put_column(bytes, rows, &columns[i], ends[i])?;
     }
     Ok(())
 }
 
-/// Puts the bytes of a column of so many rows last, by version 2.
-fn put_column<C: Measured>(bytes: &mut Vec<u8>, rows: usize, column: &C) -> Result<(), AllocError>
+/// Puts the bytes of a column of so many rows last, by version 2. These are the ends of its integers.
+fn put_column<C: Planed>(
+    bytes: &mut Vec<u8>,
+    rows: usize,
+    column: &C,
+    ends: Option<Ends>,
+) -> Result<(), AllocError>
     requires few { rows ≤ row_limit }
     requires long { length (C.cells column.now) ≡ rows }
     requires wide { All IsWideCell (C.cells column.now) }
+    requires ends { AreEndsOf ends (C.cells column.now) }
     ensures { OnOk result (bytes.new.items ≡ bytes.old.items ++ column_bytes Second (C.cells column.now)) }
 {
-    let frame = frame(column);
+    let frame = frame(ends);
     let start = bytes.len();
     bytes.resize(start + planes_size(frame.width, rows) as usize, 0)?;
     write_column(

@@ -2,11 +2,11 @@
 
 ghost use Rattle.std.specs.Prelude.{cond, false, length, true, ℕ, ◌%◌, ◌*◌, ◌+◌, ◌<◌, ◌^◌, ◌≡◌, ◌≤◌, Bool};
 ghost use Rattle.bw_mask.specs.Masks.{bit_of};
-ghost use Rattle.bw_file.specs.Descents.{AreCodeEnds, IsGreatestSoFar, IsLeastSoFar};
+ghost use Rattle.bw_file.specs.Descents.{AreCodeEnds, code_by, IsGreatestSoFar, IsLeastSoFar};
 ghost use Rattle.bw_file.specs.Planes.{code_in};
 
 use crate::code_ends::CodeEnds;
-use crate::row_bits::bits_of_rows;
+use crate::codes::words_at;
 
 /// Of the numbers that the first planes make, one for each row: the least or the greatest, and the rows that have it.
 #[derive(Clone, Copy)]
@@ -57,6 +57,33 @@ impl Reached {
     }
 }
 
+/// What is known of the numbers of k bits of those of so many rows that are there. Word b has bit b of each.
+pub(crate) fn word_ends(words: &[u64; 64], k: usize, count: usize, there: u64) -> CodeEnds
+    requires narrow { k ≤ 64 }
+    requires few { count ≤ 64 }
+    requires within { (r : ℕ) → count ≤ r → bit_of there r ≡ false }
+    ensures { AreCodeEnds (bit_of there) (code_by k words.now) count result }
+{
+    if there == 0 {
+        return CodeEnds::none();
+    }
+    let mut least = Reached {
+        number: 0,
+        rows: there,
+    };
+    let mut greatest = least;
+    'planes: for p in 0..k {
+        let plane = words[k - 1 - p];
+        least = least.less(plane);
+        greatest = greatest.greater(plane);
+    }
+    CodeEnds {
+        any: true,
+        least: least.number,
+        greatest: greatest.number,
+    }
+}
+
 /// What is known of the codes of k bits of those of so many rows from row `at` on that are there. Row `at` is the first whose
 /// bit lies in its byte; the planes have so many bytes each.
 pub(crate) fn run_ends(
@@ -76,22 +103,5 @@ pub(crate) fn run_ends(
     requires within { (r : ℕ) → count ≤ r → bit_of there r ≡ false }
     ensures { AreCodeEnds (bit_of there) (λ r. code_in k size planes.now (at + r)) count result }
 {
-    if there == 0 {
-        return CodeEnds::none();
-    }
-    let mut least = Reached {
-        number: 0,
-        rows: there,
-    };
-    let mut greatest = least;
-    'planes: for p in 0..k {
-        let plane = bits_of_rows(planes, 8 * (p * size) + at, count);
-        least = least.less(plane);
-        greatest = greatest.greater(plane);
-    }
-    CodeEnds {
-        any: true,
-        least: least.number,
-        greatest: greatest.number,
-    }
+    word_ends(&words_at(planes, size, k, at, count), k, count, there)
 }

@@ -1,6 +1,6 @@
 //! How far the cells of a column lie above a base, by their bits and words.
 
-ghost use Rattle.std.specs.Prelude.{None, Some, drop, get_or, if◌then◌else◌, length, slice_index, ℕ, ◌%◌, ◌*◌, ◌+◌, ◌/◌, ◌<◌, ◌≡◌, ◌≤◌};
+ghost use Rattle.std.specs.Prelude.{None, Some, drop, get_or, if◌then◌else◌, length, ℕ, ◌%◌, ◌*◌, ◌+◌, ◌/◌, ◌<◌, ◌≡◌, ◌≤◌};
 ghost use Rattle.std.specs.Int.{bit_at};
 ghost use Rattle.byteorder.specs.Endian.{little_number};
 ghost use Rattle.bw_cells.specs.Distances.{distance_from};

@@ -3,17 +3,19 @@
 ghost use Rattle.std.specs.Prelude.{All, IfOk, length, map, ◌≡◌, ◌≤◌};
 ghost use Rattle.std.specs.List.{AllZip};
 ghost use Rattle.bw_code.specs.Headers.{row_limit, column_limit};
-ghost use Rattle.bw_file.specs.Format.{spelled_length, spelling, SpelledBy};
+ghost use Rattle.bw_file.specs.Format.{spelled_length, spelling, AreEndsOf, SpelledBy};
 ghost use Rattle.bw_code.specs.Types.{IsTyped};
 ghost use Rattle.bw_file.specs.Table.{AreHeaders};
 ghost use Rattle.bw_file.specs.declared.version.Version.TheVariants.{Second};
 
-use crate::columns::{columns_size, put_columns};
-use crate::front::front;
-use crate::headers::{have_names, headers_size, put_headers};
+use crate::columns::{put_columns, take_ends};
+use crate::front::{COLUMN_LIMIT, front};
+use crate::headers::{have_names, put_headers};
+use crate::length::length_by_ends;
+use crate::planed::Planed;
 use crate::version::Version;
 use bw_cells::Measured;
-use bw_code::Header;
+use bw_code::{Ends, Header};
 use bw_sql::Name;
 use std::alloc::{AllocError, Global};
 
@@ -26,11 +28,21 @@ pub fn file_length<C: Measured>(headers: &[Header<Name>], rows: usize, columns: 
     ensures length { result ≡ spelled_length Second (record { headers = headers.now; rows = rows; columns = map C.cells columns.now }) }
     ensures spelling { length (spelling Second (record { headers = headers.now; rows = rows; columns = map C.cells columns.now })) ≡ result }
 {
-    14 + headers_size(headers) + columns_size(columns, rows)
+    let mut list = [None; COLUMN_LIMIT];
+    let ends = &mut list[..columns.len()];
+    take_ends(columns, ends);
+    length_by_ends(headers, rows, ends)
 }
 
+/// There are no more columns than a table has headers at most.
+fn are_few<C: Planed>(headers: &[Header<Name>], columns: &[C])
+    requires few { length headers.now ≤ column_limit }
+    requires typed { AllZip IsTyped headers.now (map C.cells columns.now) }
+    ensures { length columns.now ≤ column_limit }
+{}
+
 /// The bytes that spell the table of these headers and columns, each of so many rows.
-pub fn encode<C: Measured>(
+pub fn encode<C: Planed>(
     alloc: Global,
     headers: &[Header<Name>],
     rows: usize,
@@ -42,11 +54,33 @@ pub fn encode<C: Measured>(
     requires typed { AllZip IsTyped headers.now (map C.cells columns.now) }
     ensures { IfOk result (λ bytes. SpelledBy Second bytes.items (record { headers = headers.now; rows = rows; columns = map C.cells columns.now })) }
 {
+    are_few(headers, columns);
+    let mut list = [None; COLUMN_LIMIT];
+    let ends = &mut list[..columns.len()];
+    take_ends(columns, ends);
+    encode_by_ends(alloc, headers, rows, columns, ends)
+}
+
+/// The same where the ends of each column's integers are known: no column is read for them.
+pub fn encode_by_ends<C: Planed>(
+    alloc: Global,
+    headers: &[Header<Name>],
+    rows: usize,
+    columns: &[C],
+    ends: &[Option<Ends>],
+) -> Result<Vec<u8>, AllocError>
+    requires headers { AreHeaders headers.now }
+    requires few { rows ≤ row_limit }
+    requires long { All (λ cells. length cells ≡ rows) (map C.cells columns.now) }
+    requires typed { AllZip IsTyped headers.now (map C.cells columns.now) }
+    requires ends { AllZip AreEndsOf ends.now (map C.cells columns.now) }
+    ensures { IfOk result (λ bytes. SpelledBy Second bytes.items (record { headers = headers.now; rows = rows; columns = map C.cells columns.now })) }
+{
     have_names(headers);
-    let length = file_length(headers, rows, columns);
+    let length = length_by_ends(headers, rows, ends);
     let mut bytes = Vec::with_capacity(alloc, length as usize)?;
     bytes.extend_from_slice(&front(Version::Second, headers.len(), rows))?;
     put_headers(&mut bytes, headers)?;
-    put_columns(&mut bytes, rows, columns)?;
+    put_columns(&mut bytes, rows, columns, ends)?;
     Ok(bytes)
 }

@@ -1,6 +1,6 @@
 //! What stands before the headers: mark, version and counts.
 
-ghost use Rattle.std.specs.Prelude.{IfSome, None, Some, length, take, ◌<◌, ◌^◌, ◌≡◌, ◌≤◌};
+ghost use Rattle.std.specs.Prelude.{IfSome, None, Some, length, take, ◌<◌, ◌≡◌, ◌≤◌};
 ghost use Rattle.bw_code.specs.Headers.{row_limit, column_limit};
 ghost use Rattle.bw_file.specs.Format.{front_bytes, version_number, SpelledBy};
 ghost use Rattle.bw_file.specs.Table.{Table};
@@ -9,7 +9,7 @@ ghost use Rattle.bw_file.specs.declared.version.Version.{Version as AnyVersion};
 use crate::version::Version;
 use byteorder::{ByteOrder, LittleEndian};
 
-const COLUMN_LIMIT: usize = 64;
+pub(crate) const COLUMN_LIMIT: usize = 64;
 
 const ROW_LIMIT: usize = 16_777_216;
 

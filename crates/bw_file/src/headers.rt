@@ -1,6 +1,6 @@
 //! The headers of columns as bytes, and back.
 
-ghost use Rattle.std.specs.Prelude.{All, IfOk, IfSome, IsTrue, List, None, OnOk, Some, length, map, not, ◌*◌, ◌++◌, ◌+◌, ◌≡◌, ◌≤◌, ℕ, ◌↔◌};
+ghost use Rattle.std.specs.Prelude.{All, IfOk, IfSome, IsTrue, List, None, OnOk, Some, length, map, not, ◌*◌, ◌++◌, ◌+◌, ◌≡◌, ◌≤◌, ℕ};
 ghost use Rattle.std.specs.List.{flat_map, list_any, sum_by};
 ghost use Rattle.std.specs.Str.{bytes_eq};
 ghost use Rattle.bw_code.specs.Headers.{column_limit};

@@ -7,13 +7,12 @@ ghost use Rattle.bw_code.specs.Headers.{row_limit};
 ghost use Rattle.bw_file.specs.Cells.{presence_bytes, presence_size};
 ghost use Rattle.bw_file.specs.Planes.{column_bytes, column_size, frame_of, plane_bit, plane_bytes, IsNear, IsWideCell};
 
+use crate::planed::Planed;
 use crate::presence::write_presence;
-use bw_cells::Measured;
-use bw_vertical::wide_plane_words;
 use byteorder::{ByteOrder, LittleEndian};
 
-// How many cells are read at a time: as many as one word has bits for.
-const RUN: usize = 64;
+// How many cells are looked at together: as many as one word has bits for.
+pub(crate) const RUN: usize = 64;
 
 /// Writes the first bytes of a word, the lowest first.
 fn put_word(out: &mut [u8], word: u64)
@@ -51,7 +50,7 @@ fn put_words(planes: &mut [u8], size: usize, k: usize, at: usize, words: &[u64; 
 }
 
 /// Writes the bits and the planes of a column whose codes have k bits from the base on.
-pub(crate) fn write_planes<C: Measured>(
+pub(crate) fn write_planes<C: Planed>(
     present: &mut [u8],
     planes: &mut [u8],
     rows: usize,
@@ -68,20 +67,19 @@ pub(crate) fn write_planes<C: Measured>(
     ensures bits { present.new ≡ presence_bytes (presence_size rows) (C.cells column.now) }
     ensures planes { planes.new ≡ plane_bytes base k (presence_size rows) (C.cells column.now) }
 {
-    let mut run = [0; RUN];
+    let mut words = [0; 64];
     let size = rows.div_ceil(8);
     'runs: for r in 0..rows.div_ceil(RUN) {
         let at = r * RUN;
         let end = rows.min(at + RUN);
-        let codes = &mut run[..end - at];
-        let bits = column.distances(at, base, codes);
+        let bits = column.planes(at, end - at, base, k, &mut words);
         write_presence(&mut present[at / 8..end.div_ceil(8)], bits);
-        put_words(planes, size, k, at, &wide_plane_words(codes, k));
+        put_words(planes, size, k, at, &words);
     }
 }
 
 /// Writes a column of so many rows, of which these are the base and the width.
-pub(crate) fn write_column<C: Measured>(
+pub(crate) fn write_column<C: Planed>(
     out: &mut [u8],
     rows: usize,
     base: i64,

@@ -1,8 +1,8 @@
 //! A column of version 1 that lies in the bytes of a table file: words.
 
-ghost use Rattle.std.specs.Prelude.{All, IfSome, List, None, Option, length, ◌*◌, ◌++◌, ◌+◌, ◌≡◌, ◌≤◌, ℤ};
+ghost use Rattle.std.specs.Prelude.{All, IfSome, List, None, Option, length, ◌≡◌, ◌≤◌, ℤ};
 ghost use Rattle.bw_code.specs.Headers.{row_limit};
-ghost use Rattle.bw_file.specs.Cells.{column_bytes, column_size, presence_size, IsCell};
+ghost use Rattle.bw_file.specs.Cells.{column_bytes, column_size, IsCell};
 
 use crate::cells::read_cells;
 use crate::distances::read_distances;

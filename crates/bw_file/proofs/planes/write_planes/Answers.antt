@@ -1,4 +1,4 @@
-use Rattle.std.proofs.Common.{FitsSigned, None, ap, arith, drop, get_or, inl, inr, is_some, length, length-drop, length-take, map, min, of_z, rules, subst, sym, take, to_z, w64, ◌%◌, ◌*◌, ◌+◌, ◌-◌, ◌/◌, ◌<◌, ◌==◌, ◌≡◌, ◌≤◌, ◌∙◌, ◌⊎◌}
+use Rattle.std.proofs.Common.{FitsSigned, None, ap, arith, drop, get_or, inl, inr, length, length-drop, length-take, map, min, of_z, rules, subst, sym, take, to_z, w64, ◌%◌, ◌*◌, ◌+◌, ◌-◌, ◌/◌, ◌<◌, ◌==◌, ◌≡◌, ◌≤◌, ◌∙◌, ◌⊎◌}
 use Rattle.std.proofs.lemmas.Bool.{cases_lt}
 use Rattle.std.proofs.lemmas.Int.{to_z-of_z}
 use Rattle.std.proofs.lemmas.Nat.Bits.{bit_at-lt}
@@ -26,16 +26,12 @@ runs-preserved g c =
     let same : to_z w64 (of_z w64 base) ≡ base = to_z-of_z w64 base fits in
     let below : at < c.args.rows = omega (arith, c.div_ceil-r-end.ensures, c.runs-test.true) in
     let size_is : size ≡ presence_size c.args.rows = omega (arith, c.div_ceil-size.ensures) in
-    let long : length (take n c.runs.run) ≡ n = omega (arith, length-take n c.runs.run, c.min-end.array_long, c.min-end.ensures) in
-    let codes : c.distances-bits.new.out ≡ map (distance_from base) (take n (drop at cells)) =
-    c.distances-bits.ensures.distances ∙ ap (λ z. map (distance_from z) (take (length (take n c.runs.run)) (drop at cells))) same ∙ ap (λ m. map (distance_from base) (take m (drop at cells))) long in
     let run = take n (drop at cells) in
-    let read : take (length (take n c.runs.run)) (drop at cells) ≡ run = ap (λ m. take m (drop at cells)) long in
     let part = take (c.div_ceil.result - at / 8) (drop (at / 8) c.runs.present) in
     let room : length part ≡ presence_size n =
     omega (arith, length-take (c.div_ceil.result - at / 8) (drop (at / 8) c.runs.present), length-drop (at / 8) c.runs.present, inv.present, c.div_ceil.ensures, c.min-end.ensures, below) in
     let wrote : c.write_presence.new.out ≡ presence_bytes (presence_size n) run =
-    c.write_presence.ensures run (λ i. c.distances-bits.ensures.present i ∙ ap (λ xs. is_some (get_or xs i None)) read) ∙ ap (λ m. presence_bytes m run) room in
+    c.write_presence.ensures run c.planes-bits.ensures.present ∙ ap (λ m. presence_bytes m run) room in
     record {
       present = search rules;
       written = bits_next cells c.runs.r c.args.rows c.min-end.result c.requires.count below c.min-end.ensures c.runs.present c.write_presence.new.out _ inv.present wrote inv.written;
@@ -57,7 +53,7 @@ runs-preserved g c =
                 let r : i - at < 64 = omega (arith, m, here) in
                 let is : (plane_bit (presence_size c.args.rows) new p i == 1) ≡ bit_of (get_or (map (distance_from base) (take n (drop at cells))) (i - at) 0) (k - 1 - p) =
                 ap (λ s. plane_bit s new p i == 1) (sym size_is) ∙ c.put_words.ensures.inside p i h there here (omega (arith, m))
-                ∙ c.wide_plane_words.ensures (k - 1 - p) (i - at) b r ∙ ap (λ xs. bit_of (get_or xs (i - at) 0) (k - 1 - p)) codes in
+                ∙ c.planes-bits.ensures.planes (k - 1 - p) (i - at) b r ∙ ap (λ z. bit_of (get_or (map (distance_from z) run) (i - at) 0) (k - 1 - p)) same in
                 bit_is base k cells fits c.requires.near (plane_bit (presence_size c.args.rows) new p i) at n i p (bit_at-lt (get_or new (p * presence_size c.args.rows + i / 8) 0) (i % 8)) here ends is
                 ∙ ap (λ z. bit_in z (k - 1 - p) (get_or cells i None)) (sym same)
           ];
