@@ -45,3 +45,5 @@ pub fn planes_by_distances<C: Measured>(
     *words = wide_plane_words(run, k);
     present
 }
+
+impl Planed for &[Option<i64>] {}
