@@ -1,6 +1,7 @@
 mod Added
 mod After
 pub mod Chosen
+pub mod ColumnPlanes
 pub mod Columns
 pub mod Copies
 pub mod Counted

@@ -1,6 +1,7 @@
 //! The engine: tables in memory, and the statements that make, fill, change, read and drop them.
 #![tactic(auto)]
 
+mod column_planes;
 mod create;
 mod delete;
 mod drop;

@@ -8,11 +8,12 @@ ghost use Rattle.bw_model.specs.Filing.{column_of};
 ghost use Rattle.bw_engine.specs.Saving.{saved_cells};
 ghost use Rattle.bw_engine.specs.Stores.{rows_in};
 
+use crate::column_planes::lying_planes;
 use crate::shown::found_values;
 use crate::table::Table;
 use bw_cells::{Cells, Measured};
 use bw_column::Column;
-use bw_file::Planed;
+use bw_file::{Planed, planes_by_distances};
 use bw_sql::Value;
 use std::alloc::{AllocError, Global};
 
@@ -54,7 +55,16 @@ impl Measured for LiveCells<'_> {
     }
 }
 
-impl Planed for LiveCells<'_> {}
+impl Planed for LiveCells<'_> {
+    fn planes(&self, at: usize, count: usize, base: i64, k: usize, words: &mut [u64; 64]) -> u64 {
+        if let LiveCells::Whole(column) = self {
+            if let Some(present) = lying_planes(column, at, count, base, k, words) {
+                return present;
+            }
+        }
+        planes_by_distances(self, at, count, base, k, words)
+    }
+}
 
 /// The columns, each with its cells in the rows.
 pub(crate) fn live_columns<'a>(
