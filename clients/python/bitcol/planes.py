@@ -1,33 +1,56 @@
 """Columns as planes of bits: the cells of table files of version 2.
 
 The code of a row is its value less the column's least value. Plane b has bit b of each code: bit i mod 8 of byte i // 8
-is that of row i. To turn codes into planes, and back, whole blocks of rows are one integer of Python, so that each step
-of the interpreter works on thousands of rows. Where somebody imported numpy it does the same faster.
+is that of row i. Blocks of rows are turned into planes, and back, by Python's integers, and where somebody imported
+numpy by its arrays, which are faster.
 """
 
 from __future__ import annotations
 
 import struct
 from collections.abc import Iterator, Sequence
-from functools import lru_cache
+from typing import Protocol
 
-from . import planes_by_numpy
+from . import planes_by_integers
 from .cells import Cells
 from .column_type import ColumnType
 from .door import Bytes
 from .optional import imported
-from .planes_by_numpy import EXCHANGES, CodesTold
+from .planes_by_integers import CodesTold
 
 FRAME = struct.Struct("<qB")  # what the codes are counted from, and how many bits they have
 WIDEST = 64
 
-# Rows that are one integer: enough that a step of the interpreter costs nothing, few enough for a processor's cache.
+# The presence of rows that are turned together: enough that a step of the interpreter costs nothing, few enough for a
+# processor's cache.
 _BLOCK_BYTES = 8_192
+
+
+class _Turning(Protocol):
+    """How codes and planes are turned: what a module has for it."""
+
+    def codes_told(self, presence: Bytes, planes: Sequence[Bytes]) -> CodesTold: ...
+
+    def ends_of(self, cells: Cells) -> tuple[int, int] | None: ...
+
+    def block_words(self, presence: Bytes, base: int, planes: Sequence[Bytes], size: int) -> bytes: ...
+
+    def block_planes(self, presence: Bytes, words: Bytes, base: int, width: int, size: int) -> Iterator[bytes]: ...
+
+
+def _turning() -> _Turning:
+    """By arrays of numpy where somebody imported it, else by integers."""
+    if imported("numpy") is None:
+        return planes_by_integers
+    # It imports numpy, so it can't be imported where numpy isn't.
+    from . import planes_by_numpy
+
+    return planes_by_numpy
 
 
 def frame_of(cells: Cells) -> tuple[int, int]:
     """What the codes of a column are counted from, and how many bits they have: 0 and 1 where all rows are NULL."""
-    ends = _ends_of(cells)
+    ends = _turning().ends_of(cells)
     if ends is None:
         return 0, 1
     least, greatest = ends
@@ -38,9 +61,12 @@ def plane_pieces(cells: Cells) -> Iterator[Bytes]:
     """The bytes of a column after its presence: base, width, and the planes, the highest first."""
     base, width = frame_of(cells)
     yield FRAME.pack(base, width)
+    turning = _turning()
     planes: list[list[bytes]] = [[] for _ in range(width)]
     for start in range(0, len(cells.presence), _BLOCK_BYTES):
-        for plane, bits in zip(planes, _block_planes(cells, start, base, width)):
+        presence, words = _block_of(cells, start)
+        size = cells.column_type.bits // 8
+        for plane, bits in zip(planes, turning.block_planes(presence, words, base, width, size)):
             plane.append(bits)
     yield from map(b"".join, reversed(planes))
 
@@ -48,10 +74,11 @@ def plane_pieces(cells: Cells) -> Iterator[Bytes]:
 def cells_in_planes(presence: memoryview, base: int, planes: Sequence[memoryview], rows: int, of: ColumnType) -> Cells:
     """The cells of a column of so many rows, the planes given from the highest on. They have no fault, see fault_in."""
     size = of.bits // 8
+    turning = _turning()
     words = bytearray()
     for start in range(0, len(presence), _BLOCK_BYTES):
         block = [plane[start : start + _BLOCK_BYTES] for plane in reversed(planes)]
-        words += _block_words(presence[start : start + _BLOCK_BYTES], base, block, size)
+        words += turning.block_words(presence[start : start + _BLOCK_BYTES], base, block, size)
     return Cells(rows, presence, memoryview(words)[: size * rows], of)
 
 
@@ -59,8 +86,7 @@ def fault_in(presence: memoryview, base: int, planes: Sequence[memoryview], rows
     """Why no table file has this column, the planes given from the highest on, or None where one may."""
     if rows % 8 and presence[-1] >> rows % 8:
         return "a bit past the last row"
-    numpy = imported("numpy")
-    told = _codes_told(presence, planes) if numpy is None else planes_by_numpy.codes_told(numpy, presence, planes)
+    told = _turning().codes_told(presence, planes)
     if told.has_bit_at_null:
         return "a bit at a NULL"
     if told.greatest is None:
@@ -72,83 +98,9 @@ def fault_in(presence: memoryview, base: int, planes: Sequence[memoryview], rows
     return None if of.least <= base and base + told.greatest <= of.greatest else f"a value that is no {of.name}"
 
 
-def _codes_told(presence: memoryview, planes: Sequence[memoryview]) -> CodesTold:
-    """What planes tell of the codes, the highest given first."""
-    present = int.from_bytes(presence, "little")
-    any_bit, greatest, candidates = 0, 0, present
-    for plane in planes:
-        bits = int.from_bytes(plane, "little")
-        any_bit |= bits
-        candidates = candidates & bits or candidates
-        greatest = 2 * greatest + (candidates & bits != 0)
-    return CodesTold(any_bit & ~present != 0, any_bit & present != present, greatest if present else None)
-
-
-def _ends_of(cells: Cells) -> tuple[int, int] | None:
-    """The least and the greatest value, or None where all rows are NULL."""
-    numpy = imported("numpy")
-    if numpy is not None:
-        return planes_by_numpy.ends_of(numpy, cells)
-    values = cells.known_numbers()
-    return (min(values), max(values)) if len(values) else None
-
-
-def _block_planes(cells: Cells, start: int, base: int, width: int) -> Iterator[bytes]:
-    """The bits of the block of rows whose presence begins at this byte, for each plane from the lowest on."""
+def _block_of(cells: Cells, start: int) -> tuple[bytes, bytes]:
+    """Presence and words of the block of rows whose presence begins at this byte: a word for each bit of the presence."""
     presence = bytes(cells.presence[start : start + _BLOCK_BYTES])
     size = cells.column_type.bits // 8
     length = 8 * size * len(presence)
-    words = bytes(cells.words[8 * size * start : 8 * size * start + length]).ljust(length, b"\0")
-    numpy = imported("numpy")
-    if numpy is not None:
-        yield from planes_by_numpy.block_planes(numpy, presence, words, base, width, size)
-        return
-    present = _lanes(presence, size)
-    greater = 1 << 8 * size - 1
-    # Counted from the least of its type a value has no sign, and so no lane borrows from the next.
-    codes = (int.from_bytes(words, "little") ^ present * greater) - present * (base + greater)
-    octets = codes.to_bytes(length, "little")
-    for place in range(0, width, 8):
-        turned = _turned(octets[place // 8 :: size])
-        yield from (turned[bit::8] for bit in range(min(8, width - place)))
-
-
-def _block_words(presence: memoryview, base: int, planes: Sequence[memoryview], size: int) -> bytes:
-    """The words of a block of rows, 0 where a row is NULL, of its planes from the lowest on."""
-    numpy = imported("numpy")
-    if numpy is not None:
-        return planes_by_numpy.block_words(numpy, presence, base, planes, size)
-    octets = bytearray(8 * size * len(presence))
-    for place in range(0, len(planes), 8):
-        group = bytearray(8 * len(presence))
-        for bit, plane in enumerate(planes[place : place + 8]):
-            group[bit::8] = plane
-        octets[place // 8 :: size] = _turned(group)
-    present = _lanes(bytes(presence), size)
-    greater = 1 << 8 * size - 1
-    words = int.from_bytes(octets, "little") + present * (base + greater) ^ present * greater
-    return words.to_bytes(len(octets), "little")
-
-
-def _lanes(presence: bytes, size: int) -> int:
-    """A number with a lane of so many bytes for each row: 1 where it isn't NULL, else 0."""
-    bits = bytearray(8 * len(presence))
-    bits[::8] = presence
-    lanes = bytearray(8 * size * len(presence))
-    lanes[::size] = _turned(bits)
-    return int.from_bytes(lanes, "little")
-
-
-def _turned(data: Bytes) -> bytes:
-    """Eight bytes at a time, bit i of byte k as bit k of byte i."""
-    bits = int.from_bytes(data, "little")
-    for (distance, _), mask in zip(EXCHANGES, _masks(len(data) // 8)):
-        changed = (bits ^ bits >> distance) & mask
-        bits ^= changed ^ changed << distance
-    return bits.to_bytes(len(data), "little")
-
-
-@lru_cache(maxsize=4)
-def _masks(count: int) -> list[int]:
-    """The masks of the exchanges, for so many times eight bytes."""
-    return [int.from_bytes(mask.to_bytes(8, "little") * count, "little") for _, mask in EXCHANGES]
+    return presence, bytes(cells.words[8 * size * start : 8 * size * start + length]).ljust(length, b"\0")

@@ -1,26 +1,18 @@
-"""Planes of bits by numpy, where somebody imported it: the same bytes as `planes` makes, several times as fast."""
+"""Planes of bits by numpy: the same bytes as `planes_by_integers` makes, several times as fast."""
 
 from __future__ import annotations
 
 from collections.abc import Iterator, Sequence
-from typing import Any, NamedTuple
+from typing import Any
+
+import numpy
 
 from .cells import Cells
 from .door import Bytes
-
-# Distance and mask of the exchanges of bits that make columns of 8 times 8 bits its rows.
-EXCHANGES = ((7, 0x00AA00AA00AA00AA), (14, 0x0000CCCC0000CCCC), (28, 0x00000000F0F0F0F0))
+from .planes_by_integers import EXCHANGES, CodesTold
 
 
-class CodesTold(NamedTuple):
-    """What planes tell of the codes of a column."""
-
-    has_bit_at_null: bool
-    has_zero: bool  # whether a row that isn't NULL has code 0
-    greatest: int | None  # the greatest code, or None where all rows are NULL
-
-
-def codes_told(numpy: Any, presence: Bytes, planes: Sequence[Bytes]) -> CodesTold:
+def codes_told(presence: Bytes, planes: Sequence[Bytes]) -> CodesTold:
     """What planes tell of the codes, the highest given first."""
     present = numpy.frombuffer(presence, numpy.uint8)
     any_bit, candidates, greatest = numpy.zeros_like(present), present, 0
@@ -35,45 +27,45 @@ def codes_told(numpy: Any, presence: Bytes, planes: Sequence[Bytes]) -> CodesTol
     return CodesTold(bool((any_bit & ~present).any()), has_zero, greatest if present.any() else None)
 
 
-def ends_of(numpy: Any, cells: Cells) -> tuple[int, int] | None:
+def ends_of(cells: Cells) -> tuple[int, int] | None:
     """The least and the greatest value, or None where all rows are NULL."""
     size = cells.column_type.bits // 8
     values = numpy.frombuffer(cells.words, f"<i{size}")
-    values = values[_bits(numpy, cells.presence)[: cells.rows] == 1]
+    values = values[_bits(cells.presence)[: cells.rows] == 1]
     return (int(values.min()), int(values.max())) if len(values) else None
 
 
-def block_words(numpy: Any, presence: Bytes, base: int, planes: Sequence[Bytes], size: int) -> bytes:
+def block_words(presence: Bytes, base: int, planes: Sequence[Bytes], size: int) -> bytes:
     """The words of a block of rows, of so many bytes each, 0 where a row is NULL, of its planes from the lowest on."""
     octets = numpy.zeros((len(presence), 8, size), numpy.uint8)
     for place in range(0, len(planes), 8):
         group = numpy.zeros((len(presence), 8), numpy.uint8)
         for bit, plane in enumerate(planes[place : place + 8]):
             group[:, bit] = numpy.frombuffer(plane, numpy.uint8)
-        octets[:, :, place // 8] = _turned(numpy, group)
+        octets[:, :, place // 8] = _turned(group)
     codes = octets.reshape(-1).view(f"<u{size}")
     codes += codes.dtype.type(base % (1 << 8 * size))
-    codes *= _bits(numpy, presence)
+    codes *= _bits(presence)
     return codes.tobytes()
 
 
-def block_planes(numpy: Any, presence: Bytes, words: Bytes, base: int, width: int, size: int) -> Iterator[bytes]:
+def block_planes(presence: Bytes, words: Bytes, base: int, width: int, size: int) -> Iterator[bytes]:
     """The bits of a block of rows for each plane from the lowest on; the words are as many as the presence has bits."""
     codes = numpy.frombuffer(words, f"<u{size}").copy()
     codes -= codes.dtype.type(base % (1 << 8 * size))
-    codes *= _bits(numpy, presence)
+    codes *= _bits(presence)
     octets = codes.view(numpy.uint8).reshape(-1, size)
     for place in range(0, width, 8):
-        turned = _turned(numpy, octets[:, place // 8].reshape(-1, 8).copy())
+        turned = _turned(octets[:, place // 8].reshape(-1, 8).copy())
         yield from (turned[:, bit].tobytes() for bit in range(min(8, width - place)))
 
 
-def _bits(numpy: Any, data: Bytes) -> Any:
+def _bits(data: Bytes) -> Any:
     """A byte for each bit, the lowest of a byte first."""
     return numpy.unpackbits(numpy.frombuffer(data, numpy.uint8), bitorder="little")
 
 
-def _turned(numpy: Any, group: Any) -> Any:
+def _turned(group: Any) -> Any:
     """Eight bytes at a time, bit i of byte k as bit k of byte i."""
     bits = group.view("<u8")
     for distance, mask in EXCHANGES:
