@@ -5,6 +5,7 @@ ghost use Rattle.bw_mask.specs.Masks.{bit_of, len, row_at};
 ghost use Rattle.bw_groups.specs.Runs.{IsMeasured};
 ghost use Rattle.bw_engine.specs.Runs.{found_runs, lines_from, slot_line, value_line};
 
+use crate::column_planes::column_ends;
 use crate::shown::show_slots;
 use bw_cells::Measured;
 use bw_code::Ends;
@@ -44,12 +45,12 @@ impl<'a> ValueRuns for FoundColumn<'a> {
         if are_close(told) {
             return told;
         }
-        // Codes of 32 bits reach further than the values may. Their ends are found by a pass over the whole column, which
-        // takes longer than to gather a few values.
+        // Codes of 32 bits or more reach further than the values may. Their ends are found by a pass over the whole column,
+        // which takes longer than to gather a few values.
         if self.found.count() < self.found.len() / 16 {
             return None;
         }
-        column.ends()
+        column_ends(column)
     }
 
     fn run_count(&self) -> usize {
