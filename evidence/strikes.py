@@ -160,6 +160,8 @@ STRIKES = [
     Strike("bw_aggregate::digits::count_at", (of_every_column("read", "codes", "out.new"),)),
     Strike("bw_aggregate::nth_code::rows_on_way", (of_every_column("scan", "rows", "out.new"),)),
     Strike("bw_engine::shown::read_column", (of_column("read", "reading.rt", "", "out.new"),)),
+    Strike("bw_engine::column_planes::take_words", (of_planes(),)),
+    Strike("bw_file::planes::write_planes", (Clause("bw_file/src/planed.rt", "planes", "planes", "words.new"),)),
 ]
 
 
