@@ -1,63 +1,18 @@
-"""Random statements over the same rows in one store and in parts: the answers are the same bytes."""
+"""Worked statements over the same rows in one store and in parts: the answers are the same bytes."""
 
 from __future__ import annotations
 
-import os
 import unittest
 from unittest import mock
 
 import bitcol
 from bitcol import cluster
-from bitcol.cluster import median, questions
+from bitcol.cluster import questions
 
-from .statements import Chance
-from .support import (
-    GROUPING_PROGRAM,
-    SEED,
-    STATEMENTS,
-    TABLES,
-    ClusterTestCase,
-    PartsTestCase,
-    cut_rows,
-    is_grouping,
-    say,
-)
+from .support import ClusterTestCase, PartsTestCase
 
 
 class Answers(PartsTestCase):
-    def ask(self, tables: int, seed: str) -> None:
-        words = ("tables", "parts", "rows", "selects", "refused", "of set functions", "of groups", "medians")
-        counts = dict.fromkeys(words, 0)
-        for number in range(tables):
-            chance = Chance(f"{seed}-{SEED}-{number}")
-            chance.has_groups = "GROUP" in seed
-            # Of workers a round takes longer, so there are few.
-            few, probes = (100, 14) if seed == "w" else (chance.choice([0, 3, 10_000]), chance.choice([1, 2, 14]))
-            definition, rows = chance.table()
-            ordered = sorted(rows, key=str) if chance.random() < 0.3 else rows
-            together = chance.choice([None, 1, 2])
-            table, one = self.both(definition, cut_rows(chance, ordered), f"{seed}{number}", together)
-            counts["tables"] += 1
-            counts["parts"] += len(table.manifest.parts)
-            counts["rows"] += len(rows)
-            with mock.patch.object(questions, "FEW_VALUES", few), mock.patch.object(median, "PROBES", probes), \
-                    mock.patch.object(questions, "FAN_IN", chance.choice([2, 3, 32])):
-                for _ in range(STATEMENTS):
-                    statement = chance.select()
-                    reply = self.same(table, one, statement)
-                    self.count(counts, reply)
-                    counts["of groups"] += "GROUP BY" in statement and reply.refusal is None
-        say(f"SELECTs, equal byte for byte: {counts}")
-
-    def count(self, counts: dict[str, int], reply: bitcol.Reply) -> None:
-        counts["selects"] += 1
-        counts["refused"] += reply.refusal is not None
-        counts["of set functions"] += any("(" in heading for heading in reply.headings)
-        counts["medians"] += any("MEDIAN" in heading for heading in reply.headings)
-
-    def test_selects(self) -> None:
-        self.ask(TABLES, "s")
-
     def test_medians(self) -> None:
         """Parts whose medians are far apart, all equal, at the ends of a type, of NULLs alone."""
         least, greatest = -(2**63), 2**63 - 1
@@ -93,7 +48,7 @@ class Answers(PartsTestCase):
     def test_other_statements(self) -> None:
         table, _ = self.both("a INT", [[(1,)]])
         others = ("DROP TABLE t", "TABLES", "REBUILD t", "SAVE t TO 'x'", "CREATE TABLE u (a INT)")
-        for statement in (*others, "STATS SELECT a FROM t"):
+        for statement in others:
             self.refused("of a table of parts", lambda: table.answer(statement), bitcol.NotSupportedError)
         for statement in ("", "SELECT a FROM t; SELECT a FROM t", "SELECT 'a FROM t"):
             self.refused("", lambda: table.answer(statement), bitcol.ProgrammingError)
@@ -119,21 +74,7 @@ class Answers(PartsTestCase):
             self.same(table, one, f"SELECT COUNT(*), SUM(b), MEDIAN(a) FROM t WHERE {condition}")
 
 
-class Groups(Answers):
-    """The same with GROUP BY, by a program that stands in where the program has none."""
-
-    def setUp(self) -> None:
-        below = bitcol.find_program()
-        if not is_grouping():
-            stand_in = {"BITCOL": str(GROUPING_PROGRAM), "BITCOL_BELOW": below}
-            patch = mock.patch.dict(os.environ, stand_in)
-            patch.start()
-            self.addCleanup(patch.stop)
-        super().setUp()
-
-    def test_selects(self) -> None:
-        self.ask(max(1, TABLES // 6), "GROUP")
-
+class Groups(PartsTestCase):
     def test_groups_of_several_parts(self) -> None:
         """Groups that lie in several parts, that of NULL among them, with medians far apart."""
         parts = [
@@ -155,17 +96,11 @@ class Groups(Answers):
         with mock.patch.object(questions, "GROUP_LIMIT", 19):
             self.refused("more than 19 groups", lambda: table.answer("SELECT a, MEDIAN(b) FROM t GROUP BY a"))
 
-    test_medians = test_long_and_deep_statements = test_other_statements = test_rows = None  # type: ignore[assignment]
-    test_parts_that_a_condition_cannot_meet = None  # type: ignore[assignment]
-
 
 class AnswersOfWorkers(ClusterTestCase, Answers):
     """The same by two workers."""
 
     THREADS = 2
-
-    def test_selects(self) -> None:
-        self.ask(max(1, TABLES // 3), "w")
 
     def test_versions_share_open_parts(self) -> None:
         table, one = self.both("a INT", [[(number,)] for number in range(8)], together=2)

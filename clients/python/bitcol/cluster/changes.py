@@ -18,8 +18,6 @@ from .merge import REFUSED
 
 # An INSERT goes to the last part as long as that has no more rows than these.
 GATHERED_ROWS = 2**20
-# How many files at fault one error names.
-FAULTS_NAMED = 10
 
 
 class Changes:
@@ -147,7 +145,7 @@ def _without_faults(found: Sequence[Any]) -> list[Any]:
     """What was made of files. Where some are at fault, one error names them, and is of the kind of the first."""
     faults = [made for made in found if isinstance(made, Error)]
     if faults:
-        named = "; ".join(_text(fault) for fault in faults[:FAULTS_NAMED])
+        named = "; ".join(_text(fault) for fault in faults)
         raise making.with_text(faults[0], f"{named} ({len(faults)} of {len(found)} files at fault; nothing is changed)")
     return list(found)
 
