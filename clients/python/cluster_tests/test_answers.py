@@ -7,9 +7,16 @@ from unittest import mock
 
 import bitcol
 from bitcol import cluster
-from bitcol.cluster import questions
+from bitcol.cluster import holding, questions
+from bitcol.cluster.holding import opened
+from bitcol.cluster.questions import Questions
 
 from .support import ClusterTestCase, PartsTestCase
+
+try:
+    from distributed import wait
+except ImportError:
+    pass
 
 
 class Answers(PartsTestCase):
@@ -56,6 +63,22 @@ class Answers(PartsTestCase):
         self.assertEqual(table.sql("SELECT COUNT(*) FROM t").scalar(), 1)
         self.refused("no such column", lambda: table.sql("SELECT z FROM t"), bitcol.StatementRefused)
 
+    def test_stats(self) -> None:
+        """The number of a STATS is the sum over the parts that its SELECT is asked of, and is refused as that is."""
+        rows = [(number, number % 7) for number in range(600)]
+        table, one = self.both("a INT, b INT USING S", [rows[:300], rows[300:]], together=1)
+        for condition, places in (("a <> 5", [0, 1]), ("b < 3", [0, 1]), ("a > 299 AND b = 1", [1]), ("a > 600", [0])):
+            statement = f"STATS SELECT a FROM t WHERE {condition}"
+            units = 0
+            for place in places:
+                with opened(table._place, table.manifest.parts[place]) as session:
+                    units += session.execute(statement).count
+            self.assertEqual(table.answer(statement), b"units %d\n" % units, statement)
+            self.assertTrue(table.sql(statement).is_units)
+        for statement in ("STATS SELECT z FROM t", "STATS SELECT a FROM u", "STATS TABLES", "STATS", "STATS SELECT",
+                          "STATS SELECT a FROM t WHERE", "STATS SELECT a, COUNT(*) FROM t"):
+            self.assertEqual([table.answer(statement)], one.answers([statement]), statement)
+
     def test_rows(self) -> None:
         parts = [[(number, number % 3 or None) for number in range(start, start + 50)] for start in (0, 50, 100)]
         table, one = self.both("a INT, b INT", parts, together=2)
@@ -97,6 +120,11 @@ class Groups(PartsTestCase):
             self.refused("more than 19 groups", lambda: table.answer("SELECT a, MEDIAN(b) FROM t GROUP BY a"))
 
 
+def forget() -> None:
+    """On a worker: nothing is held here any more, as far as calls to workers can see."""
+    holding._holdings.clear()
+
+
 class AnswersOfWorkers(ClusterTestCase, Answers):
     """The same by two workers."""
 
@@ -109,6 +137,19 @@ class AnswersOfWorkers(ClusterTestCase, Answers):
         self.assertEqual(table.sql("UPDATE t SET a = 70 WHERE a = 7").count, 1)
         self.assertEqual(table.sql("SELECT SUM(a) FROM t").scalar(), 28 + 63)
         self.assertEqual(first.sql("SELECT SUM(a) FROM t").scalar(), 28)
+
+    def test_calls_and_tasks(self) -> None:
+        """Questions are calls to the workers, and tasks where these hold a part no more."""
+        statements = ("SELECT a FROM t WHERE a > 2", "SELECT COUNT(*), MEDIAN(a) FROM t", "STATS SELECT a FROM t")
+        table, _ = self.both("a INT", [[(number,)] for number in range(8)], together=2)
+        wait([group.holding for group in table._questions.groups])
+        with mock.patch.object(Questions, "_tasks", side_effect=AssertionError):
+            found = [table.answer(statement) for statement in statements]
+        self.assertEqual(found[0], b"A\n3\n4\n5\n6\n7\nrows 5\n")
+        self.client.run(forget)
+        with mock.patch.object(Questions, "_tasks", autospec=True, side_effect=Questions._tasks) as tasks:
+            self.assertEqual([table.answer(statement) for statement in statements], found)
+            self.assertGreaterEqual(tasks.call_count, 3)
 
     # What takes many rounds, or no worker, is asked in this process alone.
     test_long_and_deep_statements = test_other_statements = test_medians = None  # type: ignore[assignment]

@@ -1,4 +1,4 @@
-"""Changes that are broken off at each of their steps: the folder opens as before or as after, and nothing in between."""
+"""Changes that are broken off at each of their steps: the folder opens as before or as after."""
 
 from __future__ import annotations
 

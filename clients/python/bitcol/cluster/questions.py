@@ -9,7 +9,7 @@ from typing import Any
 from ..errors import InternalError, NotSupportedError
 from ..reply import reply_of
 from .condition import may_be_met
-from .direct import Direct
+from .direct import asked_directly
 from .groups import RETRIES, Group
 from .holding import ask_counts, ask_each, ask_groups, ask_lists, ask_rows, merge_groups, read
 from .limit import Limit, without_errors
@@ -29,7 +29,7 @@ class Questions:
     """The parts of a version on dask's workers, as something that answers a SELECT."""
 
     def __init__(self, client: Any, groups: list[Group]) -> None:
-        self._client, self._direct = client, Direct(client)
+        self._client = client
         self.groups = groups
         self._asked_of: dict[str, list[tuple[Group, list[int]]]] = {}
 
@@ -175,9 +175,10 @@ class Questions:
     ) -> list[Any]:
         """What is asked of all parts in which a row may be found, a group's together."""
         groups = self._asked_groups(condition)
-        found = None if limit.left() is not None else self._direct.asked(groups, call, asked, **rest)
-        if found is not None:
-            return without_errors(found)
+        if limit.left() is None:
+            found = asked_directly(self._client, groups, call, asked, **rest)
+            if found is not None:
+                return without_errors(found)
         return limit.gathered(self._client, self._tasks(groups, limit, call, asked, **rest))
 
     def _tasks(
