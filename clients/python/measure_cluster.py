@@ -96,21 +96,26 @@ def spent() -> float:
 
 
 def load(one: bitcol.Session, clients: dict[int, Client], folder: Path, files: Sequence[Path]) -> None:
-    """Measures LOAD of the same CSV files by one program, which has them then, and by workers, in turns."""
+    """Measures LOAD of the same CSV files by one program, which has them then, and by workers, in turns. Workers save
+    what they load, so a SAVE of the one program is measured too."""
     took: dict[str, list[float]] = {}
     for number in range(3):
         if number:
             one.execute("DROP TABLE t")
         one.execute(f"CREATE TABLE t ({DEFINITION})")
-        took.setdefault(ONE, []).append(timed(lambda: [one.load("t", file) for file in files])[0])
+        loading, _ = timed(lambda: [one.load("t", file) for file in files])
+        took.setdefault(ONE, []).append(loading)
+        saving, _ = timed(lambda: one.save("t", folder / "whole.table"))
+        took.setdefault(f"{ONE}, and SAVE", []).append(loading + saving)
         for workers, client in clients.items():
             table = cluster.create(client, folder / f"load-{workers}-{number}", "t", DEFINITION)
             took.setdefault(f"{workers} workers", []).append(timed(lambda: table.load(files))[0])
             del table
-    whole = median(took[ONE])
+    alone, saved = median(took[ONE]), median(took[f"{ONE}, and SAVE"])
     print(f"LOAD of {len(files)} CSV files, middle of 3:", flush=True)
     for who, found in took.items():
-        print(f"  {who}: {median(found):.0f} ms, {whole / median(found):.2f} times as fast as one program", flush=True)
+        each = median(found)
+        print(f"  {who}: {each:.0f} ms; one program takes {alone / each:.2f} times that, {saved / each:.2f} with SAVE")
 
 
 def opened(clients: dict[int, Client], folder: Path, files: Sequence[Path]) -> dict[int, cluster.Table]:

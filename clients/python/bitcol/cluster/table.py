@@ -163,7 +163,7 @@ class Table:
 
     def compact(self, most_rows: int = COMPACT_ROWS) -> Table:
         """Puts parts that follow one another together, as long as they have no more rows than these. No answer
-        changes."""
+        but that of a STATS changes."""
         parts = self._changes.put_together(most_rows)
         if len(parts) < len(self.manifest.parts):
             self._go_to(parts)
