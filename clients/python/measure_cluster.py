@@ -51,23 +51,24 @@ def timed(call: Callable[[], Any]) -> tuple[float, Any]:
 
 
 def make_files(folder: Path, parts: int, rows: int) -> tuple[list[Path], list[Path]]:
-    """The rows of the first parts, as many as one program can hold, as CSV files, and all parts as table files."""
-    chance = numpy.random.default_rng(1)
-    lists: tuple[list[Path], list[Path]] = [], []
+    """The rows of the first parts, as many as one program can hold, as CSV files, and all parts as table files. Those
+    that are there stay."""
+    csv_files = [folder / f"{number}.csv" for number in range(min(parts, ROW_LIMIT // rows))]
+    tables = [folder / f"{number}.table" for number in range(parts)]
     with bitcol.Session() as session:
-        for number in range(parts):
+        for number, table in enumerate(tables):
+            if table.exists():
+                continue
+            chance = numpy.random.default_rng(number)
             a = chance.integers(-(2**31), 2**31, rows).astype("<i4")
             b = chance.integers(0, 1000, rows).astype("<i4")
-            csv, table = folder / f"{number}.csv", folder / f"{number}.table"
             session.write_table("t", {"a": a, "b": b, "day": numpy.full(rows, number, "<i4")})
-            session.save("t", table)
-            if number < ROW_LIMIT // rows:
+            if number < len(csv_files):
                 (reply,) = session.answers(["SELECT * FROM t"])
-                csv.write_bytes(memoryview(reply)[reply.index(b"\n") + 1 : reply.rindex(b"rows ")])
-                lists[0].append(csv)
+                csv_files[number].write_bytes(memoryview(reply)[reply.index(b"\n") + 1 : reply.rindex(b"rows ")])
+            session.save("t", table)
             session.execute("DROP TABLE t")
-            lists[1].append(table)
-    return lists
+    return csv_files, tables
 
 
 def watch() -> None:

@@ -3,11 +3,12 @@
 from __future__ import annotations
 
 import unittest
+from typing import Any
 from unittest import mock
 
 import bitcol
 from bitcol import cluster
-from bitcol.cluster import holding, questions
+from bitcol.cluster import direct, holding, questions
 from bitcol.cluster.holding import opened
 from bitcol.cluster.questions import Questions
 
@@ -139,7 +140,7 @@ class AnswersOfWorkers(ClusterTestCase, Answers):
         self.assertEqual(first.sql("SELECT SUM(a) FROM t").scalar(), 28)
 
     def test_calls_and_tasks(self) -> None:
-        """Questions are calls to the workers, and tasks where these hold a part no more."""
+        """Questions are calls to the workers, and tasks where these hold a part no more or can't be reached."""
         statements = ("SELECT a FROM t WHERE a > 2", "SELECT COUNT(*), MEDIAN(a) FROM t", "STATS SELECT a FROM t")
         table, _ = self.both("a INT", [[(number,)] for number in range(8)], together=2)
         wait([group.holding for group in table._questions.groups])
@@ -150,6 +151,20 @@ class AnswersOfWorkers(ClusterTestCase, Answers):
         with mock.patch.object(Questions, "_tasks", autospec=True, side_effect=Questions._tasks) as tasks:
             self.assertEqual([table.answer(statement) for statement in statements], found)
             self.assertGreaterEqual(tasks.call_count, 3)
+        again = cluster.open(self.client, self.folder / "table", together=1)
+        wait([group.holding for group in again._questions.groups])
+        self.addCleanup(direct._unreached.clear)
+        workers, connect, refused = self.client.scheduler_info()["workers"], self.client.rpc.connect, []
+
+        def connect_to_no_worker(address: str, *arguments: Any, **rest: Any) -> Any:
+            if address in workers:
+                refused.append(address)
+                raise OSError("planted")
+            return connect(address, *arguments, **rest)
+
+        with mock.patch.object(self.client.rpc, "connect", connect_to_no_worker):
+            self.assertEqual([again.answer(statement) for statement in statements], found)
+        self.assertIn(len(refused), range(1, self.WORKERS + 1))
 
     # What takes many rounds, or no worker, is asked in this process alone.
     test_long_and_deep_statements = test_other_statements = test_medians = None  # type: ignore[assignment]
