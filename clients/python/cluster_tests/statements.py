@@ -7,28 +7,42 @@ from collections.abc import Callable
 from typing import Optional
 
 Cell = Optional[int]
+# The type, the layout and the kind that a column may have.
+Form = tuple[str, str, str]
+FORMS: list[Form] = [
+    (column_type, layout, kind)
+    for column_type in ("INTEGER", "BIGINT")
+    for layout in "VHSP"
+    for kind in ("OFFSET", "DICTIONARY")
+    if (column_type, layout) != ("BIGINT", "H")
+]
 
 
 class Chance(random.Random):
-    """Makes a table, and then statements about it. Where `has_groups` some have GROUP BY."""
+    """Makes a table, and then statements about it. `forms` are those of its columns."""
 
-    has_groups = False
+    forms: list[Form]
 
-    def table(self) -> tuple[str, list[list[Cell]]]:
+    def table(self, most_rows: int = 2000) -> tuple[str, list[list[Cell]]]:
         """Columns as CREATE TABLE has them, and rows."""
         self.names = self.sample(["a", "b", "c_1", "Day"], self.randrange(1, 5))
-        kinds = [self.choice(["INTEGER", "INT", "BIGINT"]) for _ in self.names]
-        definition = ", ".join(f"{name} {kind}{self._layout(kind)}" for name, kind in zip(self.names, kinds))
-        self._pools = [self._pool(kind) for kind in kinds]
-        rows = self.choice([0, 1, 2, 5, 40, 40, 300, 300, 2000])
+        self.forms = [self.choice(FORMS) for _ in self.names]
+        definition = ", ".join(f"{name} {self._column(*form)}" for name, form in zip(self.names, self.forms))
+        self._pools = [self._pool(column_type) for column_type, _, _ in self.forms]
+        rows = min(most_rows, self.choice([0, 1, 2, 5, 40, 40, 300, 300, 2000]))
         return definition, [[pool() for pool in self._pools] for _ in range(rows)]
 
-    def _layout(self, kind: str) -> str:
-        layouts = ["", " USING V", " USING S", " USING P"] + [" USING H"] * (kind != "BIGINT")
-        return self.choice(layouts) + self.choice(["", " DICTIONARY"])
+    def _column(self, column_type: str, layout: str, kind: str) -> str:
+        """What CREATE TABLE says of a column. V and OFFSET needn't be said."""
+        words = [self.choice(["INTEGER", "INT"]) if column_type == "INTEGER" else column_type]
+        if layout != "V" or self.random() < 0.5:
+            words.append(f"USING {layout}")
+        if kind != "OFFSET" or self.random() < 0.5:
+            words.append(kind)
+        return " ".join(words)
 
-    def _pool(self, kind: str) -> Callable[[], Cell]:
-        bits = 63 if kind == "BIGINT" else 31
+    def _pool(self, column_type: str) -> Callable[[], Cell]:
+        bits = 63 if column_type == "BIGINT" else 31
         least, greatest = -(1 << bits), (1 << bits) - 1
         spans = [(0, 3), (-5, 5), (-1000, 1000), (least, greatest), (least, least + 9), (greatest - 9, greatest)]
         span = self.choice(spans)
@@ -83,7 +97,7 @@ class Chance(random.Random):
         words = ["COUNT", "SUM", "MIN", "MAX", "MEDIAN", "median"]
         functions = [f"{self.choice(words)}({self.name()})" for _ in range(self.randrange(4))]
         functions += ["COUNT(*)"] * self.randrange(2)
-        key = self.choice(self.names) if self.has_groups and self.random() < 0.5 else None
+        key = self.choice(self.names) if self.random() < 0.3 else None
         roll = self.random()
         if roll < 0.15:
             items = "*"
@@ -108,6 +122,10 @@ class Chance(random.Random):
                 text.replace("SELECT", "SELECT COUNT(*), "),
             ]
         )
+
+    def stats(self) -> str:
+        """A STATS of a SELECT."""
+        return f"STATS {self.select()}"
 
     def change(self) -> str:
         """An INSERT, an UPDATE or a DELETE."""

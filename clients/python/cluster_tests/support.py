@@ -21,24 +21,15 @@ try:
 except ImportError:
     distributed = None
 
-SEED = int(os.environ.get("BITCOL_SEED", "1"))
-# How many random tables a test makes, and how many statements it asks of each.
-TABLES = int(os.environ.get("BITCOL_TABLES", "24"))
-STATEMENTS = int(os.environ.get("BITCOL_STATEMENTS", "45"))
-GROUPING_PROGRAM = Path(__file__).resolve().parent / "grouping_program.py"
+SEED = int(os.environ.get("BITCOL_SEED") or "1")
+# How many random statements are asked.
+STATEMENTS = int(os.environ.get("BITCOL_STATEMENTS") or "1500")
 Row = Sequence[Optional[int]]
 
 
 def say(text: str) -> None:
     """Tells what a test counted, or what was left out."""
     print(text, file=sys.stderr, flush=True)
-
-
-def is_grouping() -> bool:
-    """Whether the program that the tests run has GROUP BY."""
-    with bitcol.Session() as session:
-        session.execute("CREATE TABLE t (a INT)")
-        return not session.answers(["SELECT a FROM t GROUP BY a"])[0].startswith(b"error")
 
 
 class Done:

@@ -1,63 +1,26 @@
-"""Random statements over the same rows in one store and in parts: the answers are the same bytes."""
+"""Worked statements over the same rows in one store and in parts: the answers are the same bytes."""
 
 from __future__ import annotations
 
-import os
 import unittest
+from typing import Any
 from unittest import mock
 
 import bitcol
 from bitcol import cluster
-from bitcol.cluster import median, questions
+from bitcol.cluster import direct, holding, questions
+from bitcol.cluster.holding import opened
+from bitcol.cluster.questions import Questions
 
-from .statements import Chance
-from .support import (
-    GROUPING_PROGRAM,
-    SEED,
-    STATEMENTS,
-    TABLES,
-    ClusterTestCase,
-    PartsTestCase,
-    cut_rows,
-    is_grouping,
-    say,
-)
+from .support import ClusterTestCase, PartsTestCase
+
+try:
+    from distributed import wait
+except ImportError:
+    pass
 
 
 class Answers(PartsTestCase):
-    def ask(self, tables: int, seed: str) -> None:
-        words = ("tables", "parts", "rows", "selects", "refused", "of set functions", "of groups", "medians")
-        counts = dict.fromkeys(words, 0)
-        for number in range(tables):
-            chance = Chance(f"{seed}-{SEED}-{number}")
-            chance.has_groups = "GROUP" in seed
-            # Of workers a round takes longer, so there are few.
-            few, probes = (100, 14) if seed == "w" else (chance.choice([0, 3, 10_000]), chance.choice([1, 2, 14]))
-            definition, rows = chance.table()
-            ordered = sorted(rows, key=str) if chance.random() < 0.3 else rows
-            together = chance.choice([None, 1, 2])
-            table, one = self.both(definition, cut_rows(chance, ordered), f"{seed}{number}", together)
-            counts["tables"] += 1
-            counts["parts"] += len(table.manifest.parts)
-            counts["rows"] += len(rows)
-            with mock.patch.object(questions, "FEW_VALUES", few), mock.patch.object(median, "PROBES", probes), \
-                    mock.patch.object(questions, "FAN_IN", chance.choice([2, 3, 32])):
-                for _ in range(STATEMENTS):
-                    statement = chance.select()
-                    reply = self.same(table, one, statement)
-                    self.count(counts, reply)
-                    counts["of groups"] += "GROUP BY" in statement and reply.refusal is None
-        say(f"SELECTs, equal byte for byte: {counts}")
-
-    def count(self, counts: dict[str, int], reply: bitcol.Reply) -> None:
-        counts["selects"] += 1
-        counts["refused"] += reply.refusal is not None
-        counts["of set functions"] += any("(" in heading for heading in reply.headings)
-        counts["medians"] += any("MEDIAN" in heading for heading in reply.headings)
-
-    def test_selects(self) -> None:
-        self.ask(TABLES, "s")
-
     def test_medians(self) -> None:
         """Parts whose medians are far apart, all equal, at the ends of a type, of NULLs alone."""
         least, greatest = -(2**63), 2**63 - 1
@@ -93,13 +56,29 @@ class Answers(PartsTestCase):
     def test_other_statements(self) -> None:
         table, _ = self.both("a INT", [[(1,)]])
         others = ("DROP TABLE t", "TABLES", "REBUILD t", "SAVE t TO 'x'", "CREATE TABLE u (a INT)")
-        for statement in (*others, "STATS SELECT a FROM t"):
+        for statement in others:
             self.refused("of a table of parts", lambda: table.answer(statement), bitcol.NotSupportedError)
         for statement in ("", "SELECT a FROM t; SELECT a FROM t", "SELECT 'a FROM t"):
             self.refused("", lambda: table.answer(statement), bitcol.ProgrammingError)
         self.assertEqual(table.sql("SELECT a FROM t WHERE a = ?", [1]).rows(), [(1,)])
         self.assertEqual(table.sql("SELECT COUNT(*) FROM t").scalar(), 1)
         self.refused("no such column", lambda: table.sql("SELECT z FROM t"), bitcol.StatementRefused)
+
+    def test_stats(self) -> None:
+        """The number of a STATS is the sum over the parts that its SELECT is asked of, and is refused as that is."""
+        rows = [(number, number % 7) for number in range(600)]
+        table, one = self.both("a INT, b INT USING S", [rows[:300], rows[300:]], together=1)
+        for condition, places in (("a <> 5", [0, 1]), ("b < 3", [0, 1]), ("a > 299 AND b = 1", [1]), ("a > 600", [0])):
+            statement = f"STATS SELECT a FROM t WHERE {condition}"
+            units = 0
+            for place in places:
+                with opened(table._place, table.manifest.parts[place]) as session:
+                    units += session.execute(statement).count
+            self.assertEqual(table.answer(statement), b"units %d\n" % units, statement)
+            self.assertTrue(table.sql(statement).is_units)
+        for statement in ("STATS SELECT z FROM t", "STATS SELECT a FROM u", "STATS TABLES", "STATS", "STATS SELECT",
+                          "STATS SELECT a FROM t WHERE", "STATS SELECT a, COUNT(*) FROM t"):
+            self.assertEqual([table.answer(statement)], one.answers([statement]), statement)
 
     def test_rows(self) -> None:
         parts = [[(number, number % 3 or None) for number in range(start, start + 50)] for start in (0, 50, 100)]
@@ -119,21 +98,7 @@ class Answers(PartsTestCase):
             self.same(table, one, f"SELECT COUNT(*), SUM(b), MEDIAN(a) FROM t WHERE {condition}")
 
 
-class Groups(Answers):
-    """The same with GROUP BY, by a program that stands in where the program has none."""
-
-    def setUp(self) -> None:
-        below = bitcol.find_program()
-        if not is_grouping():
-            stand_in = {"BITCOL": str(GROUPING_PROGRAM), "BITCOL_BELOW": below}
-            patch = mock.patch.dict(os.environ, stand_in)
-            patch.start()
-            self.addCleanup(patch.stop)
-        super().setUp()
-
-    def test_selects(self) -> None:
-        self.ask(max(1, TABLES // 6), "GROUP")
-
+class Groups(PartsTestCase):
     def test_groups_of_several_parts(self) -> None:
         """Groups that lie in several parts, that of NULL among them, with medians far apart."""
         parts = [
@@ -155,17 +120,16 @@ class Groups(Answers):
         with mock.patch.object(questions, "GROUP_LIMIT", 19):
             self.refused("more than 19 groups", lambda: table.answer("SELECT a, MEDIAN(b) FROM t GROUP BY a"))
 
-    test_medians = test_long_and_deep_statements = test_other_statements = test_rows = None  # type: ignore[assignment]
-    test_parts_that_a_condition_cannot_meet = None  # type: ignore[assignment]
+
+def forget() -> None:
+    """On a worker: nothing is held here any more, as far as calls to workers can see."""
+    holding._holdings.clear()
 
 
 class AnswersOfWorkers(ClusterTestCase, Answers):
     """The same by two workers."""
 
     THREADS = 2
-
-    def test_selects(self) -> None:
-        self.ask(max(1, TABLES // 3), "w")
 
     def test_versions_share_open_parts(self) -> None:
         table, one = self.both("a INT", [[(number,)] for number in range(8)], together=2)
@@ -174,6 +138,33 @@ class AnswersOfWorkers(ClusterTestCase, Answers):
         self.assertEqual(table.sql("UPDATE t SET a = 70 WHERE a = 7").count, 1)
         self.assertEqual(table.sql("SELECT SUM(a) FROM t").scalar(), 28 + 63)
         self.assertEqual(first.sql("SELECT SUM(a) FROM t").scalar(), 28)
+
+    def test_calls_and_tasks(self) -> None:
+        """Questions are calls to the workers, and tasks where these hold a part no more or can't be reached."""
+        statements = ("SELECT a FROM t WHERE a > 2", "SELECT COUNT(*), MEDIAN(a) FROM t", "STATS SELECT a FROM t")
+        table, _ = self.both("a INT", [[(number,)] for number in range(8)], together=2)
+        wait([group.holding for group in table._questions.groups])
+        with mock.patch.object(Questions, "_tasks", side_effect=AssertionError):
+            found = [table.answer(statement) for statement in statements]
+        self.assertEqual(found[0], b"A\n3\n4\n5\n6\n7\nrows 5\n")
+        self.client.run(forget)
+        with mock.patch.object(Questions, "_tasks", autospec=True, side_effect=Questions._tasks) as tasks:
+            self.assertEqual([table.answer(statement) for statement in statements], found)
+            self.assertGreaterEqual(tasks.call_count, 3)
+        again = cluster.open(self.client, self.folder / "table", together=1)
+        wait([group.holding for group in again._questions.groups])
+        self.addCleanup(direct._unreached.clear)
+        workers, connect, refused = self.client.scheduler_info()["workers"], self.client.rpc.connect, []
+
+        def connect_to_no_worker(address: str, *arguments: Any, **rest: Any) -> Any:
+            if address in workers:
+                refused.append(address)
+                raise OSError("planted")
+            return connect(address, *arguments, **rest)
+
+        with mock.patch.object(self.client.rpc, "connect", connect_to_no_worker):
+            self.assertEqual([again.answer(statement) for statement in statements], found)
+        self.assertIn(len(refused), range(1, self.WORKERS + 1))
 
     # What takes many rounds, or no worker, is asked in this process alone.
     test_long_and_deep_statements = test_other_statements = test_medians = None  # type: ignore[assignment]

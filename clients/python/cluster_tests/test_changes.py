@@ -1,4 +1,4 @@
-"""Changes: random ones in one store and in parts, versions, files that are cut, parts that are put together."""
+"""Changes: versions, files that are cut, parts that are put together."""
 
 from __future__ import annotations
 
@@ -10,38 +10,10 @@ from bitcol import cluster
 from bitcol.cluster import changes
 
 from .statements import Chance
-from .support import SEED, TABLES, ClusterTestCase, PartsTestCase, cut_rows, say, write_csv
+from .support import SEED, ClusterTestCase, PartsTestCase, write_csv
 
 
 class Changes(PartsTestCase):
-    def test_random_changes(self) -> None:
-        counts = dict.fromkeys(("tables", "changes", "refused", "versions"), 0)
-        for number in range(max(1, TABLES // 2)):
-            chance = Chance(f"changes-{SEED}-{number}")
-            definition, rows = chance.table()
-            table, one = self.both(definition, cut_rows(chance, rows), f"t{number}", chance.choice([None, 1, 2]))
-            old = {table.version: table.answer("SELECT * FROM t")}
-            for _ in range(6):
-                statement = chance.change()
-                (wanted,) = one.answers([statement])
-                self.assertEqual(table.answer(statement), wanted, statement)
-                self.same(table, one, "SELECT * FROM t")
-                counts["changes"] += 1
-                counts["refused"] += wanted.startswith(b"error")
-                old[table.version] = table.answer("SELECT * FROM t")
-            table.compact(chance.choice([1, 100, 2**22]))
-            self.same(table, one, "SELECT * FROM t")
-            self.look_over(f"t{number}", old)
-            counts["tables"] += 1
-            counts["versions"] += len(old)
-            table.vacuum(0)
-            self.same(cluster.open(self.client, self.folder / f"t{number}"), one, "SELECT * FROM t")
-        say(f"changes, equal byte for byte, and each older version as it was: {counts}")
-
-    def look_over(self, name: str, old: dict[int, bytes]) -> None:
-        for version, data in old.items():
-            self.assertEqual(cluster.open(self.client, self.folder / name, version).answer("SELECT * FROM t"), data)
-
     def test_two_clients(self) -> None:
         table, _ = self.both("a INT", [[(1,)], [(2,)], [(3,)]])
         other = cluster.open(self.client, self.folder / "table")

@@ -267,39 +267,5 @@ class BadInput(PartsTestCase):
         self.refused(told, lambda: cluster.open(self.client, self.folder / "alone"), bitcol.DataError)
 
 
-class BrokenOff(PartsTestCase):
-    def test_faults_at_every_step_of_a_change(self) -> None:
-        """A fault ends a change at each of its calls of the system in turn: the folder opens as before or as after."""
-        table, _ = self.both("a INT", [[(1,)], [(1,)]])
-        seen = {"before": 0, "after": 0}
-        for call in ("fsync", "link", "replace", "open", "close"):
-            for nth in range(5):
-                number = table.sql("SELECT MAX(a) FROM t").scalar()
-                with mock.patch.object(os, call, _fails_at(getattr(os, call), nth)):
-                    try:
-                        table.sql(f"UPDATE t SET a = {number + 1}")
-                    except (OSError, bitcol.Error):
-                        pass
-                table = cluster.open(self.client, self.folder / "table")
-                least, greatest, rows = table.sql("SELECT MIN(a), MAX(a), COUNT(*) FROM t").rows()[0]
-                self.assertEqual((least, rows), (greatest, 2))
-                self.assertIn(greatest - number, (0, 1))
-                seen["after" if greatest > number else "before"] += 1
-        self.assertTrue(seen["before"] and seen["after"], seen)
-
-
-def _fails_at(call: Any, nth: int) -> Any:
-    """The call, which fails the time after it was made so often."""
-    made = [0]
-
-    def fails(*arguments: Any, **rest: Any) -> Any:
-        made[0] += 1
-        if made[0] == nth + 1:
-            raise OSError(5, "planted")
-        return call(*arguments, **rest)
-
-    return fails
-
-
 if __name__ == "__main__":
     unittest.main()

@@ -18,8 +18,6 @@ from .merge import REFUSED
 
 # An INSERT goes to the last part as long as that has no more rows than these.
 GATHERED_ROWS = 2**20
-# How many files at fault one error names.
-FAULTS_NAMED = 10
 
 
 class Changes:
@@ -34,23 +32,24 @@ class Changes:
         """The parts of the rows of CSV files, a file's in order, or the error that names each file at fault."""
         paths = _paths(files)
         limits: dict[str, Any] = {"header": header, "most_bytes": most_bytes, "most_rows": most_rows}
-        made = self._pieces_loaded(self._map(making.cut_csv, paths, is_forced=False, **limits))
+        found: list[making.Loaded] = self._map(
+            making.load_csv, paths, place=self._place, definition=self._definition, **limits
+        )
         # What a table can't hold as a whole is cut.
-        long = [number for number, some in enumerate(made) if len(some) == 1 and _is_too_long(some[0])]
+        long = [number for number, each in enumerate(found) if _is_too_long(each)]
         cuts = self._map(making.cut_csv, [paths[number] for number in long], is_forced=True, **limits)
-        again = self._pieces_loaded(cuts)
-        for number, some in zip(long, again):
-            made[number] = some
-        found = [_file_made(some, header) for some in made]
-        return [part for some in _without_faults(found) for part in some]
+        for number, cut in zip(long, cuts):
+            found[number] = cut
+        made = [_file_made(some, header) for some in self._with_pieces_loaded(found)]
+        return [part for some in _without_faults(made) for part in some]
 
-    def _pieces_loaded(self, cuts: Sequence[list[making.Piece] | Error]) -> list[list[Part | Error]]:
-        """Of each file what its pieces became, or the error for which it couldn't be cut."""
-        pieces = [(number, piece) for number, some in enumerate(cuts) if not isinstance(some, Error) for piece in some]
+    def _with_pieces_loaded(self, found: Sequence[making.Loaded]) -> list[list[Part | Error]]:
+        """Of each file what it became: a part, what its pieces became, or an error."""
+        pieces = [(number, piece) for number, some in enumerate(found) if isinstance(some, list) for piece in some]
         loaded = self._map(
             making.load_piece, [piece for _, piece in pieces], place=self._place, definition=self._definition
         )
-        made: list[list[Part | Error]] = [[some] if isinstance(some, Error) else [] for some in cuts]
+        made: list[list[Part | Error]] = [[] if isinstance(some, list) else [some] for some in found]
         for (number, _), part in zip(pieces, loaded):
             made[number].append(part)
         return made
@@ -128,7 +127,7 @@ def _paths(files: Iterable[PathLike]) -> list[str]:
     return [os.path.abspath(path_of(file)) for file in files]
 
 
-def _is_too_long(made: Part | Error) -> bool:
+def _is_too_long(made: making.Loaded) -> bool:
     return isinstance(made, Refused) and made.number in making.CUT_FOR
 
 
@@ -147,7 +146,7 @@ def _without_faults(found: Sequence[Any]) -> list[Any]:
     """What was made of files. Where some are at fault, one error names them, and is of the kind of the first."""
     faults = [made for made in found if isinstance(made, Error)]
     if faults:
-        named = "; ".join(_text(fault) for fault in faults[:FAULTS_NAMED])
+        named = "; ".join(_text(fault) for fault in faults)
         raise making.with_text(faults[0], f"{named} ({len(faults)} of {len(found)} files at fault; nothing is changed)")
     return list(found)
 

@@ -7,7 +7,8 @@ part is found, and the part needn't be asked. What can't be read is taken for wh
 from __future__ import annotations
 
 import operator
-from collections.abc import Callable, Mapping
+from collections.abc import Callable, Mapping, Sequence
+from functools import lru_cache
 from itertools import product
 from typing import Optional
 
@@ -36,15 +37,20 @@ def may_be_met(condition: str | None, ends: Mapping[str, Ends]) -> bool:
     if condition is None:
         return True
     try:
-        return TRUE in _Reader(Tokens(condition).words, ends).whole()
+        return TRUE in _Reader(_words(condition), ends).whole()
     except (_Unread, LookupError, ValueError, RecursionError):
         return True
+
+
+@lru_cache(maxsize=64)
+def _words(condition: str) -> Sequence[str]:
+    return Tokens(condition).words
 
 
 class _Reader:
     """Reads a condition by the language's grammar, and works out its truths meanwhile."""
 
-    def __init__(self, words: list[str], ends: Mapping[str, Ends]) -> None:
+    def __init__(self, words: Sequence[str], ends: Mapping[str, Ends]) -> None:
         self._words, self._ends, self._at = words, ends, 0
 
     def whole(self) -> Truths:

@@ -3,13 +3,12 @@ many tasks as there are threads, and not as there are parts."""
 
 from __future__ import annotations
 
-import hashlib
 from collections.abc import Sequence
 from dataclasses import dataclass
 from itertools import zip_longest
 from typing import Any
 
-from .holding import Place, hold
+from .holding import Place, hold, key_of
 from .manifest import Part
 
 # How often dask tries a task again that raised: a process may have been ended from outside.
@@ -36,7 +35,7 @@ def grouped(client: Any, place: Place, parts: Sequence[Part], together: int | No
         some = tuple(parts[start : start + size])
         # Where a group was before a change, the parts that stay are open.
         near: dict[str, Any] = {"workers": [slots[number % len(slots)]], "allow_other_workers": True} if slots else {}
-        future = client.submit(hold, place, some, key=_key(place, some), retries=RETRIES, **near)
+        future = client.submit(hold, place, some, key=key_of(place, some), retries=RETRIES, **near)
         if future.status == "error":
             # It is remembered as long as anybody holds it; the file may have been mended.
             future.retry()
@@ -58,9 +57,3 @@ def _slots(workers: dict[str, Any]) -> list[str]:
     """The workers' addresses, each once for each of its threads, those that follow one another apart."""
     rows = zip_longest(*([address] * worker["nthreads"] for address, worker in sorted(workers.items())))
     return [address for row in rows for address in row if address is not None]
-
-
-def _key(place: Place, parts: Sequence[Part]) -> str:
-    """The name of the object in dask: the same for all clients that ask for these parts."""
-    said = "\n".join([place.storage.where(""), place.table, *(part.digest for part in parts)])
-    return f"bitcol-hold-{hashlib.sha256(said.encode()).hexdigest()}"

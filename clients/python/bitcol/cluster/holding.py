@@ -2,6 +2,7 @@
 
 from __future__ import annotations
 
+import hashlib
 import threading
 import time
 import weakref
@@ -123,6 +124,7 @@ class Holding:
     def __init__(self, place: Place, parts: Sequence[Part]) -> None:
         self._place, self._parts = place, tuple(parts)
         self._open = [_open_part(place, part) for part in self._parts]
+        _holdings[key_of(place, self._parts)] = self
 
     def __reduce__(self) -> tuple[type[Holding], tuple[Place, tuple[Part, ...]]]:
         return Holding, (self._place, self._parts)
@@ -133,6 +135,21 @@ class Holding:
     def answers(self, which: Sequence[int], statements: Sequence[str], deadline: float | None) -> list[list[bytes]]:
         """The replies of some of the parts, in order."""
         return [self._open[place].answers(statements, deadline) for place in which]
+
+
+# What is held in this process, by its name in dask. Nothing is kept by it.
+_holdings: weakref.WeakValueDictionary[str, Holding] = weakref.WeakValueDictionary()
+
+
+def key_of(place: Place, parts: Sequence[Part]) -> str:
+    """The name in dask of what holds these parts: the same for all clients that ask for them."""
+    said = "\n".join([place.storage.where(""), place.table, *(part.digest for part in parts)])
+    return f"bitcol-hold-{hashlib.sha256(said.encode()).hexdigest()}"
+
+
+def held(key: str) -> Holding | None:
+    """What is held in this process under a name, or None."""
+    return _holdings.get(key)
 
 
 # What a question gives, or the error that asking again would not mend: dask asks again what raises.
@@ -151,9 +168,9 @@ def ask_rows(holding: Holding, which: Sequence[int], statement: str, seconds: fl
     return _told(lambda: _rows(holding, which, statement, _deadline(seconds)))
 
 
-def ask_each(holding: Holding, which: Sequence[int], statement: str) -> Told:
+def ask_each(holding: Holding, which: Sequence[int], statement: str, seconds: float | None = None) -> Told:
     """A task: the bytes of the reply of each of some parts."""
-    return _told(lambda: [reply for (reply,) in holding.answers(which, [statement], None)])
+    return _told(lambda: [reply for (reply,) in holding.answers(which, [statement], _deadline(seconds))])
 
 
 def ask_groups(
@@ -169,6 +186,19 @@ def ask_groups(
     def ask() -> Folded:
         replies = holding.answers(which, [statement], _deadline(seconds))
         return folded((groups_of(reply, items, is_grouped) for (reply,) in replies), items)
+
+    return _told(ask)
+
+
+def ask_lists(holding: Holding, which: Sequence[int], statements: Sequence[str], seconds: float | None = None) -> Told:
+    """A task: for each statement the bytes of the reply of some parts to a SELECT of columns, which is none of a
+    refusal."""
+
+    def ask() -> list[bytes]:
+        replies = holding.answers(which, statements, _deadline(seconds))
+        for reply in replies[0]:
+            read(reply)
+        return [joined(each) for each in zip(*replies)]
 
     return _told(ask)
 

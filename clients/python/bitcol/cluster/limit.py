@@ -31,11 +31,7 @@ class Limit:
         """What tasks give. An error that one gives is raised. Where they take too long they are given up."""
         if self._end is not None:
             self._wait(client, futures, max(0.0, self._end - time.monotonic()) + GRACE)
-        found = client.gather(list(futures))
-        for each in found:
-            if isinstance(each, Error):
-                raise each
-        return list(found)
+        return without_errors(client.gather(list(futures)))
 
     def _wait(self, client: Any, futures: Sequence[Any], seconds: float) -> None:
         end = time.monotonic() + seconds
@@ -48,3 +44,11 @@ class Limit:
                 raise
             client.cancel(list(futures))
             raise OutOfTime("the question took longer than it may, and no worker answered it") from None
+
+
+def without_errors(found: Sequence[Any]) -> list[Any]:
+    """What was given. An error among it is raised."""
+    for each in found:
+        if isinstance(each, Error):
+            raise each
+    return list(found)

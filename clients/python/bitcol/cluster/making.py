@@ -39,6 +39,10 @@ class Piece:
     header: bool = False
 
 
+# What a CSV file becomes: a part, or the pieces that are to become parts.
+Loaded = Union[Part, list[Piece], Error]
+
+
 def make_empty(place: Place, definition: str) -> tuple[Part, list[Column]] | Error:
     """A task: a part without rows, and the columns of the table that CREATE TABLE makes with these words."""
 
@@ -63,6 +67,14 @@ def cut_csv(path: str, header: bool, most_bytes: int, most_rows: int, is_forced:
         return [Piece(path, start, end, header and start == 0) for start, end in ranges]
 
     return _or_error(make, path)
+
+
+def load_csv(path: str, place: Place, definition: str, header: bool, most_bytes: int, most_rows: int) -> Loaded:
+    """A task: the rows of a CSV file, or its pieces where it is to be cut."""
+    pieces = cut_csv(path, header, most_bytes, most_rows, is_forced=False)
+    if isinstance(pieces, Error) or len(pieces) > 1:
+        return pieces
+    return load_piece(pieces[0], place, definition)
 
 
 def load_piece(piece: Piece, place: Place, definition: str) -> Part | Error:

@@ -9,9 +9,10 @@ from typing import Any
 from ..errors import InternalError, NotSupportedError
 from ..reply import reply_of
 from .condition import may_be_met
+from .direct import asked_directly
 from .groups import RETRIES, Group
-from .holding import ask_counts, ask_each, ask_groups, ask_rows, merge_groups, read
-from .limit import Limit
+from .holding import ask_counts, ask_each, ask_groups, ask_lists, ask_rows, merge_groups, read
+from .limit import Limit, without_errors
 from .median import FEW_VALUES, GROUP_LIMIT, Search
 from .merge import REFUSED, Groups, folded, in_order, joined, reply_to
 from .select import Item, Select
@@ -20,6 +21,8 @@ from .select import Item, Select
 STATEMENT_BYTES = 65_536
 # How many answers are merged in one task.
 FAN_IN = 32
+# Of so many conditions it is remembered which parts they are asked of.
+CONDITIONS_REMEMBERED = 64
 
 
 class Questions:
@@ -28,21 +31,28 @@ class Questions:
     def __init__(self, client: Any, groups: list[Group]) -> None:
         self._client = client
         self.groups = groups
+        self._asked_of: dict[str, list[tuple[Group, list[int]]]] = {}
 
     def answer(self, text: str, limit: Limit) -> bytes:
         """The bytes of the reply to a SELECT, as one store with the rows of all parts would write them."""
         select = Select(text)
         if select.folds and len(text.encode()) <= STATEMENT_BYTES:
             return self._folded(select, text, limit)
-        replies: list[bytes] = self._asked(select, limit, ask_rows, text)
+        replies: list[bytes] = self._asked(select.condition, limit, ask_rows, text)
         return replies[0] if replies[0].startswith(REFUSED) else _shown(select, joined(replies))
+
+    def units(self, text: str, limit: Limit) -> bytes:
+        """The bytes of the reply to a STATS: the units that the parts of which its SELECT is asked read, added up."""
+        told = self._asked(Select(text).condition, limit, ask_each, text)
+        replies = [reply_of(reply) for replies in told for reply in replies]
+        refused = replies[0].refusal is not None
+        return bytes(told[0][0]) if refused else b"units %d\n" % sum(reply.count or 0 for reply in replies)
 
     def counts(self, statement: str, condition: str | None) -> list[int] | None:
         """The count that a statement asks of each part, 0 where the condition can't be met, or None where it is
         refused."""
         asked = self._asked_groups(condition)
-        futures = [self.submit(ask_each, group.holding, which, statement) for group, which in asked]
-        told = iter(Limit(None).gathered(self._client, futures))
+        told = iter(self._asked(condition, Limit(None), ask_each, statement))
         counts = []
         places = {id(group): which for group, which in asked}
         for group in self.groups:
@@ -88,16 +98,24 @@ class Questions:
         items = [*front, *asked, *counts]
         words = [*(item.heading for item in front), select.list, *(item.heading for item in counts)]
         question = f"SELECT {', '.join(words)} {select.source}"
-        futures = self._ask(select, limit, ask_groups, question, items=items, is_grouped=bool(front))
-        while len(futures) > FAN_IN:
-            some = [futures[start : start + FAN_IN] for start in range(0, len(futures), FAN_IN)]
-            futures = [self.submit(merge_groups, each, items) for each in some]
-        groups = folded(limit.gathered(self._client, futures), items)
+        groups = folded(self._folds(select, limit, question, items), items)
         if isinstance(groups, bytes):
             return self._refusal(text)
         shown = slice(len(front), len(front) + len(asked))
         self._find_medians(select, items[: shown.stop], groups, limit)
         return reply_to((item.heading for item in asked), (groups[value][shown] for value in in_order(groups)))
+
+    def _folds(self, select: Select, limit: Limit, question: str, items: Sequence[Item]) -> list[Any]:
+        """What all parts say of set functions or groups, some of them together. Workers merge what many say of groups.
+        """
+        rest = {"items": items, "is_grouped": select.key is not None}
+        if select.key is None or len(self.groups) <= FAN_IN:
+            return self._asked(select.condition, limit, ask_groups, question, **rest)
+        futures = self._tasks(self._asked_groups(select.condition), limit, ask_groups, question, **rest)
+        while len(futures) > FAN_IN:
+            some = [futures[start : start + FAN_IN] for start in range(0, len(futures), FAN_IN)]
+            futures = [self.submit(merge_groups, each, items) for each in some]
+        return limit.gathered(self._client, futures)
 
     def _refusal(self, text: str) -> bytes:
         """The refusal of a statement as it was written, not as parts were asked."""
@@ -128,36 +146,67 @@ class Questions:
     def _narrow(self, select: Select, searches: Sequence[Search], limit: Limit) -> None:
         """A round: the counts that all searches ask for, and then the values of those that have few left."""
         probes = [probe for search in searches for probe in search.probes()]
-        counts = iter([sum(column) for column in zip(*self._asked(select, limit, ask_counts, probes))])
+        counts = iter([sum(column) for column in zip(*self._asked(select.condition, limit, ask_counts, probes))])
         for search in searches:
             search.narrow(counts)
-        for search in searches:
-            if search.is_open and search.inside <= FEW_VALUES:
-                replies = self._asked(select, limit, ask_rows, search.fetch())
+        for some in _batches([search for search in searches if search.is_open and search.inside <= FEW_VALUES]):
+            lists = self._asked(select.condition, limit, ask_lists, [search.fetch() for search in some])
+            for search, replies in zip(some, zip(*lists)):
                 search.pick([value for reply in replies for (value,) in read(reply).rows()])
 
     def _asked_groups(self, condition: str | None) -> list[tuple[Group, list[int]]]:
         """The groups that are asked, and which parts of each: those in which a row may be found. The others change no
         answer (law unfound_rows_change_nothing). Where there is none, one part is asked, since the program is to judge
         the statement."""
-        asked = []
-        for group in self.groups:
-            which = [place for place, part in enumerate(group.parts) if may_be_met(condition, part.ends)]
-            if which:
-                asked.append((group, which))
-        return asked or [(self.groups[0], [0])]
+        words = condition or ""
+        if words not in self._asked_of:
+            if len(self._asked_of) >= CONDITIONS_REMEMBERED:
+                self._asked_of.clear()
+            asked = []
+            for group in self.groups:
+                which = [place for place, part in enumerate(group.parts) if may_be_met(condition, part.ends)]
+                if which:
+                    asked.append((group, which))
+            self._asked_of[words] = asked or [(self.groups[0], [0])]
+        return self._asked_of[words]
 
-    def _ask(self, select: Select, limit: Limit, call: Callable[..., Any], asked: Any, **rest: Any) -> list[Any]:
-        """Tasks that ask something of all parts in which a row may be found."""
-        groups = self._asked_groups(select.condition)
+    def _asked(
+        self, condition: str | None, limit: Limit, call: Callable[..., Any], asked: Any, **rest: Any
+    ) -> list[Any]:
+        """What is asked of all parts in which a row may be found, a group's together."""
+        groups = self._asked_groups(condition)
+        if limit.left() is None:
+            found = asked_directly(self._client, groups, call, asked, **rest)
+            if found is not None:
+                return without_errors(found)
+        return limit.gathered(self._client, self._tasks(groups, limit, call, asked, **rest))
+
+    def _tasks(
+        self,
+        groups: Sequence[tuple[Group, list[int]]],
+        limit: Limit,
+        call: Callable[..., Any],
+        asked: Any,
+        **rest: Any,
+    ) -> list[Any]:
+        """Tasks that ask something of groups."""
         holdings, which = [group.holding for group, _ in groups], [places for _, places in groups]
         found: list[Any] = self._client.map(
             call, holdings, which, [asked] * len(groups), pure=False, retries=RETRIES, seconds=limit.left(), **rest
         )
         return found
 
-    def _asked(self, select: Select, limit: Limit, call: Callable[..., Any], asked: Any) -> list[Any]:
-        return limit.gathered(self._client, self._ask(select, limit, call, asked))
+
+def _batches(searches: Sequence[Search]) -> Iterator[list[Search]]:
+    """Searches whose values are fetched together: no more than are few, or those of one."""
+    batch: list[Search] = []
+    for search in searches:
+        if batch and sum(each.inside for each in batch) + search.inside > FEW_VALUES:
+            yield batch
+            batch = []
+        batch.append(search)
+    if batch:
+        yield batch
 
 
 def _is_value(column: str, value: int | None) -> str:

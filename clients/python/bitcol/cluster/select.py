@@ -44,7 +44,7 @@ class Tokens:
 
 
 class Select:
-    """The pieces of a SELECT. `items` is None where the list is `*` or can't be read."""
+    """The pieces of a SELECT, also after STATS. `items` is None where the list is `*` or can't be read."""
 
     def __init__(self, statement: str) -> None:
         tokens = Tokens(statement)
@@ -55,10 +55,11 @@ class Select:
         self.condition: str | None = None
         self.key: str | None = None
         self.items: list[Item] | None = None
-        if self.verb != "SELECT" or "FROM" not in words:
+        first = 1 if self.verb == "STATS" else 0
+        if words[first : first + 1] != ["SELECT"] or "FROM" not in words:
             return
         start = words.index("FROM")
-        self.list, self.items = tokens.between(1, start), _items(words[1:start])
+        self.list, self.items = tokens.between(first + 1, start), _items(words[first + 1 : start])
         self.source, self.table = tokens.between(start, len(words)), tokens.between(start, start + 2)
         end = words.index("GROUP") if self.is_grouped else len(words)
         if words[start + 2 : start + 3] == ["WHERE"]:

@@ -82,19 +82,21 @@ class Table:
         return f"<{told}: {len(self)} rows in {len(self.manifest.parts)} parts>"
 
     def sql(self, statement: str, values: Sequence[Any] = (), seconds: float | None = None) -> Reply:
-        """The reply to a SELECT, INSERT, UPDATE or DELETE, with these values in place of its `?`. A refusal is raised.
-        A SELECT that takes longer than these seconds raises OutOfTime."""
+        """The reply to a SELECT, STATS, INSERT, UPDATE or DELETE, with these values in place of its `?`. A refusal is
+        raised. A SELECT that takes longer than these seconds raises OutOfTime."""
         reply = reply_of(self.answer(_bound(statement, values), seconds))
         if reply.refusal is not None:
             raise reply.refusal
         return reply
 
     def answer(self, statement: str, seconds: float | None = None) -> bytes:
-        """The bytes of the reply, as one store with the rows of all parts would write them; those of a refusal too."""
+        """The bytes of the reply, as one store with the rows of all parts would write them; those of a refusal too.
+        But the number that a STATS is answered is the sum of what the parts that its SELECT is asked of read."""
         text = _one(statement)
         verb = verb_of(text)
-        if verb == "SELECT":
-            found = self._questions.answer(text, Limit(seconds))
+        if verb in ("SELECT", "STATS"):
+            ask = self._questions.answer if verb == "SELECT" else self._questions.units
+            found = ask(text, Limit(seconds))
             self._before = None
             return found
         if seconds is not None:
@@ -103,7 +105,7 @@ class Table:
             return self._commit(*self._changes.inserted(text))
         if verb in ("UPDATE", "DELETE"):
             return self._commit(*self._changes.changed(text, self._found(text)))
-        raise NotSupportedError(f"{verb} of a table of parts: it takes SELECT, INSERT, UPDATE and DELETE")
+        raise NotSupportedError(f"{verb} of a table of parts: it takes SELECT, STATS, INSERT, UPDATE and DELETE")
 
     def _found(self, text: str) -> list[int] | None:
         """How many rows of each part an UPDATE or DELETE finds, where that can be asked."""
@@ -161,7 +163,7 @@ class Table:
 
     def compact(self, most_rows: int = COMPACT_ROWS) -> Table:
         """Puts parts that follow one another together, as long as they have no more rows than these. No answer
-        changes."""
+        but that of a STATS changes."""
         parts = self._changes.put_together(most_rows)
         if len(parts) < len(self.manifest.parts):
             self._go_to(parts)

@@ -1,0 +1,90 @@
+"""Questions that go straight to the workers which hold the parts, and not as tasks.
+
+What dask's scheduler, workers and clients tell one another of tasks goes in batches, up to 10 ms apart, so a question
+by tasks waits for some of them. One that is put to the workers by the client itself doesn't. Where that comes to
+nothing, for whatever reason, the question is asked by tasks, which make anew what isn't where it was.
+"""
+
+from __future__ import annotations
+
+import asyncio
+import pickle
+import weakref
+from collections.abc import Callable, Mapping, Sequence
+from functools import partial
+from importlib import import_module
+from typing import Any
+
+from .groups import Group
+from .holding import Told, held
+
+# How many seconds a worker is given to take a connection. One that takes none isn't called again.
+CONNECT_SECONDS = 2.0
+_unreached: weakref.WeakKeyDictionary[Any, set[str]] = weakref.WeakKeyDictionary()
+
+# What is asked of a worker: for each group its place among those that are asked, its key, and which of its parts.
+Errand = list[tuple[int, str, Sequence[int]]]
+# Of some groups, by their places, what they answer.
+Answers = list[tuple[int, Told]]
+
+
+def asked_directly(
+    client: Any, groups: Sequence[tuple[Group, list[int]]], call: Callable[..., Told], asked: Any, **rest: Any
+) -> list[Told] | None:
+    """What a call gives for each of some groups, or None where that is to be asked by tasks."""
+    if any(group.holding.status != "finished" for group, _ in groups):
+        return None
+    try:
+        errands = _errands(client, groups)
+        if not _unreached.get(client, set()).isdisjoint(errands):
+            return None
+        found = client.sync(_called_all, client, errands, (call, asked, rest))
+    except Exception:
+        # A worker is lost, or can't be reached. Tasks find out which, and tell it where it can't be mended.
+        return None
+    told = {place: each for of_worker in found for place, each in of_worker}
+    return [told[place] for place in range(len(groups))] if len(told) == len(groups) else None
+
+
+def _errands(client: Any, groups: Sequence[tuple[Group, list[int]]]) -> dict[str, Errand]:
+    """What is asked of each worker, by its address."""
+    where = client.who_has([group.holding for group, _ in groups])
+    errands: dict[str, Errand] = {}
+    for place, (group, which) in enumerate(groups):
+        key = group.holding.key
+        errands.setdefault(where[key][0], []).append((place, key, which))
+    return errands
+
+
+async def _called_all(client: Any, errands: Mapping[str, Errand], question: tuple[Any, ...]) -> list[Answers]:
+    calls = [_called(client, address, (errand, *question)) for address, errand in errands.items()]
+    return await asyncio.gather(*calls)
+
+
+async def _called(client: Any, address: str, arguments: tuple[Any, ...]) -> Answers:
+    """What a worker answers to a call of run_errand, as Client.run makes it, but over a connection that is kept."""
+    try:
+        comm = await client.rpc.connect(address, timeout=CONNECT_SECONDS)
+    except OSError:
+        _unreached.setdefault(client, set()).add(address)
+        raise
+    call = {"function": pickle.dumps(run_errand), "args": pickle.dumps(arguments), "kwargs": None, "wait": True}
+    try:
+        reply = await import_module("distributed.core").send_recv(comm, op="run", **call)
+    finally:
+        client.rpc.reuse(address, comm)
+    answers: Answers = reply["result"]
+    return answers
+
+
+async def run_errand(
+    errand: Errand, call: Callable[..., Told], asked: Any, rest: Mapping[str, Any], dask_worker: Any
+) -> Answers:
+    """On a worker, by its threads: what a call gives for each of some groups; nothing where one isn't held here."""
+    mine = [(place, held(key), which) for place, key, which in errand]
+    if any(holding is None for _, holding, _ in mine):
+        return []
+    loop, threads = asyncio.get_running_loop(), dask_worker.executors["default"]
+    calls = [partial(call, holding, which, asked, **rest) for _, holding, which in mine]
+    told = await asyncio.gather(*(loop.run_in_executor(threads, each) for each in calls))
+    return [(place, each) for (place, _, _), each in zip(mine, told)]
