@@ -91,7 +91,9 @@ class Drawing:
             f'<rect width="{WIDE}" height="{HIGH}" fill="{PAPER}"/>',
         ]
         self.words(LEFT, 22, plot.title, "start", INK, 14)
-        self.words(LEFT - 8, TOP - 8, plot.up, "end" if len(plot.up) < 9 else "middle", FAINT)
+        # A name of more than 20 letters would begin left of the picture.
+        place, anchor = (LEFT - 8, "end" if len(plot.up) < 9 else "middle") if len(plot.up) <= 20 else (4, "start")
+        self.words(place, TOP - 8, plot.up, anchor, FAINT)
         self.words((LEFT + WIDE - RIGHT) / 2, HIGH - 12, plot.across, "middle", FAINT)
 
     def words(self, x: float, y: float, text: str, anchor: str = "middle", colour: str = INK, size: int = 12) -> None:
