@@ -123,6 +123,7 @@ impl Measured for Column {
             ),
         }
     }
+
     fn planes(
         &self,
         at: usize,

@@ -19,5 +19,5 @@ returns-in-Offset-V-clause-planes c =
     let s = c.self.inside in
     let fits : FitsSigned w64 c.args.base = search rules in
     let told = λ (e : Encoding) (codes : CodeList). IfSome c.lent_planes.result (λ present. (b r : ℕ) → b < c.args.k → r < 64
-        → bit_of (get_or c.lent_planes.new.words b 0) r ≡ bit_of (get_or (map (distance_from c.args.base) (take c.args.count (drop c.args.at (values_from e codes s.nonnull)))) r 0) b) in
+    → bit_of (get_or c.lent_planes.new.words b 0) r ≡ bit_of (get_or (map (distance_from c.args.base) (take c.args.count (drop c.args.at (values_from e codes s.nonnull)))) r 0) b) in
     rw (← c.self.view_is) (subst (λ e. told e (list_of s.codes)) (sym c.in-Offset-V.is-0) (subst (λ codes. told (by.Offset c.in-Offset-V.offset) codes) (sym (ap list_of c.in-Offset-V.is-1)) (rw (to_z-of_z w64 c.args.base fits) at c.lent_planes.ensures.planes)))
