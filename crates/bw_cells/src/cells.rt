@@ -1,6 +1,6 @@
 //! A list of cells.
 
-ghost use Rattle.std.specs.Prelude.{List, None, Option, drop, is_some, length, map, slice_index_or, take, ℕ, ℤ, ◌+◌, ◌≡◌, ◌≤◌};
+ghost use Rattle.std.specs.Prelude.{IfSome, List, None, Option, drop, is_some, length, map, slice_index, slice_index_or, take, ℕ, ℤ, ◌+◌, ◌<◌, ◌≡◌, ◌≤◌};
 ghost use Rattle.bw_code.specs.Fittings.{AreEnds};
 ghost use Rattle.bw_cells.specs.Distances.{distance_from};
 ghost use Rattle.bw_cells.specs.Known.{known};
@@ -44,5 +44,25 @@ pub trait Measured: Cells {
         ensures present { (i : ℕ) → bit_of result i ≡ is_some (slice_index_or (take (length out.old) (drop at (Self.cells self.now))) i None) }
     {
         distances_in_run(self, at, base, out)
+    }
+    /// The planes of at most 64 cells from number `at` on, of k bits, where the cells lie as such planes: bit r of word b becomes
+    /// bit b of how far cell `at + r` lies above the base, modulo 2^64, and is not set for a NULL, nor past the last cell. What
+    /// the words from k on hold is of no account. Bit i of the answer says whether cell `at + i` is an integer; past the last
+    /// it isn't set. `None` where only measuring tells them. Takes no memory.
+    fn planes(
+        &self,
+        at: usize,
+        count: usize,
+        base: i64,
+        k: usize,
+        words: &mut [u64; 64],
+    ) -> Option<u64>
+        requires few { count ≤ 64 }
+        requires narrow { k ≤ 64 }
+        requires inside { at + count ≤ length (Self.cells self.now) }
+        ensures planes { IfSome result (λ present. (b r : ℕ) → b < k → r < 64 → bit_of (slice_index words.new b) r ≡ bit_of (slice_index (map (distance_from base) (take count (drop at (Self.cells self.now)))) r) b) }
+        ensures present { IfSome result (λ present. (i : ℕ) → bit_of present i ≡ is_some (slice_index_or (take count (drop at (Self.cells self.now))) i None)) }
+    {
+        None
     }
 }

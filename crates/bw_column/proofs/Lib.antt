@@ -11,6 +11,7 @@ pub mod Flat
 pub mod Grown
 pub mod Held
 pub mod Known
+pub mod Lain
 pub mod Listed
 pub mod Masked
 pub mod Measuring

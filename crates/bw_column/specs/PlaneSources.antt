@@ -1,5 +1,6 @@
 -- The planes of a column's codes, as they are read.
-use Rattle.std.specs.Prelude.{List, [], length, slice_index_or, ℕ, ◌*◌, ◌+◌, ◌-◌, ◌<◌, ◌≡◌}
+use Rattle.std.specs.Prelude.{List, None, Option, [], is_some, length, map, slice_index, slice_index_or, ℕ, ℤ, ◌*◌, ◌+◌, ◌-◌, ◌<◌, ◌≡◌}
+use Rattle.bw_cells.specs.Distances.{distance_from}
 use Rattle.bw_mask.specs.Masks.{bit_of, row_in}
 use Rattle.bw_code.specs.Columns.{CodeList, code_at, count}
 use Rattle.bw_code.specs.Units.{segments_of}
@@ -20,3 +21,8 @@ pub record HoldsCodes (codes : CodeList) (source : ColumnPlanes) : Type 0 where
   pub rows : (q i r : ℕ) → q < segments_of 256 (count codes) → i < codes.width → r < 256
       → row_in (slice_index_or (units_in source) (q * codes.width + i) []) r ≡ bit_of (code_at codes (256 * q + r)) (codes.width - 1 - i)
   pub unread : reads_in source ≡ 0
+
+-- words that hold the planes of how far some cells lie above a base, and a word that says which of them are not null
+pub record ArePlanesOf (k : ℕ) (base : ℤ) (cells : List (Option ℤ)) (words : List ℕ) (there : ℕ) : Type 0 where
+  pub planes : (b r : ℕ) → b < k → r < 64 → bit_of (slice_index words b) r ≡ bit_of (slice_index (map (distance_from base) cells) r) b
+  pub present : (i : ℕ) → bit_of there i ≡ is_some (slice_index_or cells i None)

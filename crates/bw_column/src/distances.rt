@@ -9,6 +9,7 @@ ghost use Rattle.bw_column.specs.Codes.{AreRowCodes, values_from};
 ghost use Rattle.bw_column.specs.Storing.{layout_of, list_of};
 
 use crate::column::Column;
+use crate::lent_planes::lent_planes;
 use crate::storage::Codes;
 use bw_cells::Measured;
 use bw_code::{Encoding, Ends, Offset};
@@ -120,6 +121,22 @@ impl Measured for Column {
                 base,
                 out,
             ),
+        }
+    }
+
+    fn planes(
+        &self,
+        at: usize,
+        count: usize,
+        base: i64,
+        k: usize,
+        words: &mut [u64; 64],
+    ) -> Option<u64> {
+        match (&self.encoding, &self.codes) {
+            (Encoding::Offset(offset), Codes::V(codes)) => {
+                lent_planes(*offset, codes, &self.nonnull, at, count, base, k, words)
+            }
+            _ => None,
         }
     }
 }

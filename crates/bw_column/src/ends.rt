@@ -1,17 +1,19 @@
 //! The least and the greatest value of a column, found among its codes.
 
-ghost use Rattle.std.specs.Prelude.{length, slice_index, ◌^◌, ◌-◌, ◌≡◌, ◌≤◌};
+ghost use Rattle.std.specs.Prelude.{Bool, length, slice_index, ℕ, ◌^◌, ◌-◌, ◌≡◌, ◌≤◌};
 ghost use Rattle.bw_mask.specs.Masks.{bit_of, row_at};
 ghost use Rattle.bw_code.specs.Columns.{code_at, count};
 ghost use Rattle.bw_code.specs.Fittings.{AreEnds};
 ghost use Rattle.bw_column.specs.Extremes.{IsGreatestFrom, IsLeastFrom};
 ghost use Rattle.bw_column.specs.Storing.{list_of};
 ghost use Rattle.bw_column.specs.Values.{known};
+ghost use Rattle.bw_vertical.specs.Descents.{AreCodeEnds};
 
 use crate::column::Column;
 use crate::storage::Codes;
-use bw_code::Ends;
+use bw_code::{CodeColumn, Ends};
 use bw_mask::{Mask, has_bit};
+use bw_vertical::{CodeEnds, VerticalColumn, word_ends};
 
 /// The least of these codes whose bit is set, or the start where none is below it.
 fn least_from(start: u64, codes: &[u64], present: u64) -> u64
@@ -43,8 +45,46 @@ fn greatest_from(start: u64, codes: &[u64], present: u64) -> u64
     greatest
 }
 
+/// The least and the greatest of the codes of the rows that are not null, by their planes.
+fn plane_ends(codes: &VerticalColumn, nonnull: &Mask) -> CodeEnds
+    ensures { AreCodeEnds (row_at nonnull.now) (code_at codes.now) (count codes.now) result }
+{
+    let mut words = [0; 64];
+    let mut ends = CodeEnds::none();
+    let rows = codes.len();
+    'words: for w in 0..rows.div_ceil(64) {
+        codes.read_words(w, &mut words);
+        let n = (rows - 64 * w).min(64);
+        let present = nonnull.bits(64 * w, n);
+        ends = ends.with(word_ends(&words, codes.width() as usize, n, present));
+    }
+    ends
+}
+
+/// The least and the greatest of a code and of those of the rows that are not null, of which these are known.
+fn ends_from(start: u64, ends: CodeEnds) -> (u64, u64)
+    ensures least { (n : ℕ) (marked : ℕ → Bool) (code : ℕ → ℕ) → AreCodeEnds marked code n ends → IsLeastFrom start n marked code result.0 }
+    ensures greatest { (n : ℕ) (marked : ℕ → Bool) (code : ℕ → ℕ) → AreCodeEnds marked code n ends → IsGreatestFrom start n marked code result.1 }
+{
+    if !ends.any {
+        return (start, start);
+    }
+    (start.min(ends.least), start.max(ends.greatest))
+}
+
 /// The least and the greatest of a code and of the codes of the rows that are not null.
 fn code_ends(codes: &Codes, nonnull: &Mask, start: u64) -> (u64, u64)
+    ensures least { IsLeastFrom start (count (list_of codes.now)) (row_at nonnull.now) (code_at (list_of codes.now)) result.0 }
+    ensures greatest { IsGreatestFrom start (count (list_of codes.now)) (row_at nonnull.now) (code_at (list_of codes.now)) result.1 }
+{
+    match codes {
+        Codes::V(planes) => ends_from(start, plane_ends(planes, nonnull)),
+        Codes::P(_) | Codes::H(_) | Codes::S(_) => run_ends(codes, nonnull, start),
+    }
+}
+
+/// The same by the codes, which are read in runs.
+fn run_ends(codes: &Codes, nonnull: &Mask, start: u64) -> (u64, u64)
     ensures least { IsLeastFrom start (count (list_of codes.now)) (row_at nonnull.now) (code_at (list_of codes.now)) result.0 }
     ensures greatest { IsGreatestFrom start (count (list_of codes.now)) (row_at nonnull.now) (code_at (list_of codes.now)) result.1 }
 {

@@ -1,16 +1,18 @@
 //! Values added at the end of a column.
 
-ghost use Rattle.std.specs.Prelude.{All, length, slice_index, ℕ, ◌++◌, ◌+◌, ◌<◌, ◌^◌, ◌≡◌, ◌≤◌};
+ghost use Rattle.std.specs.Prelude.{All, List, Option, drop, length, slice_index, take, true, ℕ, ℤ, ◌%◌, ◌++◌, ◌+◌, ◌<◌, ◌^◌, ◌≡◌, ◌≤◌};
 ghost use Rattle.bw_mask.specs.Masks.{bit_of};
 ghost use Rattle.bw_code.specs.Lists.{made};
 ghost use Rattle.bw_code.specs.declared.encoding.Encoding.TheVariants as by;
 ghost use Rattle.bw_column.specs.Codes.{IsCoded, IsRowCode, codes_for, value_from};
+ghost use Rattle.bw_column.specs.PlaneSources.{ArePlanesOf};
 ghost use Rattle.bw_column.specs.Values.{IsNullOrHeld};
+ghost use Rattle.bw_code.specs.declared.kind.Layout.TheVariants as layouts;
 
 use crate::codes::encode_all;
 use crate::column::Column;
 use bw_cells::{Cells, Measured, presence};
-use bw_code::{Encoding, Offset};
+use bw_code::{Encoding, Layout, Offset};
 use bw_dictionary::RankedCells;
 
 impl Column {
@@ -89,6 +91,87 @@ impl Column {
         }
     }
 
+    /// Adds n cells at the end, within the room, so few that their rows lie in one word, by the words of the planes of their
+    /// distances from the base. The layout is V.
+    #[tactic(auto, using(bw_code::proofs::Lists::made_len))]
+    fn extend_planes(&mut self, offset: Offset, words: &[u64; 64], n: usize, present: u64)
+        requires layout { self.old.layout ≡ layouts.V }
+        requires encoding { self.old.encoding ≡ by.Offset offset }
+        requires some { 0 < n }
+        requires word { length self.old.values % 64 + n ≤ 64 }
+        requires cells { (cells : List (Option ℤ)) × (length cells ≡ n) × All (IsCoded (by.Offset offset)) cells × All (IsNullOrHeld layouts.V) cells × ArePlanesOf offset.width offset.base cells words.now present }
+        requires room { length self.old.values + n ≤ self.old.room }
+        requires few { length self.old.values + n ≤ 2 ^ 24 }
+        ensures values { (cells : List (Option ℤ)) → length cells ≡ n → All (IsCoded (by.Offset offset)) cells → All (IsNullOrHeld layouts.V) cells → ArePlanesOf offset.width offset.base cells words.now present → self.new.values ≡ self.old.values ++ cells }
+        ensures layout { self.new.layout ≡ self.old.layout }
+        ensures encoding { self.new.encoding ≡ self.old.encoding }
+        ensures room { self.old.room ≤ self.new.room }
+    {
+        self.codes.extend_words(words, n);
+        self.nonnull.push_bits(n, present);
+    }
+
+    /// Adds cells from number `at` on at the end, within the room, as many as there are places for their codes, at most 64. Their
+    /// codes are their distances from the base.
+    fn extend_distances<C: Measured>(
+        &mut self,
+        offset: Offset,
+        cells: &C,
+        at: usize,
+        codes: &mut [u64],
+    )
+        requires encoding { self.old.encoding ≡ by.Offset offset }
+        requires coded { All (IsCoded self.old.encoding) (C.cells cells.now) }
+        requires held { All (IsNullOrHeld self.old.layout) (C.cells cells.now) }
+        requires block { length codes.old ≤ 64 }
+        requires inside { at + length codes.old ≤ length (C.cells cells.now) }
+        requires room { length self.old.values + length codes.old ≤ self.old.room }
+        requires few { length self.old.values + length codes.old ≤ 2 ^ 24 }
+        ensures values { self.new.values ≡ self.old.values ++ take (length codes.old) (drop at (C.cells cells.now)) }
+        ensures layout { self.new.layout ≡ self.old.layout }
+        ensures encoding { self.new.encoding ≡ self.old.encoding }
+        ensures room { self.old.room ≤ self.new.room }
+    {
+        let present = cells.distances(at, offset.base, codes);
+        self.extend_rows(codes, present);
+    }
+
+    /// Whether codes that come next begin a word of planes.
+    #[tactic(auto, using(bw_code::proofs::Lists::made_len))]
+    fn begins_planes(&self) -> bool
+        ensures { result ≡ true → (self.now.layout ≡ layouts.V) × (length self.now.values % 64 ≡ 0) }
+    {
+        self.layout() == Layout::V && self.len() % 64 == 0
+    }
+
+    /// Adds n cells from number `at` on, at most 64, at the end, within the room: by their planes, where they have such as the
+    /// column has, else by their distances from the base.
+    fn extend_run<C: Measured>(&mut self, offset: Offset, cells: &C, at: usize, n: usize)
+        requires encoding { self.old.encoding ≡ by.Offset offset }
+        requires coded { All (IsCoded self.old.encoding) (C.cells cells.now) }
+        requires held { All (IsNullOrHeld self.old.layout) (C.cells cells.now) }
+        requires some { 0 < n }
+        requires block { n ≤ 64 }
+        requires inside { at + n ≤ length (C.cells cells.now) }
+        requires room { length self.old.values + n ≤ self.old.room }
+        requires few { length self.old.values + n ≤ 2 ^ 24 }
+        ensures values { self.new.values ≡ self.old.values ++ take n (drop at (C.cells cells.now)) }
+        ensures layout { self.new.layout ≡ self.old.layout }
+        ensures encoding { self.new.encoding ≡ self.old.encoding }
+        ensures room { self.old.room ≤ self.new.room }
+    {
+        if self.begins_planes() {
+            let mut words = [0; 64];
+            let k = offset.width as usize;
+            if let Some(present) = cells.planes(at, n, offset.base, k, &mut words) {
+                self.extend_planes(offset, &words, n, present);
+                return;
+            }
+        }
+        let mut list = [0; 64];
+        self.extend_distances(offset, cells, at, &mut list[..n]);
+    }
+
     /// Adds cells at the end, within the room. Their codes are their distances from the base: none is looked at by itself.
     fn extend_measured<C: Measured>(&mut self, offset: Offset, cells: &C)
         requires encoding { self.old.encoding ≡ by.Offset offset }
@@ -101,13 +184,10 @@ impl Column {
         ensures encoding { self.new.encoding ≡ self.old.encoding }
         ensures room { self.old.room ≤ self.new.room }
     {
-        let mut list = [0; 64];
         let mut at = 0;
         while at < cells.len() {
             let n = (cells.len() - at).min(64);
-            let codes = &mut list[..n];
-            let present = cells.distances(at, offset.base, codes);
-            self.extend_rows(codes, present);
+            self.extend_run(offset, cells, at, n);
             at += n;
         }
     }

@@ -17,6 +17,7 @@ mod extending;
 mod filling;
 mod growing;
 mod kept;
+mod lent_planes;
 mod pair_codes;
 mod pairs;
 mod reading;

@@ -1,14 +1,17 @@
 //! The codes of a column, each layout in its own type.
 
-ghost use Rattle.std.specs.Prelude.{[], IfOk, OnOk, drop, false, length, slice_set, take, true, ℕ, ◌%◌, ◌&&◌, ◌++◌, ◌+◌, ◌<◌, ◌^◌, ◌≡◌, ◌≤◌, pos, ◌-ℤ◌};
+ghost use Rattle.std.specs.Prelude.{[], IfOk, OnOk, drop, false, length, slice_index, slice_set, take, true, ℕ, ◌%◌, ◌&&◌, ◌++◌, ◌+◌, ◌<◌, ◌^◌, ◌≡◌, ◌≤◌, pos, ◌-ℤ◌};
 ghost use Rattle.bw_mask.specs.Masks.{SameShape, bit_of, len, row_at};
 ghost use Rattle.bw_code.specs.Columns.{Fit, KeepsShape, code_at, count, filled_codes, put_codes};
+ghost use Rattle.bw_code.specs.Lists.{made};
 ghost use Rattle.bw_code.specs.Meters.{raised};
 ghost use Rattle.bw_code.specs.Shifts.{StaysBelow, shifted};
 ghost use Rattle.bw_code.specs.Tests.{TestFits, code_compares, meets};
 ghost use Rattle.bw_code.specs.Units.{units_of_pair, units_of_scan};
 ghost use Rattle.bw_column.specs.Storing.{ShiftsTo, layout_of, lent_layout, lent_list, list_of};
 ghost use Rattle.bw_column.specs.Values.{widest};
+ghost use Rattle.bw_code.specs.declared.kind.Layout.TheVariants as layouts;
+ghost use Rattle.bw_vertical.specs.Planes.{code_by};
 
 use bw_byteslice::SliceColumn;
 use bw_code::{CmpOp, CodeColumn, CodeTest, Layout, Meter, PlainColumn};
@@ -104,6 +107,25 @@ impl Codes {
             Codes::V(codes) => codes.extend(more),
             Codes::H(codes) => codes.extend(more),
             Codes::S(codes) => codes.extend(more),
+        }
+    }
+
+    /// Adds n codes at the end, within the room, so few that their rows lie in one word, by the words of their planes. The
+    /// layout is V.
+    pub(crate) fn extend_words(&mut self, words: &[u64; 64], n: usize)
+        requires layout { layout_of self.old ≡ layouts.V }
+        requires some { 0 < n }
+        requires word { count (list_of self.old) % 64 + n ≤ 64 }
+        requires rest { (b r : ℕ) → b < (list_of self.old).width → n ≤ r → r < 64 → bit_of (slice_index words.now b) r ≡ false }
+        requires room { count (list_of self.old) + n ≤ (list_of self.old).room }
+        requires few { count (list_of self.old) + n ≤ 2 ^ 24 }
+        ensures layout { layout_of self.new ≡ layout_of self.old }
+        ensures shape { KeepsShape (list_of self.new) (list_of self.old) }
+        ensures codes { (list_of self.new).codes ≡ (list_of self.old).codes ++ made n (code_by (list_of self.old).width words.now) }
+    {
+        match self {
+            Codes::V(codes) => codes.extend_words(words, n),
+            Codes::P(_) | Codes::H(_) | Codes::S(_) => unreachable!(),
         }
     }
 

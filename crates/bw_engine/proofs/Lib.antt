@@ -1,7 +1,6 @@
 mod Added
 mod After
 pub mod Chosen
-pub mod ColumnPlanes
 pub mod Columns
 pub mod Copies
 pub mod Counted

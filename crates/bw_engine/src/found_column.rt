@@ -5,7 +5,6 @@ ghost use Rattle.bw_mask.specs.Masks.{bit_of, len, row_at};
 ghost use Rattle.bw_groups.specs.Runs.{IsMeasured};
 ghost use Rattle.bw_engine.specs.Runs.{found_runs, lines_from, slot_line, value_line};
 
-use crate::column_planes::column_ends;
 use crate::shown::show_slots;
 use bw_cells::Measured;
 use bw_code::Ends;
@@ -50,7 +49,7 @@ impl<'a> ValueRuns for FoundColumn<'a> {
         if self.found.count() < self.found.len() / 16 {
             return None;
         }
-        column_ends(column)
+        column.ends()
     }
 
     fn run_count(&self) -> usize {

@@ -1,7 +1,6 @@
 //! The engine: tables in memory, and the statements that make, fill, change, read and drop them.
 #![tactic(auto)]
 
-mod column_planes;
 mod create;
 mod delete;
 mod drop;

@@ -8,12 +8,10 @@ ghost use Rattle.bw_model.specs.Filing.{column_of};
 ghost use Rattle.bw_engine.specs.Saving.{saved_cells};
 ghost use Rattle.bw_engine.specs.Stores.{rows_in};
 
-use crate::column_planes::lying_planes;
 use crate::shown::found_values;
 use crate::table::Table;
 use bw_cells::{Cells, Measured};
 use bw_column::Column;
-use bw_file::{Planed, planes_by_distances};
 use bw_sql::Value;
 use std::alloc::{AllocError, Global};
 
@@ -53,16 +51,19 @@ impl Measured for LiveCells<'_> {
             LiveCells::Gathered(values) => values.as_slice().distances(at, base, out),
         }
     }
-}
 
-impl Planed for LiveCells<'_> {
-    fn planes(&self, at: usize, count: usize, base: i64, k: usize, words: &mut [u64; 64]) -> u64 {
-        if let LiveCells::Whole(column) = self {
-            if let Some(present) = lying_planes(column, at, count, base, k, words) {
-                return present;
-            }
+    fn planes(
+        &self,
+        at: usize,
+        count: usize,
+        base: i64,
+        k: usize,
+        words: &mut [u64; 64],
+    ) -> Option<u64> {
+        match self {
+            LiveCells::Whole(column) => column.planes(at, count, base, k, words),
+            LiveCells::Gathered(_) => None,
         }
-        planes_by_distances(self, at, count, base, k, words)
     }
 }
 

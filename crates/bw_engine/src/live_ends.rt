@@ -7,7 +7,6 @@ ghost use Rattle.bw_mask.specs.Masks.{len, row_at};
 ghost use Rattle.bw_model.specs.Filing.{column_of};
 ghost use Rattle.bw_engine.specs.Stores.{rows_in};
 
-use crate::column_planes::column_ends;
 use crate::table::Table;
 use bw_cells::{Cells, Measured};
 use bw_code::Ends;
@@ -74,7 +73,7 @@ pub(crate) fn live_ends(table: &Table, k: usize) -> Option<Ends>
     let stored = table.stored();
     let column = stored.column(k);
     if stored.row_count() == column.len() {
-        return column_ends(column);
+        return column.ends();
     }
     let live = stored.live();
     LiveOrNull { column, live }.ends()

@@ -4,16 +4,15 @@ pub mod Blocks
 pub mod Bytes
 pub mod ColumnEnds
 pub mod Complete
-pub mod Descending
 pub mod Distinct
 pub mod EndLanes
 pub mod EndSizes
+pub mod FileWords
 pub mod Filled
 pub mod FirstColumn
 pub mod Frames
 pub mod Fronts
 pub mod Joined
-pub mod JoinedEnds
 pub mod Least
 pub mod Lengths
 pub mod Lent
@@ -22,7 +21,6 @@ pub mod Near
 pub mod Parts
 pub mod Places
 pub mod PlaneColumns
-pub mod PlanedEnds
 pub mod PlaneEnds
 pub mod PlanePlaces
 pub mod PlaneRuns

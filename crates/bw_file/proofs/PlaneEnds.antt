@@ -14,10 +14,10 @@ use Rattle.bw_code.specs.Types.{IsNullOrOfType, IsOfType}
 use Rattle.bw_code.specs.declared.kind.ColumnType.{ColumnType}
 use Rattle.bw_code.specs.declared.kind.ColumnType.TheVariants.{BigInt, Integer}
 use Rattle.bw_file.specs.Cells.{presence_size}
-use Rattle.bw_file.specs.Descents.{AreCodeEnds}
+use Rattle.bw_vertical.specs.Descents.{AreCodeEnds}
 use Rattle.bw_file.specs.Planes.{cells_in, code_in, has_in, read_cell}
 use Rattle.bw_code.specs.declared.ends.Ends.{Ends}
-use Rattle.bw_file.specs.declared.code_ends.CodeEnds.{CodeEnds}
+use Rattle.bw_vertical.specs.declared.code_ends.CodeEnds.{CodeEnds}
 use Rattle.bw_file.specs.declared.code_ends.Values.TheVariants as found
 
 bool_cases : (b : Bool) → (b ≡ true) ⊎ (b ≡ false)
@@ -114,14 +114,6 @@ module _ (rows : ℕ) (base : ℤ) (k : ℕ) (present planes : List ℕ) where
 
     pub greatest_typed : (t : ColumnType) → ends.any ≡ true → All (IsNullOrOfType t) cells → IsOfType t (base +ℤ pos ends.greatest)
     greatest_typed t any all = let at = are.greatest any in subst (λ c. IsOfType t (base +ℤ pos c)) at.3 (type_at t all at.0 at.1 at.2)
-
-pub turned : (b : Bool) → not b ≡ true → b ≡ false
-turned true e = absurd cc
-turned false e = refl
-
-pub on : (b : Bool) → not b ≡ false → b ≡ true
-on true e = refl
-on false e = absurd cc
 
 -- the ends that were found
 pub inside : (a b : Option Ends) → found.OfType a ≡ found.OfType b → a ≡ b

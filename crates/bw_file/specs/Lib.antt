@@ -1,5 +1,4 @@
 pub mod Cells
-pub mod Descents
 pub mod Format
 pub mod Headers
 pub mod Lent

@@ -7,54 +7,15 @@ ghost use Rattle.bw_code.specs.Types.{IsNullOrOfType, IsOfType};
 ghost use Rattle.bw_code.specs.declared.ends.Ends.{Ends as AnyEnds};
 ghost use Rattle.bw_code.specs.Headers.{row_limit};
 ghost use Rattle.bw_file.specs.Cells.{presence_size};
-ghost use Rattle.bw_file.specs.Descents.{AreCodeEnds};
 ghost use Rattle.bw_file.specs.Planes.{cells_in, code_in, has_in};
 ghost use Rattle.bw_file.specs.declared.code_ends.Values.TheVariants as found;
+ghost use Rattle.bw_vertical.specs.Descents.{AreCodeEnds};
 
 use crate::descent::run_ends;
 use crate::planes::RUN;
 use crate::row_bits::bits_of_rows;
 use bw_code::{ColumnType, Ends};
-
-/// What is known of some codes.
-#[derive(Clone, Copy)]
-pub(crate) struct CodeEnds {
-    /// Whether there is any.
-    pub(crate) any: bool,
-    pub(crate) least: u64,
-    pub(crate) greatest: u64,
-}
-
-impl CodeEnds {
-    /// Of no codes.
-    pub(crate) fn none() -> CodeEnds
-        ensures { (has : ℕ → Bool) (code : ℕ → ℕ) (n : ℕ) → ((i : ℕ) → i < n → has i ≡ false) → AreCodeEnds has code n result }
-    {
-        CodeEnds {
-            any: false,
-            least: 0,
-            greatest: 0,
-        }
-    }
-
-    /// Of these codes, and of those of the rows behind theirs.
-    pub(crate) fn with(self, more: CodeEnds) -> CodeEnds
-        ensures { (has f : ℕ → Bool) (code g : ℕ → ℕ) (n m : ℕ) → ((r : ℕ) → r < m → has (n + r) ≡ f r) → ((r : ℕ) → r < m → code (n + r) ≡ g r)
-            → AreCodeEnds has code n self → AreCodeEnds f g m more → AreCodeEnds has code (n + m) result }
-    {
-        if !self.any {
-            return more;
-        }
-        if !more.any {
-            return self;
-        }
-        CodeEnds {
-            any: true,
-            least: self.least.min(more.least),
-            greatest: self.greatest.max(more.greatest),
-        }
-    }
-}
+use bw_vertical::CodeEnds;
 
 /// What is known of the codes of k bits of so many rows.
 pub(crate) fn code_ends(present: &[u8], planes: &[u8], rows: usize, k: usize) -> CodeEnds

@@ -9,7 +9,6 @@ ghost use Rattle.bw_file.specs.Planes.{IsWideCell};
 ghost use Rattle.bw_file.specs.declared.version.Version.TheVariants.{First};
 
 use crate::plane_column::PlaneColumn;
-use crate::planed::Planed;
 use crate::version::Version;
 use crate::word_column::WordColumn;
 use bw_cells::{Cells, Measured};
@@ -130,6 +129,17 @@ impl<'a> Measured for FileColumn<'a> {
             LentColumn::Planes(column) => column.distances(at, base, out),
         }
     }
+    fn planes(
+        &self,
+        at: usize,
+        count: usize,
+        base: i64,
+        k: usize,
+        words: &mut [u64; 64],
+    ) -> Option<u64> {
+        match &self.column {
+            LentColumn::Words(_) => None,
+            LentColumn::Planes(column) => column.planes(at, count, base, k, words),
+        }
+    }
 }
-
-impl<'a> Planed for FileColumn<'a> {}

@@ -10,7 +10,6 @@ ghost use Rattle.bw_code.specs.Types.{IsTyped};
 ghost use Rattle.bw_file.specs.declared.version.Version.TheVariants.{Second};
 
 use crate::column::FileColumn;
-use crate::planed::Planed;
 use crate::planes::write_column;
 use crate::version::Version;
 use bw_cells::Measured;
@@ -78,7 +77,7 @@ pub(crate) fn take_ends<C: Measured>(columns: &[C], ends: &mut [Option<Ends>])
 }
 
 /// Puts the bytes of columns of so many rows last, by version 2. These are the ends of each column's integers.
-pub(crate) fn put_columns<C: Planed>(
+pub(crate) fn put_columns<C: Measured>(
     bytes: &mut Vec<u8>,
     rows: usize,
     columns: &[C],
@@ -98,7 +97,7 @@ pub(crate) fn put_columns<C: Planed>(
 }
 
 /// Puts the bytes of a column of so many rows last, by version 2. These are the ends of its integers.
-fn put_column<C: Planed>(
+fn put_column<C: Measured>(
     bytes: &mut Vec<u8>,
     rows: usize,
     column: &C,

@@ -12,7 +12,6 @@ use crate::columns::{put_columns, take_ends};
 use crate::front::{COLUMN_LIMIT, front};
 use crate::headers::{have_names, put_headers};
 use crate::length::length_by_ends;
-use crate::planed::Planed;
 use crate::version::Version;
 use bw_cells::Measured;
 use bw_code::{Ends, Header};
@@ -35,14 +34,14 @@ pub fn file_length<C: Measured>(headers: &[Header<Name>], rows: usize, columns: 
 }
 
 /// There are no more columns than a table has headers at most.
-fn are_few<C: Planed>(headers: &[Header<Name>], columns: &[C])
+fn are_few<C: Measured>(headers: &[Header<Name>], columns: &[C])
     requires few { length headers.now ≤ column_limit }
     requires typed { AllZip IsTyped headers.now (map C.cells columns.now) }
     ensures { length columns.now ≤ column_limit }
 {}
 
 /// The bytes that spell the table of these headers and columns, each of so many rows.
-pub fn encode<C: Planed>(
+pub fn encode<C: Measured>(
     alloc: Global,
     headers: &[Header<Name>],
     rows: usize,
@@ -62,7 +61,7 @@ pub fn encode<C: Planed>(
 }
 
 /// The same where the ends of each column's integers are known: no column is read for them.
-pub fn encode_by_ends<C: Planed>(
+pub fn encode_by_ends<C: Measured>(
     alloc: Global,
     headers: &[Header<Name>],
     rows: usize,

@@ -9,7 +9,7 @@ ghost use Rattle.bw_file.specs.Planes.{column_bytes, read_cell, IsWideCell};
 
 use crate::cells::has_cell;
 use crate::code_ends::{Values, values_in};
-use crate::codes::read_codes;
+use crate::codes::{read_codes, words_at};
 use crate::plane_parts::plane_parts;
 use crate::presence::has_spare_bit;
 use crate::row_bits::{bits_of_rows, has_bit};
@@ -137,6 +137,21 @@ impl<'a> Measured for PlaneColumn<'a> {
         let more = self.base.cast_unsigned().wrapping_sub(base.cast_unsigned());
         lift(out, there, more);
         there
+    }
+
+    fn planes(
+        &self,
+        at: usize,
+        count: usize,
+        base: i64,
+        k: usize,
+        words: &mut [u64; 64],
+    ) -> Option<u64> {
+        if at % 8 != 0 || base != self.base || k != self.width {
+            return None;
+        }
+        *words = words_at(self.planes, self.rows.div_ceil(8), k, at, count);
+        Some(bits_of_rows(self.present, at, count))
     }
 }
 

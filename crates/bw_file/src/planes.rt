@@ -1,14 +1,16 @@
 //! The planes of a column, written 64 rows at a time.
 
-ghost use Rattle.std.specs.Prelude.{All, length, slice_index, ℕ, ◌%◌, ◌*◌, ◌+◌, ◌-◌, ◌/◌, ◌<◌, ◌==◌, ◌^◌, ◌≡◌, ◌≤◌};
+ghost use Rattle.std.specs.Prelude.{All, None, drop, is_some, length, map, slice_index, slice_index_or, take, ℕ, ◌%◌, ◌*◌, ◌+◌, ◌-◌, ◌/◌, ◌<◌, ◌==◌, ◌^◌, ◌≡◌, ◌≤◌};
 ghost use Rattle.bw_mask.specs.Masks.{bit_of};
+ghost use Rattle.bw_cells.specs.Distances.{distance_from};
 ghost use Rattle.bw_cells.specs.Known.{known};
 ghost use Rattle.bw_code.specs.Headers.{row_limit};
 ghost use Rattle.bw_file.specs.Cells.{presence_bytes, presence_size};
 ghost use Rattle.bw_file.specs.Planes.{column_bytes, column_size, frame_of, plane_bit, plane_bytes, IsNear, IsWideCell};
 
-use crate::planed::Planed;
 use crate::presence::write_presence;
+use bw_cells::Measured;
+use bw_vertical::wide_plane_words;
 use byteorder::{ByteOrder, LittleEndian};
 
 // How many cells are looked at together: as many as one word has bits for.
@@ -49,8 +51,34 @@ fn put_words(planes: &mut [u8], size: usize, k: usize, at: usize, words: &[u64; 
     }
 }
 
+/// The words of the planes of at most 64 cells from number `at` on, as the column has them or else made of how far the cells
+/// lie above the base, and which of the cells are integers.
+fn planes_at<C: Measured>(
+    column: &C,
+    at: usize,
+    count: usize,
+    base: i64,
+    k: usize,
+    words: &mut [u64; 64],
+) -> u64
+    requires few { count ≤ 64 }
+    requires narrow { k ≤ 64 }
+    requires inside { at + count ≤ length (C.cells column.now) }
+    ensures planes { (b r : ℕ) → b < k → r < 64 → bit_of (slice_index words.new b) r ≡ bit_of (slice_index (map (distance_from base) (take count (drop at (C.cells column.now)))) r) b }
+    ensures present { (i : ℕ) → bit_of result i ≡ is_some (slice_index_or (take count (drop at (C.cells column.now))) i None) }
+{
+    if let Some(present) = column.planes(at, count, base, k, words) {
+        return present;
+    }
+    let mut list = [0; 64];
+    let run = &mut list[..count];
+    let present = column.distances(at, base, run);
+    *words = wide_plane_words(run, k);
+    present
+}
+
 /// Writes the bits and the planes of a column whose codes have k bits from the base on.
-pub(crate) fn write_planes<C: Planed>(
+pub(crate) fn write_planes<C: Measured>(
     present: &mut [u8],
     planes: &mut [u8],
     rows: usize,
@@ -72,14 +100,14 @@ pub(crate) fn write_planes<C: Planed>(
     'runs: for r in 0..rows.div_ceil(RUN) {
         let at = r * RUN;
         let end = rows.min(at + RUN);
-        let bits = column.planes(at, end - at, base, k, &mut words);
+        let bits = planes_at(column, at, end - at, base, k, &mut words);
         write_presence(&mut present[at / 8..end.div_ceil(8)], bits);
         put_words(planes, size, k, at, &words);
     }
 }
 
 /// Writes a column of so many rows, of which these are the base and the width.
-pub(crate) fn write_column<C: Planed>(
+pub(crate) fn write_column<C: Measured>(
     out: &mut [u8],
     rows: usize,
     base: i64,

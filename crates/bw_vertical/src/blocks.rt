@@ -172,6 +172,31 @@ pub fn wide_plane_words(codes: &[u64], k: usize) -> [u64; 64]
     words
 }
 
+/// Adds n rows from row `at` on, so few that they lie in one word, by the words of their planes: word b has bit b of each, and
+/// no bit past the rows. From `at` on no row was set.
+#[tactic(auto, using(crate::proofs::Settings::word_there))]
+pub(crate) fn put_planes(
+    groups: &mut Vec<Vec<[u64; 4]>>,
+    k: usize,
+    at: usize,
+    n: usize,
+    words: &[u64; 64],
+)
+    requires narrow { k ≤ 64 }
+    requires small { at < 2 ^ 32 }
+    requires count { vec_len groups.old ≡ groups_of k }
+    requires there { HasSegment k (lists groups.old.items) (at / 256) }
+    requires few { at % 64 + n ≤ 64 }
+    requires rest { (b r : ℕ) → b < k → n ≤ r → r < 64 → bit_of (slice_index words.now b) r ≡ false }
+    requires clean { (i j : ℕ) → i < k → at ≤ j → is_set k (lists groups.old.items) i j ≡ false }
+    ensures sizes { KeepsSizes groups.new.items groups.old.items }
+    ensures kept { (i j : ℕ) → i < k → j < at → is_set k (lists groups.new.items) i j ≡ is_set k (lists groups.old.items) i j }
+    ensures added { (i r : ℕ) → i < k → r < n → is_set k (lists groups.new.items) i (at + r) ≡ bit_of (slice_index words.now (k - 1 - i)) r }
+    ensures clean { (i j : ℕ) → i < k → at + n ≤ j → is_set k (lists groups.new.items) i j ≡ false }
+{
+    add_words(groups, k, at / 64, words, at % 64);
+}
+
 /// The codes of rows `at`, `at + 1`, .. become those of which these are the words of the planes, so few that they lie in one word.
 /// From `at` on no row was set. The clauses alone name the codes.
 #[tactic(auto, using(crate::proofs::Settings::word_there))]

@@ -1,12 +1,13 @@
 //! Columns of codes as planes of bits.
 
-ghost use Rattle.std.specs.Prelude.{[], pos, ◌-ℤ◌, ◌++◌, ◌%◌, ◌/◌, ◌≤◌, ◌^◌, length, slice_index_or, ℕ, ◌*◌, ◌+◌, ◌-◌, ◌<◌, ◌≡◌};
+ghost use Rattle.std.specs.Prelude.{[], false, slice_index, pos, ◌-ℤ◌, ◌++◌, ◌%◌, ◌/◌, ◌≤◌, ◌^◌, length, slice_index_or, ℕ, ◌*◌, ◌+◌, ◌-◌, ◌<◌, ◌≡◌};
 ghost use Rattle.bw_mask.specs.Masks.{bit_of, len, row_at, row_in};
 ghost use Rattle.bw_code.specs.Columns.{code_at, count, Fit, KeepsShape};
 ghost use Rattle.bw_code.specs.Shifts.{StaysBelow, shifted};
 ghost use Rattle.bw_code.specs.declared.kind.Layout.TheVariants as layouts;
 ghost use Rattle.bw_code.specs.Units.{segments_of};
-ghost use Rattle.bw_vertical.specs.Planes.{code_in};
+ghost use Rattle.bw_code.specs.Lists.{made};
+ghost use Rattle.bw_vertical.specs.Planes.{code_by, code_in};
 ghost use Rattle.bw_vertical.specs.Storage.{groups_of, planes_in};
 
 use crate::growing::{begin_segment, empty_groups, reserve_segments};
@@ -14,6 +15,7 @@ use crate::pair::pair_from;
 use crate::scan::scan_from;
 use crate::shifting::shift_codes;
 use crate::source::PlaneSource;
+use crate::storage::take_planes;
 use crate::{blocks, codes, runs};
 use bw_code::{CmpOp, CodeColumn, CodeTest, Meter, Source, word_between};
 use bw_mask::Mask;
@@ -69,6 +71,34 @@ impl VerticalColumn {
         ensures none { result.reads ≡ 0 }
     {
         PlaneSource::new(&self.groups, self.width, self.len)
+    }
+
+    /// Word b becomes that of bit b of the codes of rows 64 w to 64 w + 63. Rows past the last have code 0. The words from the
+    /// width on stay.
+    #[tactic(auto, using(crate::proofs::Holding::codes_len))]
+    pub fn read_words(&self, w: usize, words: &mut [u64; 64])
+        requires { 64 * w < count self.now }
+        ensures { (b r : ℕ) → b < self.now.width → r < 64 → bit_of (slice_index words.new b) r ≡ bit_of (code_at self.now (64 * w + r)) b }
+    {
+        take_planes(&self.groups, self.width as usize, w, words);
+    }
+
+    /// Adds n rows at the end, within the room, so few that they lie in one word, by the words of their planes: word b has bit
+    /// b of each code, and no bit past the rows.
+    #[tactic(auto, using(crate::proofs::Holding::codes_len))]
+    pub fn extend_words(&mut self, words: &[u64; 64], n: usize)
+        requires some { 0 < n }
+        requires word { count self.old % 64 + n ≤ 64 }
+        requires rest { (b r : ℕ) → b < self.old.width → n ≤ r → r < 64 → bit_of (slice_index words.now b) r ≡ false }
+        requires room { count self.old + n ≤ self.old.room }
+        requires few { count self.old + n ≤ 2 ^ 24 }
+        ensures shape { KeepsShape self.new self.old }
+        ensures codes { self.new.codes ≡ self.old.codes ++ made n (code_by self.old.width words.now) }
+    {
+        let k = self.width as usize;
+        begin_segment(&mut self.groups, k, self.len);
+        blocks::put_planes(&mut self.groups, k, self.len, n, words);
+        self.len += n;
     }
 
     /// Counts the code of each of the rows from another base. Each of them then is a code of the column's width, too. Takes no

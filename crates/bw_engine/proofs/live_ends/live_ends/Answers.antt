@@ -18,10 +18,10 @@ returns-then-row_count-len c =
     let down = length-map (map (λ (slot : Slot). slot.row) slots) (λ (row : Row). values.value_at row c.args.k) in
     let all : length (live_slots slots) ≡ length slots = omega (arith, c.row_count.ensures.count, c.len.ensures.count, c.if-row_count-len.true, ap length c.column-column.ensures.values, down, rows) in
     let same = c.column-column.ensures.values ∙ whole_column slots c.args.k all ∙ ap (λ (table : StoredTable). column_of (rows_in table.slots) c.args.k) c.stored-stored.ensures in
-    subst (λ (cells : List Value). AreEnds (known cells) c.column_ends.result) same c.column_ends.ensures
+    subst (λ (cells : List Value). AreEnds (known cells) c.ends.result) same c.ends.ensures
 
 pub returns : goal.returns
 returns c =
     let slots = c.stored-stored.result.now.slots in
     let same = live_known slots c.live-live.result.now c.args.k c.column-column.result.now.values c.column-column.ensures.values c.live-live.ensures.rows ∙ ap (λ (table : StoredTable). known (column_of (rows_in table.slots) c.args.k)) c.stored-stored.ensures in
-    subst (λ cells. AreEnds cells c.ends.result) same c.ends.ensures
+    subst (λ cells. AreEnds cells c.ends-2.result) same c.ends-2.ensures

@@ -3,7 +3,7 @@ use Rattle.std.proofs.lemmas.Bool.{lt-ltb}
 use Rattle.bw_mask.proofs.Bits.{and_true}
 use Rattle.bw_mask.specs.Masks.{bit_of}
 use Rattle.bw_file.specs.Cells.{presence_size}
-use Rattle.bw_file.specs.Descents.{AreCodeEnds}
+use Rattle.bw_vertical.specs.Descents.{AreCodeEnds}
 use Rattle.bw_file.specs.Planes.{code_in, has_in}
 use Rattle.bw_file.proofs.code_ends.code_ends.Goals as goal
 

@@ -1,6 +1,6 @@
 use Rattle.std.proofs.Common.{min, ◌*◌}
 use Rattle.bw_file.specs.Cells.{presence_size}
-use Rattle.bw_file.specs.Descents.{AreCodeEnds}
+use Rattle.bw_vertical.specs.Descents.{AreCodeEnds}
 use Rattle.bw_file.specs.Planes.{code_in, has_in}
 use Rattle.bw_file.proofs.code_ends.code_ends.Given as goal
 

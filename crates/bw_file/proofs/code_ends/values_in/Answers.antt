@@ -3,7 +3,8 @@ use Rattle.bw_cells.specs.Known.{known}
 use Rattle.bw_code.specs.Encodings.{IsGreatest, IsLeast}
 use Rattle.bw_code.specs.Fittings.{AreEnds}
 use Rattle.bw_file.specs.Planes.{cells_in}
-use Rattle.bw_file.proofs.PlaneEnds.{greatest_typed, greatest_value, handed_back, handed_on, handed_type, inside, least_typed, least_value, no_values, on, turned, typed_between, typed_empty}
+use Rattle.bw_file.proofs.PlaneEnds.{greatest_typed, greatest_value, handed_back, handed_on, handed_type, inside, least_typed, least_value, no_values, typed_between, typed_empty}
+use Rattle.bw_vertical.proofs.JoinedEnds.{on, turned}
 use Rattle.bw_file.proofs.code_ends.values_in.Goals as goal
 
 pub returns-then-not-codes-clause-typed : goal.returns-then-not-codes-clause-typed

@@ -1,8 +1,9 @@
 use Rattle.std.proofs.Common.{◌+◌}
 use Rattle.bw_mask.specs.Masks.{bit_of}
-use Rattle.bw_file.specs.Descents.{code_by}
+use Rattle.bw_vertical.specs.Planes.{code_by}
 use Rattle.bw_file.specs.Planes.{code_in}
-use Rattle.bw_file.proofs.Descending.{same_ends, words_make}
+use Rattle.bw_vertical.proofs.Descending.{same_ends}
+use Rattle.bw_file.proofs.FileWords.{words_make}
 use Rattle.bw_file.proofs.descent.run_ends.Goals as goal
 
 pub returns : goal.returns

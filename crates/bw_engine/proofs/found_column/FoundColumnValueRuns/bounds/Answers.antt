@@ -14,4 +14,4 @@ returns-then-are_close c =
 pub returns : goal.returns
 returns c =
     let self = c.args.self.now in
-    runs_ended self.place self.table.now.slots (row_at self.found.now) c.column_ends.result (subst (λ cells. AreEnds (known cells) c.column_ends.result) c.column-column.ensures.values c.column_ends.ensures)
+    runs_ended self.place self.table.now.slots (row_at self.found.now) c.ends.result (subst (λ cells. AreEnds (known cells) c.ends.result) c.column-column.ensures.values c.ends.ensures)

@@ -1,0 +1,16 @@
+use Rattle.std.proofs.Common.{◌-◌, ◌≤◌}
+use Rattle.bw_mask.specs.Masks.{row_at}
+use Rattle.bw_code.specs.Columns.{code_at, count}
+use Rattle.bw_column.specs.Extremes.{IsGreatestFrom, IsLeastFrom}
+use Rattle.bw_column.specs.Storing.{list_of}
+use Rattle.bw_column.proofs.ends.run_ends.Given as goal
+
+abbrev pub invariant-loop-at : goal.invariant-loop-at
+invariant-loop-at l = record {
+  at : l.at ≤ count (list_of l.codes);
+  least : IsLeastFrom l.start l.at (row_at l.nonnull) (code_at (list_of l.codes)) l.least;
+  greatest : IsGreatestFrom l.start l.at (row_at l.nonnull) (code_at (list_of l.codes)) l.greatest;
+}
+
+abbrev pub decreases-loop-at : goal.decreases-loop-at
+decreases-loop-at l = count (list_of l.codes) - l.at

@@ -1,0 +1,55 @@
+//! The planes of a column as they lie in memory: those of distances in layout V.
+
+ghost use Rattle.std.specs.Prelude.{IfSome, None, drop, is_some, length, map, slice_index, slice_index_or, take, true, ℕ, ◌%◌, ◌+◌, ◌<◌, ◌≡◌, ◌≤◌, ◌⊎◌};
+ghost use Rattle.bw_mask.specs.Masks.{bit_of};
+ghost use Rattle.bw_cells.specs.Distances.{distance_from};
+ghost use Rattle.bw_code.specs.Columns.{count};
+ghost use Rattle.bw_code.specs.declared.encoding.Encoding.TheVariants as by;
+ghost use Rattle.bw_code.specs.declared.kind.Layout.TheVariants as layouts;
+ghost use Rattle.bw_column.specs.Codes.{AreRowCodes, values_from};
+
+use bw_code::{CodeColumn, Offset};
+use bw_mask::Mask;
+use bw_vertical::VerticalColumn;
+
+/// Whether so many rows from row `at` on have the bits of a whole word of a column of so many rows.
+fn is_word(at: usize, count: usize, rows: usize) -> bool
+    requires { at + count ≤ rows }
+    ensures { result ≡ true → (at % 64 ≡ 0) × (0 < count) × ((count ≡ 64) ⊎ (at + count ≡ rows)) }
+{
+    at % 64 == 0 && 0 < count && (count == 64 || at + count == rows)
+}
+
+/// Whether codes by an offset are those of k bits from a base on.
+fn is_frame(offset: Offset, base: i64, k: usize) -> bool
+    ensures base { result ≡ true → offset.base ≡ base }
+    ensures width { result ≡ true → offset.width ≡ k }
+{
+    offset.base == base && offset.width as usize == k
+}
+
+/// The planes of at most 64 rows from row `at` on, of k bits from a base on, where the codes are such planes, and which of the
+/// rows are not null.
+pub(crate) fn lent_planes(
+    offset: Offset,
+    codes: &VerticalColumn,
+    nonnull: &Mask,
+    at: usize,
+    n: usize,
+    base: i64,
+    k: usize,
+    words: &mut [u64; 64],
+) -> Option<u64>
+    requires rows { AreRowCodes layouts.V (by.Offset offset) codes.now nonnull.now }
+    requires few { n ≤ 64 }
+    requires narrow { k ≤ 64 }
+    requires inside { at + n ≤ count codes.now }
+    ensures planes { IfSome result (λ present. (b r : ℕ) → b < k → r < 64 → bit_of (slice_index words.new b) r ≡ bit_of (slice_index (map (distance_from base) (take n (drop at (values_from (by.Offset offset) codes.now nonnull.now)))) r) b) }
+    ensures present { IfSome result (λ present. (i : ℕ) → bit_of present i ≡ is_some (slice_index_or (take n (drop at (values_from (by.Offset offset) codes.now nonnull.now))) i None)) }
+{
+    if !is_frame(offset, base, k) || !is_word(at, n, codes.len()) {
+        return None;
+    }
+    codes.read_words(at / 64, words);
+    Some(nonnull.bits(at, n))
+}
