@@ -81,6 +81,11 @@ def of_planes():
     return Clause("bw_vertical/src/column.rt", "group", "rows", "result")
 
 
+def of_words():
+    """What the words of the planes of 64 rows of a column in V hold."""
+    return Clause("bw_vertical/src/column.rt", "read_words", "", "words.new")
+
+
 def of_segments():
     """What a plane of a segment holds, for sums and ends."""
     return Clause("bw_aggregate/src/plane.rt", "plane_at", "", "result")
@@ -160,8 +165,9 @@ STRIKES = [
     Strike("bw_aggregate::digits::count_at", (of_every_column("read", "codes", "out.new"),)),
     Strike("bw_aggregate::nth_code::rows_on_way", (of_every_column("scan", "rows", "out.new"),)),
     Strike("bw_engine::shown::read_column", (of_column("read", "reading.rt", "", "out.new"),)),
-    Strike("bw_engine::column_planes::take_words", (of_planes(),)),
-    Strike("bw_file::planes::write_planes", (Clause("bw_file/src/planed.rt", "planes", "planes", "words.new"),)),
+    Strike("bw_column::lent_planes::lent_planes", (of_words(),)),
+    Strike("bw_column::ends::plane_ends", (of_words(),)),
+    Strike("bw_file::planes::write_planes", (Clause("bw_file/src/planes.rt", "planes_at", "planes", "words.new"),)),
 ]
 
 

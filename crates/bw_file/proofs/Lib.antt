@@ -1,13 +1,14 @@
 pub mod Agree
 pub mod Bits
+pub mod BlockEnds
 pub mod Blocks
 pub mod Bytes
 pub mod ColumnEnds
 pub mod Complete
+pub mod Descending
 pub mod Distinct
 pub mod EndLanes
 pub mod EndSizes
-pub mod FileWords
 pub mod Filled
 pub mod FirstColumn
 pub mod Frames
@@ -25,6 +26,7 @@ pub mod PlaneEnds
 pub mod PlanePlaces
 pub mod PlaneRuns
 pub mod RowBits
+pub mod RowBytes
 pub mod RunDistances
 pub mod Runs
 pub mod Spare

@@ -1,5 +1,5 @@
 -- The least and the greatest of the cells of a column of planes, by its codes.
-use Rattle.std.proofs.Common.{All, Bool, FitsSigned, List, None, Option, Some, [], ap, arith, false, get_or, inl, inr, is_some, length, not, of_z, pos, refl, subst, sym, to_z, true, w64, ℕ, ℤ, ◌+ℤ◌, ◌<◌, ◌≡◌, ◌≤ℤ◌, ◌∙◌, ◌⊎◌}
+use Rattle.std.proofs.Common.{All, Bool, FitsSigned, List, None, Option, Some, [], ap, arith, false, get_or, inl, inr, is_some, length, of_z, pos, refl, subst, sym, to_z, true, w64, ℕ, ℤ, ◌+ℤ◌, ◌<◌, ◌≡◌, ◌≤ℤ◌, ◌∙◌, ◌⊎◌}
 use Rattle.std.specs.Prelude.{if◌then◌else◌}
 use Rattle.std.specs.List.{Contains}
 use Rattle.std.proofs.Math.ListN.{get_or-eq_default}

@@ -10,9 +10,9 @@ use Rattle.std.proofs.lemmas.List.Elements.{All-get_or}
 use Rattle.std.proofs.lemmas.Nat.Bits.{bit_at-lt, bit_at-zero}
 use Rattle.std.proofs.Math.Pow.{pow_mono}
 use Rattle.bw_cells.specs.Distances.{distance_from}
-use Rattle.bw_mask.proofs.Bits.{and_true}
+use Rattle.bw_mask.proofs.Bits.{and_true, bit_of_zero}
 use Rattle.bw_mask.specs.Masks.{bit_of}
-use Rattle.bw_vertical.proofs.Numbers.{number_is}
+use Rattle.bw_vertical.proofs.Numbers.{number_bit, number_fits, number_is}
 use Rattle.bw_file.specs.Cells.{presence_size}
 use Rattle.bw_file.specs.Planes.{ArePlanes, IsWideCell, cells_in, code_in, has_in, plane_bit, read_cell}
 use Rattle.bw_file.proofs.PlaneEnds.{length-plane_cells, plane_cell}
@@ -95,3 +95,30 @@ module _ (rows at n : ℕ) (base : ℤ) (k : ℕ) (present planes : List ℕ) (i
         by false e g q =
             let read : cell (at + r) ≡ None = ap (λ b. if b then Some (base +ℤ pos (code_in k (presence_size rows) planes (at + r))) else None) (sym e) in
             g ∙ code_of_null rows k present planes (at + r) are (omega (arith, inside, h)) (sym e) ∙ sym (ap (distance_from z) read)
+
+    -- the words of planes have the bits of the distances from the column's own base
+    pub plane_bits : (word r b : ℕ) → b < k → k ≤ 64 → bit_of word r ≡ ((plane_bit (presence_size rows) planes (k - 1 - b) (at + r) == 1) && ltb r n) → bit_of word r ≡ bit_of (get_or (map (distance_from base) run) r 0) b
+    plane_bits word r b low narrow is =
+        is
+        ∙ elim (cases_lt r n) [
+          | inl here ↦
+              let place : k - 1 - (k - 1 - b) ≡ b = omega (arith, low) in
+              let up : 0 ≡ (cast_unsigned w64 base + (2 ^ 64 - cast_unsigned w64 base)) % 2 ^ 64 = omega (arith, ints, fits) in
+              let code_is : code ≡ distance_from base (cell (at + r)) = lifted base 0 r code (has_in present (at + r)) fits here refl up (same (has_in present (at + r))) in
+              ap (λ t. F (k - 1 - b) && t) (lt-ltb r n here) ∙ and_true (F (k - 1 - b))
+              ∙ sym (number_bit F k (k - 1 - b) (omega (arith, low))) ∙ ap (bit_of code) place
+              ∙ ap (λ c. bit_of c b) (code_is ∙ ap (distance_from base) (sym (cell_of_run r here)) ∙ sym (get_or-map (distance_from base) run r None 0 (omega (arith, here, length_run))))
+          | inr past ↦
+              and_right (F (k - 1 - b)) (ltb r n) (le-ltb r n past)
+              ∙ sym (bit_of_zero b) ∙ ap (λ c. bit_of c b) (sym (get_or-eq_default (map (distance_from base) run) 0 (omega (arith, past, length_run, length-map run (distance_from base)))))
+        ]
+      where
+        F : ℕ → Bool
+        F p = plane_bit (presence_size rows) planes p (at + r) == 1
+
+        code : ℕ
+        code = code_in k (presence_size rows) planes (at + r)
+
+        same : (t : Bool) → code ≡ (if t then (code + 0) % 2 ^ 64 else code)
+        same true = omega (arith, number_fits F k 64 narrow)
+        same false = refl

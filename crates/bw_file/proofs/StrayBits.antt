@@ -52,7 +52,7 @@ or_none a b e = (
 not_there : (t i : ℕ) → t < 256 → i < 8 → bit_of (255 - t) i ≡ not (bit_of t i)
 not_there t i small low = grind (arith, bit_at_not w8 t i small low, bit_at-lt t i)
 
-stray_bit : (w t i : ℕ) → t < 256 → i < 8 → bit_of (bit_and w (255 - t)) i ≡ (bit_of w i && not (bit_of t i))
+pub stray_bit : (w t i : ℕ) → t < 256 → i < 8 → bit_of (bit_and w (255 - t)) i ≡ (bit_of w i && not (bit_of t i))
 stray_bit w t i small low = bit_of_and w (255 - t) i ∙ ap (λ x. bit_of w i && x) (not_there t i small low)
 
 -- where a byte has no bit beyond another, it has none where that has none

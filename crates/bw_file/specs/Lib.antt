@@ -1,4 +1,5 @@
 pub mod Cells
+pub mod Descents
 pub mod Format
 pub mod Headers
 pub mod Lent

@@ -8,12 +8,12 @@ ghost use Rattle.bw_code.specs.declared.ends.Ends.{Ends as AnyEnds};
 ghost use Rattle.bw_code.specs.Headers.{row_limit};
 ghost use Rattle.bw_file.specs.Cells.{presence_size};
 ghost use Rattle.bw_file.specs.Planes.{cells_in, code_in, has_in};
+ghost use Rattle.bw_file.specs.Reading.{HasNoSpareBit};
 ghost use Rattle.bw_file.specs.declared.code_ends.Values.TheVariants as found;
 ghost use Rattle.bw_vertical.specs.Descents.{AreCodeEnds};
 
-use crate::descent::run_ends;
-use crate::planes::RUN;
-use crate::row_bits::bits_of_rows;
+use crate::block::{BLOCK, block_of};
+use crate::descent::block_ends;
 use bw_code::{ColumnType, Ends};
 use bw_vertical::CodeEnds;
 
@@ -22,16 +22,16 @@ pub(crate) fn code_ends(present: &[u8], planes: &[u8], rows: usize, k: usize) ->
     requires narrow { k ≤ 64 }
     requires few { rows ≤ row_limit }
     requires present { length present.now ≡ presence_size rows }
+    requires spare { HasNoSpareBit rows present.now }
     requires planes { length planes.now ≡ k * presence_size rows }
     ensures { AreCodeEnds (has_in present.now) (code_in k (presence_size rows) planes.now) rows result }
 {
     let size = rows.div_ceil(8);
     let mut ends = CodeEnds::none();
-    'runs: for r in 0..rows.div_ceil(RUN) {
-        let at = r * RUN;
-        let count = (rows - at).min(RUN);
-        let there = bits_of_rows(present, at, count);
-        ends = ends.with(run_ends(planes, size, k, at, count, there));
+    'runs: for b in 0..size.div_ceil(BLOCK) {
+        let from = b * BLOCK;
+        let there = block_of(present, from, (size - from).min(BLOCK));
+        ends = ends.with(block_ends(planes, size, k, from, &there));
     }
     ends
 }
@@ -75,6 +75,7 @@ pub(crate) fn values_in(
     requires narrow { k ≤ 64 }
     requires few { rows ≤ row_limit }
     requires present { length present.now ≡ presence_size rows }
+    requires spare { HasNoSpareBit rows present.now }
     requires planes { length planes.now ≡ k * presence_size rows }
     ensures typed { (ends : Option AnyEnds) → result ≡ found.OfType ends → All (IsNullOrOfType column_type) (cells_in rows base k present.now planes.now) }
     ensures ends { (ends : Option AnyEnds) → result ≡ found.OfType ends → AreEnds (known (cells_in rows base k present.now planes.now)) ends }

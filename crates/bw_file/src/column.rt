@@ -129,6 +129,7 @@ impl<'a> Measured for FileColumn<'a> {
             LentColumn::Planes(column) => column.distances(at, base, out),
         }
     }
+
     fn planes(
         &self,
         at: usize,

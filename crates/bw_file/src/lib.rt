@@ -3,6 +3,7 @@
 //! is read in runs of cells: neither makes a second copy of the cells.
 #![tactic(auto)]
 
+mod block;
 mod cells;
 mod code_ends;
 mod codes;

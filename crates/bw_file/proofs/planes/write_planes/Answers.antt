@@ -31,7 +31,7 @@ runs-preserved g c =
     let room : length part ≡ presence_size n =
     omega (arith, length-take (c.div_ceil.result - at / 8) (drop (at / 8) c.runs.present), length-drop (at / 8) c.runs.present, inv.present, c.div_ceil.ensures, c.min-end.ensures, below) in
     let wrote : c.write_presence.new.out ≡ presence_bytes (presence_size n) run =
-    c.write_presence.ensures run c.planes-bits.ensures.present ∙ ap (λ m. presence_bytes m run) room in
+    c.write_presence.ensures run c.planes_at-bits.ensures.present ∙ ap (λ m. presence_bytes m run) room in
     record {
       present = search rules;
       written = bits_next cells c.runs.r c.args.rows c.min-end.result c.requires.count below c.min-end.ensures c.runs.present c.write_presence.new.out _ inv.present wrote inv.written;
@@ -53,7 +53,7 @@ runs-preserved g c =
                 let r : i - at < 64 = omega (arith, m, here) in
                 let is : (plane_bit (presence_size c.args.rows) new p i == 1) ≡ bit_of (get_or (map (distance_from base) (take n (drop at cells))) (i - at) 0) (k - 1 - p) =
                 ap (λ s. plane_bit s new p i == 1) (sym size_is) ∙ c.put_words.ensures.inside p i h there here (omega (arith, m))
-                ∙ c.planes-bits.ensures.planes (k - 1 - p) (i - at) b r ∙ ap (λ z. bit_of (get_or (map (distance_from z) run) (i - at) 0) (k - 1 - p)) same in
+                ∙ c.planes_at-bits.ensures.planes (k - 1 - p) (i - at) b r ∙ ap (λ z. bit_of (get_or (map (distance_from z) run) (i - at) 0) (k - 1 - p)) same in
                 bit_is base k cells fits c.requires.near (plane_bit (presence_size c.args.rows) new p i) at n i p (bit_at-lt (get_or new (p * presence_size c.args.rows + i / 8) 0) (i % 8)) here ends is
                 ∙ ap (λ z. bit_in z (k - 1 - p) (get_or cells i None)) (sym same)
           ];
