@@ -9,7 +9,7 @@ from unittest import mock
 import bitcol
 from bitcol import cluster
 from bitcol.cluster import direct, holding, questions
-from bitcol.cluster.holding import opened
+from bitcol.cluster.programs import opened
 from bitcol.cluster.questions import Questions
 
 from .support import ClusterTestCase, PartsTestCase

@@ -18,9 +18,9 @@ from ..script import FILE_NAME_BYTES
 from ..session import Session
 from ..table_file import FILE_BYTES, headers_of
 from .csv_records import cut
-from .holding import Place, named, opened
 from .manifest import Column, Ends, Part, digest_of
 from .merge import REFUSED
+from .programs import Place, named, opened
 
 _Made = TypeVar("_Made")
 _RECORD_NUMBER = re.compile(r"record (\d+)")
