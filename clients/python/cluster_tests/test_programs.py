@@ -144,6 +144,7 @@ class Programs(PartsTestCase):
         table, one = self.both("a INT, b INT", small_parts(PARTS - 4), together=PARTS)
         (program,) = programs_of(table)
         table.answer(QUESTIONS[0])
+        process = process_of(program)
         for number in range(3 * PARTS):
             change = f"UPDATE t SET b = {number} WHERE a = {number % (PARTS - 4) * 5}"
             self.assertEqual([table.answer(change)], one.answers([change]))
@@ -152,7 +153,7 @@ class Programs(PartsTestCase):
         # Those that were left last are dropped by the next question.
         self.same(table, one, QUESTIONS[0])
         self.assertEqual(len(program._session.tables()), len(table.manifest.parts))  # type: ignore[union-attr]
-        process = process_of(program)
+        self.assertEqual(process_of(program), process)
         del table, program
         self.assertFalse(Path(f"/proc/{process}").exists())
 
@@ -236,9 +237,9 @@ class Faults(PartsTestCase):
         """A question of another thread takes longer than this one may."""
         table, _ = self.both("a INT, b INT", small_parts(2), together=2)
         (program,) = programs_of(table)
+        statement, told = "SELECT SUM(a) FROM t", "longer than it may"
         with program._turn(None):
-            ask = lambda: table.sql("SELECT SUM(a) FROM t", seconds=0.2)  # noqa: E731
-            error = self.refused("longer than it may", ask, bitcol.OutOfTime)
+            error = self.refused(told, lambda: table.sql(statement, seconds=0.2), bitcol.OutOfTime)
         self.assertIn(table.manifest.parts[0].file, str(error))
         self.assertEqual(table.sql("SELECT COUNT(*) FROM t", seconds=30).scalar(), 8)
 
@@ -258,6 +259,26 @@ class Faults(PartsTestCase):
                 self.assertIn(table.manifest.parts[2].file, str(error))
             self.assertEqual(table.sql("SELECT COUNT(*) FROM t WHERE a < 10").scalar(), 8)
         self.same(table, one, QUESTIONS[0])
+
+    def test_no_memory_to_open_a_part(self) -> None:
+        """The part is named. Those that are open in the same program stay so."""
+        table, one = self.both("a INT, b INT", small_parts(4), together=4)
+        self.same(table, one, "SELECT COUNT(*) FROM t WHERE a < 10")
+        (program,) = programs_of(table)
+        process, put = process_of(program), Session.put_table
+
+        def short(session: Session, name: str, data: bytes) -> int:
+            if name == "C":
+                raise bitcol.StoreRefused(90, "out of memory")
+            return put(session, name, data)
+
+        with mock.patch.object(Session, "put_table", short):
+            for statement in QUESTIONS:
+                error = self.refused("out of memory", lambda: table.answer(statement), bitcol.StoreRefused)
+                self.assertIn(table.manifest.parts[2].file, str(error))
+            self.same(table, one, "SELECT COUNT(*) FROM t WHERE a < 10")
+        self.same(table, one, QUESTIONS[0])
+        self.assertEqual(process_of(program), process)
 
     def test_a_damaged_part_among_others(self) -> None:
         """It is named when it is opened; those that are open in the same program stay so."""
@@ -292,9 +313,9 @@ class Objects(PartsTestCase):
         parts: list[Part] = [*table.manifest.parts[::2], *table.manifest.parts[1::2]]
         holding = Holding(table._place, parts)
         self.assertEqual(len({id(part.program) for part in holding._open}), 4)
-        found = holding.answers([7, 0, 2, 5], ["SELECT MIN(a) FROM t", "SELECT MAX(a) FROM t"], None)
+        found = holding.answers([7, 0, 1, 4, 3], ["SELECT MIN(a) FROM t", "SELECT MAX(a) FROM t"], None)
         wanted = [[b"MIN(A)\n%d\nrows 1\n" % (5 * number), b"MAX(A)\n%d\nrows 1\n" % (5 * number + 3)]
-                  for number in (7, 0, 4, 3)]
+                  for number in (7, 0, 2, 1, 6)]
         self.assertEqual(found, wanted)
 
 
