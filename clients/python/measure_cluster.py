@@ -111,6 +111,8 @@ def load(one: bitcol.Session, clients: dict[int, Client], folder: Path, files: S
         for workers, client in clients.items():
             table = cluster.create(client, folder / f"load-{workers}-{number}", "t", DEFINITION)
             took.setdefault(f"{workers} workers", []).append(timed(lambda: table.load(files))[0])
+            # Workers open the parts after the call. The next one is not to be measured meanwhile.
+            wait([group.holding for group in table._questions.groups])
             del table
     alone, saved = median(took[ONE]), median(took[f"{ONE}, and SAVE"])
     print(f"LOAD of {len(files)} CSV files, middle of 3:", flush=True)

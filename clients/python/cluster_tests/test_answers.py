@@ -9,10 +9,10 @@ from unittest import mock
 import bitcol
 from bitcol import cluster
 from bitcol.cluster import direct, holding, questions
-from bitcol.cluster.holding import opened
+from bitcol.cluster.programs import opened
 from bitcol.cluster.questions import Questions
 
-from .support import ClusterTestCase, PartsTestCase
+from .support import ClusterTestCase, PartsTestCase, start_cluster
 
 try:
     from distributed import wait
@@ -165,6 +165,23 @@ class AnswersOfWorkers(ClusterTestCase, Answers):
         with mock.patch.object(self.client.rpc, "connect", connect_to_no_worker):
             self.assertEqual([again.answer(statement) for statement in statements], found)
         self.assertIn(len(refused), range(1, self.WORKERS + 1))
+
+    def test_where_parts_lie_is_asked_once(self) -> None:
+        """It is asked again where a worker holds them no more, or is gone."""
+        workers, client = start_cluster(2)
+        self.addCleanup(workers.close)
+        self.addCleanup(client.close)
+        self.both("a INT", [[(number,)] for number in range(8)])
+        table = cluster.open(client, self.folder / "table", together=2)
+        wait([group.holding for group in table._questions.groups])
+        with mock.patch.object(client, "who_has", side_effect=client.who_has) as asked:
+            for _ in range(3):
+                self.assertEqual(table.sql("SELECT SUM(a) FROM t").scalar(), 28)
+            self.assertEqual(asked.call_count, 1)
+            client.retire_workers([min(client.scheduler_info()["workers"])])
+            for _ in range(4):
+                self.assertEqual(table.sql("SELECT SUM(a), MEDIAN(a) FROM t").rows(), [(28, 3)])
+            self.assertEqual(set(table._questions._calls._addresses.values()), set(client.scheduler_info()["workers"]))
 
     # What takes many rounds, or no worker, is asked in this process alone.
     test_long_and_deep_statements = test_other_statements = test_medians = None  # type: ignore[assignment]

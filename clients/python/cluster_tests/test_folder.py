@@ -14,7 +14,7 @@ from unittest import mock
 import bitcol
 from bitcol import cluster
 from bitcol.cluster import manifest as manifests
-from bitcol.cluster.storage import HostFolder, RemoteFolder, storage_of
+from bitcol.cluster.storage import UNFINISHED, HostFolder, RemoteFolder, storage_of
 
 from .support import PartsTestCase, write_csv
 
@@ -24,13 +24,24 @@ class Host(PartsTestCase):
         storage = storage_of(self.folder / "new")
         self.assertEqual(storage.names(), [])
         storage.prepare()
-        storage.write("a", b"1")
-        storage.write("a", b"2")
+        storage.write(lambda: "a", b"1")
+        storage.write(lambda: "a", b"2")
         self.assertEqual(storage.read("a"), b"2")
         with self.assertRaises(FileExistsError):
             storage.write_new("a", b"3")
         self.assertEqual((storage.read("a"), storage.names()), (b"2", ["a"]))
         self.refused("No such file", lambda: storage.read("b"), bitcol.OperationalError)
+
+        def name() -> str:
+            """When it is asked for, all bytes are written, and no file is in place."""
+            (unfinished,) = set(storage.names()) - {"a"}
+            self.assertTrue(unfinished.endswith(UNFINISHED))
+            self.assertEqual(storage.read(unfinished), b"12345")
+            return "b"
+
+        storage.write(name, b"12345")
+        self.assertEqual((storage.read("b"), sorted(storage.names())), (b"12345", ["a", "b"]))
+        storage.remove("b")
         self.assertLess(storage.age("a"), 60)
         storage.remove("a")
         storage.remove("a")

@@ -17,7 +17,7 @@ from unittest import mock
 
 import bitcol
 from bitcol import cluster
-from bitcol.cluster.holding import Place
+from bitcol.cluster.programs import Place
 
 from .support import SEED, ClusterTestCase, PartsTestCase, say, write_csv
 

@@ -19,7 +19,7 @@ import bitcol
 from bitcol import cluster
 from bitcol.cluster import median, questions
 from bitcol.cluster.condition import may_be_met
-from bitcol.cluster.holding import opened
+from bitcol.cluster.programs import opened
 from bitcol.cluster.manifest import Manifest, Part
 from bitcol.cluster.select import Select
 

@@ -11,10 +11,10 @@ from ..reply import reply_of
 from ..script import PathLike, path_of
 from . import making
 from .groups import RETRIES
-from .holding import Place
 from .limit import Limit
 from .manifest import Manifest, Part
 from .merge import REFUSED
+from .programs import Place
 
 # An INSERT goes to the last part as long as that has no more rows than these.
 GATHERED_ROWS = 2**20

@@ -28,32 +28,45 @@ Errand = list[tuple[int, str, Sequence[int]]]
 Answers = list[tuple[int, Told]]
 
 
-def asked_directly(
-    client: Any, groups: Sequence[tuple[Group, list[int]]], call: Callable[..., Told], asked: Any, **rest: Any
-) -> list[Told] | None:
-    """What a call gives for each of some groups, or None where that is to be asked by tasks."""
-    if any(group.holding.status != "finished" for group, _ in groups):
-        return None
-    try:
-        errands = _errands(client, groups)
-        if not _unreached.get(client, set()).isdisjoint(errands):
+class Calls:
+    """Calls of a client to the workers that hold the groups of a version. Where these lie is asked once. A worker says
+    itself where it holds one no more; then it is asked again."""
+
+    def __init__(self, client: Any) -> None:
+        self._client = client
+        self._addresses: dict[str, str] = {}
+
+    def asked(
+        self, groups: Sequence[tuple[Group, list[int]]], call: Callable[..., Told], asked: Any, **rest: Any
+    ) -> list[Told] | None:
+        """What a call gives for each of some groups, or None where that is to be asked by tasks."""
+        if any(group.holding.status != "finished" for group, _ in groups):
             return None
-        found = client.sync(_called_all, client, errands, (call, asked, rest))
-    except Exception:
-        # A worker is lost, or can't be reached. Tasks find out which, and tell it where it can't be mended.
-        return None
-    told = {place: each for of_worker in found for place, each in of_worker}
-    return [told[place] for place in range(len(groups))] if len(told) == len(groups) else None
+        try:
+            errands = self._errands(groups)
+            if not _unreached.get(self._client, set()).isdisjoint(errands):
+                return None
+            found = self._client.sync(_called_all, self._client, errands, (call, asked, rest))
+        except Exception:
+            # A worker is lost, or can't be reached. Tasks find out which, and tell it where it can't be mended.
+            self._addresses.clear()
+            return None
+        told = {place: each for of_worker in found for place, each in of_worker}
+        if len(told) < len(groups):
+            self._addresses.clear()
+            return None
+        return [told[place] for place in range(len(groups))]
 
-
-def _errands(client: Any, groups: Sequence[tuple[Group, list[int]]]) -> dict[str, Errand]:
-    """What is asked of each worker, by its address."""
-    where = client.who_has([group.holding for group, _ in groups])
-    errands: dict[str, Errand] = {}
-    for place, (group, which) in enumerate(groups):
-        key = group.holding.key
-        errands.setdefault(where[key][0], []).append((place, key, which))
-    return errands
+    def _errands(self, groups: Sequence[tuple[Group, list[int]]]) -> dict[str, Errand]:
+        """What is asked of each worker, by its address."""
+        unknown = [group.holding for group, _ in groups if group.holding.key not in self._addresses]
+        if unknown:
+            self._addresses.update((key, where[0]) for key, where in self._client.who_has(unknown).items())
+        errands: dict[str, Errand] = {}
+        for place, (group, which) in enumerate(groups):
+            key = group.holding.key
+            errands.setdefault(self._addresses[key], []).append((place, key, which))
+        return errands
 
 
 async def _called_all(client: Any, errands: Mapping[str, Errand], question: tuple[Any, ...]) -> list[Answers]:

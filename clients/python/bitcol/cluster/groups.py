@@ -8,8 +8,9 @@ from dataclasses import dataclass
 from itertools import zip_longest
 from typing import Any
 
-from .holding import Place, hold, key_of
+from .holding import hold, key_of
 from .manifest import Part
+from .programs import Place
 
 # How often dask tries a task again that raised: a process may have been ended from outside.
 RETRIES = 2

@@ -1,129 +1,32 @@
-"""What dask keeps on a worker: parts, each open in a process of its own, and the questions that are put to them."""
+"""What dask keeps on a worker: parts, open in programs, and the questions that are put to them."""
 
 from __future__ import annotations
 
 import hashlib
-import threading
 import time
 import weakref
 from collections.abc import Sequence
-from dataclasses import dataclass
 from typing import Any
 
-from ..errors import (
-    Error,
-    ErrorNumber,
-    InternalError,
-    NotSupportedError,
-    OutOfTime,
-    ProgramEnded,
-    Refused,
-    StoreRefused,
-)
+from ..errors import Error, ErrorNumber, InternalError, NotSupportedError, OutOfTime, StoreRefused
 from ..reply import Reply, reply_of
-from ..session import Session
-from .manifest import Part, read_part
+from .manifest import Part
 from .merge import REFUSED, Folded, folded, groups_of, joined
+from .programs import Place, ask, open_parts
 from .select import Item
-from .storage import Storage
 
-_NO_MEMORY = b"error %d:" % ErrorNumber.OUT_OF_MEMORY
 # Refusals of a statement for its length and its depth, of which a question to parts may have more than what was asked.
 _TOO_MUCH = (ErrorNumber.STATEMENT_TOO_LONG, ErrorNumber.NESTED_TOO_DEEPLY)
-
-
-@dataclass(frozen=True)
-class Place:
-    """Where a table is: its folder and its name in statements."""
-
-    storage: Storage
-    table: str
-
-
-def opened(place: Place, part: Part) -> Session:
-    """A process in which a part is open under the table's name, so that statements reach it as they were written. It
-    opens the bytes that were looked over."""
-    data = read_part(place.storage, part)
-    session = Session()
-    try:
-        session.put_table(place.table, data)
-    except Refused as refusal:
-        session.close()
-        raise named(refusal, place.storage.where(part.file)) from None
-    except BaseException:
-        session.close()
-        raise
-    return session
-
-
-def named(refusal: Refused, where: str) -> Refused:
-    """The refusal, with what it is about before its text."""
-    return type(refusal)(refusal.number, f"{where}: {refusal.text}")
-
-
-class OpenPart:
-    """A part and its process, which is started when it is first asked."""
-
-    def __init__(self, place: Place, part: Part) -> None:
-        self._place, self._part = place, part
-        self._session: Session | None = None
-        self._lock = threading.Lock()
-
-    def answers(self, statements: Sequence[str], deadline: float | None = None) -> list[bytes]:
-        """The bytes of the replies to statements that change nothing. A process that was ended from outside is made
-        anew once. StoreRefused where there was no memory, and OutOfTime, with the part's name."""
-        try:
-            replies = self._asked(statements, deadline)
-        except OutOfTime:
-            raise OutOfTime(f"part {self._name}: the question took longer than it may") from None
-        except ProgramEnded:
-            replies = self._asked(statements, deadline)
-        for reply in replies:
-            if reply.startswith(_NO_MEMORY):
-                raise StoreRefused(ErrorNumber.OUT_OF_MEMORY, f"part {self._name}: out of memory")
-        return replies
-
-    def _asked(self, statements: Sequence[str], deadline: float | None) -> list[bytes]:
-        with self._lock:
-            if self._session is None:
-                self._session = opened(self._place, self._part)
-            session = self._session
-        try:
-            return session.answers(statements, None if deadline is None else max(0.001, deadline - time.monotonic()))
-        except BaseException:
-            with self._lock:
-                if self._session is session:
-                    self._session = None
-            session.close()
-            raise
-
-    @property
-    def _name(self) -> str:
-        return self._place.storage.where(self._part.file)
-
-
-# The parts that are open in this process. A version that shares parts with another shares their processes; nothing is
-# kept open by it.
-_open_parts: weakref.WeakValueDictionary[tuple[Place, str], OpenPart] = weakref.WeakValueDictionary()
-_opening = threading.Lock()
-
-
-def _open_part(place: Place, part: Part) -> OpenPart:
-    with _opening:
-        found = _open_parts.get((place, part.digest))
-        if found is None:
-            found = _open_parts[place, part.digest] = OpenPart(place, part)
-        return found
 
 
 class Holding:
     """Parts that follow one another in a table, as dask keeps them among a worker's data: an object of the size of
     their files. Pickled it is the names of the files alone. So what dask moves, makes anew after a loss, or spills
-    because memory is short is opened again where it is next asked, and the processes end with the object."""
+    because memory is short is opened again where it is next asked, and what is open ends with the object."""
 
     def __init__(self, place: Place, parts: Sequence[Part]) -> None:
         self._place, self._parts = place, tuple(parts)
-        self._open = [_open_part(place, part) for part in self._parts]
+        self._open = open_parts(place, self._parts)
         _holdings[key_of(place, self._parts)] = self
 
     def __reduce__(self) -> tuple[type[Holding], tuple[Place, tuple[Part, ...]]]:
@@ -134,7 +37,7 @@ class Holding:
 
     def answers(self, which: Sequence[int], statements: Sequence[str], deadline: float | None) -> list[list[bytes]]:
         """The replies of some of the parts, in order."""
-        return [self._open[place].answers(statements, deadline) for place in which]
+        return ask([self._open[place] for place in which], statements, deadline)
 
 
 # What is held in this process, by its name in dask. Nothing is kept by it.

@@ -8,6 +8,7 @@ import os
 import re
 import tempfile
 from collections.abc import Callable, Sequence
+from concurrent.futures import ThreadPoolExecutor
 from dataclasses import dataclass
 from pathlib import Path
 from typing import TypeVar, Union
@@ -18,9 +19,9 @@ from ..script import FILE_NAME_BYTES
 from ..session import Session
 from ..table_file import FILE_BYTES, headers_of
 from .csv_records import cut
-from .holding import Place, named, opened
-from .manifest import Column, Ends, Part, digest_of
+from .manifest import Column, Ends, Part, digest_of, part_file
 from .merge import REFUSED
+from .programs import Place, named, opened
 
 _Made = TypeVar("_Made")
 _RECORD_NUMBER = re.compile(r"record (\d+)")
@@ -161,11 +162,13 @@ def kept(session: Session, place: Place, source: str) -> Part:
     data = session.table_bytes(place.table)
     names = [column.name for column in _columns_of(data)]
     items = [f"COUNT({name}), MIN({name}), MAX({name})" for name in names]
-    rows, *cells = session.execute(f"SELECT COUNT(*), {', '.join(items)} FROM {place.table}").rows()[0]
+    with ThreadPoolExecutor(1) as helper:
+        # The digest is worked out while the host writes.
+        digest = helper.submit(digest_of, data)
+        rows, *cells = session.execute(f"SELECT COUNT(*), {', '.join(items)} FROM {place.table}").rows()[0]
+        place.storage.write(lambda: part_file(digest.result()), data)
     ends = {name: Ends(least, greatest, rows - count) for name, (count, least, greatest) in zip(names, _threes(cells))}
-    part = Part(digest_of(data), rows, len(data), source, ends)
-    place.storage.write(part.file, data)
-    return part
+    return Part(digest.result(), rows, len(data), source, ends)
 
 
 def _threes(cells: list[int]) -> list[tuple[int, int, int]]:

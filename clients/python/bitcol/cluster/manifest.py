@@ -42,7 +42,7 @@ class Part:
     @property
     def file(self) -> str:
         """The name of its file."""
-        return f"{self.digest}.table"
+        return part_file(self.digest)
 
 
 @dataclass(frozen=True)
@@ -78,6 +78,11 @@ class Manifest:
 def manifest_file(version: int) -> str:
     """The name of the file of a version."""
     return f"v{version:08}.json"
+
+
+def part_file(digest: str) -> str:
+    """The name of the file of a part."""
+    return f"{digest}.table"
 
 
 def digest_of(data: Bytes) -> str:

@@ -7,7 +7,8 @@ code merges as they say is tested.
 
 from __future__ import annotations
 
-from collections.abc import Iterable, Sequence
+import operator
+from collections.abc import Callable, Iterable, Sequence
 from typing import Any, Union
 
 from ..errors import InternalError
@@ -42,14 +43,11 @@ def groups_of(reply: bytes, items: Sequence[Item], is_grouped: bool) -> Folded:
     wanted = tuple(item.heading for item in items)
     if found.headings != wanted:
         raise InternalError(f"asked for {wanted}, and answered {found.headings}")
-    medians = [place for place, item in enumerate(items) if item.function == "MEDIAN"]
-    groups: Groups = {}
-    for row in found.rows():
-        cells = list(row)
-        for place in medians:
+    groups: Groups = {row[0] if is_grouped else (): list(row) for row in found.rows()}
+    for place in (place for place, item in enumerate(items) if item.function == "MEDIAN"):
+        for cells in groups.values():
             if cells[place] is not None:
                 cells[place] = (cells[place], cells[place])
-        groups[row[0] if is_grouped else ()] = cells
     return groups
 
 
@@ -57,30 +55,42 @@ def folded(found: Iterable[Folded], items: Sequence[Item]) -> Folded:
     """What several parts, or folds of parts, say together. Laws groups_merge and lines_of_groups_merge: a group of two
     lists, one after the other, is the groups of its value in each, put together, and its line is the merge of both
     lines. Law groups_of_one_list_stay: where one list alone has a group of the value, it is the group of both."""
+    merges = [_MERGES[item.function] for item in items]
     together: Groups = {}
     for groups in found:
         if isinstance(groups, bytes):
             return groups
         for value, cells in groups.items():
             there = together.get(value)
-            together[value] = cells if there is None else [both(*each) for each in zip(items, there, cells)]
+            together[value] = cells if there is None else _both(merges, there, cells)
     return together
 
 
-def both(item: Item, one: Any, other: Any) -> Any:
-    """What an item says of two lists of rows, by what it says of each.
+def _both(merges: Sequence[Callable[[Any, Any], Any]], line: Sequence[Any], other: Sequence[Any]) -> list[Any]:
+    """The line of two lists of rows, by the line of each. Law set_functions_merge: where a cell is NULL in one of them,
+    that of the other is taken."""
+    return [
+        merge(one, two) if one is not None and two is not None else two if one is None else one
+        for merge, one, two in zip(merges, line, other)
+    ]
 
-    Law set_functions_merge: COUNT and SUM of two lists are the sums of those of each, MIN and MAX the lesser and the
-    greater, and where one is NULL the other is taken. Law medians_bound_the_median: the lower median of two lists lies
-    between the lower medians of each; so it lies between the ends of what holds those.
-    """
-    if one is None or other is None:
-        return other if one is None else one
-    if item.function in ("COUNT", "SUM"):
-        return one + other
-    if item.function == "MEDIAN":
-        return min(one[0], other[0]), max(one[1], other[1])
-    return max(one, other) if item.function == "MAX" else min(one, other)
+
+def _wider(one: tuple[int, int], other: tuple[int, int]) -> tuple[int, int]:
+    return min(one[0], other[0]), max(one[1], other[1])
+
+
+# What a function says of two lists of rows, by what it says of each and isn't NULL. Law set_functions_merge: COUNT and
+# SUM of two lists are the sums of those of each, MIN and MAX the lesser and the greater. Law medians_bound_the_median:
+# the lower median of two lists lies between the lower medians of each; so it lies between the ends of what holds those.
+# A column is that of the group, whose value is the same in each.
+_MERGES: dict[str | None, Callable[[Any, Any], Any]] = {
+    "COUNT": operator.add,
+    "SUM": operator.add,
+    "MIN": min,
+    "MAX": max,
+    "MEDIAN": _wider,
+    None: min,
+}
 
 
 def in_order(groups: Groups) -> list[Any]:

@@ -9,7 +9,7 @@ from typing import Any
 from ..errors import InternalError, NotSupportedError
 from ..reply import reply_of
 from .condition import may_be_met
-from .direct import asked_directly
+from .direct import Calls
 from .groups import RETRIES, Group
 from .holding import ask_counts, ask_each, ask_groups, ask_lists, ask_rows, merge_groups, read
 from .limit import Limit, without_errors
@@ -30,6 +30,7 @@ class Questions:
 
     def __init__(self, client: Any, groups: list[Group]) -> None:
         self._client = client
+        self._calls = Calls(client)
         self.groups = groups
         self._asked_of: dict[str, list[tuple[Group, list[int]]]] = {}
 
@@ -176,7 +177,7 @@ class Questions:
         """What is asked of all parts in which a row may be found, a group's together."""
         groups = self._asked_groups(condition)
         if limit.left() is None:
-            found = asked_directly(self._client, groups, call, asked, **rest)
+            found = self._calls.asked(groups, call, asked, **rest)
             if found is not None:
                 return without_errors(found)
         return limit.gathered(self._client, self._tasks(groups, limit, call, asked, **rest))

@@ -34,8 +34,7 @@ class Tokens:
     def __init__(self, statement: str) -> None:
         self._statement = statement
         self._found = [found for found in _TOKEN.finditer(statement) if found[1] is None]
-        # Of other letters than ASCII's some have one of these in upper case.
-        self.words = [found[0].upper() if found[0].isascii() else found[0] for found in self._found]
+        self.words = [_upper(found[0]) for found in self._found]
 
     def between(self, first: int, end: int) -> str:
         """The text from one token up to another, and not the blanks before that."""
@@ -99,10 +98,27 @@ def change_of(statement: str) -> Change | None:
     return Change(words[0], words[place], condition)
 
 
+def around_table(statement: str) -> tuple[str, str, str]:
+    """A SELECT, also after STATS, in three: what stands before the name of its table; the name, in upper case; and what
+    follows. A text without a table is all before."""
+    is_next = False
+    for found in _TOKEN.finditer(statement):
+        if found[1] is None:
+            if is_next:
+                return statement[: found.start()], _upper(found[0]), statement[found.end() :]
+            is_next = found[0].upper() == "FROM"
+    return statement, "", ""
+
+
 def verb_of(statement: str) -> str:
     """The first word of a statement, in upper case."""
     words = Tokens(statement).words
     return words[0] if words else ""
+
+
+def _upper(token: str) -> str:
+    # Of other letters than ASCII's some have one of these in upper case.
+    return token.upper() if token.isascii() else token
 
 
 def _items(words: list[str]) -> list[Item] | None:

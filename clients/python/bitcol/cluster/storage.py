@@ -38,8 +38,9 @@ class Storage(Protocol):
     def read(self, name: str) -> bytes:
         """All that a file holds. OperationalError where it can't be read."""
 
-    def write(self, name: str, data: bytes) -> None:
-        """Puts a file in place, whole or not at all, over one that is there. OperationalError where the host can't."""
+    def write(self, name: Callable[[], str], data: bytes) -> None:
+        """Puts a file in place, whole or not at all, over one that is there. Its name is asked for when all bytes are
+        written, and may be found out meanwhile. OperationalError where the host can't."""
 
     def write_new(self, name: str, data: bytes) -> None:
         """Puts a file in place, whole or not at all. FileExistsError where one of this name is there: of two that come
@@ -85,32 +86,31 @@ class HostFolder:
 
     def names(self) -> list[str]:
         """See Storage."""
-        with self._telling(""):
+        with self._telling(lambda: ""):
             return os.listdir(self._path) if self._path.is_dir() else []
 
     def read(self, name: str) -> bytes:
         """See Storage."""
-        with self._telling(name):
+        with self._telling(lambda: name):
             return (self._path / name).read_bytes()
 
-    def write(self, name: str, data: bytes) -> None:
+    def write(self, name: Callable[[], str], data: bytes) -> None:
         """See Storage. It outlives a loss of power."""
         self._place(name, data, os.replace)
 
     def write_new(self, name: str, data: bytes) -> None:
         """See Storage. A hard link takes no other file's place, as a rename would."""
-        self._place(name, data, os.link)
+        self._place(lambda: name, data, os.link)
 
-    def _place(self, name: str, data: bytes, put: Callable[[Path, Path], None]) -> None:
-        path = self._path / name
-        unfinished = self._path / f"{name}-{secrets.token_hex(4)}{UNFINISHED}"
+    def _place(self, name: Callable[[], str], data: bytes, put: Callable[[Path, Path], None]) -> None:
+        unfinished = self._path / f"{secrets.token_hex(8)}{UNFINISHED}"
         with self._telling(name):
             try:
                 with open(unfinished, "xb") as file:
                     file.write(data)
                     file.flush()
                     os.fsync(file.fileno())
-                put(unfinished, path)
+                put(unfinished, self._path / name())
             finally:
                 unfinished.unlink(missing_ok=True)
             folder = os.open(self._path, os.O_RDONLY)
@@ -120,7 +120,7 @@ class HostFolder:
                 os.close(folder)
 
     @contextlib.contextmanager
-    def _telling(self, name: str) -> Iterator[None]:
+    def _telling(self, name: Callable[[], str]) -> Iterator[None]:
         """Raises OperationalError, with the name of a file, where the host can't do what is done with it. Where a file
         of a new name is there already, it is told as it is."""
         try:
@@ -128,7 +128,7 @@ class HostFolder:
         except FileExistsError:
             raise
         except OSError as fault:
-            raise OperationalError(f"{self.where(name)}: {fault.strerror}") from None
+            raise OperationalError(f"{self.where(name())}: {fault.strerror}") from None
 
     def age(self, name: str) -> float:
         """See Storage."""
@@ -140,7 +140,7 @@ class HostFolder:
 
     def remove(self, name: str) -> None:
         """See Storage."""
-        with self._telling(name):
+        with self._telling(lambda: name):
             (self._path / name).unlink(missing_ok=True)
 
 
@@ -200,10 +200,10 @@ class RemoteFolder:
             raise OperationalError(f"{self.where(name)}: {fault}") from None
         return data
 
-    def write(self, name: str, data: bytes) -> None:
+    def write(self, name: Callable[[], str], data: bytes) -> None:
         """See Storage."""
         system, path = self._system()
-        system.pipe_file(f"{path}/{name}", data)
+        system.pipe_file(f"{path}/{name()}", data)
 
     def write_new(self, name: str, data: bytes) -> None:
         """See Storage."""

@@ -13,10 +13,10 @@ from ..table_file import FILE_BYTES, ROW_LIMIT
 from .changes import Changes
 from .frames import ask_frame, frame_like
 from .groups import grouped
-from .holding import Place
 from .limit import Limit
 from .making import make_empty
 from .manifest import Manifest, Part, read_manifest, versions, write_manifest
+from .programs import Place
 from .questions import Questions
 from .select import Select, change_of, verb_of
 from .storage import UNFINISHED, storage_of
