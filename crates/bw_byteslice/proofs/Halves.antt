@@ -1,11 +1,11 @@
 -- The upper slices and the last four, by themselves: codes of more than 32 bits.
-use Rattle.std.proofs.Common.{Global, List, Vec, [], ap, arith, drop, get_or, length, suc, sym, take, zero, ℕ, ◌%◌, ◌*◌, ◌+◌, ◌-◌, ◌/◌, ◌<◌, ◌^◌, ◌≡◌, ◌≤◌, ◌∙◌}
+use Rattle.std.proofs.Common.{Global, List, Vec, [], ap, arith, drop, get_or, suc, sym, take, zero, ℕ, ◌%◌, ◌*◌, ◌+◌, ◌-◌, ◌/◌, ◌<◌, ◌^◌, ◌≡◌, ◌≤◌, ◌∙◌}
 use Rattle.std.proofs.Math.Nat.{div-div-eq-div-mul}
 use Rattle.std.proofs.Math.Pow.{pow_mono}
 use Rattle.std.proofs.lemmas.List.{drop-map, get_or-drop, get_or-take, take-map}
 use Rattle.std.proofs.lemmas.Nat.{pow-add}
 use Rattle.bw_code.specs.Units.{digit}
-use Rattle.bw_byteslice.specs.Slices.{number_of, shift_of, slices_of}
+use Rattle.bw_byteslice.specs.Slices.{shift_of, slices_of}
 use Rattle.bw_byteslice.specs.Storing.{byte_of, bytes_of, code_of, number_at}
 use Rattle.bw_byteslice.proofs.Numbers.{number_join}
 use Rattle.bw_byteslice.proofs.Raised.{pow_bytes}

@@ -1,4 +1,5 @@
 pub mod BitPlanes
+pub mod Blends
 pub mod Bytes
 pub mod Chosen
 pub mod Halves

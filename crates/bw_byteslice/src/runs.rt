@@ -35,10 +35,11 @@ fn put_chosen(kept: &mut [u8], chosen: &[bool], bytes: &[u8])
     ensures put { (r : ℕ) → r < length kept.old → slice_index_or chosen.now r false ≡ true → slice_index kept.new r ≡ slice_index bytes.now r }
     ensures kept { (r : ℕ) → slice_index_or chosen.now r false ≡ false → slice_index kept.new r ≡ slice_index kept.old r }
 {
-    // Both are read, and there is no branch a row, so that bytes are taken side by side.
+    // A choice between two bytes in memory is made a branch for each row. Bits that are kept and put are not, and so bytes are
+    // taken side by side.
     for r in 0..kept.len() {
-        let (own, byte) = (kept[r], bytes[r]);
-        kept[r] = if chosen[r] { byte } else { own };
+        let ones = 0_u8.wrapping_sub(u8::from(chosen[r]));
+        kept[r] = (kept[r] & !ones) | (bytes[r] & ones);
     }
 }
 

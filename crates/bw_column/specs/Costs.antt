@@ -67,7 +67,7 @@ same_layout S P = false
 abbrev pub are_alike : ColumnView → ColumnView → Bool
 are_alike column other = same_layout column.layout other.layout && same_encoding column.encoding other.encoding
 
--- two columns of distances from bases, in layouts of which planes can be read
+-- two columns of distances from bases, neither in plain codes: of every other layout planes can be read, of H too
 abbrev pub have_sums : ColumnView → ColumnView → Bool
 have_sums column other = (is_offset column.encoding && is_offset other.encoding) && not (is_plain column.layout || is_plain other.layout)
 

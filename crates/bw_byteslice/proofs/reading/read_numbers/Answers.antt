@@ -1,7 +1,6 @@
-use Rattle.std.proofs.Common.{List, [], Global, Vec, ap, arith, get_or, length, refl, sym, ℕ, ◌*◌, ◌+◌, ◌/◌, ◌<◌, ◌^◌, ◌≡◌, ◌∙◌}
+use Rattle.std.proofs.Common.{List, [], Global, Vec, ap, arith, get_or, length, refl, sym, ℕ, ◌+◌, ◌/◌, ◌<◌, ◌^◌, ◌≡◌, ◌∙◌}
 use Rattle.std.proofs.Math.Nat.{zero-div}
-use Rattle.bw_byteslice.specs.Slices.{number_of, shift_of, slices_of}
-use Rattle.bw_byteslice.specs.Storing.{byte_of, bytes_of, code_of, number_at}
+use Rattle.bw_byteslice.specs.Storing.{byte_of, bytes_of, number_at}
 use Rattle.bw_byteslice.proofs.Numbers.{number_none, number_of_four, number_of_one, number_of_three, number_of_two}
 use Rattle.bw_byteslice.proofs.Replacing.{read_is}
 use Rattle.bw_byteslice.proofs.reading.read_numbers.Goals as goal

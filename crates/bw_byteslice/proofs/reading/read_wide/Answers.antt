@@ -1,6 +1,6 @@
-use Rattle.std.proofs.Common.{[], ap, arith, drop, get_or, length, length-drop, length-take, sym, take, ℕ, ◌+◌, ◌-◌, ◌<◌, ◌*◌, ◌/◌, ◌^◌, ◌≡◌, ◌∙◌}
-use Rattle.bw_byteslice.specs.Slices.{number_of, shift_of, slices_of}
-use Rattle.bw_byteslice.specs.Storing.{byte_of, bytes_of, number_at}
+use Rattle.std.proofs.Common.{ap, arith, drop, get_or, length, length-drop, length-take, take, ◌+◌, ◌-◌, ◌<◌, ◌*◌, ◌/◌, ◌^◌, ◌≡◌, ◌∙◌}
+use Rattle.bw_byteslice.specs.Slices.{slices_of}
+use Rattle.bw_byteslice.specs.Storing.{bytes_of, number_at}
 use Rattle.bw_byteslice.proofs.Halves.{lower_at, upper_at, wide_code}
 use Rattle.bw_byteslice.proofs.reading.read_wide.Goals as goal
 

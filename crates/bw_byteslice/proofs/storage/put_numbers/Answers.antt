@@ -1,4 +1,4 @@
-use Rattle.std.proofs.Common.{[], List, ap, arith, get_or, length, sym, vec_capacity, ℕ, ◌+◌, ◌<◌, ◌≡◌, ◌≤◌, ◌∙◌}
+use Rattle.std.proofs.Common.{[], ap, arith, get_or, length, sym, vec_capacity, ◌+◌, ◌<◌, ◌≡◌, ◌≤◌, ◌∙◌}
 use Rattle.std.proofs.Math.Seq.{map-set_same}
 use Rattle.bw_code.specs.Units.{digit}
 use Rattle.bw_byteslice.specs.Storing.{byte_of, bytes_of}
