@@ -45,6 +45,7 @@ pub trait Measured: Cells {
     {
         distances_in_run(self, at, base, out)
     }
+
     /// The planes of at most 64 cells from number `at` on, of k bits, where the cells lie as such planes: bit r of word b becomes
     /// bit b of how far cell `at + r` lies above the base, modulo 2^64, and is not set for a NULL, nor past the last cell. What
     /// the words from k on hold is of no account. Bit i of the answer says whether cell `at + i` is an integer; past the last

@@ -2,7 +2,7 @@
 
 ghost use Rattle.std.specs.Prelude.{[], false, slice_index, pos, ◌-ℤ◌, ◌++◌, ◌%◌, ◌/◌, ◌≤◌, ◌^◌, length, slice_index_or, ℕ, ◌*◌, ◌+◌, ◌-◌, ◌<◌, ◌≡◌};
 ghost use Rattle.bw_mask.specs.Masks.{bit_of, len, row_at, row_in};
-ghost use Rattle.bw_code.specs.Columns.{code_at, count, Fit, KeepsShape};
+ghost use Rattle.bw_code.specs.Columns.{code_at, count, Fit, KeepsShape, put_codes};
 ghost use Rattle.bw_code.specs.Shifts.{StaysBelow, shifted};
 ghost use Rattle.bw_code.specs.declared.kind.Layout.TheVariants as layouts;
 ghost use Rattle.bw_code.specs.Units.{segments_of};
@@ -10,6 +10,7 @@ ghost use Rattle.bw_code.specs.Lists.{made};
 ghost use Rattle.bw_vertical.specs.Planes.{code_by, code_in};
 ghost use Rattle.bw_vertical.specs.Storage.{groups_of, planes_in};
 
+use crate::blending::blend_words;
 use crate::growing::{begin_segment, empty_groups, reserve_segments};
 use crate::pair::pair_from;
 use crate::scan::scan_from;
@@ -99,6 +100,22 @@ impl VerticalColumn {
         begin_segment(&mut self.groups, k, self.len);
         blocks::put_planes(&mut self.groups, k, self.len, n, words);
         self.len += n;
+    }
+
+    /// Puts codes at some of n rows from row `at` on, which is the first of a word's: at row at + i, where bit i of the word is
+    /// set, the code of which word b has bit b.
+    #[tactic(auto, using(crate::proofs::Holding::codes_len))]
+    pub fn put_words(&mut self, at: usize, n: usize, rows: u64, words: &[u64; 64])
+        requires word { at % 64 ≡ 0 }
+        requires few { n ≤ 64 }
+        requires there { at + n ≤ count self.old }
+        requires given { (i : ℕ) → n ≤ i → bit_of rows i ≡ false }
+        ensures shape { KeepsShape self.new self.old }
+        ensures codes { self.new.codes ≡ put_codes self.old.codes at rows (made n (code_by self.old.width words.now)) }
+    {
+        if at < self.len {
+            blend_words(&mut self.groups, self.width as usize, at / 64, words, rows);
+        }
     }
 
     /// Counts the code of each of the rows from another base. Each of them then is a code of the column's width, too. Takes no

@@ -26,4 +26,5 @@ pub use column::VerticalColumn;
 pub use descent::word_ends;
 pub use pair::pair_from;
 pub use scan::scan_from;
+pub use shifting::shift_words;
 pub use source::PlaneSource;

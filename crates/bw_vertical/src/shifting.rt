@@ -2,8 +2,9 @@
 //! lowest up.
 
 ghost use Rattle.std.specs.Int.{bit_at};
-ghost use Rattle.std.specs.Prelude.{if◌then◌else◌, vec_len, ℕ, ◌%◌, ◌*◌, ◌+◌, ◌-◌, ◌/◌, ◌<◌, ◌^◌, ◌≡◌, ◌≢◌, ◌≤◌};
+ghost use Rattle.std.specs.Prelude.{if◌then◌else◌, slice_index, vec_len, ℕ, ◌%◌, ◌*◌, ◌+◌, ◌-◌, ◌/◌, ◌<◌, ◌^◌, ◌≡◌, ◌≢◌, ◌≤◌};
 ghost use Rattle.bw_mask.specs.Masks.{bit_of, len as mask_len, row_at};
+ghost use Rattle.bw_vertical.specs.Planes.{code_by};
 ghost use Rattle.bw_vertical.specs.Storage.{AreGroups, HasSegment, KeepsSizes, code_of, groups_of, is_set, lists, word_of};
 
 use crate::storage::{put_word, word_at};
@@ -44,6 +45,21 @@ pub(crate) fn shift_word(groups: &mut Vec<Vec<[u64; 4]>>, k: usize, w: usize, ro
         let (sum, next) = add_bits(plane, rows_where(rows, by, n), carry);
         put_word(groups, k, i, w, sum);
         carry = next;
+    }
+}
+
+/// Words of which word b holds bit b of a number below 2^`own` in each of 64 rows come to hold the k lowest bits of it, once so
+/// much is added in these rows.
+pub fn shift_words(words: &mut [u64; 64], own: usize, k: usize, rows: u64, by: u64)
+    requires narrow { k ≤ 64 }
+    ensures { (b r : ℕ) → b < k → r < 64 → bit_of (slice_index words.new b) r ≡ bit_of (code_by own words.old r + (if bit_of rows r then by else 0)) b }
+{
+    let mut carry = 0;
+    for b in 0..k {
+        let plane = if b < own { words[b] } else { 0 };
+        let (sum, above) = add_bits(plane, rows_where(rows, by, b), carry);
+        words[b] = sum;
+        carry = above;
     }
 }
 
