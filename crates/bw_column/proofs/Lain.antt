@@ -1,5 +1,5 @@
 -- Cells whose planes lie in words.
-use Rattle.std.proofs.Common.{Bool, FitsSigned, List, None, Option, ap, arith, cond, drop, false, get_or, inl, inr, is_some, length, length-drop, length-take, map, sym, take, w64, ℕ, ℤ, ◌+◌, ◌<◌, ◌^◌, ◌≡◌, ◌≤◌, ◌∙◌, ◌⊎◌}
+use Rattle.std.proofs.Common.{FitsSigned, List, None, Option, ap, arith, cond, drop, false, get_or, inl, inr, is_some, length, length-drop, length-take, map, sym, take, w64, ℕ, ℤ, ◌+◌, ◌<◌, ◌^◌, ◌≡◌, ◌≤◌, ◌∙◌, ◌⊎◌}
 use Rattle.std.specs.List.{All}
 use Rattle.std.proofs.Math.ListN.{get_or-eq_default}
 use Rattle.std.proofs.lemmas.Nat.Bits.{same_from_bits_below}
@@ -11,7 +11,7 @@ use Rattle.bw_cells.specs.Distances.{distance_from}
 use Rattle.bw_code.specs.Lists.{made}
 use Rattle.bw_code.specs.declared.encoding.Encoding.TheVariants as by
 use Rattle.bw_code.specs.declared.offset.Offset.{Offset}
-use Rattle.bw_code.proofs.Lists.{made_is, made_len}
+use Rattle.bw_code.proofs.Lists.{made_is}
 use Rattle.bw_column.specs.Codes.{IsCoded, codes_for}
 use Rattle.bw_column.specs.PlaneSources.{ArePlanesOf}
 use Rattle.bw_column.specs.Values.{IsNullOrStorable}

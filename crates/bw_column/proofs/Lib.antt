@@ -14,6 +14,7 @@ pub mod Known
 pub mod Lain
 pub mod Listed
 pub mod Masked
+pub mod MaskedPlanes
 pub mod Measuring
 pub mod Narrow
 pub mod Ordered
@@ -25,6 +26,7 @@ pub mod Repeated
 pub mod Rises
 pub mod Rows
 pub mod Scans
+pub mod ShiftedPlanes
 pub mod Shifting
 pub mod Spanned
 pub mod Spreads

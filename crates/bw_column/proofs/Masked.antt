@@ -40,11 +40,11 @@ masked_is places values long =
     }
 
 -- a bit beside one that is set, or not
-and-true-r : (b : Bool) → (b && true) ≡ b
+pub and-true-r : (b : Bool) → (b && true) ≡ b
 and-true-r true = refl
 and-true-r false = refl
 
-and-false-r : (b : Bool) → (b && false) ≡ false
+pub and-false-r : (b : Bool) → (b && false) ≡ false
 and-false-r true = refl
 and-false-r false = refl
 

@@ -1,18 +1,17 @@
 //! Values taken over from another column, word by word and by their codes.
 
-ghost use Rattle.std.specs.Prelude.{All, IfOk, IfSome, IsTrue, List, Option, [], drop, false, if◌then◌else◌, length, slice_index, take, ℕ, ℤ, ◌%◌, ◌&&◌, ◌+◌, ◌<◌, ◌^◌, ◌↔◌, ◌≡◌, ◌≤◌};
+ghost use Rattle.std.specs.Prelude.{All, IfOk, IfSome, IsTrue, List, Option, [], drop, false, if◌then◌else◌, length, slice_index, take, ℕ, ℤ, ◌%◌, ◌&&◌, ◌++◌, ◌+◌, ◌<◌, ◌^◌, ◌↔◌, ◌≡◌, ◌≤◌};
 ghost use Rattle.bw_mask.specs.Masks.{bit_of, len};
 ghost use Rattle.bw_code.specs.Encodings.{IsWithin, kind_of};
 ghost use Rattle.bw_code.specs.Fittings.{AreEnds};
 ghost use Rattle.bw_code.specs.declared.encoding.Encoding.TheVariants as by;
 ghost use Rattle.bw_code.specs.declared.kind.Kind.TheVariants as kind;
-ghost use Rattle.bw_code.specs.declared.kind.Layout.TheVariants as layouts;
 ghost use Rattle.bw_column.specs.Codes.{IsCoded};
 ghost use Rattle.bw_column.specs.Columns.{Keeps};
 ghost use Rattle.bw_column.specs.Copies.{IsMasked, masked};
 ghost use Rattle.bw_column.specs.Places.{chosen_values, overwritten, put_values};
 ghost use Rattle.bw_column.specs.Preparing.{IsEncodingFor, IsPreparedFor};
-ghost use Rattle.bw_column.specs.Values.{IsNullOrHeld, known};
+ghost use Rattle.bw_column.specs.Values.{IsNullOrHeld, known, widest};
 
 use crate::change::Prepared;
 use crate::codes::greatest_code;
@@ -65,8 +64,32 @@ fn keep_rows(codes: &mut [u64], present: u64, rows: u64) -> u64
     kept
 }
 
+/// Words of planes of those rows alone whose bit is set both times. Answers which rows are left.
+#[tactic(auto, using(bw_mask::proofs::Bits::bit_of_and))]
+fn keep_bits(words: &mut [u64; 64], present: u64, rows: u64) -> u64
+    ensures each { (b r : ℕ) → b < 64 → bit_of (slice_index words.new b) r ≡ (bit_of (slice_index words.old b) r && bit_of rows r) }
+    ensures kept { (r : ℕ) → bit_of result r ≡ (bit_of present r && bit_of rows r) }
+{
+    for b in 0..64 {
+        words[b] &= rows;
+    }
+    present & rows
+}
+
+/// The layout of a copy: planes stay planes, and all else is copied in plain codes.
+fn copied_layout(layout: Layout) -> Layout
+    ensures held { (values : List (Option ℤ)) → All (IsNullOrHeld layout) values → All (IsNullOrHeld result) values }
+    ensures wide { widest layout ≤ widest result }
+{
+    if layout == Layout::V {
+        Layout::V
+    } else {
+        Layout::P
+    }
+}
+
 impl Column {
-    /// A copy of the values in the rows of a mask in plain codes, and NULL in the other rows. It keeps the values while the
+    /// A copy of the values in the rows of a mask in planes or plain codes, and NULL in the other rows. It keeps the values while the
     /// columns change. The column is of kind OFFSET; of a DICTIONARY there is no copy.
     pub fn copy_at(&self, alloc: Global, places: &Mask) -> Result<Option<Column>, AllocError>
         requires { len places.now ≡ length self.now.values }
@@ -81,7 +104,8 @@ impl Column {
             return Ok(None);
         };
         let encoding = Encoding::Offset(offset);
-        let mut copy = Column::with_room(alloc, Layout::P, encoding, self.len())?;
+        let layout = copied_layout(self.layout());
+        let mut copy = Column::with_room(alloc, layout, encoding, self.len())?;
         copy.extend_masked(offset, self, places);
         Ok(Some(copy))
     }
@@ -90,25 +114,84 @@ impl Column {
     fn extend_masked(&mut self, offset: Offset, other: &Column, places: &Mask)
         requires places { len places.now ≡ length other.now.values }
         requires none { self.old.values ≡ [] }
-        requires layout { self.old.layout ≡ layouts.P }
         requires encoding { self.old.encoding ≡ by.Offset offset }
         requires coded { All (IsCoded (by.Offset offset)) other.now.values }
-        requires held { All (IsNullOrHeld other.now.layout) other.now.values }
+        requires held { All (IsNullOrHeld self.old.layout) other.now.values }
         requires room { length other.now.values ≤ self.old.room }
         requires few { length other.now.values ≤ 2 ^ 24 }
         ensures values { self.new.values ≡ masked places.now other.now.values }
         ensures encoding { self.new.encoding ≡ self.old.encoding }
     {
-        let mut list = [0; 64];
         let mut at = 0;
         while at < other.len() {
             let n = (other.len() - at).min(64);
-            let codes = &mut list[..n];
-            let present = other.distances(at, offset.base, codes);
-            let kept = keep_rows(codes, present, places.bits(at, n));
-            self.extend_rows(codes, kept);
+            self.extend_masked_run(offset, other, places, at, n);
             at += n;
         }
+    }
+
+    /// Adds n of these values from row `at` on, at most 64, by their codes.
+    fn extend_masked_codes(
+        &mut self,
+        offset: Offset,
+        other: &Column,
+        places: &Mask,
+        at: usize,
+        n: usize,
+    )
+        requires places { len places.now ≡ length other.now.values }
+        requires encoding { self.old.encoding ≡ by.Offset offset }
+        requires coded { All (IsCoded (by.Offset offset)) other.now.values }
+        requires held { All (IsNullOrHeld self.old.layout) other.now.values }
+        requires block { n ≤ 64 }
+        requires inside { at + n ≤ length other.now.values }
+        requires room { length self.old.values + n ≤ self.old.room }
+        requires few { length self.old.values + n ≤ 2 ^ 24 }
+        ensures values { self.new.values ≡ self.old.values ++ take n (drop at (masked places.now other.now.values)) }
+        ensures layout { self.new.layout ≡ self.old.layout }
+        ensures encoding { self.new.encoding ≡ self.old.encoding }
+        ensures room { self.old.room ≤ self.new.room }
+    {
+        let mut list = [0; 64];
+        let codes = &mut list[..n];
+        let present = other.distances(at, offset.base, codes);
+        let kept = keep_rows(codes, present, places.bits(at, n));
+        self.extend_rows(codes, kept);
+    }
+
+    /// The same by their planes, where both columns have such.
+    fn extend_masked_run(
+        &mut self,
+        offset: Offset,
+        other: &Column,
+        places: &Mask,
+        at: usize,
+        n: usize,
+    )
+        requires places { len places.now ≡ length other.now.values }
+        requires encoding { self.old.encoding ≡ by.Offset offset }
+        requires coded { All (IsCoded (by.Offset offset)) other.now.values }
+        requires held { All (IsNullOrHeld self.old.layout) other.now.values }
+        requires some { 0 < n }
+        requires block { n ≤ 64 }
+        requires inside { at + n ≤ length other.now.values }
+        requires room { length self.old.values + n ≤ self.old.room }
+        requires few { length self.old.values + n ≤ 2 ^ 24 }
+        ensures values { self.new.values ≡ self.old.values ++ take n (drop at (masked places.now other.now.values)) }
+        ensures layout { self.new.layout ≡ self.old.layout }
+        ensures encoding { self.new.encoding ≡ self.old.encoding }
+        ensures room { self.old.room ≤ self.new.room }
+    {
+        if self.begins_planes() {
+            let mut words = [0; 64];
+            let k = offset.width as usize;
+            if let Some(present) = other.planes(at, n, offset.base, k, &mut words) {
+                let kept = keep_bits(&mut words, present, places.bits(at, n));
+                self.extend_planes(offset, &words, n, kept);
+                return;
+            }
+        }
+        self.extend_masked_codes(offset, other, places, at, n);
     }
 
     /// Makes ready to take a copy's values. Where one of them has no code, what is prepared has the step to an encoding that
@@ -160,8 +243,8 @@ impl Column {
     }
 
     /// Puts a copy's values at some of at most 64 rows from row `at` on, which is the first of a word's: at row at + i where bit
-    /// i of the word is set. Every other row keeps its value.
-    fn copy_rows(&mut self, offset: Offset, at: usize, n: usize, rows: u64, copy: &Column)
+    /// i of the word is set, by their codes. Every other row keeps its value.
+    fn copy_codes(&mut self, offset: Offset, at: usize, n: usize, rows: u64, copy: &Column)
         requires word { at % 64 ≡ 0 }
         requires few { n ≤ 64 }
         requires there { at + n ≤ length self.old.values }
@@ -178,6 +261,31 @@ impl Column {
         let codes = &mut list[..n];
         let present = copy.distances(at, offset.base, codes);
         self.put_coded(at, rows, codes, present);
+    }
+
+    /// The same by their planes, where both columns have such.
+    fn copy_rows(&mut self, offset: Offset, at: usize, n: usize, rows: u64, copy: &Column)
+        requires word { at % 64 ≡ 0 }
+        requires few { n ≤ 64 }
+        requires there { at + n ≤ length self.old.values }
+        requires copied { at + n ≤ length copy.now.values }
+        requires given { (i : ℕ) → n ≤ i → bit_of rows i ≡ false }
+        requires encoding { self.old.encoding ≡ by.Offset offset }
+        requires coded { All (IsCoded self.old.encoding) copy.now.values }
+        requires held { All (IsNullOrHeld self.old.layout) copy.now.values }
+        ensures values { self.new.values ≡ put_values self.old.values at rows (take n (drop at copy.now.values)) }
+        ensures layout { self.new.layout ≡ self.old.layout }
+        ensures encoding { self.new.encoding ≡ self.old.encoding }
+    {
+        if self.layout() == Layout::V {
+            let mut words = [0; 64];
+            let k = offset.width as usize;
+            if let Some(present) = copy.planes(at, n, offset.base, k, &mut words) {
+                self.put_planes(offset, at, n, rows, &words, present);
+                return;
+            }
+        }
+        self.copy_codes(offset, at, n, rows, copy);
     }
 
     /// Puts a copy's values in the set places, those of a word at once.

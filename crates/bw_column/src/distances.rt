@@ -15,12 +15,27 @@ use bw_cells::Measured;
 use bw_code::{Encoding, Ends, Offset};
 use bw_mask::{Mask, has_bit};
 
+/// Adds so much to each number, modulo 2^64.
+fn add_to_each(numbers: &mut [u64], more: u64)
+    ensures count { length numbers.new ≡ length numbers.old }
+    ensures each { (k : ℕ) → k < length numbers.old → slice_index numbers.new k ≡ (slice_index numbers.old k + more) % 2 ^ 64 }
+{
+    for i in 0..numbers.len() {
+        numbers[i] = numbers[i].wrapping_add(more);
+    }
+}
+
 /// Adds so much to each number whose bit is set, modulo 2^64. Each other becomes 0.
 fn add_where_set(numbers: &mut [u64], set: u64, more: u64)
     requires { length numbers.old ≤ 64 }
     ensures count { length numbers.new ≡ length numbers.old }
     ensures each { (k : ℕ) → k < length numbers.old → slice_index numbers.new k ≡ (if bit_of set k then (slice_index numbers.old k + more) % 2 ^ 64 else 0) }
 {
+    // Most words have no null, and then no bit is looked at.
+    if set == u64::MAX {
+        add_to_each(numbers, more);
+        return;
+    }
     // No branch a number, so that numbers are taken side by side.
     for i in 0..numbers.len() {
         let sum = numbers[i].wrapping_add(more);

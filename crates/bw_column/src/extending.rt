@@ -94,7 +94,13 @@ impl Column {
     /// Adds n cells at the end, within the room, so few that their rows lie in one word, by the words of the planes of their
     /// distances from the base. The layout is V.
     #[tactic(auto, using(bw_code::proofs::Lists::made_len))]
-    fn extend_planes(&mut self, offset: Offset, words: &[u64; 64], n: usize, present: u64)
+    pub(crate) fn extend_planes(
+        &mut self,
+        offset: Offset,
+        words: &[u64; 64],
+        n: usize,
+        present: u64,
+    )
         requires layout { self.old.layout ≡ layouts.V }
         requires encoding { self.old.encoding ≡ by.Offset offset }
         requires some { 0 < n }
@@ -138,7 +144,7 @@ impl Column {
 
     /// Whether codes that come next begin a word of planes.
     #[tactic(auto, using(bw_code::proofs::Lists::made_len))]
-    fn begins_planes(&self) -> bool
+    pub(crate) fn begins_planes(&self) -> bool
         ensures { result ≡ true → (self.now.layout ≡ layouts.V) × (length self.now.values % 64 ≡ 0) }
     {
         self.layout() == Layout::V && self.len() % 64 == 0

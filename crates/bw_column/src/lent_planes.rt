@@ -10,7 +10,7 @@ ghost use Rattle.bw_column.specs.Codes.{AreRowCodes, values_from};
 
 use bw_code::{CodeColumn, Offset};
 use bw_mask::Mask;
-use bw_vertical::VerticalColumn;
+use bw_vertical::{VerticalColumn, shift_words};
 
 /// Whether so many rows from row `at` on have the bits of a whole word of a column of so many rows.
 fn is_word(at: usize, count: usize, rows: usize) -> bool
@@ -28,8 +28,8 @@ fn is_frame(offset: Offset, base: i64, k: usize) -> bool
     offset.base == base && offset.width as usize == k
 }
 
-/// The planes of at most 64 rows from row `at` on, of k bits from a base on, where the codes are such planes, and which of the
-/// rows are not null.
+/// The planes of at most 64 rows from row `at` on, of k bits from a base on, where the rows are those of a word, and which of
+/// them are not null. Codes that are counted from another base, or have another width, are shifted plane by plane.
 pub(crate) fn lent_planes(
     offset: Offset,
     codes: &VerticalColumn,
@@ -47,9 +47,17 @@ pub(crate) fn lent_planes(
     ensures planes { IfSome result (λ present. (b r : ℕ) → b < k → r < 64 → bit_of (slice_index words.new b) r ≡ bit_of (slice_index (map (distance_from base) (take n (drop at (values_from (by.Offset offset) codes.now nonnull.now)))) r) b) }
     ensures present { IfSome result (λ present. (i : ℕ) → bit_of present i ≡ is_some (slice_index_or (take n (drop at (values_from (by.Offset offset) codes.now nonnull.now))) i None)) }
 {
-    if !is_frame(offset, base, k) || !is_word(at, n, codes.len()) {
+    if !is_word(at, n, codes.len()) {
         return None;
     }
     codes.read_words(at / 64, words);
-    Some(nonnull.bits(at, n))
+    let present = nonnull.bits(at, n);
+    if !is_frame(offset, base, k) {
+        let more = offset
+            .base
+            .cast_unsigned()
+            .wrapping_sub(base.cast_unsigned());
+        shift_words(words, offset.width as usize, k, present, more);
+    }
+    Some(present)
 }

@@ -1,11 +1,14 @@
 //! Values put at some of 64 rows of a column at a time.
 
-ghost use Rattle.std.specs.Prelude.{All, None, count_by, false, if◌then◌else◌, length, min, slice_index, slice_index_or, ℕ, ◌%◌, ◌+◌, ◌-◌, ◌<◌, ◌^◌, ◌≡◌, ◌≤◌};
+ghost use Rattle.std.specs.Prelude.{All, List, None, Option, count_by, false, if◌then◌else◌, length, min, slice_index, slice_index_or, ℕ, ℤ, ◌%◌, ◌+◌, ◌-◌, ◌<◌, ◌^◌, ◌≡◌, ◌≤◌};
 ghost use Rattle.bw_mask.specs.Masks.{SameShape, bit_of, len, row_at};
 ghost use Rattle.bw_code.specs.Columns.{is_chosen};
 ghost use Rattle.bw_code.specs.Lists.{made};
+ghost use Rattle.bw_code.specs.declared.encoding.Encoding.TheVariants as by;
+ghost use Rattle.bw_code.specs.declared.kind.Layout.TheVariants as layouts;
 ghost use Rattle.bw_column.specs.Codes.{IsCoded, IsRowCode, codes_for, value_from};
 ghost use Rattle.bw_column.specs.Keeping.{AreKept};
+ghost use Rattle.bw_column.specs.PlaneSources.{ArePlanesOf};
 ghost use Rattle.bw_column.specs.Places.{ArePutFrom, overwritten, put_values, rank};
 ghost use Rattle.bw_column.specs.Values.{IsNullOrHeld};
 
@@ -13,6 +16,7 @@ use crate::codes::encode_all;
 use crate::column::Column;
 use crate::kept::KeptCodes;
 use bw_cells::presence;
+use bw_code::Offset;
 use bw_mask::{Mask, has_bit};
 
 /// Below how many set places of a word each is put by itself.
@@ -81,6 +85,32 @@ impl Column {
     {
         self.codes.put_run(at, rows, codes);
         put_presence(&mut self.nonnull, at, codes.len(), rows, present);
+    }
+
+    /// Puts cells at some of n rows from row `at` on, which is the first of a word's, by the words of the planes of their
+    /// distances from the base: at row at + i where bit i of the word is set. Every other row keeps its value. The layout is V.
+    pub(crate) fn put_planes(
+        &mut self,
+        offset: Offset,
+        at: usize,
+        n: usize,
+        rows: u64,
+        words: &[u64; 64],
+        present: u64,
+    )
+        requires layout { self.old.layout ≡ layouts.V }
+        requires encoding { self.old.encoding ≡ by.Offset offset }
+        requires word { at % 64 ≡ 0 }
+        requires few { n ≤ 64 }
+        requires there { at + n ≤ length self.old.values }
+        requires given { (i : ℕ) → n ≤ i → bit_of rows i ≡ false }
+        requires cells { (cells : List (Option ℤ)) × (length cells ≡ n) × All (IsCoded (by.Offset offset)) cells × All (IsNullOrHeld layouts.V) cells × ArePlanesOf offset.width offset.base cells words.now present }
+        ensures values { (cells : List (Option ℤ)) → length cells ≡ n → All (IsCoded (by.Offset offset)) cells → All (IsNullOrHeld layouts.V) cells → ArePlanesOf offset.width offset.base cells words.now present → self.new.values ≡ put_values self.old.values at rows cells }
+        ensures layout { self.new.layout ≡ self.old.layout }
+        ensures encoding { self.new.encoding ≡ self.old.encoding }
+    {
+        self.codes.put_words(at, n, rows, words);
+        put_presence(&mut self.nonnull, at, n, rows, present);
     }
 
     /// Puts values with their codes at some of at most 64 rows from row `at` on, which is the first of a word's: row at + i

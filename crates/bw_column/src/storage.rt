@@ -187,6 +187,23 @@ impl Codes {
         }
     }
 
+    /// Puts codes at some of n rows from row `at` on, those whose bit is set, by the words of their planes. The layout is V.
+    pub(crate) fn put_words(&mut self, at: usize, n: usize, rows: u64, words: &[u64; 64])
+        requires layout { layout_of self.old ≡ layouts.V }
+        requires word { at % 64 ≡ 0 }
+        requires few { n ≤ 64 }
+        requires there { at + n ≤ count (list_of self.old) }
+        requires given { (i : ℕ) → n ≤ i → bit_of rows i ≡ false }
+        ensures layout { layout_of self.new ≡ layout_of self.old }
+        ensures shape { KeepsShape (list_of self.new) (list_of self.old) }
+        ensures codes { (list_of self.new).codes ≡ put_codes (list_of self.old).codes at rows (made n (code_by (list_of self.old).width words.now)) }
+    {
+        match self {
+            Codes::V(codes) => codes.put_words(at, n, rows, words),
+            Codes::P(_) | Codes::H(_) | Codes::S(_) => unreachable!(),
+        }
+    }
+
     pub(crate) fn fill_run(&mut self, at: usize, rows: u64, code: u64)
         requires word { at % 64 ≡ 0 }
         requires inside { at ≤ count (list_of self.old) }
