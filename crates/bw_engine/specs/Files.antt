@@ -52,7 +52,7 @@ RepliesBy (Some name) tables statement answer reply after =
 abbrev pub Replies : Stored → StatementTree → FileAnswer → Reply → Store → Type 0
 Replies tables statement answer reply after = RepliesBy (file_read (file_use (store_of tables) statement)) tables statement answer reply after
 
--- a SAVE that isn't refused hands its bytes out, but where memory is wanting
+-- a SAVE that isn't refused hands its bytes out, but where it runs out of memory
 abbrev pub IsNoSave : FileUse → Reply → Type 0
 IsNoSave (writes name) reply = reply ≡ Refused OutOfMemory
 IsNoSave _ reply = Unit {0}
@@ -72,7 +72,7 @@ abbrev pub Executes : Stored → StatementTree → FileAnswer → Outcome → St
 Executes tables statement answer (outcome.Reply reply) after = Replies tables statement answer reply after × IsNoSave (file_use (store_of tables) statement) reply
 Executes tables statement answer (outcome.Save saving) after = Saves (store_of tables) statement saving after
 
--- P of a value where none of the tests holds; want of memory, or the first test that holds
+-- P of a value where none of the tests holds; out of memory, or the first test that holds
 abbrev pub AnswersFile : {T : Type 0} → Tests → Result T Refusal → (T → Type 0) → Type 0
 AnswersFile tests result P = MatchResult result (λ x. (first_that_holds tests ≡ None) × P x) (λ e. (e ≡ OutOfMemory) ⊎ (first_that_holds tests ≡ Some e))
 

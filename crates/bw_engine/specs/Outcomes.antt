@@ -14,11 +14,11 @@ abbrev pub reply_of : Result Reply Refusal → Reply
 reply_of (Ok reply) = reply
 reply_of (Err e) = Refused e
 
--- the first test that holds; or want of memory, where no test holds that needs no file
+-- the first test that holds; or out of memory, where no test holds that needs no file
 abbrev pub MayRefuseStep : Store → Content → StatementTree → Refusal → Type 0
 MayRefuseStep store said statement e = ((refused_early store statement ≡ None) × (e ≡ OutOfMemory)) ⊎ (first_that_holds (tests_of store said statement) ≡ Some e)
 
--- P of a value where no test holds; else the first test that holds, or, where none of the early ones does, want of memory
+-- P of a value where no test holds; else the first test that holds, or, where none of the early ones does, out of memory
 abbrev pub AnswersAfter : {T : Type 0} → Tests → Tests → Result T Refusal → (T → Type 0) → Type 0
 AnswersAfter early tests result P = MatchResult result (λ x. (first_that_holds tests ≡ None) × P x) (λ e. ((first_that_holds early ≡ None) × (e ≡ OutOfMemory)) ⊎ (first_that_holds tests ≡ Some e))
 

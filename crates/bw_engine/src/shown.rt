@@ -22,8 +22,8 @@ const FEW: u32 = 16;
 /// The values of one column in 64 slots.
 type Run = [Value; 64];
 
-/// The values at these places of each found slot, slot after slot. Refused where memory is wanting: it is asked for
-/// once for the values, and once for a run of each column.
+/// The values at these places of each found slot, slot after slot. Fails where it runs out of memory: it is asked
+/// for once for the values, and once for a run of each column.
 pub(crate) fn found_values(
     alloc: Global,
     table: &Table<Name>,

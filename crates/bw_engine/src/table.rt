@@ -109,7 +109,7 @@ impl Table {
         ROW_LIMIT - self.row_count()
     }
 
-    /// Puts these rows last. Where memory is wanting, nothing changes.
+    /// Puts these rows last. Where it runs out of memory, nothing changes.
     #[tactic(auto, using(crate::proofs::Inserted::not_full))]
     pub(crate) fn insert(&mut self, alloc: Global, rows: &Rows<'_>) -> Result<(), AllocError>
         requires typed { All (IsRowOf (types_of self.old.headers)) rows.now }
@@ -128,7 +128,8 @@ impl Table {
     }
 
     /// Sets columns in the found slots, all at once: a column that is set to another takes what that had before. Refused
-    /// where a value so copied is not of the type of the column that takes it, or memory is wanting; nothing changes then.
+    /// where a value so copied is not of the type of the column that takes it, or it runs out of memory; nothing changes
+    /// then.
     pub(crate) fn update(
         &mut self,
         alloc: Global,
@@ -162,8 +163,8 @@ impl Table {
         self.table.delete(found);
     }
 
-    /// Lays columns anew, as they are chosen to lie: each in a layout that holds its type. Where memory is wanting,
-    /// nothing changes.
+    /// Lays columns anew, as they are chosen to lie: each in a layout that holds its type. Where it runs out of
+    /// memory, nothing changes.
     pub(crate) fn rebuild(
         &mut self,
         alloc: Global,

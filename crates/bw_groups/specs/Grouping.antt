@@ -1,5 +1,5 @@
 -- Rows in groups by the values of a column.
-use Rattle.std.specs.Prelude.{All, Bool, List, None, Option, Some, [], ◌∷◌, count_by, length, map, nat_lt, slice_index, slice_index_or, ℕ, ℤ, ◌<◌, ◌==◌, ◌≡◌, ◌≤◌, ◌^◌}
+use Rattle.std.specs.Prelude.{All, List, None, Option, count_by, length, map, slice_index, slice_index_or, ℕ, ℤ, ◌<◌, ◌==◌, ◌≡◌, ◌≤◌, ◌^◌}
 use Rattle.std.specs.List.{items_where_true}
 use Rattle.bw_model.specs.Groups.{group_values, is_same}
 

@@ -1,6 +1,6 @@
 //! What is told of values one by one.
 
-ghost use Rattle.std.specs.Prelude.{All, IfOk, IsTrue, List, Option, [], length, pos, unsigned_abs, ℕ, ℤ, ◌*◌, ◌+ℤ◌, ◌+◌, ◌++◌, ◌<◌, ◌^◌, ◌∷◌, ◌≡◌, ◌≤◌};
+ghost use Rattle.std.specs.Prelude.{All, IfOk, IsTrue, List, Option, [], false, if◌then◌else◌, length, pos, unsigned_abs, ℕ, ℤ, ◌*◌, ◌+ℤ◌, ◌+◌, ◌++◌, ◌<◌, ◌^◌, ◌∷◌, ◌≡◌, ◌≤◌};
 ghost use Rattle.bw_code.specs.Fittings.{AreEnds};
 ghost use Rattle.bw_cells.specs.SetFunctions.{total};
 ghost use Rattle.bw_groups.specs.Folding.{AreFolds};
@@ -22,10 +22,11 @@ pub(crate) trait Fold: Copy {
     fn none() -> Self
         ensures { tells result [] };
 
-    /// What is told once a value more has come.
-    fn with(self, value: i64) -> Self
-        requires { (values : List ℤ) × (length values < 2 ^ 24) × tells self values }
-        ensures { (values : List ℤ) → length values < 2 ^ 24 → tells self values → tells result (values ++ value ∷ []) };
+    /// What is told once a cell more has come: an integer, or a NULL, whose number is 0.
+    fn with(self, number: i64, is_there: bool) -> Self
+        requires few { (values : List ℤ) × (length values < 2 ^ 24) × tells self values }
+        requires null { is_there ≡ false → number ≡ pos 0 }
+        ensures { (values : List ℤ) → length values < 2 ^ 24 → tells self values → tells result (values ++ (if is_there then number ∷ [] else [])) };
 }
 
 /// How many values there are.
@@ -36,8 +37,8 @@ impl Fold for u32 {
         0
     }
 
-    fn with(self, _value: i64) -> u32 {
-        self + 1
+    fn with(self, _number: i64, is_there: bool) -> u32 {
+        self + u32::from(is_there)
     }
 }
 
@@ -49,8 +50,9 @@ impl Fold for i128 {
         0
     }
 
-    fn with(self, value: i64) -> i128 {
-        add(self, value)
+    // The number of a NULL is 0, so that each is added without a branch.
+    fn with(self, number: i64, _is_there: bool) -> i128 {
+        add(self, number)
     }
 }
 
@@ -62,10 +64,13 @@ impl Fold for Option<Ends> {
         None
     }
 
-    fn with(self, value: i64) -> Option<Ends> {
+    fn with(self, number: i64, is_there: bool) -> Option<Ends> {
+        if !is_there {
+            return self;
+        }
         let ends = Ends {
-            least: value,
-            greatest: value,
+            least: number,
+            greatest: number,
         };
         ends_of_both(self, Some(ends))
     }
@@ -102,10 +107,8 @@ fn fold_run<F: Fold>(folds: &mut Vec<F>, ranks: &[u32], run: &[u64; 64], present
     ensures tells { (rows : List ℕ) (values run_values : List (Option ℤ)) → length values ≡ length rows → length rows + length ranks.now ≤ 2 ^ 24 → IsMeasured (pos 0) run_values (length ranks.now) present run.now → AreFolds F.tells rows values folds.old.items → AreFolds F.tells (rows ++ ranks.now) (values ++ run_values) folds.new.items }
 {
     'rows: for i in 0..ranks.len() {
-        if has_bit(present, i) {
-            let g = ranks[i] as usize;
-            folds[g] = folds[g].with(run[i].cast_signed());
-        }
+        let g = ranks[i] as usize;
+        folds[g] = folds[g].with(run[i].cast_signed(), has_bit(present, i));
     }
 }
 

@@ -1,7 +1,8 @@
 //! The values of a column as numbers of 32 bits that keep their order, that of NULL last.
 
-ghost use Rattle.std.specs.Prelude.{All, FitsSigned, IfOk, IfSome, List, OnOk, Option, if◌then◌else◌, map, pos, ℤ, ◌%◌, ◌++◌, ◌+ℤ◌, ◌<◌, ◌^◌, ◌≡◌, ◌≤◌};
+ghost use Rattle.std.specs.Prelude.{All, FitsSigned, IfOk, IfSome, List, OnOk, Option, if◌then◌else◌, map, pos, slice_index, ℕ, ℤ, ◌%◌, ◌++◌, ◌+ℤ◌, ◌<◌, ◌^◌, ◌≡◌, ◌≤◌};
 ghost use Rattle.std.specs.Int.{w64};
+ghost use Rattle.bw_mask.specs.Masks.{bit_of};
 ghost use Rattle.bw_cells.specs.SetFunctions.{known};
 ghost use Rattle.bw_groups.specs.Runs.{IsMeasured, IsWithin, values_in};
 ghost use Rattle.bw_groups.specs.Scales.{IsBelowNull, number_on, value_on};
@@ -88,6 +89,34 @@ impl Scale {
     }
 }
 
+/// The lowest 32 bits of each.
+fn lowest_bits(run: &[u64; 64]) -> [u32; 64]
+    ensures { (k : ℕ) → k < 64 → slice_index result k ≡ slice_index run.now k % 2 ^ 32 }
+{
+    let mut low = [0; 64];
+    for i in 0..64 {
+        low[i] = (run[i] % (1 << 32)) as u32;
+    }
+    low
+}
+
+/// The numbers of a run's values, by how far each lies above the least.
+fn numbers_of(scale: &Scale, run: &[u64; 64], measured: MeasuredRun) -> [u32; 64]
+    requires { measured.len ≤ 64 }
+    ensures { (k : ℕ) → k < measured.len → slice_index result k ≡ (if bit_of measured.present k then slice_index run.now k % 2 ^ 32 else scale.now.null) }
+{
+    // Most runs are full and have no null, and then no bit is looked at.
+    if measured.present == u64::MAX {
+        return lowest_bits(run);
+    }
+    let mut new = [0; 64];
+    // No branch a value, so that values are taken side by side.
+    'run: for i in 0..measured.len {
+        new[i] = number_where(has_bit(measured.present, i), run[i], scale.null);
+    }
+    new
+}
+
 /// Puts the numbers of a run's values last, by how far each lies above the least.
 fn put_numbers(
     numbers: &mut Vec<u32>,
@@ -98,11 +127,7 @@ fn put_numbers(
     requires { measured.len ≤ 64 }
     ensures { (values : List (Option ℤ)) → IsMeasured scale.now.ends.least values measured.len measured.present run.now → All (IsBelowNull scale.now.ends.least scale.now.null) (known values) → OnOk result (numbers.new.items ≡ numbers.old.items ++ map (number_on scale.now.ends.least scale.now.null) values) }
 {
-    let mut new = [0; 64];
-    // No branch a value, so that values are taken side by side.
-    'run: for i in 0..measured.len {
-        new[i] = number_where(has_bit(measured.present, i), run[i], scale.null);
-    }
+    let new = numbers_of(scale, run, measured);
     numbers.extend_from_slice(&new[..measured.len])?;
     Ok(())
 }

@@ -78,7 +78,7 @@ impl Conversation {
     {
         match self.folder.write(name, bytes) {
             Ok(()) => Ok(()),
-            // Files in memory fail for want of memory alone.
+            // Files in memory fail by running out of memory alone.
             Err(_) => Err(AllocError),
         }
     }
