@@ -46,7 +46,7 @@ pub record KillsFound (condition : Option ConditionTree) (old new : StoredTable)
   pub slots : new.slots ≡ slots_without found old.slots
   pub encodings : new.encodings ≡ old.encodings
 
--- the dead slots are dropped, and each column is built anew
+-- the dead slots are dropped, and each column is rebuilt
 pub record BuildsAnew (clauses : List LayoutChoice) (old new : StoredTable) : Type 0 where
   pub choices : List (ℕ × Choice)
   pub named : AreChoicesFor old.headers clauses choices
