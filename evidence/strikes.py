@@ -24,7 +24,8 @@ LAYOUTS = ("bw_vertical", "bw_horizontal", "bw_byteslice")
 
 @dataclass
 class Clause:
-    """A clause of a function's contract, the thing that it then equates with itself, and the crates whose proofs answer it."""
+    """A clause of a function's contract, the thing that it equates with itself when struck, and the crates whose
+    proofs answer it."""
 
     file: str
     function: str
