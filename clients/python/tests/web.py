@@ -132,7 +132,8 @@ class WebTestCase(ShellTestCase):
         os.kill(self.started_program(number), signal.SIGKILL)
 
     def started_program(self, number: Path) -> int:
-        """The number of the program's process. The program writes it into this file as it starts, so it may come late."""
+        """The number of the program's process. The program writes it into this file as it starts, so it may come
+        late."""
         end = time.monotonic() + SECONDS
         while not (number.exists() and number.read_text().strip()):
             self.assertLess(time.monotonic(), end, "the program doesn't start")
