@@ -86,8 +86,8 @@ class OpenPart:
 
 
 class Program:
-    """A process with a table for each of its parts. It is started when it is first queried, and each part is opened when
-    that part is. If the process was killed from outside, it is started again, once for each query."""
+    """A process with a table for each of its parts. It is started when it is first queried, and each part is opened
+    when that part is. If the process was killed from outside, it is started again, once for each query."""
 
     def __init__(self, place: Place) -> None:
         self._table = place.table
