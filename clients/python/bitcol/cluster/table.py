@@ -176,9 +176,9 @@ class Table:
         return self
 
     def vacuum(self, older_than: float = DAY) -> int:
-        """Removes the versions before this one and the last, the files that neither of these names, and what failed
+        """Removes all versions except this one and the newest, the files that neither of these names, and what failed
         changes left: only files older than `older_than` seconds, since a newer one may be about to be named. Returns
-        their number."""
+        the number of files removed."""
         storage = self._place.storage
         kept = set()
         for manifest in (self.manifest, read_manifest(storage)):

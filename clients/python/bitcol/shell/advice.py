@@ -93,7 +93,7 @@ class Advice:
     @property
     def is_worthwhile(self) -> bool:
         """Whether the REBUILD is advised. One that changes no layout and no kind is, if fewer units are read after it;
-        any other is, unless the SELECTs are slower after it."""
+        any other is, unless the SELECTs take more than `AS_QUICK` times as long after it."""
         if any(tried.best != tried.standing for tried in self.columns):
             return self.rebuilt.seconds <= AS_QUICK * self.standing.seconds
         return self.rebuilt.units < self.standing.units

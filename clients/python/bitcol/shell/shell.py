@@ -137,7 +137,7 @@ class Shell:
         self.console.write(drawn(self._answer, chart, column, self.settings.limit or ROW_LIMIT, canvas))
 
     def catalog(self) -> Catalog:
-        """Returns the tables and their columns, or, while an abandoned call is still running, those from before it."""
+        """Returns the tables and their columns, or, while an abandoned call is still running, those that are known."""
         if self._catalog is None and not self.store.is_busy:
             self._catalog = Catalog(self.store.call(columns_by_table))
         return self._catalog or Catalog()
