@@ -10,7 +10,7 @@ ghost use Rattle.bw_code.specs.Units.{by_words, cost_of, segments_of, side_units
 ghost use Rattle.bw_horizontal.specs.Words.{AreSegments, code_at, code_in, segment_rows};
 
 use crate::gather::{finish, gather};
-use crate::scan::lane_op;
+use crate::word_test::lane_op;
 use bw_code::{CmpOp, Source};
 use bw_lane::{LaneOp, SectionMasks};
 use bw_mask::Mask;
