@@ -1,4 +1,4 @@
-//! Scans of words of sections, a word at a time in the segments that have a needed row (BitWeaving/H: Li and Patel,
+//! Scans of words of sections, one word at a time, in the segments that have a needed row (BitWeaving/H: Li and Patel,
 //! SIGMOD 2013).
 
 ghost use Rattle.std.specs.Prelude.{false, length, nat_lt, ℕ, ◌&&◌, ◌*◌, ◌+◌, ◌<◌, ◌^◌, ◌≡◌, ◌≤◌};
@@ -14,7 +14,7 @@ use bw_code::{CmpOp, CodeTest, Source};
 use bw_lane::{LaneOp, SectionMasks};
 use bw_mask::Mask;
 
-/// The comparison of lanes that compares so.
+/// The comparison of lanes for an operator.
 pub(crate) fn lane_op(op: CmpOp) -> LaneOp
     ensures { (x y : ℕ) → holds result x y ≡ code_compares op x y }
 {
@@ -47,7 +47,7 @@ fn meeting(masks: &SectionMasks, test: CodeTest, word: u64) -> u64
     }
 }
 
-/// The rows of segment q whose code meets the test, the first row lowest.
+/// The rows of segment q whose code meets the test, the first row in bit 0.
 fn rows_meeting<S: Source<u64>>(
     source: &mut S,
     masks: &SectionMasks,
@@ -99,9 +99,8 @@ fn segment<S: Source<u64>>(
     }
 }
 
-/// Scans words of sections: `out` becomes the needed rows whose code meets the test, and of the units so many
-/// are read as `scan_units` says: all words of each segment with a needed row. Unit q * (width + 1) + i is word i of
-/// segment q.
+/// Scans words of sections: `out` becomes the needed rows whose code meets the test. The number of units read is
+/// `scan_units`: all words of each segment with a needed row. Unit q * (width + 1) + i is word i of segment q.
 pub fn scan_from<S: Source<u64>>(
     source: &mut S,
     width: u32,
