@@ -1,5 +1,4 @@
--- The columns of a table file as bytes, version 1: one bit for each row, which says whether its cell is non-null, and then the
--- cells, each of 4 bytes in two's complement, the lowest byte first.
+-- A column of a table file, version 1: one bit per row (cell non-null), then cells of 4 bytes, two's complement, little-endian.
 use Rattle.std.specs.Prelude.{FitsSigned, List, None, Option, Some, [], drop, length, suc, take, zero, ℕ, ℤ, ◌*◌, ◌+◌, ◌++◌, ◌/◌, ◌∷◌, ⊤}
 use Rattle.std.specs.Int.{cast_unsigned, w32}
 use Rattle.std.specs.List.{flat_map}

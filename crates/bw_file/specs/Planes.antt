@@ -1,6 +1,5 @@
--- A column of a table file as bytes, version 2: one bit for each row, which says whether its cell is non-null; the base, 8 bytes
--- in two's complement; the width; and one plane for each bit of the width, that of the highest bit first, each laid out like the
--- bits of the rows. Numbers have the lowest byte first.
+-- A column of a table file, version 2: one bit per row (cell non-null); the base, 8 bytes in two's complement; the width; and
+-- one plane for each bit of the width, highest bit first, laid out like the bits of the rows. Numbers are little-endian.
 use Rattle.std.specs.Prelude.{All, Bool, FitsSigned, List, None, Option, Some, [], drop, fold, if◌then◌else◌, length, map, pos, slice_index, suc, take, zero, ℕ, ℤ, ⊤, ◌%◌, ◌*◌, ◌+ℤ◌, ◌+◌, ◌++◌, ◌-◌, ◌/◌, ◌<◌, ◌==◌, ◌^◌, ◌≡◌, ◌≤ℤ◌, ◌≤◌, ◌∷◌}
 use Rattle.std.specs.Int.{bit_at, cast_unsigned, int_max, int_min, w64}
 use Rattle.std.specs.List.{range_with_len}
