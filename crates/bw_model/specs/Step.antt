@@ -35,7 +35,7 @@ without_table store name = remove_entry (bytes_eq name) store
 abbrev pub with_lines : List Row → Table → Table
 with_lines rows table = record { headers = table.headers; rows = table.rows ++ rows }
 
--- the reply and the store after a statement that isn't refused, given what its file tells it or how many units its condition reads
+-- the reply and the store after a statement that isn't refused, given what its file tells it or the units its condition reads
 abbrev pub carried_out : Store → Content → StatementTree → Reply × Store
 carried_out store said (create_table name columns) = (Done, store ++ (name, record { headers = map header_of columns; rows = [] }) ∷ [])
 carried_out store said (drop_table name) = (Done, without_table store name)
