@@ -17,8 +17,7 @@ bytes_of (text says) = 39 ∷ says ++ 39 ∷ []
 bytes_of (open_text says) = 39 ∷ says
 bytes_of (other b) = b ∷ []
 
--- A piece before this rest: a comment extends to the end of its line, an unclosed text to the end, and any other byte begins no
--- comment, text or cut.
+-- A piece before this rest: a comment takes its line, an unclosed text all bytes; another byte begins no comment, text or cut.
 abbrev pub StandsBefore : List ℕ → Piece → Type 0
 StandsBefore rest (comment says) = IsTrue (has_no 10 says) × ((rest ≡ []) ⊎ IsTrue (begins_with 10 rest))
 StandsBefore rest (text says) = IsTrue (has_no 39 says)
