@@ -290,8 +290,8 @@ impl Codes {
         }
     }
 
-    /// Rebases the code of each of the rows from `from` to `to`, and makes `width` the width of all codes, where they
-    /// lie.
+    /// Changes in place the base of the code of each row in `rows` from `from` to `to`, and the width of all codes to
+    /// `width`.
     pub(crate) fn shift(&mut self, rows: &Mask, from: i64, to: i64, width: u32)
         requires here { ShiftsTo (layout_of self.old) (list_of self.old).width width }
         requires some { 1 ≤ width }

@@ -19,7 +19,7 @@ pub(crate) fn empty_groups(alloc: Global, count: usize) -> Result<Vec<Vec<[u64; 
     Ok(groups)
 }
 
-/// Makes room for the planes of further segments.
+/// Makes room for the planes of `more` further segments.
 pub(crate) fn reserve_segments(
     groups: &mut Vec<Vec<[u64; 4]>>,
     k: usize,

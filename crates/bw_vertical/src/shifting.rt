@@ -26,7 +26,7 @@ pub(crate) fn rows_where(rows: u64, number: u64, n: usize) -> u64
     if number >> n & 1 == 1 { rows } else { 0 }
 }
 
-/// Adds `more` to the codes of these rows of word w, modulo 2^k.
+/// Adds `by` to the codes of these rows of word w, modulo 2^k.
 pub(crate) fn shift_word(groups: &mut Vec<Vec<[u64; 4]>>, k: usize, w: usize, rows: u64, by: u64)
     requires narrow { k ≤ 64 }
     requires small { w < 2 ^ 32 }
@@ -48,7 +48,7 @@ pub(crate) fn shift_word(groups: &mut Vec<Vec<[u64; 4]>>, k: usize, w: usize, ro
 }
 
 /// Word b holds bit b of a number below 2^`own` in each of 64 rows. Afterwards the words hold the k lowest bits of the
-/// numbers, with `more` added in these rows.
+/// numbers, with `by` added in these rows.
 pub fn shift_words(words: &mut [u64; 64], own: usize, k: usize, rows: u64, by: u64)
     requires narrow { k ≤ 64 }
     ensures { (b r : ℕ) → b < k → r < 64 → bit_of (slice_index words.new b) r ≡ bit_of (code_by own words.old r + (if bit_of rows r then by else 0)) b }
@@ -62,7 +62,7 @@ pub fn shift_words(words: &mut [u64; 64], own: usize, k: usize, rows: u64, by: u
     }
 }
 
-/// Adds `more` to the code of each of the rows, modulo 2^k.
+/// Adds `by` to the code of each of the rows, modulo 2^k.
 pub(crate) fn shift_codes(
     groups: &mut Vec<Vec<[u64; 4]>>,
     k: usize,

@@ -21,7 +21,7 @@ fn check_distances<R: Abort, C: Measured>(
     see_at(rt, base, &*run, distances);
 }
 
-// For those below the base the distance is 2^64 less.
+// For a cell below the base the distance wraps around: 2^64 minus the difference.
 #[test]
 fn distances_in_memory(rt: HostRuntime) {
     let cells: &[Option<i64>] = &[Some(5), None, Some(-3), Some(i64::MAX), Some(i64::MIN)];

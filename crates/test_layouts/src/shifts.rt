@@ -191,7 +191,7 @@ fn shifted_planes(rt: HostRuntime) {
     }
 }
 
-/// A width near `after` whose codes take as many bytes as those of `width`.
+/// The width `after`, clamped so that its codes take as many bytes as codes of `width`.
 fn bits_after(width: u32, after: u32) -> u32
     ensures some { 1 ≤ result }
     ensures narrow { result ≤ 64 }
