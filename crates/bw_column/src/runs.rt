@@ -57,8 +57,8 @@ fn spread<T: Copy>(
     next
 }
 
-/// Of at most 64 rows from row `at` on, those whose bit is set in `rows` become non-null or null as the other word
-/// says.
+/// Of at most 64 rows from row `at` on, those whose bit is set in `rows` become non-null where their bit is set in
+/// `present`, else null.
 pub(crate) fn put_presence(nonnull: &mut Mask, at: usize, n: usize, rows: u64, present: u64)
     requires few { n ≤ 64 }
     requires inside { at + n ≤ len nonnull.old }

@@ -32,7 +32,7 @@ fn put_words(
     blend_words(groups, k, w, words, rows);
 }
 
-/// The codes of these rows of word w become those at their indices.
+/// In word w, row r takes code r where bit r of `rows` is set.
 pub(crate) fn put_chosen(
     groups: &mut Vec<Vec<[u64; 4]>>,
     k: usize,
