@@ -159,8 +159,8 @@ impl PlainColumn {
     ghost use Rattle.bw_code.specs.Columns.{code_at, count};
     ghost use Rattle.bw_code.specs.Shifts.{shifted, StaysBelow};
 
-    /// Changes the base of the code of each row in `rows` from `from` to `to`, and the width of all codes to `width`; they
-    /// take as many bytes as before. Takes no memory.
+    /// Changes the base of the code of each row in `rows` from `from` to `to`, and the width of all codes to `width`;
+    /// they take as many bytes as before. Takes no memory.
     pub fn shift(&mut self, rows: &Mask, from: i64, to: i64, width: u32)
         requires some { 1 ≤ width }
         requires narrow { width ≤ 64 }

@@ -132,8 +132,8 @@ impl WideCodes {
     ghost use Rattle.bw_code.specs.Columns.{code_at, count};
     ghost use Rattle.bw_code.specs.Shifts.{shifted, StaysBelow};
 
-    /// Changes the base of the code of each row in `rows` from `from` to `to`, and the width of all codes to `width`. Takes
-    /// no memory.
+    /// Changes the base of the code of each row in `rows` from `from` to `to`, and the width of all codes to `width`.
+    /// Takes no memory.
     pub(crate) fn shift(&mut self, rows: &Mask, from: i64, to: i64, width: u32)
         requires some { 1 ≤ width }
         requires narrow { width ≤ 64 }
