@@ -1,4 +1,4 @@
-//! Scans of words of sections, a word at a time in the segments that have a needed row (BitWeaving/H: Li and Patel,
+//! Scans of words of sections, one word at a time, in the segments that have a needed row (BitWeaving/H: Li and Patel,
 //! SIGMOD 2013).
 
 ghost use Rattle.std.specs.Prelude.{Bool, false, length, nat_lt, ℕ, ◌&&◌, ◌*◌, ◌+◌, ◌<◌, ◌^◌, ◌≡◌, ◌≤◌};
@@ -16,7 +16,7 @@ use bw_code::{CodeTest, Source};
 use bw_lane::SectionMasks;
 use bw_mask::Mask;
 
-/// The rows of segment q whose code meets the test, the first row lowest.
+/// The rows of segment q whose code meets the test, the first row in bit 0.
 fn rows_meeting<S: Source<u64>, T: WordTest>(source: &mut S, width: u32, q: usize, test: T) -> u64
     requires narrow { width ≤ 32 }
     requires small { q < 2 ^ 32 }
@@ -82,9 +82,8 @@ fn segment<S: Source<u64>>(
     }
 }
 
-/// Scans words of sections: `out` becomes the needed rows whose code meets the test, and of the units so many
-/// are read as `scan_units` says: all words of each segment with a needed row. Unit q * (width + 1) + i is word i of
-/// segment q.
+/// Scans words of sections: `out` becomes the needed rows whose code meets the test. The number of units read is
+/// `scan_units`: all words of each segment with a needed row. Unit q * (width + 1) + i is word i of segment q.
 pub fn scan_from<S: Source<u64>>(
     source: &mut S,
     width: u32,

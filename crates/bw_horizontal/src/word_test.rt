@@ -55,7 +55,7 @@ pub(crate) enum Prepared {
     Between(Between),
 }
 
-/// The comparison of lanes that compares so.
+/// The comparison of lanes for an operator.
 pub(crate) fn lane_op(op: CmpOp) -> LaneOp
     ensures { (x y : ℕ) → holds result x y ≡ code_compares op x y }
 {

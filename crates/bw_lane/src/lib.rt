@@ -1,4 +1,4 @@
-//! Kernels over lanes: each does with many rows at once what its definition says of one. None takes memory.
+//! Kernels over lanes: each does for many rows at once what its definition states for one. None takes memory.
 #![tactic(auto)]
 
 mod planes;

@@ -220,7 +220,7 @@ impl SectionMasks {
             & u64x4::splat(self.delimiters)
     }
 
-    /// Compares the codes of four words and four, section by section.
+    /// Compares the codes of four words with those of four others, section by section.
     pub fn compare_lanes(&self, op: LaneOp, x: u64x4, y: u64x4) -> u64x4
         requires x_stored { All (IsStored self.now.width) x }
         requires y_stored { All (IsStored self.now.width) y }
@@ -259,8 +259,8 @@ pub fn word_compare(op: LaneOp, x: &[u64], y: u64, k: u32, out: &mut [u64])
     }
 }
 
-/// Compares the codes of each word of `x` with those of the word of `y` in its place, as `word_compare` does with one
-/// word.
+/// Compares the codes of each word of `x` with those of the word of `y` at the same index, as `word_compare` does with
+/// one word.
 pub fn word_compare_pair(op: LaneOp, x: &[u64], y: &[u64], k: u32, out: &mut [u64])
     requires width { k ≤ 32 }
     requires same { length out.old ≡ length x.now }
