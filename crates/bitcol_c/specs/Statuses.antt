@@ -1,11 +1,11 @@
--- The numbers that C gives and is answered.
+-- The numbers that C passes and gets back.
 use Rattle.std.specs.Prelude.{ℕ, ◌==◌, if◌then◌else◌}
 use Rattle.bw_shell.specs.declared.running.OnError.{OnError}
 use Rattle.bw_shell.specs.declared.running.OnError.TheVariants.{Continue, Stop}
 use Rattle.bw_shell.specs.declared.running.RunEnd.{RunEnd}
 use Rattle.bw_shell.specs.declared.running.RunEnd.TheVariants.{Done, Stopped, ReadFault, WriteFault, Memory}
 
--- an end of a script; the end of a script that is there as a whole is the first, the second or the fourth of these
+-- an end of a script; for a script that is complete in memory, it is the first, the second or the fourth of these
 abbrev pub number_of : RunEnd → ℕ
 number_of Done = 0
 number_of Stopped = 1

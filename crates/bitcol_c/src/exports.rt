@@ -1,4 +1,4 @@
-//! What C calls. A store is used by one call at a time.
+//! The functions that C calls. A store is used by one call at a time.
 
 ghost use Rattle.std.specs.Prelude.{◌≡◌, ◌⊎◌, ◌++◌, ◌-◌, [], drop, length, min, take, IfOk};
 ghost use Rattle.bw_shell.specs.Conversations.{KeepsRest, Responds, held, state_of};
@@ -13,8 +13,8 @@ use std::alloc::{AllocError, Global};
 use std::process::Abort;
 use std::str;
 
-/// Opens a store without tables and files, and puts its pointer there: `DONE`; or `NO_MEMORY`, and nothing is put. Nothing of a
-/// script follows its first error where `stops` isn't 0.
+/// Opens a store without tables and files, and writes its pointer to `out`. Returns `DONE`; or `NO_MEMORY`, and nothing
+/// is written. If `stops` isn't 0, a script stops at its first error.
 #[unsafe(no_mangle)]
 pub extern "C" fn bitcol_open(alloc: Global, stops: u32, out: &mut *mut ()) -> u32
     ensures { (result ≡ 0) ⊎ ((result ≡ 90) × (out.new ≡ out.old)) }
@@ -28,7 +28,8 @@ pub extern "C" fn bitcol_open(alloc: Global, stops: u32, out: &mut *mut ()) -> u
     }
 }
 
-// What `bitcol_open` puts there. No clause of an export tells what lies behind a pointer that it puts.
+// The handle that `bitcol_open` writes to `out`. No clause of an export can describe what is behind a pointer that it
+// writes.
 fn open(alloc: Global, stops: u32) -> Result<Handle, AllocError>
     ensures { IfOk result (λ handle. handle.conversation ≡ held (on_error stops) [] [] []) }
 {
@@ -36,7 +37,8 @@ fn open(alloc: Global, stops: u32) -> Result<Handle, AllocError>
     Handle::new(alloc, conversation)
 }
 
-/// Answers a script over what the scripts before it left, and gives how it ended. Its replies stand until the next script.
+/// Runs a script on the state that earlier scripts left, and returns how it ended. Its replies are kept until the next
+/// script.
 #[unsafe(no_mangle)]
 pub extern "C" fn bitcol_answer(handle: &mut Handle, script: &[u8]) -> u32
     ensures answers { (end : HowEnded) × (result ≡ number_of end) × Responds handle.old.conversation.on_error script.now (state_of handle.old.conversation) [] handle.new.conversation.replies end (state_of handle.new.conversation) }
@@ -47,7 +49,7 @@ pub extern "C" fn bitcol_answer(handle: &mut Handle, script: &[u8]) -> u32
     number_of(conversation.answer(script))
 }
 
-/// How many bytes the replies have.
+/// The length of the replies in bytes.
 #[unsafe(no_mangle)]
 pub extern "C" fn bitcol_reply_length(handle: &mut Handle) -> usize
     ensures length { result ≡ length handle.old.conversation.replies }
@@ -56,7 +58,7 @@ pub extern "C" fn bitcol_reply_length(handle: &mut Handle) -> usize
     handle.conversation_mut().replies().len()
 }
 
-/// Puts as many of the replies' bytes from this one on there as there is room for, and says how many.
+/// Copies the replies' bytes from index `from` on to `out`, as many as fit, and returns their number.
 #[unsafe(no_mangle)]
 pub extern "C" fn bitcol_reply(handle: &mut Handle, from: usize, out: &mut [u8]) -> usize
     ensures count { result ≡ min (length handle.old.conversation.replies - from) (length out.old) }
@@ -70,7 +72,7 @@ pub extern "C" fn bitcol_reply(handle: &mut Handle, from: usize, out: &mut [u8])
     put_front(&replies[from..], out)
 }
 
-// Puts as many of the bytes there as there is room for, and says how many.
+// Copies to `out` as many of the bytes as fit, and returns their number.
 fn put_front(bytes: &[u8], out: &mut [u8]) -> usize
     ensures count { result ≡ min (length bytes.now) (length out.old) }
     ensures put { out.new ≡ take result bytes.now ++ drop result out.old }
@@ -80,7 +82,8 @@ fn put_front(bytes: &[u8], out: &mut [u8]) -> usize
     n
 }
 
-/// Makes one of the store's own files anew, for LOAD and OPEN: `DONE`, or `NO_NAME` or `NO_MEMORY`, and no file changes.
+/// Creates or replaces one of the store's own files, for LOAD and OPEN. Returns `DONE`; or `NO_NAME` or `NO_MEMORY`,
+/// and no file changes.
 #[unsafe(no_mangle)]
 pub extern "C" fn bitcol_put_file(handle: &mut Handle, name: &[u8], bytes: &[u8]) -> u32
     ensures files { PutsFile name.now bytes.now handle.old.conversation.files result handle.new.conversation.files }
@@ -95,8 +98,8 @@ pub extern "C" fn bitcol_put_file(handle: &mut Handle, name: &[u8], bytes: &[u8]
     }
 }
 
-/// Puts one of the store's own files there, as SAVE or `bitcol_put_file` made it, and its length: `DONE`. Or `NO_ROOM`, and the length
-/// alone is put; or `NO_FILE` or `NO_NAME`, and nothing is.
+/// Copies out one of the store's own files, as SAVE or `bitcol_put_file` wrote it, and its length. Returns `DONE`; or
+/// `NO_ROOM`, and only the length is written; or `NO_FILE` or `NO_NAME`, and nothing is written.
 #[unsafe(no_mangle)]
 pub extern "C" fn bitcol_file(
     handle: &mut Handle,

@@ -1,4 +1,5 @@
-//! The store as a static library: a conversation behind a pointer, whose calls C makes. `clients/c/bitcol.h` declares them.
+//! The store as a static library: a conversation behind a pointer, with functions for C. `clients/c/bitcol.h` declares
+//! them.
 #![tactic(auto)]
 
 mod exports;

@@ -1,22 +1,22 @@
-//! The numbers that C is answered.
+//! The status numbers that are returned to C.
 
 ghost use Rattle.std.specs.Prelude.{◌≡◌};
 ghost use Rattle.bitcol_c.specs.Statuses.{number_of, on_error};
 
 use bw_shell::{OnError, RunEnd};
 
-/// The call did what it was asked.
+/// The call succeeded.
 pub(crate) const DONE: u32 = 0;
-/// A name is not in UTF-8.
+/// A name isn't valid UTF-8.
 pub(crate) const NO_NAME: u32 = 10;
 /// There is no such file.
 pub(crate) const NO_FILE: u32 = 40;
-/// The place for a file is too small.
+/// The buffer for a file is too small.
 pub(crate) const NO_ROOM: u32 = 46;
-/// There is no memory.
+/// Out of memory.
 pub(crate) const NO_MEMORY: u32 = 90;
 
-/// The number of an end of a script.
+/// The status number of a script's end.
 pub(crate) fn number_of(end: RunEnd) -> u32
     ensures { result ≡ number_of end }
 {
@@ -29,7 +29,7 @@ pub(crate) fn number_of(end: RunEnd) -> u32
     }
 }
 
-/// What comes after a reply that is an error: all numbers but 0 stop there.
+/// What follows an error reply: every number but 0 stops there.
 pub(crate) fn on_error(stops: u32) -> OnError
     ensures { result ≡ on_error stops }
 {

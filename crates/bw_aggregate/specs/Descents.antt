@@ -9,11 +9,11 @@ use Rattle.bw_aggregate.specs.declared.segments.Left.{Left}
 abbrev pub front : ℕ → ℕ → ℕ
 front i code = code / 2 ^ i
 
--- bits, and one more
+-- bits, followed by one more
 abbrev pub next : ℕ → Bool → ℕ
 next found bit = if bit then found * 2 + 1 else found * 2
 
--- the rows have these codes, in whichever order: each test passes as many of both
+-- the rows have these codes, in any order: each test passes equally many of both
 abbrev pub Holds : List ℕ → List ℕ → Left → Type 0
 Holds codes held left = (p : ℕ → Bool) → left_count codes p left ≡ count_by p held
 
@@ -22,11 +22,11 @@ pub record BeginsAll (k : ℕ) (held : List ℕ) : Type 0 where
   pub below : All (λ code. code < 2 ^ k) held
   pub narrow : k ≤ 64
 
--- how many codes begin with the bits found so far, above the lowest i bits
+-- the number of codes that begin with the bits found so far, above the lowest i bits
 abbrev pub begin_count : List ℕ → ℕ → ℕ → ℕ
 begin_count held i found = count_by (λ c. front i c == found) held
 
--- n counts so many codes below those that begin with the bits found so far, and the rest among these
+-- n is the number of codes below those that begin with the bits found so far, plus the rest
 pub record IsRest (held : List ℕ) (n i rest found : ℕ) : Type 0 where
   pub below : count_by (λ c. nat_lt (front i c) found) held + rest ≡ n
   pub there : rest < begin_count held i found
@@ -38,12 +38,12 @@ pub record LeadsTo (codes held : List ℕ) (n i : ℕ) (rows : Left) (nth found 
   pub small : (found + 1) * 2 ^ i ≤ 2 ^ 64
   pub rest : IsRest held n i nth found
 
--- the first entry of so many, or the last
+-- the index of the first or the last of that many entries
 abbrev pub end_of : End → ℕ → ℕ
 end_of Least count = 0
 end_of Greatest count = count - 1
 
--- n codes at most are below, more than n are not above, and it is one of them
+-- at most n codes are below it, more than n are not above it, and it is one of the codes
 pub record IsNthCode (codes : List ℕ) (n code : ℕ) : Type 0 where
   pub below : count_by (λ c. nat_lt c code) codes ≤ n
   pub upto : n < count_by (λ c. nat_le c code) codes

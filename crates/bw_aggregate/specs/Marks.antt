@@ -1,4 +1,4 @@
--- How many of so many places are marked.
+-- The number of marked indexes below a bound.
 use Rattle.std.specs.Prelude.{Bool, count_by, ℕ}
 use Rattle.bw_mask.specs.Masks.{rows_of}
 

@@ -12,10 +12,10 @@ AreRows rows q part = (j : ℕ) → j < 256 → row_in part j ≡ slice_index_or
 abbrev pub AreBits : List ℕ → ℕ → ℕ → List ℕ → Type 0
 AreBits codes q i plane = (j : ℕ) → j < 256 → row_in plane j ≡ bit_of (slice_index codes (256 * q + j)) i
 
--- numbers made of so many bits of the codes, from bit `low` on
+-- numbers made of a number of bits of the codes, from bit `low` on
 abbrev pub AreMadeOf : List ℕ → ℕ → ℕ → List ℕ → Type 0
 AreMadeOf codes low bits numbers = (r i : ℕ) → i < bits → bit_of (slice_index numbers r) i ≡ bit_of (slice_index codes r) (low + i)
 
--- the sum of the codes of those rows of segment q that are in, without their lowest i bits
+-- the sum of the codes of the selected rows of segment q, without their lowest i bits
 abbrev pub IsSumTo : List Bool → List ℕ → ℕ → ℕ → ℕ → Type 0
 IsSumTo rows codes q i sum = sum ≡ sum_by (front i) (codes_between rows codes (256 * q) (256 * q + 256))

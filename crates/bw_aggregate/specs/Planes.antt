@@ -12,11 +12,11 @@ abbrev pub is_in : Plane → ℕ → Bool
 is_in (InPlace plane) r = row_in (slice_index_or plane.group.now (r / 256 * plane.count + plane.at) []) (r % 256)
 is_in (Copied words) r = row_in words.now r
 
--- it has bit i of each code
+-- the plane has bit i of each code
 abbrev pub IsPlane : List ℕ → ℕ → Plane → Type 0
 IsPlane codes i plane = (r : ℕ) → is_in plane r ≡ bit_of (slice_index codes r) i
 
--- whether bit i of a code is this
+-- whether bit i of a code has this value
 abbrev pub has_bit : ℕ → Bool → ℕ → Bool
 has_bit i bit code = if bit then bit_of code i else not (bit_of code i)
 

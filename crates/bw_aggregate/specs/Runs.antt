@@ -1,10 +1,10 @@
--- Sums of the codes and of the values of the rows in front of a place, and runs of rows behind it.
+-- Sums of the codes and of the values of the rows before an index, and runs of rows from it on.
 use Rattle.std.specs.Prelude.{Bool, List, Option, false, length, slice_index_or, sum, take, ℕ, ℤ, ◌%◌, ◌+◌, ◌/◌, ◌<◌, ◌^◌, ◌≡◌, ◌≤◌}
 use Rattle.std.specs.List.{items_where_true}
 use Rattle.bw_mask.specs.Masks.{bit_of}
 use Rattle.bw_cells.specs.SetFunctions.{known, total}
 
--- the sum of the codes of the rows in front of place n that are in
+-- the sum of the codes of the selected rows before row n
 abbrev pub code_sum : List Bool → List ℕ → ℕ → ℕ
 code_sum rows codes n = sum (items_where_true (take n rows) (take n codes))
 
@@ -19,7 +19,7 @@ lower_half code = code % 2 ^ 32
 abbrev pub upper_half : ℕ → ℕ
 upper_half code = code / 2 ^ 32
 
--- of so many rows, n from a place on are there, and the bits of a word say which of them are in
+-- there are n rows from row `at` on, and the bits of the word tell which of them are selected
 pub record IsRun (rows : List Bool) (at n word : ℕ) : Type 0 where
   pub inside : at + n ≤ length rows
   pub bits : (i : ℕ) → i < n → slice_index_or rows (at + i) false ≡ bit_of word i

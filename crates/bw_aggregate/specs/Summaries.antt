@@ -1,10 +1,10 @@
--- What was asked of values, all of it told by one look at their codes.
+-- Several set functions of values, computed in one pass over their codes.
 use Rattle.std.specs.Prelude.{List, None, if◌then◌else◌, length, ℤ, ◌≡◌}
 use Rattle.bw_cells.specs.SetFunctions.{greatest, least, median, sum}
 use Rattle.bw_aggregate.specs.declared.summary.Asked.{Asked}
 use Rattle.bw_aggregate.specs.declared.summary.Summary.{Summary}
 
--- how many values there are, and what was asked for; what wasn't is not told
+-- the number of values, and what was asked for; the rest is `None`
 pub record IsSummary (asked : Asked) (values : List ℤ) (summary : Summary) : Type 0 where
   pub count : summary.count ≡ length values
   pub sum : summary.sum ≡ (if asked.sum then sum values else None)

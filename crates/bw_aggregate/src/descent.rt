@@ -1,4 +1,4 @@
-//! The descent to one entry of some sorted codes, a plane a step.
+//! Finds one entry of the sorted codes of some rows, one bit plane per step.
 
 ghost use Rattle.std.specs.Prelude.{List, length, true, ℕ, ◌+◌, ◌<◌, ◌^◌, ◌≡◌};
 ghost use Rattle.bw_aggregate.specs.Descents.{BeginsAll, Holds, next};
@@ -7,20 +7,20 @@ ghost use Rattle.bw_aggregate.specs.Planes.{IsPlane};
 use crate::plane::Plane;
 use crate::segments::Left;
 
-/// The way down to one entry of the sorted codes of some rows. Above each plane, the rows that are left are those whose
-/// code begins with the bits found so far, and the entry is looked for among them.
+/// A descent to one entry of the sorted codes of some rows. Before each plane, the rows that are left are those whose
+/// code begins with the bits found so far; the entry is one of theirs.
 #[derive(Drop)]
 pub(crate) struct Descent {
     left: Left,
-    /// How many rows are left.
+    /// The number of rows that are left.
     count: usize,
-    /// Which of their sorted codes it is.
+    /// The entry's index among their sorted codes.
     nth: usize,
     /// The bits found so far.
     code: u64,
 }
 
-/// The bits found so far, and one more.
+/// The bits found so far, followed by one more.
 pub(crate) fn with_bit(code: u64, bit: bool) -> u64
     ensures { code < 2 ^ 63 → result ≡ next code bit }
 {
@@ -30,7 +30,7 @@ pub(crate) fn with_bit(code: u64, bit: bool) -> u64
 impl Descent {
     ghost use Rattle.bw_aggregate.specs.Descending.{IsDescent};
 
-    /// Above the top plane, where all the rows are left.
+    /// The start, above the top plane, where all rows are left.
     pub(crate) fn from_top(left: Left, count: usize, nth: usize) -> Descent
         ensures { (codes held : List ℕ) (k : ℕ) → Holds codes held left → BeginsAll k held → count ≡ length held → nth < count → IsDescent codes held nth k result }
     {
@@ -42,7 +42,7 @@ impl Descent {
         }
     }
 
-    /// One plane down.
+    /// Goes one plane down.
     pub(crate) fn step(&mut self, plane: &Plane)
         ensures { (codes held : List ℕ) (n i : ℕ) → IsPlane codes i plane.now → IsDescent codes held n (i + 1) self.old → IsDescent codes held n i self.new }
     {
@@ -60,7 +60,7 @@ impl Descent {
         }
     }
 
-    /// The code that it came to.
+    /// The code that was found.
     pub(crate) fn code(&self) -> u64
         ensures { result ≡ self.now.code }
     {

@@ -1,4 +1,4 @@
-//! How many codes of some rows have each digit.
+//! Counts of the codes of some rows by digit.
 
 ghost use Rattle.std.specs.Prelude.{Bool, List, count_by, drop, false, length, slice_index, sum, take, true, ℕ, ◌+◌, ◌<◌, ◌==◌, ◌^◌, ◌≡◌, ◌≤◌};
 ghost use Rattle.std.specs.List.{items_where_true};
@@ -12,23 +12,23 @@ use crate::runs::is_in;
 use bw_code::CodeColumn;
 use bw_mask::Mask;
 
-/// How many places a list of counts has behind those of the digits.
+/// The number of spare counters after those of the digits.
 pub(crate) const SPARE: usize = 64;
 
 /// Which bits of a code are its digit.
 #[derive(Clone, Copy)]
 pub(crate) struct Digits {
-    /// How many bits are below it.
+    /// The number of bits below the digit.
     pub(crate) below: u32,
-    /// What a code is without these, where its digit is 0.
+    /// The code above those bits, for digit 0.
     pub(crate) first: u64,
-    /// How many digits there are.
+    /// The number of possible digits.
     pub(crate) many: usize,
 }
 
-/// The place at which a row of a run is counted: that of its code's digit, or one behind all digits where the row isn't in.
-// Without a branch, since which rows are in is not foreseen. Each row has a spare place of its own, so that none waits for the
-// one before.
+/// The counter for a row of a run: that of its code's digit, or a spare one after the digits if the row isn't selected.
+// Without a branch, since which rows are selected is unpredictable. Each row has its own spare counter, so that no row
+// waits for the previous one.
 fn place_of(codes: &[u64], rows: u64, i: usize, digits: Digits) -> usize
     requires few { length codes.now ≤ 64 }
     requires there { i < length codes.now }
@@ -47,7 +47,7 @@ fn place_of(codes: &[u64], rows: u64, i: usize, digits: Digits) -> usize
     }
 }
 
-/// Counts each of a run's rows that are in at the digit of its code. No count is above `before`.
+/// Counts each selected row of a run at the digit of its code. No count is above `before` at the start.
 fn count_run(codes: &[u64], rows: u64, digits: Digits, before: usize, counts: &mut [u32])
     requires few { length codes.now ≤ 64 }
     requires below { digits.below < 64 }
@@ -67,7 +67,7 @@ fn count_run(codes: &[u64], rows: u64, digits: Digits, before: usize, counts: &m
     }
 }
 
-/// Counts each of n rows from `at` on that are in at the digit of its code. Where none is, no code is read.
+/// Counts each selected row of the n rows from `at` on at the digit of its code. If none is selected, no code is read.
 fn count_at<C: CodeColumn>(
     column: &C,
     at: usize,
@@ -98,7 +98,7 @@ fn count_at<C: CodeColumn>(
     count_run(codes, rows, digits, at, counts);
 }
 
-/// Counts the rows at the digits of their codes.
+/// Counts the rows by the digits of their codes.
 pub(crate) fn count_digits<C: CodeColumn>(
     column: &C,
     rows: &Mask,
@@ -121,14 +121,14 @@ pub(crate) fn count_digits<C: CodeColumn>(
     }
 }
 
-/// A digit, and which of the codes that have it is looked for.
+/// A digit, and the index of the wanted code among those with this digit.
 #[derive(Clone, Copy)]
 pub(crate) struct Place {
     pub(crate) digit: usize,
     pub(crate) rest: usize,
 }
 
-/// The digit of entry n of some sorted codes, of which so many have each digit.
+/// The digit of entry `nth` of some sorted codes; `counts` has the number of codes with each digit.
 pub(crate) fn digit_of(counts: &[u32], nth: usize) -> Place
     requires there { nth < sum counts.now }
     ensures inside { result.digit < length counts.now }

@@ -3,15 +3,15 @@
 ghost use Rattle.std.specs.Prelude.{true, ◌-◌, ◌<◌, ◌^◌, ◌≡◌, ◌≤◌};
 ghost use Rattle.bw_aggregate.specs.Ends.{distance};
 
-/// Which of the codes is looked for.
+/// Which end of the sorted codes is wanted.
 #[derive(Clone, Copy, Debug, PartialEq, Eq)]
 pub(crate) enum End {
     Least,
     Greatest,
 }
 
-/// How far the nearest of some codes is from each end. Nearer than a distance of 0 none is, so that an end which isn't looked
-/// for begins there.
+/// The distance of the nearest code from each end. Since no code is nearer than 0, an end that isn't wanted starts at
+/// 0.
 #[derive(Clone, Copy, Debug)]
 pub(crate) struct Distances {
     pub(crate) least: u64,
@@ -19,13 +19,13 @@ pub(crate) struct Distances {
 }
 
 impl Distances {
-    /// No end is looked for.
+    /// No end is wanted.
     pub(crate) const NONE: Distances = Distances {
         least: 0,
         greatest: 0,
     };
 
-    /// Whether no code can be nearer to either end.
+    /// Whether no code can be nearer to either end, as both distances are 0.
     pub(crate) fn are_none(self) -> bool
         ensures least { result ≡ true → self.least ≡ 0 }
         ensures greatest { result ≡ true → self.greatest ≡ 0 }
@@ -34,10 +34,10 @@ impl Distances {
     }
 }
 
-/// As far as any code can be.
+/// The largest distance of any code.
 pub(crate) const FARTHEST: u64 = u64::MAX;
 
-/// How far a code is from the end: from 0, or from the greatest code that there may be.
+/// The distance of a code from the end: from 0, or from the greatest possible code.
 pub(crate) fn distance(end: End, top: u64, code: u64) -> u64
     requires { code ≤ top }
     ensures is { result ≡ distance end top code }
@@ -49,7 +49,7 @@ pub(crate) fn distance(end: End, top: u64, code: u64) -> u64
     }
 }
 
-/// The greatest code of so many bits.
+/// The greatest code of `bits` bits.
 pub(crate) fn greatest_code(bits: u32) -> u64
     requires some { 1 ≤ bits }
     requires few { bits ≤ 64 }

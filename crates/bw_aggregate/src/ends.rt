@@ -14,7 +14,8 @@ use crate::end::{End, distance, greatest_code};
 use bw_column::Column;
 use bw_mask::Mask;
 
-/// The least value of the rows that are not null, or the greatest, by the least distance of their codes. There is one.
+/// The least or the greatest non-null value of the rows, from the least distance of their codes. At least one value is
+/// non-null.
 fn end_value(column: &Column, rows: &Mask, end: End, nearest: u64) -> i64
     requires len { len rows.now ≡ length column.now.values }
     requires held { All (IsNullOrHeld column.now.layout) column.now.values }
@@ -27,7 +28,7 @@ fn end_value(column: &Column, rows: &Mask, end: End, nearest: u64) -> i64
     encoding.decode(distance(end, top, nearest))
 }
 
-/// The least value of the rows that are not null, or the greatest, where it is asked for.
+/// The least or the greatest non-null value of the rows, if it is asked for.
 pub(crate) fn end_told(
     column: &Column,
     rows: &Mask,

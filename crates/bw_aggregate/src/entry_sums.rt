@@ -1,4 +1,4 @@
-//! Sums of a dictionary's values: a code is the place of an entry.
+//! Sums of a dictionary's values: a code is the index of an entry.
 
 ghost use Rattle.std.specs.Prelude.{All, Bool, List, Option, drop, if◌then◌else◌, length, pos, slice_index, slice_index_or, take, unsigned_abs, ℕ, ℤ, ◌*◌, ◌+◌, ◌+ℤ◌, ◌<◌, ◌^◌, ◌≡◌, ◌≤◌};
 ghost use Rattle.bw_mask.specs.Masks.{bit_of, len, row_at};
@@ -16,8 +16,8 @@ use bw_code::CodeColumn;
 use bw_column::{Column, Storage};
 use bw_mask::Mask;
 
-/// The entry of row i of a run by its code; 0 where the row isn't in.
-// By a product, since which rows are in is not foreseen, and a choice here becomes a branch.
+/// The dictionary entry of row `i` of a run; 0 if the row isn't selected.
+// Uses a product, since which rows are selected is unpredictable and a conditional would compile to a branch.
 fn entry_in(entries: &[i64], codes: &[u64], rows: u64, i: usize) -> i64
     requires few { length codes.now ≤ 64 }
     requires there { i < length codes.now }
@@ -27,7 +27,7 @@ fn entry_in(entries: &[i64], codes: &[u64], rows: u64, i: usize) -> i64
     entries[codes[i] as usize] * i64::from(is_in(rows, i))
 }
 
-/// The sum of the entries of a run's rows that are in.
+/// The sum of the entries of a run's selected rows.
 fn entries_in(entries: &[i64], codes: &[u64], rows: u64) -> i128
     requires few { length codes.now ≤ 64 }
     requires found { All (λ code. code < length entries.now) codes.now }
@@ -41,7 +41,7 @@ fn entries_in(entries: &[i64], codes: &[u64], rows: u64) -> i128
     total
 }
 
-/// The sum of the entries of those of n rows from `at` on that are in. Where none is, no code is read.
+/// The sum of the entries of the selected rows among the n rows from `at` on. If none is selected, no code is read.
 fn entries_at<C: CodeColumn>(column: &C, entries: &[i64], at: usize, n: usize, rows: u64) -> i128
     requires few { n ≤ 64 }
     requires inside { at + n ≤ count (C.seen column.now) }
@@ -58,7 +58,7 @@ fn entries_at<C: CodeColumn>(column: &C, entries: &[i64], at: usize, n: usize, r
     entries_in(entries, codes, rows)
 }
 
-/// The sum of the values of the rows, read in runs: of the entries of those that are not null.
+/// The sum of the non-null values of the rows, looked up in the entries and read in runs.
 fn sum_in_runs<C: CodeColumn>(column: &C, entries: &[i64], rows: &Mask, nonnull: &Mask) -> i128
     requires len { len rows.now ≡ count (C.seen column.now) }
     requires nonnull_len { len nonnull.now ≡ count (C.seen column.now) }
@@ -76,7 +76,7 @@ fn sum_in_runs<C: CodeColumn>(column: &C, entries: &[i64], rows: &Mask, nonnull:
     total
 }
 
-/// The sum of the values of the rows, of which one is not null. They are all among the entries.
+/// The sum of the values of the rows, at least one of which is non-null. All values are among the entries.
 pub(crate) fn sum_of_entries(column: &Column, entries: &[i64], rows: &Mask) -> i128
     requires len { len rows.now ≡ length column.now.values }
     requires encoding { column.now.encoding ≡ by.Dictionary entries.now }

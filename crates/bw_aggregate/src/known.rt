@@ -1,4 +1,4 @@
-//! The rows whose value is not NULL.
+//! The rows with a non-null value.
 
 ghost use Rattle.std.specs.Prelude.{◌≡◌, ◌≤◌, ◌^◌, IfOk, length};
 ghost use Rattle.bw_mask.specs.Masks.{len};
@@ -8,7 +8,7 @@ use bw_column::Column;
 use bw_mask::Mask;
 use std::alloc::AllocError;
 
-/// The rows whose value is not NULL.
+/// The rows with a non-null value.
 pub(crate) fn known_rows(column: &Column, rows: &Mask) -> Result<Mask, AllocError>
     requires { len rows.now ≡ length column.now.values }
     ensures { IfOk result (AreKnownRows column.now rows.now) }
@@ -18,7 +18,7 @@ pub(crate) fn known_rows(column: &Column, rows: &Mask) -> Result<Mask, AllocErro
     Ok(known)
 }
 
-/// How many values of the rows are not NULL.
+/// The number of non-null values of the rows.
 pub(crate) fn known_count(column: &Column, rows: &Mask) -> usize
     requires { len rows.now ≡ length column.now.values }
     ensures is { result ≡ length (chosen column.now rows.now) }

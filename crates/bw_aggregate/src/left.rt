@@ -1,4 +1,4 @@
-//! What becomes of rows that are left, plane by plane.
+//! Narrows the rows that are left, plane by plane.
 
 ghost use Rattle.std.specs.Prelude.{Bool, IfOk, List, length, ℕ, ◌&&◌, ◌*◌, ◌^◌, ◌≡◌, ◌≤◌};
 ghost use Rattle.std.specs.List.{items_where_true};
@@ -14,7 +14,7 @@ use bw_mask::Mask;
 use std::alloc::{AllocError, Global};
 
 impl Left {
-    /// The rows of a mask, which lie in so many segments.
+    /// The rows of a mask; `count` is the column's number of segments.
     pub(crate) fn of(alloc: Global, rows: &Mask, count: u32) -> Result<Left, AllocError>
         requires few { count ≤ 2 ^ 16 }
         requires all { len rows.now ≤ 256 * count }
@@ -32,7 +32,7 @@ impl Left {
         Ok(Left { segments })
     }
 
-    /// How many of them are in the plane.
+    /// The number of these rows whose bit is set in the plane.
     pub(crate) fn count_in(&self, plane: &Plane) -> usize
         ensures is { (codes : List ℕ) (i : ℕ) → IsPlane codes i plane.now → result ≡ left_count codes (λ code. bit_of code i) self.now }
         ensures few { result ≤ 2 ^ 24 }
@@ -45,7 +45,7 @@ impl Left {
         count
     }
 
-    /// Keeps those that are in the plane, or those that are not.
+    /// Keeps the rows whose bit in the plane is `bit`.
     pub(crate) fn keep(&mut self, plane: &Plane, bit: bool)
         ensures { (codes : List ℕ) (i : ℕ) → IsPlane codes i plane.now → (p : ℕ → Bool) → left_count codes p self.new ≡ left_count codes (λ code. has_bit i bit code && p code) self.old }
     {

@@ -1,4 +1,4 @@
-//! Set functions of a column's values, straight from bit planes (O'Neil and Quass, SIGMOD 1997).
+//! Set functions of a column's values, computed from bit planes (O'Neil and Quass, SIGMOD 1997).
 #![tactic(auto)]
 
 mod descent;

@@ -1,4 +1,4 @@
-//! The lower median: down the planes of the codes, where they lie or in copies, or by digits.
+//! The lower median, found in the planes of the codes, in place or in copies, or by digits.
 
 ghost use Rattle.std.specs.Prelude.{All, IfOk, List, Some, length, ℕ, ◌+◌, ◌-◌, ◌/◌, ◌<◌, ◌^◌, ◌≡◌, ◌≤◌};
 ghost use Rattle.std.specs.List.{items_where_true};
@@ -23,7 +23,7 @@ use bw_mask::Mask;
 use bw_vertical::VerticalColumn;
 use std::alloc::{AllocError, Global};
 
-/// Takes the descent down all planes where they lie, from the top.
+/// Takes the descent down all planes in place, from the top.
 fn descend_in_place(codes: &VerticalColumn, descent: &mut Descent)
     requires { codes.now.width ≤ 64 }
     ensures { (held : List ℕ) (n : ℕ) → IsDescent codes.now.codes held n codes.now.width descent.old → IsDescent codes.now.codes held n 0 descent.new }
@@ -71,7 +71,7 @@ fn descended(
     }
 }
 
-/// The same down the planes. The rows make so many segments.
+/// The code of the lower median of the rows, found plane by plane. `segments` is the column's number of segments.
 fn code_by_planes(
     alloc: Global,
     column: &Column,
@@ -92,8 +92,8 @@ fn code_by_planes(
     Ok(descended(alloc, column, bits, descent)?.code())
 }
 
-/// The code of the lower median of the rows, of which there are so many, and one at least. They make so many segments. Planes are
-/// looked at where they are stored or cost little to make, and else digits.
+/// The code of the lower median of the rows; `count` is their number, at least 1, and `segments` the column's number of
+/// segments. Uses planes if they are stored or cheap to make, and else digits.
 fn median_code(
     alloc: Global,
     column: &Column,
@@ -115,7 +115,7 @@ fn median_code(
     }
 }
 
-/// The lower median of the values of the rows, of which there are so many, and one at least. None of them is NULL.
+/// The lower median of the values of the rows; `count` is their number, at least 1. None of them is NULL.
 pub(crate) fn median_of(
     alloc: Global,
     column: &Column,

@@ -1,4 +1,4 @@
-//! The least and the greatest of codes by their planes.
+//! The least and the greatest code, by planes.
 
 ghost use Rattle.std.specs.Prelude.{false, if◌then◌else◌, nat_lt, true, ℕ, ◌&&◌, ◌*◌, ◌+◌, ◌-◌, ◌<◌, ◌^◌, ◌≡◌, ◌≤◌};
 ghost use Rattle.bw_mask.specs.Masks.{row_in};
@@ -15,7 +15,7 @@ use crate::rows::{has_row, rows_at, rows_with};
 use bw_code::CodeColumn;
 use bw_vertical::VerticalColumn;
 
-/// The rows that have no bit of the distance in the plane.
+/// The rows whose distance has a 0 bit in the plane.
 fn nearer_rows(rows: &[u64; 4], plane: &[u64; 4], end: End) -> [u64; 4]
     ensures { (j : ℕ) → j < 256 → row_in result j ≡ (row_in rows.now j && is_near end (row_in plane.now j)) }
 {
@@ -25,8 +25,8 @@ fn nearer_rows(rows: &[u64; 4], plane: &[u64; 4], end: End) -> [u64; 4]
     }
 }
 
-/// Those of the rows that may be nearer than `best`. A row is left out as soon as a plane shows it to be as far at least: one
-/// above the first bit of `best`, in which the row's distance has a bit. A group of planes is looked at while a row is left.
+/// The rows that may be nearer than `best`. A row is dropped once its distance has a bit in a plane above the first bit
+/// of `best`, as it is then at least as far. Groups of planes are read while a row is left.
 fn rows_that_may_be_nearer(
     codes: &VerticalColumn,
     q: usize,
@@ -53,15 +53,15 @@ fn rows_that_may_be_nearer(
     left
 }
 
-/// The nearer rows where there are some, and else all.
+/// The nearer rows if there are some, and else all.
 fn nearer_or_all(some: bool, nearer: [u64; 4], all: [u64; 4]) -> [u64; 4]
     ensures { result ≡ (if some then nearer else all) }
 {
     if some { nearer } else { all }
 }
 
-/// The least distance of the rows, of which there is one, or `best` where none is nearer: a plane a step, from the top, as far
-/// as a row may still be nearer.
+/// The least distance of the rows, or `best` if none is nearer. There is at least one row. Goes down plane by plane
+/// while a row may still be nearer.
 fn nearest_of(codes: &VerticalColumn, q: usize, rows: &[u64; 4], end: End, best: u64) -> u64
     requires there { q < segments_of 256 (count codes.now) }
     requires few { count codes.now ≤ 2 ^ 24 }
@@ -84,7 +84,7 @@ fn nearest_of(codes: &VerticalColumn, q: usize, rows: &[u64; 4], end: End, best:
     found
 }
 
-/// The least distance of the rows of segment q, or `best` where none is nearer.
+/// The least distance of the rows of segment `q`, or `best` if none is nearer.
 #[inline(never)]
 fn nearest_in_segment(codes: &VerticalColumn, q: usize, rows: &[u64; 4], end: End, best: u64) -> u64
     requires there { q < segments_of 256 (count codes.now) }
@@ -100,11 +100,11 @@ fn nearest_in_segment(codes: &VerticalColumn, q: usize, rows: &[u64; 4], end: En
     }
 }
 
-/// How many groups of four planes are looked at in a segment before it is asked whether a row is left: the planes of few rows'
-/// codes have no bit in so many, and where a row is left after each group is not foreseen.
+/// The number of groups of four planes that are read in a segment before checking whether a row is left. Few rows have
+/// no bit in that many planes, and checking after each group would be unpredictable.
 const FIRST_GROUPS: usize = 3;
 
-/// As many of the first groups as there are, of codes of so many bits.
+/// The number of first groups to read for codes of `width` bits.
 pub(crate) fn first_groups(width: u32) -> usize
     requires { width ≤ 64 }
     ensures within { 4 * result ≤ width }
@@ -120,7 +120,7 @@ struct NearRows {
     greatest: [u64; 4],
 }
 
-/// The rows whose distance from an end has no bit in the planes of the first groups.
+/// The rows whose distance from each end has no bit in the planes of the first groups.
 fn near_rows(codes: &VerticalColumn, q: usize, rows: &[u64; 4], groups: usize) -> NearRows
     requires there { q < segments_of 256 (count codes.now) }
     requires few { count codes.now ≤ 2 ^ 24 }
@@ -141,8 +141,8 @@ fn near_rows(codes: &VerticalColumn, q: usize, rows: &[u64; 4], groups: usize) -
     NearRows { least, greatest }
 }
 
-/// The least distance of the rows of segment q, or `best` where none is nearer. Of the rows, `near` has those that may be nearer
-/// than the first bit below the planes of the first groups.
+/// The least distance of the rows of segment `q`, or `best` if none is nearer. `near` has those of the rows whose
+/// distance may have no bit in the planes of the first groups.
 fn nearest_among(
     codes: &VerticalColumn,
     q: usize,
@@ -173,8 +173,8 @@ fn nearest_among(
     }
 }
 
-/// The least distances of the rows of segment q from both ends, or `best` where none is nearer. No plane is read where no end is
-/// looked for, and where there is no row. So many first groups are looked at before it is asked whether a row is left.
+/// The least distances of the rows of segment `q` from both ends, or `best` if none is nearer. No plane is read if no
+/// end is wanted or if there is no row. `groups` first groups are read before checking whether a row is left.
 pub(crate) fn nearest_to_ends(
     codes: &VerticalColumn,
     q: usize,

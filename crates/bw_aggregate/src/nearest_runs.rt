@@ -1,4 +1,4 @@
-//! The least and the greatest of codes that are read in runs of 64.
+//! The least and the greatest code, read in runs of 64.
 
 ghost use Rattle.std.specs.Prelude.{All, if◌then◌else◌, length, min, slice_index, true, ◌≡◌, ◌≤◌};
 ghost use Rattle.bw_mask.specs.Masks.{bit_of};
@@ -7,15 +7,16 @@ ghost use Rattle.bw_aggregate.specs.Ends.{AreNearest};
 use crate::end::{Distances, End, distance};
 use crate::runs::is_in;
 
-/// The lesser of `best` and the distance of a row, if the row is in.
-// Without a branch, since which rows are in is not foreseen, and so that the next row waits for the lesser alone.
+/// The smaller of `best` and the row's distance if the row is selected, else `best`.
+// Without a branch, since which rows are selected is unpredictable, and so that the next row waits only for the
+// minimum.
 fn nearer(best: u64, is_in: bool, distance: u64) -> u64
     ensures { result ≡ (if is_in then min best distance else best) }
 {
     best.min(if is_in { distance } else { u64::MAX })
 }
 
-/// The least distances of all codes of a run from both ends, or `best` where none is nearer.
+/// The least distances of all codes of a run from both ends, or `best` if none is nearer.
 fn nearest_of_all(codes: &[u64], top: u64, best: Distances) -> Distances
     requires fit { All (λ code. code ≤ top) codes.now }
     ensures { AreNearest (length codes.now) (λ i. true) (slice_index codes.now) top best result }
@@ -31,7 +32,7 @@ fn nearest_of_all(codes: &[u64], top: u64, best: Distances) -> Distances
     Distances { least, greatest }
 }
 
-/// The least distances of a run's rows that are in from both ends, or `best` where none is nearer.
+/// The least distances of a run's selected rows from both ends, or `best` if none is nearer.
 fn nearest_of_some(codes: &[u64], rows: u64, top: u64, best: Distances) -> Distances
     requires few { length codes.now ≤ 64 }
     requires fit { All (λ code. code ≤ top) codes.now }
@@ -49,8 +50,8 @@ fn nearest_of_some(codes: &[u64], rows: u64, top: u64, best: Distances) -> Dista
     Distances { least, greatest }
 }
 
-/// The least distances of a run's rows that are in from both ends, or `best` where none is nearer. No code is looked at where no
-/// end is looked for. Where all rows are in, none is looked for.
+/// The least distances of a run's selected rows from both ends, or `best` if none is nearer. No code is read if no end
+/// is wanted. If all rows are selected, their bits aren't tested.
 pub(crate) fn run_nearest_to_ends(codes: &[u64], rows: u64, top: u64, best: Distances) -> Distances
     requires few { length codes.now ≤ 64 }
     requires fit { All (λ code. code ≤ top) codes.now }

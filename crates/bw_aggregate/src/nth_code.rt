@@ -1,4 +1,4 @@
-//! One entry of the sorted codes of some rows, digit by digit from the top.
+//! Finds one entry of the sorted codes of some rows, digit by digit from the top.
 
 ghost use Rattle.std.specs.Prelude.{IfOk, length, true, vec_len, ℕ, ◌&&◌, ◌*◌, ◌+◌, ◌<◌, ◌==◌, ◌^◌, ◌≡◌, ◌≤◌};
 ghost use Rattle.std.specs.List.{items_where_true};
@@ -12,14 +12,14 @@ use bw_code::{CodeColumn, CodeTest, Meter};
 use bw_mask::Mask;
 use std::alloc::{AllocError, Global};
 
-/// How many bits a digit has at most: the counts of so many digits stay in the nearest cache.
+/// The largest number of bits of a digit. The counts for so many digits fit the L1 cache.
 const DIGIT_BITS: u32 = 11;
 
-/// How many digits there are of so many bits.
+/// The number of digits of `DIGIT_BITS` bits.
 const MOST_DIGITS: usize = 2048;
 
-/// The bits found so far of the code that is looked for, how many are below them, and which of the codes that begin with these bits
-/// it is.
+/// The bits found so far of the wanted code, the number of bits below them, and the code's index among those that begin
+/// with these bits.
 #[derive(Clone, Copy)]
 struct Way {
     found: u64,
@@ -27,7 +27,7 @@ struct Way {
     rest: usize,
 }
 
-/// How many digits there are of so many bits.
+/// The number of digits of `bits` bits.
 fn digits_of(bits: u32) -> usize
     requires { bits ≤ 11 }
     ensures is { result ≡ 2 ^ bits }
@@ -36,7 +36,7 @@ fn digits_of(bits: u32) -> usize
     1 << bits
 }
 
-/// How many codes begin with the same bits, where so many are below these.
+/// The number of codes that begin with the same bits, with `bits` bits below them.
 fn codes_below(bits: u32) -> u64
     requires { bits < 64 }
     ensures { result ≡ 2 ^ bits }
@@ -44,7 +44,7 @@ fn codes_below(bits: u32) -> u64
     1 << bits
 }
 
-/// One digit further. The rows are those whose code begins with the bits found so far.
+/// Goes one digit further. The rows are those whose code begins with the bits found so far.
 fn next_digit<C: CodeColumn>(column: &C, left: &Mask, way: Way, counts: &mut Vec<u32>) -> Way
     requires narrow { (C.seen column.now).width ≤ 64 }
     requires len { len left.now ≡ count (C.seen column.now) }
@@ -77,7 +77,7 @@ fn next_digit<C: CodeColumn>(column: &C, left: &Mask, way: Way, counts: &mut Vec
     }
 }
 
-/// Those of the rows whose code begins with the bits found so far.
+/// The rows whose code begins with the bits found so far.
 fn rows_on_way<C: CodeColumn>(
     alloc: Global,
     column: &C,
@@ -104,7 +104,7 @@ fn rows_on_way<C: CodeColumn>(
     Ok(left)
 }
 
-/// Entry n of the sorted codes of the rows, of which there are more.
+/// Entry `n` of the sorted codes of the rows. There are more than `n` rows.
 pub(crate) fn nth_code<C: CodeColumn>(
     alloc: Global,
     column: &C,

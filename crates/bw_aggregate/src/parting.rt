@@ -1,4 +1,4 @@
-//! The next of the groups into which a column's values put rows.
+//! Takes the next group of rows by a column's values.
 
 ghost use Rattle.std.specs.Prelude.{IfOk, None, OnErr, Some, length, ℕ, ◌&&◌, ◌≡◌};
 ghost use Rattle.bw_mask.specs.Masks.{len, row_at};
@@ -13,8 +13,9 @@ use bw_column::Column;
 use bw_mask::{Mask, Truth, TruthValue};
 use std::alloc::{AllocError, Global};
 
-/// The least value of the rows that remain, or NULL where all of theirs are NULL, with the rows that have it; these no longer
-/// remain. `None` where no row remains. Where memory is wanting the rows that remain stay as they are.
+/// Returns the least value of the remaining rows, or NULL if all of their values are NULL, with the rows that have it,
+/// and removes those from the remaining rows. Returns `None` if no row remains. If it runs out of memory, the remaining
+/// rows stay unchanged.
 pub fn next_group(
     alloc: Global,
     column: &Column,
@@ -33,7 +34,7 @@ pub fn next_group(
     Ok(Some((value, group)))
 }
 
-/// Those of the rows whose value is this.
+/// The rows that have this value.
 fn rows_having(
     alloc: Global,
     column: &Column,
@@ -50,7 +51,7 @@ fn rows_having(
     }
 }
 
-/// Those of the rows whose value is this integer.
+/// The rows whose value is this integer.
 fn equal_rows(alloc: Global, column: &Column, value: i64, rows: &Mask) -> Result<Mask, AllocError>
     requires { len rows.now ≡ length column.now.values }
     ensures len { IfOk result (λ having. len having ≡ len rows.now) }
@@ -61,7 +62,7 @@ fn equal_rows(alloc: Global, column: &Column, value: i64, rows: &Mask) -> Result
     Ok(truth.into_trues())
 }
 
-/// Those of the rows whose value is NULL.
+/// The rows whose value is NULL.
 fn null_rows(column: &Column, rows: &Mask) -> Result<Mask, AllocError>
     requires { len rows.now ≡ length column.now.values }
     ensures len { IfOk result (λ having. len having ≡ len rows.now) }

@@ -1,4 +1,4 @@
-//! Where a plane is read from: in place, or from a copy.
+//! A bit plane, read in place or from a copy.
 
 ghost use Rattle.std.specs.Prelude.{[], slice_index_or, ℕ, ◌*◌, ◌+◌, ◌-◌, ◌<◌, ◌^◌, ◌≡◌, ◌≤◌};
 ghost use Rattle.bw_mask.specs.Masks.{bit_of, row_in};
@@ -10,7 +10,7 @@ use crate::rows::rows_at;
 use bw_code::CodeColumn;
 use bw_vertical::VerticalColumn;
 
-/// A plane among those of its group: of each segment, the one at place `at` of `count`.
+/// A plane within its group: in each segment, the plane at index `at` of `count`.
 #[derive(Clone, Copy)]
 pub(crate) struct GroupPlane<'a> {
     group: &'a [[u64; 4]],
@@ -27,7 +27,7 @@ pub(crate) enum Plane<'a> {
 }
 
 impl<'a> GroupPlane<'a> {
-    /// Plane i of a column, counted from the highest.
+    /// Plane `i` of a column, counted from the highest.
     pub(crate) fn of(codes: &'a VerticalColumn, i: usize) -> GroupPlane<'a>
         requires within { i < codes.now.width }
         requires narrow { codes.now.width ≤ 64 }
@@ -41,7 +41,7 @@ impl<'a> GroupPlane<'a> {
         }
     }
 
-    /// Its rows in segment q, none past the last segment.
+    /// The rows of segment `q` whose bit is set; none past the last segment.
     fn rows(&self, q: u32) -> [u64; 4]
         ensures { (j : ℕ) → j < 256 → row_in result j ≡ row_in (slice_index_or self.now.group.now (q * self.now.count + self.now.at) []) j }
     {
@@ -55,7 +55,7 @@ impl<'a> GroupPlane<'a> {
 }
 
 impl<'a> Plane<'a> {
-    /// Its rows in segment q.
+    /// The rows of segment `q` whose bit is set.
     pub(crate) fn rows(&self, q: u32) -> [u64; 4]
         ensures { (j : ℕ) → j < 256 → row_in result j ≡ is_in self.now (256 * q + j) }
     {
@@ -66,7 +66,7 @@ impl<'a> Plane<'a> {
     }
 }
 
-/// Plane i of segment q.
+/// Plane `i` of segment `q`.
 pub(crate) fn plane_at(codes: &VerticalColumn, q: usize, i: usize) -> &[u64; 4]
     requires there { q < segments_of 256 (count codes.now) }
     requires within { i < codes.now.width }

@@ -14,8 +14,8 @@ use bw_code::CodeColumn;
 use bw_mask::Mask;
 use bw_vertical::VerticalColumn;
 
-/// How many of the rows are in the plane. Where all rows of the segment are in, those of the plane are counted as they are,
-/// for half the instructions.
+/// The number of rows whose bit is set in the plane. If all rows of the segment are selected, the plane's bits are
+/// counted directly, with half the instructions.
 fn ones_in(rows: &[u64; 4], all: bool, plane: &[u64; 4]) -> usize
     requires { all ≡ true → (j : ℕ) → j < 256 → row_in rows.now j ≡ true }
     ensures is { result ≡ marked 256 (λ j. row_in rows.now j && row_in plane.now j) }
@@ -28,7 +28,7 @@ fn ones_in(rows: &[u64; 4], all: bool, plane: &[u64; 4]) -> usize
     }
 }
 
-/// The sum with the bits of one plane more.
+/// The sum extended by the bits of one more plane.
 fn with_plane(sum: u64, rows: &[u64; 4], all: bool, plane: &[u64; 4]) -> u64
     requires { all ≡ true → (j : ℕ) → j < 256 → row_in rows.now j ≡ true }
     ensures { (need : List Bool) (codes : List ℕ) (k q i : ℕ) → k ≤ 32 → All (λ code. code < 2 ^ k) codes → length need ≡ length codes → AreRows need q rows.now → AreBits codes q i plane.now
@@ -38,8 +38,8 @@ fn with_plane(sum: u64, rows: &[u64; 4], all: bool, plane: &[u64; 4]) -> u64
         .wrapping_add(ones_in(rows, all, plane) as u64)
 }
 
-/// The sum of the numbers that at most 32 planes make of the codes of those rows of segment q that are in: all from a group of four
-/// on, up to plane `end`.
+/// The sum, over the selected rows of segment `q`, of the numbers formed by at most 32 planes of their codes: those
+/// from the start of a group of four up to plane `end`.
 fn planes_sum(
     codes: &VerticalColumn,
     q: usize,
@@ -71,7 +71,7 @@ fn planes_sum(
     sum
 }
 
-/// How many groups of four planes lie above the lowest 32 planes, the last of them in part.
+/// The number of groups of four planes above the lowest 32 planes. The last one may lie there in part only.
 fn upper_groups(width: usize) -> usize
     requires { width ≤ 64 }
     ensures few { 4 * result ≤ width }
@@ -81,8 +81,8 @@ fn upper_groups(width: usize) -> usize
     width.saturating_sub(32).div_ceil(4)
 }
 
-/// The sum of the codes of those rows of segment q that are in. Codes of more than 32 bits are summed as two numbers of at most 32
-/// bits each, so that no sum wraps.
+/// The sum of the codes of the selected rows of segment `q`. Codes of more than 32 bits are summed as two numbers of at
+/// most 32 bits each, so that no sum wraps.
 pub(crate) fn segment_sum(codes: &VerticalColumn, q: usize, rows: &[u64; 4]) -> u128
     requires there { q < segments_of 256 (count codes.now) }
     requires few { count codes.now ≤ 2 ^ 24 }

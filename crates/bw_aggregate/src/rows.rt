@@ -7,14 +7,14 @@ ghost use Rattle.bw_aggregate.specs.Marks.{marked};
 use bw_lane::{count_and_words, count_words};
 use std::simd::prelude::*;
 
-/// Word i, and 0 past the last.
+/// Word `i`; 0 past the last.
 fn word_at(words: &[u64], i: usize) -> u64
     ensures { result ≡ slice_index words.now i }
 {
     if i < words.len() { words[i] } else { 0 }
 }
 
-/// Rows 256 q to 256 q + 255. Four words that are there are taken by one load.
+/// Rows 256 q to 256 q + 255. If all four words exist, they are read with one load.
 pub(crate) fn rows_at(words: &[u64], q: u32) -> [u64; 4]
     ensures { (j : ℕ) → j < 256 → row_in result j ≡ row_in words.now (256 * q + j) }
 {
@@ -31,7 +31,7 @@ pub(crate) fn rows_at(words: &[u64], q: u32) -> [u64; 4]
     }
 }
 
-/// The rows that are in the plane, or those that are not.
+/// The rows whose bit in the plane is `bit`.
 pub(crate) fn rows_with(rows: &[u64; 4], plane: &[u64; 4], bit: bool) -> [u64; 4]
     ensures { (j : ℕ) → j < 256 → row_in result j ≡ (row_in rows.now j && (if bit then row_in plane.now j else not (row_in plane.now j))) }
 {
@@ -44,7 +44,7 @@ pub(crate) fn rows_with(rows: &[u64; 4], plane: &[u64; 4], bit: bool) -> [u64; 4
     }
 }
 
-/// How many rows there are.
+/// The number of rows.
 pub(crate) fn count_rows(rows: &[u64]) -> usize
     requires { length rows.now ≡ 4 }
     ensures is { result ≡ marked 256 (row_in rows.now) }
@@ -53,7 +53,7 @@ pub(crate) fn count_rows(rows: &[u64]) -> usize
     count_words(rows) as usize
 }
 
-/// How many rows are in both.
+/// The number of rows in both.
 pub(crate) fn count_both(a: &[u64], b: &[u64]) -> usize
     requires a { length a.now ≡ 4 }
     requires b { length b.now ≡ 4 }
@@ -70,7 +70,7 @@ pub(crate) fn has_row(rows: &[u64]) -> bool
     rows[0] | rows[1] | rows[2] | rows[3] != 0
 }
 
-/// Whether all 256 rows are there.
+/// Whether all 256 rows are set.
 pub(crate) fn has_all(rows: &[u64]) -> bool
     requires { length rows.now ≡ 4 }
     ensures { result ≡ true → (j : ℕ) → j < 256 → row_in rows.now j ≡ true }

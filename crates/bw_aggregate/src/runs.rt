@@ -4,7 +4,7 @@ ghost use Rattle.std.specs.Prelude.{All, Bool, List, drop, if◌then◌else◌, 
 ghost use Rattle.bw_mask.specs.Masks.{bit_of};
 ghost use Rattle.bw_aggregate.specs.Runs.{IsRun, code_sum, lower_half, upper_half};
 
-/// Whether row i of a run is in.
+/// Whether row `i` of a run is selected.
 #[tactic(auto, using(bw_mask::proofs::Bits::bit_test))]
 pub(crate) fn is_in(rows: u64, i: usize) -> bool
     requires { i < 64 }
@@ -13,8 +13,8 @@ pub(crate) fn is_in(rows: u64, i: usize) -> bool
     rows >> i & 1 == 1
 }
 
-/// The code of row i of a run; 0 where the row isn't in.
-// Read either way: what is left to choose takes no branch, since which rows are in is not foreseen.
+/// The code of row `i` of a run; 0 if the row isn't selected.
+// Reads the code in either case, so that choosing needs no branch: which rows are selected is unpredictable.
 fn code_in(codes: &[u64], rows: u64, i: usize) -> u64
     requires few { length codes.now ≤ 64 }
     requires there { i < length codes.now }
@@ -24,7 +24,7 @@ fn code_in(codes: &[u64], rows: u64, i: usize) -> u64
     if is_in(rows, i) { code } else { 0 }
 }
 
-/// The sum of the codes of a run's rows that are in.
+/// The sum of the codes of a run's selected rows.
 fn sum_in(codes: &[u64], rows: u64) -> u64
     requires few { length codes.now ≤ 64 }
     requires narrow { All (λ code. code < 2 ^ 32) codes.now }
@@ -53,7 +53,8 @@ fn sum_all(codes: &[u64]) -> u64
     sum
 }
 
-/// The sum of the codes of a run's rows that are in, of at most 32 bits each. Where all are in, no row is looked for.
+/// The sum of the codes of a run's selected rows, of at most 32 bits each. If all rows are selected, their bits aren't
+/// tested.
 fn narrow_sum(codes: &[u64], rows: u64) -> u64
     requires few { length codes.now ≤ 64 }
     requires narrow { All (λ code. code < 2 ^ 32) codes.now }
@@ -92,7 +93,8 @@ fn upper_halves(codes: &[u64]) -> [u64; 64]
     halves
 }
 
-/// The sum of the codes of a run's rows that are in. Codes of more than 32 bits are summed by halves, so that no sum wraps.
+/// The sum of the codes of a run's selected rows. Codes of more than 32 bits are summed by halves, so that no sum
+/// wraps.
 pub(crate) fn run_sum(codes: &[u64], bits: u32, rows: u64) -> u128
     requires few { length codes.now ≤ 64 }
     requires fit { All (λ code. code < 2 ^ bits) codes.now }

@@ -1,8 +1,8 @@
-//! Rows that are left, by segments of 256.
+//! The rows that are left, in segments of 256.
 
 ghost use Rattle.std.specs.Prelude.{vec_len, ◌^◌, ◌≤◌};
 
-/// Those rows of a segment that are left.
+/// The rows of a segment that are left.
 #[derive(Clone, Copy)]
 pub(crate) struct Segment {
     pub(crate) number: u32,
@@ -16,7 +16,7 @@ impl Segment {
     };
 }
 
-/// The rows that are left of a part of a column, by the segments that have one.
+/// The rows of a column that are left, as the segments that have any.
 #[derive(Drop)]
 pub(crate) struct Left {
     pub(crate) segments: Vec<Segment>,

@@ -1,4 +1,4 @@
-//! COUNT, SUM, MIN, MAX and MEDIAN of the values of some rows, one by one. NULLs are passed over.
+//! COUNT, SUM, MIN, MAX and MEDIAN of the values of some rows, each on its own. NULLs are ignored.
 
 ghost use Rattle.std.specs.Prelude.{◌≡◌, IfOk, length};
 ghost use Rattle.bw_mask.specs.Masks.{len};
@@ -11,7 +11,7 @@ use bw_column::Column;
 use bw_mask::Mask;
 use std::alloc::{AllocError, Global};
 
-/// How many values of the rows are not NULL.
+/// The number of non-null values of the rows.
 pub fn count(column: &Column, rows: &Mask) -> u64
     requires { len rows.now ≡ length column.now.values }
     ensures { result ≡ length (chosen column.now rows.now) }
@@ -19,7 +19,7 @@ pub fn count(column: &Column, rows: &Mask) -> u64
     known_count(column, rows) as u64
 }
 
-/// The sum of the values of the rows, if one is not NULL.
+/// The sum of the values of the rows; `None` if all are NULL.
 pub fn sum(alloc: Global, column: &Column, rows: &Mask) -> Result<Option<i128>, AllocError>
     requires { len rows.now ≡ length column.now.values }
     ensures { IfOk result (λ value. value ≡ sum (chosen column.now rows.now)) }
@@ -31,7 +31,7 @@ pub fn sum(alloc: Global, column: &Column, rows: &Mask) -> Result<Option<i128>, 
     Ok(summarize(alloc, column, rows, asked)?.sum)
 }
 
-/// The least value of the rows, if one is not NULL.
+/// The least value of the rows; `None` if all are NULL.
 pub fn min(alloc: Global, column: &Column, rows: &Mask) -> Result<Option<i64>, AllocError>
     requires { len rows.now ≡ length column.now.values }
     ensures { IfOk result (λ value. value ≡ least (chosen column.now rows.now)) }
@@ -43,7 +43,7 @@ pub fn min(alloc: Global, column: &Column, rows: &Mask) -> Result<Option<i64>, A
     Ok(summarize(alloc, column, rows, asked)?.least)
 }
 
-/// The greatest value of the rows, if one is not NULL.
+/// The greatest value of the rows; `None` if all are NULL.
 pub fn max(alloc: Global, column: &Column, rows: &Mask) -> Result<Option<i64>, AllocError>
     requires { len rows.now ≡ length column.now.values }
     ensures { IfOk result (λ value. value ≡ greatest (chosen column.now rows.now)) }
@@ -55,7 +55,7 @@ pub fn max(alloc: Global, column: &Column, rows: &Mask) -> Result<Option<i64>, A
     Ok(summarize(alloc, column, rows, asked)?.greatest)
 }
 
-/// The lower median of the values of the rows, if one is not NULL.
+/// The lower median of the values of the rows; `None` if all are NULL.
 pub fn median(alloc: Global, column: &Column, rows: &Mask) -> Result<Option<i64>, AllocError>
     requires { len rows.now ≡ length column.now.values }
     ensures { IfOk result (λ value. value ≡ median (chosen column.now rows.now)) }

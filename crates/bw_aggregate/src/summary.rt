@@ -1,4 +1,4 @@
-//! What set functions say of a column's values in some rows.
+//! Several set functions of a column's values in some rows at once.
 
 ghost use Rattle.std.specs.Prelude.{All, IfOk, None, if◌then◌else◌, length, ◌+◌, ◌-◌, ◌/◌, ◌<◌, ◌≡◌, ◌≤◌, ◌^◌};
 ghost use Rattle.bw_mask.specs.Masks.{len};
@@ -17,7 +17,7 @@ use bw_column::Column;
 use bw_mask::Mask;
 use std::alloc::{AllocError, Global};
 
-/// What is asked of the values, beside their number.
+/// Which set functions of the values are asked for, besides their number.
 #[derive(Clone, Copy, Debug, PartialEq, Eq)]
 pub struct Asked {
     pub sum: bool,
@@ -27,7 +27,7 @@ pub struct Asked {
 }
 
 impl Asked {
-    /// Nothing but the number.
+    /// Only the number.
     pub const NOTHING: Asked = Asked {
         sum: false,
         least: false,
@@ -35,7 +35,7 @@ impl Asked {
         median: false,
     };
 
-    /// The distances to begin with: at an end that is asked for as far as any code can be.
+    /// The initial distances: the largest possible one for an end that is asked for, and else 0.
     fn farthest(&self) -> Distances
         ensures least { result.least ≡ (if self.now.least then 2 ^ 64 - 1 else 0) }
         ensures greatest { result.greatest ≡ (if self.now.greatest then 2 ^ 64 - 1 else 0) }
@@ -47,11 +47,11 @@ impl Asked {
     }
 }
 
-/// What was asked of the values of some rows that are not NULL. Of no values, and where it wasn't asked for, each but the
-/// number is `None`.
+/// The set functions of the non-null values of some rows. Each one except the number is `None` if it wasn't asked for
+/// or if there are no values.
 #[derive(Clone, Copy, Debug)]
 pub struct Summary {
-    /// How many values there are.
+    /// The number of values.
     pub count: usize,
     pub sum: Option<i128>,
     pub least: Option<i64>,
@@ -70,7 +70,7 @@ impl Summary {
     };
 }
 
-/// What is asked of the values of the rows that are not NULL.
+/// Computes what is asked for, of the non-null values of the rows.
 pub fn summarize(
     alloc: Global,
     column: &Column,
@@ -102,7 +102,8 @@ pub fn summarize(
     })
 }
 
-/// The lower median of the values of the rows, where it is asked for. So many of them are not null, and one at least.
+/// The lower median of the values of the rows, if it is asked for. `count` is the number of non-null values, at least
+/// 1.
 fn median_told(
     alloc: Global,
     column: &Column,

@@ -1,8 +1,8 @@
-//! What one look at the codes of some rows tells.
+//! The result of one pass over the codes of some rows.
 
 use crate::end::Distances;
 
-/// The sum of the codes of rows, and how near those that are not null come to each end.
+/// The sum of the codes of rows, and the least distance of the non-null ones from each end.
 #[derive(Clone, Copy)]
 pub(crate) struct Tally {
     pub(crate) sum: u128,
@@ -10,7 +10,7 @@ pub(crate) struct Tally {
 }
 
 impl Tally {
-    /// Where nothing is looked for.
+    /// The tally if nothing is asked for.
     pub(crate) const NOTHING: Tally = Tally {
         sum: 0,
         nearest: Distances::NONE,

@@ -1,5 +1,5 @@
-//! The sum of codes and both their ends by their planes, in one pass over the segments: what each tells while its planes are at
-//! hand.
+//! The sum and both ends of codes, from their planes, in one pass over the segments, while a segment's planes are in
+//! cache.
 
 ghost use Rattle.std.specs.Prelude.{Bool, List, false, length, sum, true, ◌&&◌, ◌*◌, ◌+◌, ◌-◌, ◌<◌, ◌^◌, ◌≡◌, ◌≤◌};
 ghost use Rattle.bw_mask.specs.Masks.{len, row_at};
@@ -18,7 +18,7 @@ use bw_code::CodeColumn;
 use bw_mask::Mask;
 use bw_vertical::VerticalColumn;
 
-/// The sum of the codes of those rows of segment q that are in, where it is asked for.
+/// The sum of the codes of the selected rows of segment `q`, if it is asked for.
 fn sum_if(asked: bool, codes: &VerticalColumn, q: usize, rows: &[u64; 4]) -> u128
     requires there { q < segments_of 256 (count codes.now) }
     requires few { count codes.now ≤ 2 ^ 24 }
@@ -34,8 +34,8 @@ fn sum_if(asked: bool, codes: &VerticalColumn, q: usize, rows: &[u64; 4]) -> u12
     }
 }
 
-/// The sum of the codes of the rows, where it is asked for, and the least distances of those that are not null, or `far` where
-/// none is nearer.
+/// The sum of the codes of the rows, if it is asked for, and the least distances of the non-null ones, or `far` if none
+/// is nearer.
 pub(crate) fn tally_by_planes(
     codes: &VerticalColumn,
     rows: &Mask,

@@ -1,4 +1,4 @@
-//! The sum of codes and both their ends by runs of 64, each of which is read once for all.
+//! The sum and both ends of codes, in runs of 64. Each run is read once.
 
 ghost use Rattle.std.specs.Prelude.{All, Bool, List, drop, length, take, true, ℕ, ◌&&◌, ◌*◌, ◌+◌, ◌-◌, ◌<◌, ◌^◌, ◌≡◌, ◌≤◌};
 ghost use Rattle.bw_mask.specs.Masks.{bit_of, len, row_at};
@@ -14,7 +14,8 @@ use crate::tally::Tally;
 use bw_code::CodeColumn;
 use bw_mask::Mask;
 
-/// Rows `at` to `at + n - 1`, at most 64: bit i of a word says whether row `at + i` is in, and whether it is and is not null.
+/// Rows `at` to `at + n - 1`, at most 64: bit i of one word tells whether row `at + i` is selected, of the other
+/// whether it is also non-null.
 #[derive(Clone, Copy)]
 struct Run {
     at: usize,
@@ -23,14 +24,14 @@ struct Run {
     known: u64,
 }
 
-/// What the codes of a run tell.
+/// The result for the codes of a run.
 #[derive(Clone, Copy)]
 struct RunTally {
     sum: u128,
     nearest: Distances,
 }
 
-/// The sum of the codes of a run's rows that are in, where it is asked for.
+/// The sum of the codes of a run's selected rows, if it is asked for.
 fn sum_if(asked: bool, codes: &[u64], bits: u32, rows: u64) -> u128
     requires few { length codes.now ≤ 64 }
     requires fit { All (λ code. code < 2 ^ bits) codes.now }
@@ -42,8 +43,8 @@ fn sum_if(asked: bool, codes: &[u64], bits: u32, rows: u64) -> u128
     if asked { run_sum(codes, bits, rows) } else { 0 }
 }
 
-/// What the codes of a run tell: their sum, where it is asked for, and the least distances from both ends, or `best` where none
-/// is nearer. Where no row is in, no code is read.
+/// The result for the codes of a run: their sum, if it is asked for, and the least distances from both ends, or `best`
+/// if none is nearer. If no row is selected, no code is read.
 fn run_tally<C: CodeColumn>(column: &C, run: Run, sum: bool, top: u64, best: Distances) -> RunTally
     requires narrow { (C.seen column.now).width ≤ 64 }
     requires few { run.n ≤ 64 }
@@ -71,8 +72,8 @@ fn run_tally<C: CodeColumn>(column: &C, run: Run, sum: bool, top: u64, best: Dis
     }
 }
 
-/// The sum of the codes of the rows, where it is asked for, and the least distances of those that are not null, or `far` where
-/// none is nearer.
+/// The sum of the codes of the rows, if it is asked for, and the least distances of the non-null ones, or `far` if none
+/// is nearer.
 pub(crate) fn tally_in_runs<C: CodeColumn>(
     column: &C,
     rows: &Mask,

@@ -1,4 +1,4 @@
-//! What the codes of a column tell of some rows by one look.
+//! The sum and the ends of some rows, from one pass over a column's codes.
 
 ghost use Rattle.std.specs.Prelude.{All, None, Some, if◌then◌else◌, is_some, length, ◌&&◌, ◌-◌, ◌<◌, ◌^◌, ◌≡◌, ◌≤◌};
 ghost use Rattle.bw_mask.specs.Masks.{len, row_at};
@@ -20,15 +20,15 @@ use bw_code::{Dictionary, Encoding};
 use bw_column::{Column, Storage};
 use bw_mask::Mask;
 
-/// The sum of the values of rows, where it is asked for, and how near their codes come to each end.
+/// The sum of the values of rows, if it is asked for, and the least distance of their codes from each end.
 #[derive(Clone, Copy)]
 pub(crate) struct Told {
     pub(crate) sum: Option<i128>,
     pub(crate) nearest: Distances,
 }
 
-/// The sum of the codes of the rows, a null's being 0, where it is asked for, and the least distances of those that are not null, or
-/// `far` where none is nearer. Planes tell the sum by counts. Nothing is read where nothing is asked for.
+/// The sum of the codes of the rows, if it is asked for (a null's code is 0), and the least distances of the non-null
+/// ones, or `far` if none is nearer. In planes, the sum comes from counts. Nothing is read if nothing is asked for.
 fn code_tally(column: &Column, rows: &Mask, sum: bool, far: Distances) -> Tally
     requires len { len rows.now ≡ length column.now.values }
     ensures { IsTally sum rows.now.rows (λ r. row_at rows.now r && is_some (value_at column.now.values r)) (codes_for column.now.encoding column.now.values) (2 ^ width column.now.encoding - 1) far result }
@@ -45,7 +45,7 @@ fn code_tally(column: &Column, rows: &Mask, sum: bool, far: Distances) -> Tally
     }
 }
 
-/// The sum of the values of the rows that are not null, where it is asked for. There is one.
+/// The sum of the non-null values of the rows, if it is asked for. At least one value is non-null.
 fn value_sum_if(asked: bool, column: &Column, dictionary: &Dictionary, rows: &Mask) -> Option<i128>
     requires len { len rows.now ≡ length column.now.values }
     requires encoding { column.now.encoding ≡ by.Dictionary dictionary.now }
@@ -61,16 +61,16 @@ fn value_sum_if(asked: bool, column: &Column, dictionary: &Dictionary, rows: &Ma
     }
 }
 
-/// The sum, where it is asked for.
+/// The sum, if it is asked for.
 fn sum_if(asked: bool, sum: i128) -> Option<i128>
     ensures { result ≡ (if asked then Some sum else None) }
 {
     if asked { Some(sum) } else { None }
 }
 
-/// The sum of the values of the rows, where it is asked for, and the least distances of their codes, or `far` where none is
-/// nearer. So many of them are not null, and one at least. A null's code is 0, so that the sum of the codes is that of the values
-/// without their bases; a dictionary's codes don't tell it.
+/// The sum of the values of the rows, if it is asked for, and the least distances of their codes, or `far` if none is
+/// nearer. `count` is the number of non-null values, at least 1. A null's code is 0, so the sum of the codes is that of
+/// the values minus `count` bases. A dictionary's codes don't give the sum.
 pub(crate) fn tell(column: &Column, rows: &Mask, count: usize, sum: bool, far: Distances) -> Told
     requires len { len rows.now ≡ length column.now.values }
     requires few { count ≤ 2 ^ 24 }

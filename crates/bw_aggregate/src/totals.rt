@@ -1,8 +1,8 @@
-//! Sums of values by those of their codes.
+//! Sums of values from sums of their codes.
 
 ghost use Rattle.std.specs.Prelude.{◌≡◌, ◌<◌, ◌≤◌, ◌^◌, ◌+ℤ◌, ◌*ℤ◌, pos};
 
-/// So many bases, and the sum of the codes.
+/// `count` times the base, plus the sum of the codes.
 pub(crate) fn based_total(base: i64, count: usize, codes: u128) -> i128
     requires few { count ≤ 2 ^ 24 }
     requires small { codes < 2 ^ 89 }

@@ -1,4 +1,4 @@
-//! Times encodings and scans of plain codes, beside plain passes over the same values.
+//! Times encodings and scans of plain codes, compared with plain passes over the same values.
 
 ghost use Rattle.std.specs.Prelude.{IfOk, ◌≡◌};
 
@@ -8,14 +8,14 @@ use std::alloc::{AllocError, Global};
 use std::io;
 use std::time::Instant;
 
-// What is timed, each over the same values or codes.
+// The kinds of work that are timed, each over the same values or codes.
 #[derive(Clone, Copy)]
 enum Work {
     // Reads each value and writes a number for it.
     Pass,
     FitOffset,
     EncodeOffset,
-    // Sorts the values by std, and looks for each by a binary search.
+    // Sorts the values with std, and finds each by binary search.
     Sort,
     Search,
     FitDictionary,
@@ -25,7 +25,7 @@ enum Work {
     Scan,
 }
 
-// What is worked on, and room for what comes of it.
+// The input, and room for the results.
 #[derive(Drop)]
 struct Bench {
     alloc: Global,
@@ -40,7 +40,7 @@ struct Bench {
     found: Mask,
 }
 
-/// Times each kind of work over so many values, so many times.
+/// Times each kind of work over `count` values, `rounds` times.
 pub(crate) fn time_codes(rt: &HostRuntime, rounds: u32, count: usize) -> io::Result<()> {
     let count = count.min(16_777_216);
     let mut bench = bench_of(rt.alloc(), count)?;
@@ -90,13 +90,13 @@ fn one_round(bench: &mut Bench, work: Work) -> Result<u64, AllocError> {
     }
 }
 
-// A constant that about half of the codes are below.
+// A constant that about half of the codes are less than.
 const MIDDLE: u32 = 1 << 31;
 
 // The width of the codes that are scanned.
 const WIDTH: u32 = 32;
 
-// The most rows of a column.
+// The largest number of rows of a column.
 const ROW_LIMIT: usize = 16_777_216;
 
 fn bench_of(alloc: Global, count: usize) -> Result<Bench, AllocError> {
@@ -134,7 +134,7 @@ fn next_state(state: u64) -> u64 {
     state ^ (state << 17)
 }
 
-// The upper half of the state, as a number of 32 bits with a sign.
+// The upper half of the state, as a signed 32-bit number.
 fn value_of(state: u64) -> i64 {
     i64::from((state >> 32) as u32) - (1 << 31)
 }

@@ -1,4 +1,4 @@
-//! Times how fast codes are taken, read and scanned in each layout, at each width.
+//! Times how fast codes are stored, read and scanned in each layout, at each width.
 
 ghost use Rattle.std.specs.Prelude.{IfOk, length, vec_len, ◌+◌, ◌<◌, ◌^◌, ◌≡◌, ◌≤◌};
 ghost use Rattle.bw_mask.specs.Masks.{len};
@@ -13,14 +13,14 @@ use std::alloc::{AllocError, Global};
 use std::io;
 use std::time::Instant;
 
-// How many codes are read at once.
+// The number of codes that are read at once.
 const RUN: usize = 1_024;
 
-// The most codes of a column.
+// The largest number of codes of a column.
 const ROW_LIMIT: usize = 16_777_216;
 
-/// Times every layout over so many codes, so many times: at every width to 32, and at every eighth one above, where BitWeaving/H
-/// has no codes.
+/// Times every layout over `count` codes, `rounds` times: at every width to 32, and at every eighth width above, where
+/// BitWeaving/H has no codes.
 pub(crate) fn time_layouts(rt: &HostRuntime, rounds: u32, count: usize) -> io::Result<()> {
     let count = count.min(ROW_LIMIT);
     for width in 1..=32 {
@@ -48,7 +48,7 @@ fn time_others(rt: &HostRuntime, width: u32, rounds: u32, codes: &[u64]) -> io::
     time_column::<SliceColumn>(rt, Timed { layout: "S", width }, rounds, codes)
 }
 
-// Random codes of so many bits.
+// Random codes of `width` bits.
 fn codes_of(alloc: Global, width: u32, count: usize) -> Result<Vec<u64>, AllocError>
     requires some { 1 ≤ width }
     requires narrow { width ≤ 64 }
@@ -62,13 +62,13 @@ fn codes_of(alloc: Global, width: u32, count: usize) -> Result<Vec<u64>, AllocEr
     Ok(codes)
 }
 
-// A number that looks random, by the row (a step of splitmix64: Steele, Lea and Flood, OOPSLA 2014).
+// A pseudorandom number for a row (a step of splitmix64: Steele, Lea and Flood, OOPSLA 2014).
 fn mixed(row: u64) -> u64 {
     let once = row.wrapping_mul(0xbf58_476d_1ce4_e5b9);
     (once ^ once >> 31).wrapping_mul(0x94d0_49bb_1331_11eb)
 }
 
-// The upper bits of a word: a number of so many bits.
+// The upper `width` bits of a word, as a number.
 fn upper_bits(word: u64, width: u32) -> u64
     requires some { 1 ≤ width }
     requires narrow { width ≤ 64 }
@@ -172,7 +172,7 @@ fn read_all<C: CodeColumn>(column: &C) -> u64 {
     mixed
 }
 
-// Finds the codes below a tenth of the greatest, and says how many they are.
+// Finds the codes below a tenth of the greatest, and returns their number.
 fn scan_once<C: CodeColumn>(column: &C, width: u32, need: &Mask, found: &mut Mask) -> u64
     requires some { 1 ≤ width }
     requires narrow { width ≤ 64 }

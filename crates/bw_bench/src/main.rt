@@ -1,8 +1,8 @@
 //! `bw_bench [ROUNDS [VALUES]]` reads a script from standard input and times how fast its parts are found, and their
-//! tokens and statements are read, beside a plain pass over the same bytes; and how fast so many values are fitted,
-//! encoded and scanned, beside plain passes over the same values, and codes of each width taken, read and scanned in each
-//! layout. The figures go to standard error; standard output has what was read. `bench/parsing.py`, `bench/codes.py` and
-//! `bench/layouts.py` run it.
+//! tokens and statements are read, compared with a plain pass over the same bytes. It also times how fast VALUES values
+//! are fitted, encoded and scanned, compared with plain passes over the same values, and how fast codes of each width
+//! are stored, read and scanned in each layout. The figures go to standard error; standard output has what was read.
+//! `bench/parsing.py`, `bench/codes.py` and `bench/layouts.py` run it.
 #![tactic(auto)]
 
 mod codes;
@@ -16,10 +16,10 @@ use std::io::Read;
 use std::time::{Duration, Instant};
 use std::{env, io};
 
-// How many values are encoded where no word says it.
+// The default number of values.
 const VALUES: u32 = 1_000;
 
-// What is timed, each over the parts of the script.
+// The kinds of work that are timed, each over the parts of the script.
 #[derive(Clone, Copy)]
 enum Work {
     // Looks at each byte, one after the other.
@@ -49,14 +49,14 @@ fn main(rt: HostRuntime) -> io::Result<()> {
     time_layouts(&rt, rounds, count)
 }
 
-// How long all rounds took together, and what one round found.
+// The total time of all rounds, and what one round found.
 #[derive(Clone, Copy)]
 struct Figure {
     time: Duration,
     found: u64,
 }
 
-// The number that this word of the command line says, or else the other.
+// The number in this word of the command line, or else the default.
 fn word_or(rt: &HostRuntime, place: usize, otherwise: u32) -> io::Result<u32> {
     let word = env::args(rt)?.nth(place);
     Ok(match word {

@@ -18,12 +18,12 @@ module _ {T : Type 0} (early : Tests) where
         | inr p ↦ inr (first-append_some early (last ∷ []) x p ∙ ap (λ y. Some y) (sym same))
       ]
 
-  -- memory is wanting behind it
+  -- it runs out of memory after it
   pub after_memory : (last : Refusal × Bool) (r : Result T Refusal) (P : T → Type 0) → first_that_holds early ≡ None → IsErrAnd r (λ e. e ≡ OutOfMemory) → AnswersAfter early (early ++ last ∷ []) r P
   after_memory last (Ok y) P none same = absurd same
   after_memory last (Err e) P none same = inl (none, same)
 
-  -- a copied value is of another type, or memory is wanting
+  -- a copied value is of another type, or it runs out of memory
   pub after_fault : (fit : Bool) (r : Result T Refusal) (P : T → Type 0) (x : Refusal) → first_that_holds early ≡ None → ((x ≡ OutOfMemory) ⊎ ((x ≡ OutOfRange) × (fit ≡ false))) → IsErrAnd r (λ e. e ≡ x)
       → AnswersAfter early (early ++ (OutOfRange, not fit) ∷ []) r P
   after_fault fit (Ok y) P x none may same = absurd same

@@ -100,7 +100,7 @@ by_bytes (answer.Bytes handed) bytes r said is in_file found =
     by true long = let no : ⊥ = cc in absurd no
     by false same = (said, subst (λ l. IsTableIn l said) same in_file, found)
 
--- memory is wanting for what the bytes say
+-- there is no memory for what the bytes say
 pub by_wants : (given : FileAnswer) (bytes : Bor (List ℕ)) → IsBytesOf given (Ok bytes) → FindsTable given (Err OutOfMemory)
 by_wants answer.NotAsked bytes is = let no : ⊥ = cc in absurd no
 by_wants answer.Unreadable bytes is = let no : ⊥ = cc in absurd no
@@ -156,7 +156,7 @@ module _ (store : Store) (name path : List ℕ) where
         (λ wants. cc) finds)
 
     module _ (given : FileAnswer) (parts : file.Table) (finds : FindsTable given (Ok parts)) where
-      -- memory is wanting for the table
+      -- there is no memory for the table
       pub open_wants : (r : Result Reply Refusal) (after : Store) → IsErrAnd r (λ e. e ≡ OutOfMemory) → CarriesFile store (open_table name path) given r after
       open_wants (Ok reply) after wants = absurd wants
       open_wants (Err e) after wants =

@@ -132,7 +132,7 @@ module _ (tables : Stored) (name file : List ℕ) (table : StoredTable) (there :
   pub save_accepted : filed_length (table_in table) ≤ file_limit → refused_early (store_of tables) (save name file) ≡ None
   save_accepted fits = ap (λ o. first_that_holds (over o save_tests)) saved_table ∙ no_test _ _ _ (le-ltb file_limit (filed_length (table_in table)) fits)
 
--- a SAVE for which memory is wanting
+-- a SAVE that runs out of memory
 pub save_wants : (store : Store) (statement : StatementTree) (r : Result Saving Refusal) (after : Store) → refused_early store statement ≡ None → IsErrAnd r (λ e. e ≡ OutOfMemory) → SavesOr store statement r after
 save_wants store statement (Ok saving) after accepted wants = absurd wants
 save_wants store statement (Err e) after accepted wants = inl (accepted, wants)

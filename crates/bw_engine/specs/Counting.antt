@@ -1,4 +1,4 @@
--- How many units the condition of a SELECT reads at the live slots of its table, and so what is said to a STATS.
+-- How many units the condition of a SELECT reads at the live slots of its table, and so the number that a STATS replies.
 use Rattle.std.specs.Prelude.{Bool, List, None, Option, Some, false, map, option_map, slice_index_or, ℕ}
 use Rattle.std.specs.Map.{lookup}
 use Rattle.std.specs.Str.{bytes_eq}
@@ -12,29 +12,29 @@ use Rattle.bw_plan.specs.Costs.{units_by}
 use Rattle.bw_plan.specs.Plans.{Plan, planned}
 use Rattle.bw_engine.specs.Stores.{Stored, StoredTable}
 
--- whether a slot is live; none past the last is
+-- whether slot i is live; past the last slot, false
 abbrev pub is_live : List Slot → ℕ → Bool
 is_live slots i = slice_index_or (map (λ slot. slot.live) slots) i false
 
--- the units of a plan at the live slots; without a condition nothing is read
+-- the units of a plan at the live slots; without a plan, 0
 abbrev pub units_at : StoredTable → Option Plan → ℕ
 units_at table None = 0
 units_at table (Some plan) = units_by plan (slots_in table) (is_live table.slots)
 
--- those of a condition
+-- the units of a condition
 abbrev pub units_in : StoredTable → Option ConditionTree → ℕ
 units_in table condition = units_at table (option_map (planned table.headers) condition)
 
--- those of a SELECT of a table, where it is there
+-- the units of a SELECT of a table, if the table exists
 abbrev pub units_over : Option StoredTable → Option ConditionTree → ℕ
 units_over None condition = 0
 units_over (Some table) condition = units_in table condition
 
--- what a new meter says of it
+-- the count of a new meter for that SELECT
 abbrev pub units_of : Stored → SelectTree → ℕ
 units_of tables query = raised 0 (units_over (lookup (bytes_eq query.table) tables) query.condition)
 
--- what is said to a statement that reads no file
+-- what the model's step is told for a statement that reads no file
 abbrev pub said_of : Stored → StatementTree → Content
 said_of tables (stats query) = Counted (units_of tables query)
 said_of tables _ = Nothing

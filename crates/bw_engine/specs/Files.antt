@@ -1,4 +1,4 @@
--- What a statement answers over its file, as it was handed in, and what it hands out to be saved (this product's own).
+-- What a statement replies given its file, and what it returns to be saved (this product's own).
 use Rattle.std.specs.Prelude.{◌≡◌, ◌⊎◌, ◌∷◌, [], ℕ, List, length, nat_lt, Option, Some, None, Result, Ok, Err, MatchOption, MatchResult}
 use Rattle.std.specs.Bool.{MatchBool}
 use Rattle.std.specs.Borrow.{Bor}
@@ -32,8 +32,8 @@ use Rattle.bw_engine.specs.declared.outcome.Outcome.{Outcome}
 use Rattle.bw_engine.specs.declared.outcome.Outcome.TheVariants as outcome
 use Rattle.bw_engine.specs.declared.outcome.Saving.{Saving}
 
--- By what was handed in: P of what the file says, where bytes may say it by `says`; or W, where there was no memory for them
--- or for what they say.
+-- By the file answer: P of the file's content, which `says` relates to its bytes; or W, where there was no memory for the bytes
+-- or for their content.
 abbrev pub IsAnswered : FileAnswer → (List ℕ → Content → Type 0) → (Content → Type 0) → Type 0 → Type 0
 IsAnswered file.NotAsked says P W = P Missing
 IsAnswered file.Unreadable says P W = P Missing
@@ -41,23 +41,23 @@ IsAnswered file.TooLarge says P W = P TooLarge
 IsAnswered file.NoMemory says P W = W
 IsAnswered (file.Bytes bytes) says P W = W ⊎ ((said : Content) × says bytes.now said × P said)
 
--- the reply and the store after a statement that reads a file, where there is one
+-- the reply and the store after a statement, by the name of the file that it reads, if any
 abbrev pub RepliesBy : Option (List ℕ) → Stored → StatementTree → FileAnswer → Reply → Store → Type 0
 RepliesBy None tables statement answer reply after = Step (store_of tables) (said_of tables statement) statement reply after
 RepliesBy (Some name) tables statement answer reply after =
     let store = store_of tables in
     IsAnswered answer (SaysTo store statement) (λ said. Step store said statement reply after) (WantsMemory store statement reply after)
 
--- the reply and the store after a statement, with what was handed in as its file
+-- the reply and the store after a statement, given the answer for its file
 abbrev pub Replies : Stored → StatementTree → FileAnswer → Reply → Store → Type 0
 Replies tables statement answer reply after = RepliesBy (file_read (file_use (store_of tables) statement)) tables statement answer reply after
 
--- a SAVE that isn't refused hands its bytes out, but where memory is wanting
+-- a SAVE that isn't refused returns its bytes, unless it runs out of memory
 abbrev pub IsNoSave : FileUse → Reply → Type 0
 IsNoSave (writes name) reply = reply ≡ Refused OutOfMemory
 IsNoSave _ reply = Unit {0}
 
--- what a SAVE hands out: the file's name, the bytes that hold the table by the second version of the format, and how many rows it has
+-- what a SAVE returns: the file's name, the bytes that hold the table by version 2 of the format, and its number of rows
 pub record Saves (store : Store) (statement : StatementTree) (saving : Saving) (after : Store) : Type 0 where
   pub name : List ℕ
   pub table : Table
@@ -72,15 +72,15 @@ abbrev pub Executes : Stored → StatementTree → FileAnswer → Outcome → St
 Executes tables statement answer (outcome.Reply reply) after = Replies tables statement answer reply after × IsNoSave (file_use (store_of tables) statement) reply
 Executes tables statement answer (outcome.Save saving) after = Saves (store_of tables) statement saving after
 
--- P of a value where none of the tests holds; want of memory, or the first test that holds
+-- P of the value, where no test holds; else out of memory or the first test that holds
 abbrev pub AnswersFile : {T : Type 0} → Tests → Result T Refusal → (T → Type 0) → Type 0
 AnswersFile tests result P = MatchResult result (λ x. (first_that_holds tests ≡ None) × P x) (λ e. (e ≡ OutOfMemory) ⊎ (first_that_holds tests ≡ Some e))
 
--- what bytes that are not too many say, as they are to be read
+-- the content of bytes, which is `TooLarge` above the limit
 abbrev pub Within : (List ℕ → Content → Type 0) → List ℕ → Content → Type 0
 Within says bytes said = MatchBool (nat_lt file_limit (length bytes)) (said ≡ TooLarge) (says bytes said)
 
--- bytes as a CSV file for columns of these types
+-- the content of bytes read as a CSV file for columns of these types
 abbrev pub SaysLines : List ColumnType → FirstRecord → List ℕ → Content → Type 0
 SaysLines types first bytes said = said ≡ lines_or_fault (rows_of_file types (first_of first) bytes)
 
@@ -92,25 +92,25 @@ IsBytesOf file.NotAsked result = result ≡ Err UnreadableFile
 IsBytesOf file.Unreadable result = result ≡ Err UnreadableFile
 IsBytesOf file.NoMemory result = result ≡ Err OutOfMemory
 
--- the tests of what a CSV file says, and of what a table file says
+-- the tests of the content of a CSV file, and of a table file
 abbrev pub lines_tests : Content → Tests
 lines_tests said = (UnreadableFile, is_missing_file said) ∷ (FileTooLarge, is_too_large said) ∷ fault_test said ∷ []
 
 abbrev pub table_tests : Content → Tests
 table_tests said = (UnreadableFile, is_missing_file said) ∷ (FileTooLarge, is_too_large said) ∷ (NotTableFile, is_no_table said) ∷ []
 
--- a table that a file has by its columns, by its rows
+-- the rows of a table that a file holds by columns
 abbrev pub unfiled : filed.Table → Table
 unfiled parts = record { headers = parts.headers; rows = rows_across parts.rows parts.columns }
 
--- a statement that reads a file, refused for a reason that needs none, or answered by what was handed in
+-- a statement that reads a file is refused for a reason that doesn't depend on the file, or carried out with the file answer
 abbrev pub CarriesFile : Store → StatementTree → FileAnswer → Result Reply Refusal → Store → Type 0
 CarriesFile store statement answer result after =
     MatchOption (refused_early store statement)
     (IsAnswered answer (SaysTo store statement) (λ said. CarriesOut store said statement result after) (result ≡ Err OutOfMemory))
     (λ refusal. result ≡ Err refusal)
 
--- what a SAVE hands out, or why it doesn't
+-- what a SAVE returns, or why it fails
 abbrev pub SavesOr : Store → StatementTree → Result Saving Refusal → Store → Type 0
 SavesOr store statement result after =
     MatchResult result (λ saving. Saves store statement saving after)
@@ -121,7 +121,7 @@ abbrev pub saving_of : Result Saving Refusal → Outcome
 saving_of (Ok saving) = outcome.Save saving
 saving_of (Err e) = outcome.Reply (Refused e)
 
--- what a statement makes of slots and encodings: nothing where it hands bytes out
+-- the slots and encodings after a statement; a SAVE that returns bytes changes nothing
 abbrev pub LeavesBy : Stored → StatementTree → Outcome → Stored → Type 0
 LeavesBy tables statement (outcome.Reply reply) after = LeavesStored tables statement reply after
 LeavesBy tables statement (outcome.Save saving) after = after ≡ tables

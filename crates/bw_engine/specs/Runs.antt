@@ -1,4 +1,4 @@
--- Slots that are shown by runs: the values of 64 slots are read column by column, and shown row by row.
+-- Slots that are shown in runs: the values of 64 slots are read column by column, and shown row by row.
 use Rattle.std.specs.Prelude.{Bool, List, [], length, map, min, slice_index_or, ℕ, ◌*◌, ◌+◌, ◌-◌, ◌/◌, ◌<◌, ◌∷◌, ◌≡◌}
 use Rattle.std.specs.List.{filter, range_with_len}
 use Rattle.bw_table.specs.Slots.{Slot, slot_at}
@@ -6,7 +6,7 @@ use Rattle.bw_sql.specs.Rows.{joined}
 use Rattle.bw_column.specs.Values as columns
 use Rattle.bw_model.specs.Store.{Row, Value, value_at}
 
--- the values at these places of a row
+-- the values at these indexes of a row
 abbrev pub line_at : List ℕ → Row → List Value
 line_at places row = map (λ place. value_at row place) places
 
@@ -26,11 +26,11 @@ slot_line places slots i = line_at places (slot_at slots i).row
 abbrev pub value_line : List Value → ℕ → ℕ → List Value
 value_line values at i = columns.value_at values (at + i) ∷ []
 
--- columns of which each holds the values at its place of n slots, from slot `at` on
+-- each run holds the values of its column in n slots, from slot `at` on
 pub record AreRead (slots : List Slot) (places : List ℕ) (at n : ℕ) (runs : List (List Value)) : Type 0 where
   pub count : length runs ≡ length places
   pub values : (p i : ℕ) → p < length places → i < n → columns.value_at (slice_index_or runs p []) i ≡ columns.value_at (slot_at slots (at + i)).row (slice_index_or places p 0)
 
--- the values of the column at a place in those of 64 slots that pass, one run of slots after the other
+-- the values of one column in the slots that pass, as one list per run of 64 slots
 abbrev pub found_runs : ℕ → List Slot → (ℕ → Bool) → List (List Value)
 found_runs place slots passes = map (λ q. lines_from (slot_line (place ∷ []) slots) passes (64 * q) (min (length slots - 64 * q) 64)) (range_with_len 0 ((length slots + 63) / 64))

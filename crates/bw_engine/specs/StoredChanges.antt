@@ -1,4 +1,4 @@
--- What becomes of slots and encodings. Which rows a table has after a statement is the model's to say; this says how they lie.
+-- Slots and encodings after a statement. The model defines which rows a table then has; this defines how they are stored.
 use Rattle.std.specs.Prelude.{List, Option, Some, [], length, map, option_map, slice_index_or, ℕ, ◌++◌, ◌<◌, ◌∷◌, ◌≡◌}
 use Rattle.std.specs.Map.{lookup, remove_entry, set_value}
 use Rattle.std.specs.Str.{bytes_eq}
@@ -20,13 +20,13 @@ use Rattle.bw_plan.specs.Plans.{planned}
 use Rattle.bw_plan.specs.Sets.{AreChoicesFor, AreSetsFor}
 use Rattle.bw_engine.specs.Stores.{AreFoundIn, Stored, StoredTable, rows_in}
 
--- a table that is new: its slots are its rows, all live, and each column has an encoding of its kind that fits its values
+-- a new table: its slots are its rows, all live, and each column has an encoding of its kind that fits its values
 pub record IsNew (table : StoredTable) : Type 0 where
   pub live : table.slots ≡ map live_slot (rows_in table.slots)
   pub count : length table.encodings ≡ length table.headers
   pub fitted : (k : ℕ) (h : Header) (e : Encoding) → k < length table.headers → IsFitted (slice_index_or table.headers k h) (slot_column table.slots k) (slice_index_or table.encodings k e)
 
--- rows stand last, in live slots; the dead ones were dropped only where there were not enough slots
+-- rows are appended in live slots; dead slots were dropped only where there were not enough slots
 pub record Grows (old new : StoredTable) : Type 0 where
   pub rows : List Row
   pub inserted : AreInserted (slots_in old) rows (slots_in new)
@@ -39,20 +39,20 @@ pub record SetsFound (clauses : List SetClause) (condition : Option ConditionTre
   pub named : AreSetsFor old.headers clauses sets
   pub updated : AreUpdated found sets (slots_in old) (slots_in new)
 
--- the live slots that the condition finds are dead
+-- the live slots that the condition finds become dead
 pub record KillsFound (condition : Option ConditionTree) (old new : StoredTable) : Type 0 where
   pub found : MaskRows
   pub are : AreFoundIn old.slots (option_map (planned old.headers) condition) found
   pub slots : new.slots ≡ slots_without found old.slots
   pub encodings : new.encodings ≡ old.encodings
 
--- the dead slots are dropped, and each column is built anew
+-- the dead slots are dropped, and each column is rebuilt
 pub record BuildsAnew (clauses : List LayoutChoice) (old new : StoredTable) : Type 0 where
   pub choices : List (ℕ × Choice)
   pub named : AreChoicesFor old.headers clauses choices
   pub rebuilt : AreRebuilt choices (slots_in old) (slots_in new)
 
--- a table was added, as the last one
+-- a table was added after the existing ones
 pub record IsAdded (tables : Stored) (name : List ℕ) (after : Stored) : Type 0 where
   pub table : StoredTable
   pub is_new : IsNew table

@@ -1,4 +1,4 @@
--- The model's tables, by the slots of those that are stored.
+-- The model's tables, derived from the slots of the stored ones.
 use Rattle.std.specs.Prelude.{List, Option, length, map, ℕ, ◌&&◌, ◌<◌, ◌≡◌}
 use Rattle.bw_mask.specs.Masks.{MaskRows, len, row_at}
 use Rattle.bw_table.specs.Slots.{Slot, live_slots, slot_at}
@@ -23,7 +23,7 @@ AreFoundIn slots plan found = (len found ≡ length slots) × ((i : ℕ) → i <
 abbrev pub StoredTable : Type 0
 StoredTable = TableView (List ℕ)
 
--- the table as the model has it: dead slots and encodings left out
+-- the table of the model: without dead slots and encodings
 abbrev pub table_in : StoredTable → Table
 table_in table = record { headers = table.headers; rows = rows_in table.slots }
 
@@ -31,6 +31,6 @@ table_in table = record { headers = table.headers; rows = rows_in table.slots }
 abbrev pub Stored : Type 0
 Stored = List (List ℕ × StoredTable)
 
--- the store as the model has it
+-- the store of the model
 abbrev pub store_of : Stored → Store
 store_of tables = map (λ entry. (entry.0, table_in entry.1)) tables

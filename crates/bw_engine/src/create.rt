@@ -21,13 +21,13 @@ use bw_table::Header;
 use indexmap::{IndexMap, IndexSet};
 use std::alloc::{AllocError, Global};
 
-/// The most columns that a table has.
+/// The largest number of columns in a table.
 pub(crate) const COLUMN_LIMIT: usize = 64;
 
-/// The most tables that a store holds.
+/// The largest number of tables in a store.
 pub const TABLE_LIMIT: usize = 64;
 
-/// Adds a table without rows, as the last one.
+/// Adds an empty table after the existing ones.
 pub(crate) fn create_table(
     alloc: Global,
     tables: &mut IndexMap<Name, Table>,
@@ -44,7 +44,7 @@ pub(crate) fn create_table(
     Ok(Reply::Done)
 }
 
-/// Refuses what can't be made.
+/// Returns the first refusal that holds for this CREATE TABLE, if any.
 fn check(
     alloc: Global,
     tables: &IndexMap<Name, Table>,
@@ -68,16 +68,15 @@ fn check(
     Ok(())
 }
 
-/// Whether a table of so many columns has none or too many, or is one more than the tables there may
-/// be.
+/// Whether `columns` is 0 or above the limit, or `tables` has reached its limit.
 fn is_over_limit(columns: usize, tables: usize) -> bool
     ensures { result ≡ (columns == 0 || nat_lt column_limit columns || nat_le table_limit tables) }
 {
     columns == 0 || columns > COLUMN_LIMIT || tables >= TABLE_LIMIT
 }
 
-/// Whether two columns have one name. Where there is no memory for a set of the names, each is looked for
-/// among those before it, so that a name which stands twice is found all the same.
+/// Whether two columns have the same name. If there is no memory for a set of the names, each name is compared with
+/// those before it, so a duplicate is found either way.
 fn name_twice(alloc: Global, columns: &[ColumnDefinition]) -> bool
     ensures { result ≡ not (are_distinct (map (λ c. c.name) columns.now)) }
 {
@@ -98,7 +97,7 @@ fn twice_by_search(columns: &[ColumnDefinition]) -> bool
     false
 }
 
-/// Whether one of the columns has this name.
+/// Whether one of `columns` is called `name`.
 fn is_among(columns: &[ColumnDefinition], name: &Name) -> bool
     ensures { result ≡ list_any (λ column. bytes_eq name.now column.name) columns.now }
 {
@@ -117,7 +116,7 @@ fn twice_by_set(alloc: Global, columns: &[ColumnDefinition]) -> Result<bool, All
     Ok(false)
 }
 
-/// The table that definitions make, without rows.
+/// An empty table with the columns of these definitions.
 fn empty_table(alloc: Global, columns: Vec<ColumnDefinition>) -> Result<Table, AllocError>
     requires { AreHeaders (map header_of columns.items) }
     ensures table { IfOk result (λ table. table_in table ≡ record { headers = map header_of columns.items; rows = [] }) }

@@ -21,7 +21,7 @@ use bw_sql::{Condition, Delete, Name};
 use indexmap::IndexMap;
 use std::alloc::Global;
 
-/// Takes the found rows out.
+/// Deletes the found rows.
 pub(crate) fn delete(
     alloc: Global,
     tables: &mut IndexMap<Name, Table>,
@@ -38,7 +38,7 @@ pub(crate) fn delete(
     }
 }
 
-/// Takes the found rows out of this table. All that can be refused comes before the table changes.
+/// Deletes the found rows of this table. Every refusal happens before the table changes.
 fn delete_rows(
     alloc: Global,
     table: &mut Table,

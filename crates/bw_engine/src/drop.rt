@@ -12,7 +12,7 @@ use bw_model::{Refusal, Reply};
 use bw_sql::Name;
 use indexmap::IndexMap;
 
-/// Takes a table out. The others keep their order.
+/// Removes a table. The others keep their order.
 pub(crate) fn drop_table(tables: &mut IndexMap<Name, Table>, table: &Name) -> Result<Reply, Refusal>
     ensures reply { CarriesOut (store_of tables.old.entries) Nothing (drop_table table.now) result (store_of tables.new.entries) }
     ensures stored { OnOk result (ChangesStored tables.old.entries (drop_table table.now) tables.new.entries) }

@@ -32,8 +32,8 @@ use indexmap::IndexMap;
 use std::alloc::{AllocError, Global};
 use std::marker::Model;
 
-/// Tables in memory, in the order in which they were made. A contract sees each with its headers, its slots and the
-/// encodings of its columns; `store_of` is the store that they are.
+/// Tables in memory, in creation order. Contracts see the headers, the slots and the column encodings of each;
+/// `store_of` gives the model's store of them.
 #[derive(Drop)]
 pub struct Engine {
     tables: IndexMap<Name, Table>,
@@ -49,7 +49,7 @@ impl Model for Engine {
 }
 
 impl Engine {
-    /// An engine without tables, with room for as many as it may hold.
+    /// An engine without tables. Reserves room for the largest number of tables.
     pub fn new(alloc: Global) -> Result<Engine, AllocError>
         ensures { IfOk result (λ engine. engine ≡ []) }
     {
@@ -57,8 +57,8 @@ impl Engine {
         Ok(Engine { tables, alloc })
     }
 
-    /// The name of the file that a statement reads: that of a LOAD or an OPEN that isn't refused for a reason which
-    /// needs no file.
+    /// The name of the file that a statement reads: that of a LOAD or an OPEN, unless it is refused for a reason that
+    /// doesn't depend on the file.
     pub fn wants<'s>(&self, statement: &'s Statement) -> Option<&'s str>
         ensures { option_copied result ≡ file_read (file_use (store_of self.now) (statement_of statement.now)) }
     {
@@ -82,8 +82,8 @@ impl Engine {
         }
     }
 
-    /// Carries out a statement. Where it is refused nothing changes, not even how a column is encoded. The file is looked at
-    /// where `wants` names one; what a SAVE writes is handed out.
+    /// Executes a statement. If it is refused, nothing changes, not even how a column is encoded. `file` is used only
+    /// where `wants` names a file. The bytes that a SAVE writes are returned.
     pub fn execute(&mut self, statement: Statement, file: FileAnswer<'_>) -> Outcome
         ensures outcome { Executes self.old (statement_of statement) file.entry result (store_of self.new) }
         ensures stored { LeavesBy self.old (statement_of statement) result self.new }
@@ -92,21 +92,21 @@ impl Engine {
     }
 }
 
-/// Whether a LOAD into this table isn't refused for a reason which needs no file.
+/// Whether a LOAD into this table passes all checks that don't depend on the file.
 fn may_load(tables: &IndexMap<Name, Table>, table: &Name) -> bool
     ensures { (file : List ℕ) (first : WhichFirst) → result ≡ is_none (refused_early (store_of tables.now.entries) (load table.now file first)) }
 {
     tables.contains_key(table)
 }
 
-/// Whether an OPEN of this table isn't refused for a reason which needs no file.
+/// Whether an OPEN of this table passes all checks that don't depend on the file.
 fn may_open(tables: &IndexMap<Name, Table>, table: &Name) -> bool
     ensures { (file : List ℕ) → result ≡ is_none (refused_early (store_of tables.now.entries) (open_table table.now file)) }
 {
     !tables.contains_key(table) && tables.len() < TABLE_LIMIT
 }
 
-/// Carries out a statement.
+/// Executes a statement.
 fn carry_out(
     alloc: Global,
     tables: &mut IndexMap<Name, Table>,
@@ -132,7 +132,7 @@ fn carry_out(
     }
 }
 
-/// The reply to what was carried out or refused.
+/// The outcome for a reply or a refusal.
 fn replied(outcome: Result<Reply, Refusal>) -> Outcome
     ensures { result ≡ outcomes.Reply (reply_of outcome) }
 {
@@ -142,7 +142,7 @@ fn replied(outcome: Result<Reply, Refusal>) -> Outcome
     }
 }
 
-/// What is to be saved, or the reply to what was refused.
+/// The outcome of a SAVE: the bytes to write, or the reply for a refusal.
 fn saved(outcome: Result<Saving, Refusal>) -> Outcome
     ensures { result ≡ saving_of outcome }
 {

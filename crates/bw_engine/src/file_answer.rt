@@ -1,21 +1,21 @@
-//! What a statement's file turned out to be.
+//! The result of reading a statement's file.
 
 ghost use Rattle.bw_engine.specs.Files.{IsBytesOf};
 
 use bw_model::{FILE_LIMIT, Refusal};
 
-/// What became of the file that a statement wants.
+/// The result of reading the file that a statement wants.
 #[derive(Clone, Copy, Debug, Drop)]
 pub enum FileAnswer<'a> {
-    /// No file was asked for. Where a statement wants one, there is none.
+    /// No file was read. For a statement that wants one, this counts as a missing file.
     NotAsked,
     /// The file's bytes.
     Bytes(&'a [u8]),
     /// There is no such file, or reading it failed.
     Unreadable,
-    /// The file is longer than a file may be.
+    /// The file is longer than the size limit.
     TooLarge,
-    /// There was no memory for the file's bytes.
+    /// Out of memory for the file's bytes.
     NoMemory,
 }
 

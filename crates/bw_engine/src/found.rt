@@ -13,7 +13,7 @@ use bw_plan::{RowCondition, evaluate};
 use bw_table::Slots;
 use std::alloc::{AllocError, Global};
 
-/// The live slots at which the condition is true; without a condition, all of them.
+/// The live slots where the condition is true; without a condition, all live slots.
 pub(crate) fn found_slots(
     alloc: Global,
     table: &Table,
@@ -29,7 +29,7 @@ pub(crate) fn found_slots(
     }
 }
 
-/// The live slots at which a condition is true.
+/// The live slots where a condition is true.
 fn true_slots(
     alloc: Global,
     slots: &Slots,

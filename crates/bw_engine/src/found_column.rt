@@ -1,4 +1,4 @@
-//! The values of a column in the found slots, read by runs of 64 slots.
+//! The values of a column in the found slots, read in runs of 64 slots.
 
 ghost use Rattle.std.specs.Prelude.{OnOk, [], length, min, ◌+◌, ◌++◌, ◌-◌, ◌<◌, ◌∷◌, ◌≡◌, ◌≤◌};
 ghost use Rattle.bw_mask.specs.Masks.{bit_of, len, row_at};
@@ -15,10 +15,11 @@ use bw_sql::{Name, Value};
 use bw_table::Table;
 use std::alloc::AllocError;
 
-/// Up to so many of 64 slots are fetched value by value: reading a whole run of the column would take longer.
+/// If at most this many of 64 slots are found, their values are fetched one by one; reading the whole run would be
+/// slower.
 const FEW: u32 = 16;
 
-/// The column at a place, and which of its slots are found. A run has the values of the found ones of 64 slots.
+/// A column by its index, and which of its slots are found. A run holds the values of the found slots among 64.
 #[derive(Drop)]
 pub(crate) struct FoundColumn<'a> {
     pub(crate) table: &'a Table<Name>,
@@ -44,8 +45,8 @@ impl<'a> ValueRuns for FoundColumn<'a> {
         if are_close(told) {
             return told;
         }
-        // Codes of 32 bits or more reach further than the values may. Their ends are found by a pass over the whole column,
-        // which takes longer than to gather a few values.
+        // Codes of 32 bits or more may span a wider range than the values do. Finding the ends takes a pass over the
+        // whole column, which is slower than gathering a few values.
         if self.found.count() < self.found.len() / 16 {
             return None;
         }
@@ -79,7 +80,7 @@ impl<'a> ValueRuns for FoundColumn<'a> {
     }
 }
 
-/// Whether numbers of 32 bits are enough for what lies between ends, and for NULL.
+/// Whether 32 bits are enough for the distances between the ends and one more code for NULL.
 fn are_close(ends: Option<Ends>) -> bool {
     match ends {
         Some(ends) => ends.greatest.abs_diff(ends.least) < u64::from(u32::MAX),
@@ -87,8 +88,8 @@ fn are_close(ends: Option<Ends>) -> bool {
     }
 }
 
-/// Puts the values of the column at a place last that are in the found ones of the next 64 slots, from slot `at` on.
-/// Where all of them are found, they are a run of the column.
+/// Appends the column's values in the found slots among the next 64, starting at slot `at`. If all of them are found,
+/// the values are a run of the column.
 #[inline(never)]
 fn put_slots(
     values: &mut Vec<Value>,
@@ -112,7 +113,7 @@ fn put_slots(
     show_slots(values, &mut runs, table, &[place], found, at)
 }
 
-/// The same values by how far each lies above a base.
+/// The same values, each as its distance above `base`.
 fn measure_slots(
     table: &Table<Name>,
     place: usize,
@@ -139,7 +140,7 @@ fn measure_slots(
     gather_distances(column, at, word, n, base, out)
 }
 
-/// Measures the values of those of n rows whose bit is set, from row `at` on, each fetched by itself.
+/// Measures the values of the rows among `at..at + n` whose bit is set. Each value is fetched on its own.
 fn fetch_distances(
     column: &Column,
     at: usize,
@@ -171,7 +172,7 @@ fn fetch_distances(
     filled_run(len, &there)
 }
 
-/// The same, by all of the n rows at once.
+/// Like `fetch_distances`, but reads all n rows at once.
 fn gather_distances(
     column: &Column,
     at: usize,
@@ -190,7 +191,7 @@ fn gather_distances(
     let present = column.distances(at, base, run);
     let mut there = [0; 64];
     let mut len = 0;
-    // No branch a row: a value that is not found is put, too, and the next one takes its place.
+    // No branch per row: a value that isn't found is written too, and the next one overwrites it.
     'rows: for i in 0..n {
         put_distance(out, &mut there, len, run[i], has_bit(present, i));
         len += usize::from(has_bit(word, i));

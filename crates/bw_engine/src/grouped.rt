@@ -1,4 +1,4 @@
-//! What is shown of each group of the found slots.
+//! The cells that a SELECT with GROUP BY shows for the found slots.
 
 ghost use Rattle.std.specs.Prelude.{All, Contains, IfOk, IfSome, OnOk, Some, length, map, slice_index_or, ◌<◌, ◌≡◌};
 ghost use Rattle.bw_mask.specs.Masks.{len, row_at};
@@ -22,14 +22,14 @@ use bw_sql::{Name, SetFunction};
 use bw_table::Table;
 use std::alloc::{AllocError, Global};
 
-/// What is asked of the column at a place, in each group.
+/// The aggregates of the column at index `place`, for each group.
 #[derive(Drop)]
 struct GroupedColumn {
     place: usize,
     folds: Folds,
 }
 
-/// The cells of each group of the found slots, one group after the other: what the items show of it.
+/// The cells that the items show for each group of the found slots, group by group.
 pub(crate) fn group_cells(
     alloc: Global,
     table: &Table<Name>,
@@ -45,7 +45,8 @@ pub(crate) fn group_cells(
     cells_of_groups(alloc, table, plan.items.as_slice(), found, &groups)
 }
 
-/// The groups of the found slots by the values of the column at a place, which are let go once the groups are made.
+/// The groups of the found slots by the values of the column at index `by`. Those values are freed once the groups are
+/// built.
 fn groups_of(
     alloc: Global,
     table: &Table<Name>,
@@ -57,7 +58,7 @@ fn groups_of(
     ensures groups { IfOk result (AreGroups (column_in (rows_where (row_at found.now) (rows_of_slots table.now.slots)) by)) }
     ensures rows { IfOk result (λ groups. length groups.ranks ≡ length (rows_where (row_at found.now) (rows_of_slots table.now.slots))) }
 {
-    // There are few slots.
+    // The number of slots is bounded.
     let _few = table.slot_count();
     let column = FoundColumn {
         table,
@@ -67,7 +68,7 @@ fn groups_of(
     Groups::of(alloc, &column)
 }
 
-/// The cells that the items show of these groups of the found slots.
+/// The cells that the items show for these groups of the found slots.
 fn cells_of_groups(
     alloc: Global,
     table: &Table<Name>,
@@ -100,7 +101,7 @@ fn cells_of_groups(
     Ok(cells)
 }
 
-/// What one of the items shows of group g.
+/// What `item`, one of `items`, shows for group `g`.
 fn item_cell(
     alloc: Global,
     table: &Table<Name>,
@@ -133,7 +134,7 @@ fn item_cell(
     }
 }
 
-/// Whether a set function is one of the items.
+/// Whether `items` contain a set function.
 fn is_asked(items: &[GroupItem], function: FunctionPlan) -> bool
     ensures { IsAskedIn items.now function result }
 {
@@ -145,7 +146,7 @@ fn is_asked(items: &[GroupItem], function: FunctionPlan) -> bool
     false
 }
 
-/// All that the items ask of the column at a place.
+/// Which aggregates of the column at index `place` the items need.
 fn asked_of(items: &[GroupItem], place: usize) -> Asked
     ensures { AskForItems items.now place result }
 {
@@ -157,7 +158,7 @@ fn asked_of(items: &[GroupItem], place: usize) -> Asked
     }
 }
 
-/// What the items ask of the column at a place, in each group.
+/// Computes the aggregates of the column at index `place` that the items need, for each group.
 fn grouped_column(
     alloc: Global,
     table: &Table<Name>,
@@ -181,7 +182,7 @@ fn grouped_column(
     Ok(GroupedColumn { place, folds })
 }
 
-/// Which of the columns is the one at a place, where one is.
+/// The position in `columns` of the entry for the column at index `place`, if there is one.
 fn column_among(columns: &[GroupedColumn], place: usize) -> Option<usize>
     ensures { IfSome result (λ i. (i < length columns.now) × ((d : AnyColumn) → (slice_index_or columns.now i d).place ≡ place)) }
 {
@@ -193,7 +194,8 @@ fn column_among(columns: &[GroupedColumn], place: usize) -> Option<usize>
     None
 }
 
-/// Which of the columns is the one at a place. Each column is read and folded once, for all items: then it is kept.
+/// The position in `columns` of the entry for the column at index `place`. Each column is read and folded once for all
+/// items, and its entry is kept.
 fn column_at(
     alloc: Global,
     table: &Table<Name>,

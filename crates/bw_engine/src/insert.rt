@@ -20,7 +20,7 @@ use bw_table::Rows;
 use indexmap::IndexMap;
 use std::alloc::Global;
 
-/// Puts rows last in a table. A column that isn't listed gets NULL.
+/// Appends rows to a table. A column that isn't listed gets NULL.
 pub(crate) fn insert(
     alloc: Global,
     tables: &mut IndexMap<Name, Table>,
@@ -41,7 +41,7 @@ pub(crate) fn insert(
     }
 }
 
-/// Puts rows last in this table. All that can be refused comes before the table changes.
+/// Appends rows to this table. Every refusal happens before the table changes.
 fn insert_rows(
     alloc: Global,
     table: &mut Table,

@@ -1,4 +1,4 @@
-//! The engine: tables in memory, and the statements that make, fill, change, read and drop them.
+//! The engine: tables in memory, and the statements that create, fill, change, read and drop them.
 #![tactic(auto)]
 
 mod create;

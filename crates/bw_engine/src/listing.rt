@@ -14,7 +14,7 @@ use bw_sql::Name;
 use indexmap::IndexMap;
 use std::alloc::{AllocError, Global};
 
-/// Lists the tables in the order in which they were made, each with how many columns and rows it has.
+/// Lists the tables in creation order, each with its numbers of columns and rows.
 pub(crate) fn list_tables(alloc: Global, tables: &IndexMap<Name, Table>) -> Result<Reply, Refusal>
     ensures { CarriesOut (store_of tables.now.entries) Nothing list_tables result (store_of tables.now.entries) }
 {
@@ -39,7 +39,7 @@ fn headings(alloc: Global) -> Result<Vec<Heading>, AllocError>
     Ok(headings)
 }
 
-/// The lines of the tables, one after the other.
+/// The lines of the tables, in order.
 fn table_cells(alloc: Global, tables: &IndexMap<Name, Table>) -> Result<Vec<Cell>, AllocError>
     ensures { IfOk result (λ cells. cells.items ≡ joined (map table_line (store_of tables.now.entries))) }
 {
@@ -53,7 +53,7 @@ fn table_cells(alloc: Global, tables: &IndexMap<Name, Table>) -> Result<Vec<Cell
     Ok(cells)
 }
 
-/// Puts the line of a table last.
+/// Appends the line of a table.
 fn show(cells: &mut Vec<Cell>, name: Name, table: &Table) -> Result<(), AllocError>
     ensures { OnOk result (cells.new.items ≡ cells.old.items ++ table_line (name, table_in table.now)) }
 {

@@ -1,4 +1,4 @@
-//! The columns of a table as a SAVE writes them: their cells in the rows.
+//! The columns of a table as a SAVE writes them: their cells in the live slots.
 
 ghost use Rattle.std.specs.Prelude.{◌≡◌, ◌<◌, IfOk, length, map, slice_index_or};
 ghost use Rattle.std.specs.List.{AllZip, range_with_len};
@@ -15,12 +15,12 @@ use bw_column::Column;
 use bw_sql::Value;
 use std::alloc::{AllocError, Global};
 
-/// The cells of a column in the rows of its table.
+/// The cells of a column in the rows of its table, without dead slots.
 #[derive(Drop)]
 pub(crate) enum LiveCells<'a> {
-    /// Each slot is a row: the column as it stands.
+    /// Every slot is live: the column as it is.
     Whole(&'a Column),
-    /// Some slots are dead: the values of the others.
+    /// Some slots are dead: the values of the live ones.
     Gathered(Vec<Value>),
 }
 

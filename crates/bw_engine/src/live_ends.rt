@@ -1,4 +1,4 @@
-//! How far the values of a column in the rows of its table reach. Takes no memory.
+//! The least and the greatest value of a column in the rows of its table. Allocates nothing.
 
 ghost use Rattle.std.specs.Prelude.{None, ◌≡◌, ◌<◌, ◌+◌, ◌^◌, ◌≤◌, if◌then◌else◌, length, slice_index_or, ℕ};
 ghost use Rattle.bw_cells.specs.Known.{known};
@@ -15,7 +15,7 @@ use bw_mask::Mask;
 use bw_sql::Value;
 use std::marker::Model;
 
-/// The values of a column in the live slots, and NULL in each other slot.
+/// The values of a column in the live slots, and NULL in the dead ones.
 #[derive(Drop)]
 struct LiveOrNull<'a> {
     column: &'a Column,
@@ -42,7 +42,7 @@ impl<'a> Cells for LiveOrNull<'a> {
     }
 
     fn read(&self, at: usize, out: &mut [Value]) {
-        // There are few rows.
+        // The number of rows is bounded.
         let _few = self.column.len();
         self.column.read(at, out);
         blank_dead(self.live, at, out);
@@ -51,7 +51,7 @@ impl<'a> Cells for LiveOrNull<'a> {
 
 impl<'a> Measured for LiveOrNull<'a> {}
 
-/// Puts NULL for each slot from number `at` on that is dead.
+/// Replaces by NULL the value of each dead slot; `out[i]` is the value of slot `at + i`.
 fn blank_dead(live: &Mask, at: usize, out: &mut [Value])
     requires there { at + length out.old ≤ len live.now }
     requires few { at + length out.old ≤ 2 ^ 24 }
@@ -65,7 +65,7 @@ fn blank_dead(live: &Mask, at: usize, out: &mut [Value])
     }
 }
 
-/// The least and the greatest value of column k in the rows, if there are any.
+/// The least and the greatest value of column `k` in the rows, if it has a non-null value there.
 pub(crate) fn live_ends(table: &Table, k: usize) -> Option<Ends>
     requires { k < length table.now.headers }
     ensures { AreEnds (known (column_of (rows_in table.now.slots) k)) result }

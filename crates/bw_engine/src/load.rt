@@ -29,7 +29,7 @@ use bw_table::Rows;
 use indexmap::IndexMap;
 use std::alloc::Global;
 
-/// Puts the rows of a CSV file last in a table: all of them, or none where one is refused.
+/// Appends the rows of a CSV file to a table: all of them, or none if one is refused.
 pub(crate) fn load(
     alloc: Global,
     tables: &mut IndexMap<Name, Table>,
@@ -51,7 +51,7 @@ pub(crate) fn load(
     }
 }
 
-/// Puts the rows of a CSV file last in this table. All that can be refused comes before the table changes.
+/// Appends the rows of a CSV file to this table. Every refusal happens before the table changes.
 fn load_file(
     alloc: Global,
     table: &mut Table,
@@ -71,7 +71,7 @@ fn load_file(
     load_rows(alloc, table, rows)
 }
 
-/// Puts the type of each column in its place.
+/// Writes the type of column `i` to `types[i]`.
 fn take_types(headers: &Headers<'_>, types: &mut [ColumnType])
     requires { length types.old ≡ length headers.now }
     ensures { types.new ≡ types_of headers.now }
@@ -81,7 +81,7 @@ fn take_types(headers: &Headers<'_>, types: &mut [ColumnType])
     }
 }
 
-/// The rows that a CSV file spells for columns of these types.
+/// The rows of a CSV file, read for columns of these types.
 fn rows_in_file(
     alloc: Global,
     file: FileAnswer<'_>,
@@ -94,7 +94,7 @@ fn rows_in_file(
     Ok(rows(alloc, bytes, types, first_of(first))?)
 }
 
-/// Whether the first record is a row, as the reader of CSV files has it.
+/// The option of the CSV reader for whether the first record is a row.
 fn first_of(first: FirstRecord) -> CsvFirst
     ensures { result ≡ first_of first }
 {
@@ -104,7 +104,7 @@ fn first_of(first: FirstRecord) -> CsvFirst
     }
 }
 
-/// Puts rows last in this table, if there is room for them.
+/// Appends rows to this table if there is room for them.
 fn load_rows(alloc: Global, table: &mut Table, rows: CsvRows) -> Result<Reply, Refusal>
     requires { All (IsRowOf (types_of table.old.headers)) rows }
     ensures reply { AnswersFile ((TableFull, nat_lt row_limit (length (rows_in table.old.slots) + length rows)) ∷ []) result (λ reply. (reply ≡ Count (length rows)) × (table_in table.new ≡ with_lines rows (table_in table.old))) }
@@ -120,7 +120,7 @@ fn load_rows(alloc: Global, table: &mut Table, rows: CsvRows) -> Result<Reply, R
     Ok(Reply::Count(count as u64))
 }
 
-/// The rows of this width that lie in these cells.
+/// These cells as rows of this width.
 fn rows_in(width: usize, cells: Cells<'_>) -> Rows<'_>
     requires { AreWholeRows width (cells_of cells) }
     ensures { result ≡ rows_from width (cells_of cells.entry) }

@@ -19,7 +19,7 @@ use bw_sql::{Name, Open};
 use indexmap::IndexMap;
 use std::alloc::{AllocError, Global};
 
-/// Adds the table that a table file holds, as the last one.
+/// Adds the table of a table file after the existing ones.
 pub(crate) fn open_table(
     alloc: Global,
     tables: &mut IndexMap<Name, Table>,
@@ -44,7 +44,7 @@ pub(crate) fn open_table(
     Ok(Reply::Count(count as u64))
 }
 
-/// The table that a table file holds, by its columns.
+/// The table of a table file, as columns.
 fn table_in_file<'a>(alloc: Global, file: FileAnswer<'a>) -> Result<TableFile<'a>, Refusal>
     ensures { IsAnswered file.entry (Within IsTableIn) (λ said. AnswersFile (table_tests said) result (λ parts. said ≡ Held (unfiled parts))) (result ≡ Err OutOfMemory) }
 {
@@ -56,7 +56,7 @@ fn table_in_file<'a>(alloc: Global, file: FileAnswer<'a>) -> Result<TableFile<'a
     }
 }
 
-/// The table of these columns.
+/// Builds the table of these columns.
 fn opened(alloc: Global, parts: TableFile<'_>) -> Result<Table, AllocError>
     ensures table { IfOk result (λ table. table_in table ≡ unfiled parts.entry) }
     ensures is_new { IfOk result IsNew }

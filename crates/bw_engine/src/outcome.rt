@@ -1,24 +1,24 @@
-//! What becomes of a statement.
+//! The outcome of a statement.
 
 use bw_model::Reply;
 use bw_sql::FileName;
 
-/// What becomes of a statement.
+/// The outcome of a statement.
 #[derive(Debug, Drop)]
 pub enum Outcome {
-    /// It is answered.
+    /// The statement has a reply.
     Reply(Reply),
-    /// It is a SAVE, which is done once its file is written.
+    /// A SAVE, which is done once its file is written.
     Save(Saving),
 }
 
-/// What a SAVE hands out.
+/// What a SAVE returns to be written.
 #[derive(Debug, Drop)]
 pub struct Saving {
-    /// The file that is to be made anew.
+    /// The file to be created or replaced.
     pub file: FileName,
     /// The bytes of the table.
     pub bytes: Vec<u8>,
-    /// How many rows the table has.
+    /// The number of rows of the table.
     pub rows: u64,
 }

@@ -19,7 +19,7 @@ use bw_sql::{LayoutChoice, Name, Rebuild};
 use indexmap::IndexMap;
 use std::alloc::Global;
 
-/// Lays columns anew. No row changes.
+/// Rebuilds columns in the chosen layouts and kinds. No row changes.
 pub(crate) fn rebuild(
     alloc: Global,
     tables: &mut IndexMap<Name, Table>,
@@ -36,7 +36,7 @@ pub(crate) fn rebuild(
     }
 }
 
-/// Lays columns of this table anew. All that can be refused comes before the table changes.
+/// Rebuilds columns of this table. Every refusal happens before the table changes.
 fn rebuild_columns(
     alloc: Global,
     table: &mut Table,

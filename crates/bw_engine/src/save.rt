@@ -22,7 +22,7 @@ use bw_sql::{Name, Save};
 use indexmap::IndexMap;
 use std::alloc::{AllocError, Global};
 
-/// The bytes of a table, for a file that is to be made anew with them.
+/// The bytes of a table, with the file to write them to.
 pub(crate) fn save(
     alloc: Global,
     tables: &IndexMap<Name, Table>,
@@ -50,12 +50,12 @@ pub(crate) fn save(
     })
 }
 
-/// The bytes that hold a table. These are the ends of each column's values.
+/// The bytes of a table file. `ends` are the least and greatest values of each column.
 fn spelled(alloc: Global, table: &Table, ends: &[Option<Ends>]) -> Result<Vec<u8>, AllocError>
     requires { AllZip AreEndsOf ends.now (filed (table_in table.now)).columns }
     ensures { IfOk result (λ bytes. HoldsBy Second bytes.items (table_in table.now)) }
 {
-    // Each row has a value for each column, and there are 1 to 64 columns, each with a name of its own.
+    // Each row has a value for each column, and there are 1 to 64 columns with distinct names.
     let _wide = table.stored().live();
     let _valid = table.headers();
     let columns = live_columns(alloc, table)?;
@@ -68,7 +68,7 @@ fn spelled(alloc: Global, table: &Table, ends: &[Option<Ends>]) -> Result<Vec<u8
     )
 }
 
-/// How many bytes hold a table of which these are the ends of each column's values. Takes no memory.
+/// The length in bytes of the table file. `ends` are the least and greatest values of each column. Allocates nothing.
 fn filed_length(table: &Table, ends: &[Option<Ends>]) -> u64
     requires { AllZip AreEndsOf ends.now (filed (table_in table.now)).columns }
     ensures { result ≡ filed_length (table_in table.now) }
@@ -78,7 +78,7 @@ fn filed_length(table: &Table, ends: &[Option<Ends>]) -> u64
     length_by_ends(table.stored().headers(), table.row_count(), ends)
 }
 
-/// Puts the ends of each column's values in its place. Takes no memory.
+/// Writes the least and greatest value of column `k` to `ends[k]`. Allocates nothing.
 fn take_ends(table: &Table, ends: &mut [Option<Ends>])
     requires { length ends.old ≡ length table.now.headers }
     ensures { AllZip AreEndsOf ends.new (filed (table_in table.now)).columns }

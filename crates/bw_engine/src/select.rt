@@ -28,7 +28,7 @@ use bw_sql::{Name, Select, SelectItem, SelectItems};
 use indexmap::IndexMap;
 use std::alloc::{AllocError, Global};
 
-/// Answers the found rows in the order in which they were inserted.
+/// Returns the found rows in insertion order.
 pub(crate) fn select(
     alloc: Global,
     tables: &IndexMap<Name, Table>,
@@ -42,7 +42,7 @@ pub(crate) fn select(
     }
 }
 
-/// What a table's found rows show.
+/// The answer of a SELECT over this table.
 fn shown_rows(alloc: Global, table: &Table, query: Select) -> Result<Reply, Refusal>
     ensures { Answers (select_tests (select_of query) table.now.headers) result (λ reply. reply ≡ Rows (answer (table_in table.now) (select_of query))) }
 {
@@ -53,7 +53,7 @@ fn shown_rows(alloc: Global, table: &Table, query: Select) -> Result<Reply, Refu
     Ok(Reply::Rows(shown_answer(alloc, table, &plan.shown, &found, headings)?))
 }
 
-/// The answer that shows these columns of the found slots, or set functions of them or of their groups.
+/// The answer with columns of the found slots, or with set functions of them or of their groups.
 fn shown_answer(
     alloc: Global,
     table: &Table,
@@ -84,7 +84,7 @@ fn shown_answer(
     }
 }
 
-/// The headings of what is shown.
+/// The headings of the shown items.
 fn headings_of(
     alloc: Global,
     headers: &Headers<'_>,

@@ -1,4 +1,4 @@
-//! What set functions say of the found slots.
+//! Set functions over the found slots.
 
 ghost use Rattle.std.specs.List.{Contains};
 ghost use Rattle.std.specs.Prelude.{All, IfOk, IfSome, OnOk, length, map, slice_index_or, ◌<◌, ◌≡◌};
@@ -17,14 +17,14 @@ use bw_sql::{Name, SetFunction};
 use bw_table::Table;
 use std::alloc::{AllocError, Global};
 
-/// What was asked of the column at a place.
+/// The aggregates of the column at index `place`.
 #[derive(Clone, Copy)]
 struct ColumnSummary {
     place: usize,
     summary: Summary,
 }
 
-/// Whether a set function is one of these.
+/// Whether `functions` contain a set function.
 fn is_asked(functions: &[FunctionPlan], function: FunctionPlan) -> bool
     ensures { IsAskedIf functions.now function result }
 {
@@ -36,7 +36,7 @@ fn is_asked(functions: &[FunctionPlan], function: FunctionPlan) -> bool
     false
 }
 
-/// What is asked of the column at a place.
+/// Which aggregates of the column at index `place` the functions need.
 fn asked_of(functions: &[FunctionPlan], place: usize) -> Asked
     ensures { AskFor functions.now place result }
 {
@@ -48,7 +48,7 @@ fn asked_of(functions: &[FunctionPlan], place: usize) -> Asked
     }
 }
 
-/// All that is asked of the column at a place, of its values in the found slots.
+/// Computes the aggregates that the functions need of the column at index `place`, over its values in the found slots.
 fn column_summary(
     alloc: Global,
     table: &Table<Name>,
@@ -66,7 +66,7 @@ fn column_summary(
     Ok(ColumnSummary { place, summary })
 }
 
-/// The summary of the column at a place, where there is one.
+/// The summary of the column at index `place`, if there is one.
 fn summary_among(columns: &[ColumnSummary], place: usize) -> Option<ColumnSummary>
     ensures place { IfSome result (λ column. column.place ≡ place) }
     ensures one { IfSome result (Contains columns.now) }
@@ -79,7 +79,8 @@ fn summary_among(columns: &[ColumnSummary], place: usize) -> Option<ColumnSummar
     None
 }
 
-/// All that is asked of the column at a place. Each column is folded once: what was told of it is kept.
+/// The aggregates that the functions need of the column at index `place`. Each column is folded once, and its summary
+/// is kept.
 fn summary_of(
     alloc: Global,
     table: &Table<Name>,
@@ -103,7 +104,7 @@ fn summary_of(
     Ok(column)
 }
 
-/// What a summary tells of a set function; `None` is NULL.
+/// The value of a set function in a summary; `None` is NULL.
 pub(crate) fn told_by(function: SetFunction, summary: &Summary) -> Option<i128>
     ensures { result ≡ told_by function summary.now }
 {
@@ -116,14 +117,14 @@ pub(crate) fn told_by(function: SetFunction, summary: &Summary) -> Option<i128>
     }
 }
 
-/// The same number in more bits.
+/// The value widened to `i128`.
 pub(crate) fn wide(value: Option<i64>) -> Option<i128>
     ensures { result ≡ value }
 {
     value.map(i128::from)
 }
 
-/// What function i says of the found slots.
+/// The value of function `i` over the found slots.
 fn number(
     alloc: Global,
     table: &Table<Name>,
@@ -148,7 +149,7 @@ fn number(
     }
 }
 
-/// What each of the set functions says of the found slots, in order.
+/// The value of each set function over the found slots, in order.
 fn numbers(
     alloc: Global,
     table: &Table<Name>,
@@ -168,7 +169,7 @@ fn numbers(
     Ok(numbers)
 }
 
-/// The cells of set functions of the found slots, in order.
+/// The cells of the set functions over the found slots, in order.
 #[tactic(auto, using(crate::proofs::Folding::shown_numbers))]
 pub(crate) fn function_cells(
     alloc: Global,
@@ -191,7 +192,7 @@ fn cells_of(alloc: Global, numbers: &[Option<i128>]) -> Result<Vec<Cell>, AllocE
     numbers.iter().map(|number| cell(*number)).collect(alloc)
 }
 
-/// `None` is NULL.
+/// The cell of a number; `None` is NULL.
 pub(crate) fn cell(number: Option<i128>) -> Cell
     ensures { result ≡ shown number }
 {

@@ -1,4 +1,4 @@
-//! The values that a SELECT shows, read from the columns by runs of 64 slots.
+//! The values that a SELECT shows, read from the columns in runs of 64 slots.
 
 ghost use Rattle.std.specs.Prelude.{All, IfOk, OnOk, length, map, min, ℕ, ◌+◌, ◌++◌, ◌-◌, ◌<◌, ◌^◌, ◌≡◌, ◌≤◌};
 ghost use Rattle.bw_mask.specs.Masks.{bit_of, len, row_at};
@@ -16,14 +16,15 @@ use bw_sql::{Name, Value};
 use bw_table::Table;
 use std::alloc::{AllocError, Global};
 
-/// Up to so many of 64 slots are fetched value by value: reading whole runs of the columns would take longer.
+/// If at most this many of 64 slots are found, their values are fetched one by one; reading whole runs of the columns
+/// would be slower.
 const FEW: u32 = 16;
 
 /// The values of one column in 64 slots.
 type Run = [Value; 64];
 
-/// The values at these places of each found slot, slot after slot. Refused where memory is wanting: it is asked for
-/// once for the values, and once for a run of each column.
+/// The values of the columns at these indexes in each found slot, slot after slot. Fails if it runs out of memory. It
+/// allocates twice: once for the values, and once for a run of each column.
 pub(crate) fn found_values(
     alloc: Global,
     table: &Table<Name>,
@@ -46,8 +47,9 @@ pub(crate) fn found_values(
     Ok(values)
 }
 
-/// Puts the values of the found ones of the next 64 slots last, from slot `at` on.
-// Taken into the loop over the words, it would keep the loop's counter in memory, and most words have no found slot.
+/// Appends the values of the found slots among the next 64, starting at slot `at`.
+// Not inlined into the loop over the words: that would keep the loop's counter in memory, and most words have no found
+// slot.
 #[inline(never)]
 pub(crate) fn show_slots(
     values: &mut Vec<Value>,
@@ -73,7 +75,7 @@ pub(crate) fn show_slots(
     show_rows(values, runs, word, n)
 }
 
-/// Puts the values of those of n slots last whose bit is set, from slot `at` on, each fetched by itself.
+/// Appends the values of the slots among `at..at + n` whose bit is set. Each value is fetched on its own.
 fn fetch_rows(
     values: &mut Vec<Value>,
     table: &Table<Name>,
@@ -96,7 +98,7 @@ fn fetch_rows(
     Ok(())
 }
 
-/// Puts the values of a slot last.
+/// Appends the values of a slot.
 fn fetch_row(
     values: &mut Vec<Value>,
     table: &Table<Name>,
@@ -113,7 +115,7 @@ fn fetch_row(
     Ok(())
 }
 
-/// The runs take the values of n slots, from slot `at` on.
+/// Reads the values of n slots into the runs, starting at slot `at`.
 fn read_columns(runs: &mut [Run], table: &Table<Name>, places: &[usize], at: usize, n: usize)
     requires places { All (λ place. place < length table.now.headers) places.now }
     requires few { n ≤ 64 }
@@ -126,7 +128,7 @@ fn read_columns(runs: &mut [Run], table: &Table<Name>, places: &[usize], at: usi
     }
 }
 
-/// A run takes n values of a column, from value `at` on.
+/// Reads n values of a column into a run, starting at value `at`.
 fn read_column(run: &mut Run, column: &Column, at: usize, n: usize)
     requires few { n ≤ 64 }
     requires inside { at + n ≤ length column.now.values }
@@ -135,7 +137,7 @@ fn read_column(run: &mut Run, column: &Column, at: usize, n: usize)
     column.read(at, &mut run[..n]);
 }
 
-/// Puts the values of those of n rows last whose bit is set.
+/// Appends the values of the rows among the first n whose bit is set.
 fn show_rows(values: &mut Vec<Value>, runs: &[Run], word: u64, n: usize) -> Result<(), AllocError>
     requires { n ≤ 64 }
     ensures { OnOk result (values.new.items ≡ values.old.items ++ lines_from (line_across runs.now) (bit_of word) 0 n) }
@@ -148,7 +150,7 @@ fn show_rows(values: &mut Vec<Value>, runs: &[Run], word: u64, n: usize) -> Resu
     Ok(())
 }
 
-/// Puts the values of row i last.
+/// Appends the values of row `i`.
 fn show_row(values: &mut Vec<Value>, runs: &[Run], i: usize) -> Result<(), AllocError>
     requires { i < 64 }
     ensures { OnOk result (values.new.items ≡ values.old.items ++ line_across runs.now i) }

@@ -25,7 +25,7 @@ use bw_table::Slots;
 use indexmap::IndexMap;
 use std::alloc::{AllocError, Global};
 
-/// Counts the units that the condition of a SELECT reads. No row is shown.
+/// Counts the units that the condition of a SELECT reads. No row is returned.
 pub(crate) fn stats(
     alloc: Global,
     tables: &IndexMap<Name, Table>,
@@ -39,7 +39,7 @@ pub(crate) fn stats(
     }
 }
 
-/// The units that the condition reads at the live slots of this table, where its SELECT isn't refused.
+/// The units that the condition reads at the live slots of this table, unless the SELECT is refused.
 fn counted(alloc: Global, table: &Table, query: &Select) -> Result<Reply, Refusal>
     ensures { Answers (select_tests (select_of query.now) table.now.headers) result (λ reply. reply ≡ Units (raised 0 (units_in table.now (option_map condition_of query.now.condition)))) }
 {

@@ -22,11 +22,11 @@ use bw_table::{Choice, Header, Rows, SetTo, Table as SlotTable, TableFault};
 use std::alloc::{AllocError, Global};
 use std::marker::Model;
 
-/// The most rows that a table holds.
+/// The largest number of rows in a table.
 const ROW_LIMIT: usize = 16_777_216;
 
-/// A table of 1 to 64 columns, each with a name of its own. A contract sees its headers, its slots and the encodings of
-/// its columns.
+/// A table of 1 to 64 columns with distinct names. Contracts see its headers, its slots and the encodings of its
+/// columns.
 #[derive(Drop)]
 pub struct Table {
     table: SlotTable<Name>,
@@ -57,7 +57,7 @@ impl Table {
         })
     }
 
-    /// The table of these columns: for each header its cells, in as many rows.
+    /// The table of these columns: the cells of each header, in `rows` rows.
     #[tactic(auto, using(crate::proofs::LiveRows::new_rows))]
     pub(crate) fn of_columns<C: Measured>(
         alloc: Global,
@@ -86,14 +86,14 @@ impl Table {
         Headers::new(self.table.headers())
     }
 
-    /// The table, with what each column is called and how it is kept.
+    /// The table of slots, with the name, the layout and the kind of each column.
     pub(crate) fn stored(&self) -> &SlotTable<Name>
         ensures { result.now ≡ self.now }
     {
         &self.table
     }
 
-    /// How many rows there are.
+    /// The number of rows.
     #[tactic(auto, using(crate::proofs::Inserted::row_count))]
     pub(crate) fn row_count(&self) -> usize
         ensures value { result ≡ length (rows_in self.now.slots) }
@@ -102,14 +102,14 @@ impl Table {
         self.table.row_count()
     }
 
-    /// How many rows more there may be.
+    /// How many more rows the table can take.
     pub(crate) fn room(&self) -> usize
         ensures { result + length (rows_in self.now.slots) ≡ row_limit }
     {
         ROW_LIMIT - self.row_count()
     }
 
-    /// Puts these rows last. Where memory is wanting, nothing changes.
+    /// Appends these rows. If it runs out of memory, nothing changes.
     #[tactic(auto, using(crate::proofs::Inserted::not_full))]
     pub(crate) fn insert(&mut self, alloc: Global, rows: &Rows<'_>) -> Result<(), AllocError>
         requires typed { All (IsRowOf (types_of self.old.headers)) rows.now }
@@ -127,8 +127,9 @@ impl Table {
         }
     }
 
-    /// Sets columns in the found slots, all at once: a column that is set to another takes what that had before. Refused
-    /// where a value so copied is not of the type of the column that takes it, or memory is wanting; nothing changes then.
+    /// Sets columns in the found slots, all at once: a column that is set to another column takes the values that it
+    /// had before. Fails if a copied value isn't of the type of the column that takes it, or if it runs out of memory;
+    /// then nothing changes.
     pub(crate) fn update(
         &mut self,
         alloc: Global,
@@ -152,7 +153,7 @@ impl Table {
         }
     }
 
-    /// Takes the found slots out. Takes no memory.
+    /// Makes the found slots dead. Allocates nothing.
     pub(crate) fn delete(&mut self, found: &Mask)
         requires { len found.now ≡ length self.old.slots }
         ensures headers { self.new.headers ≡ self.old.headers }
@@ -162,8 +163,8 @@ impl Table {
         self.table.delete(found);
     }
 
-    /// Lays columns anew, as they are chosen to lie: each in a layout that holds its type. Where memory is wanting,
-    /// nothing changes.
+    /// Rebuilds columns in the chosen layouts and kinds; each layout must hold its column's type. If it runs out of
+    /// memory, nothing changes.
     pub(crate) fn rebuild(
         &mut self,
         alloc: Global,

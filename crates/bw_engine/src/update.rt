@@ -20,7 +20,7 @@ use bw_sql::{Condition, Name, SetClause, Update};
 use indexmap::IndexMap;
 use std::alloc::Global;
 
-/// Updates the found rows, each in its place.
+/// Updates the found rows in place.
 pub(crate) fn update(
     alloc: Global,
     tables: &mut IndexMap<Name, Table>,
@@ -41,8 +41,8 @@ pub(crate) fn update(
     }
 }
 
-/// Updates the found rows of this table. All that can be refused comes before the table changes: first what is refused
-/// whatever rows are found, and then values that are copied in them.
+/// Updates the found rows of this table. Every refusal happens before the table changes: first those that don't depend
+/// on which rows are found, then those of values that are copied in the found rows.
 fn update_rows(
     alloc: Global,
     table: &mut Table,

@@ -57,8 +57,20 @@ module _ (rows ranks : List ℕ) (values run : List (Option ℤ)) (before : leng
       omega (arith, a, b, c, d)
 
   module _ {F : Type 0} (tells : F → List ℤ → Type 0) (folds : List F) (are : AreFolds tells (rows ++ take i ranks) (values ++ take i run) folds) where
-    pub after_null : get_or run i None ≡ None → AreFolds tells (rows ++ take (i + 1) ranks) (values ++ take (i + 1) run) folds
-    after_null is g d h = subst (tells (get_or folds g d)) (sym (then_is g ∙ ap (λ v. so_far g ++ known (cond (q == g) (v ∷ []) [])) is ∙ null_adds (so_far g) (q == g))) (are g d h)
+    pub after_same : (fold : F) → get_or run i None ≡ None → tells fold (so_far q) → AreFolds tells (rows ++ take (i + 1) ranks) (values ++ take (i + 1) run) (set folds q fold)
+    after_same fold is told g d h =
+        let keeps : then_on g ≡ so_far g = then_is g ∙ ap (λ v. so_far g ++ known (cond (q == g) (v ∷ []) [])) is ∙ null_adds (so_far g) (q == g) in
+        elim (cases_eq g q) [
+          | inl same ↦
+              let low : q < length folds = omega (arith, h, wide, same) in
+              subst (λ f. tells f (then_on g)) (sym (get_or-set_at folds q g fold d same low)) (subst (tells fold) (ap so_far (sym same) ∙ sym keeps) told)
+          | inr other ↦
+              let low : g < length folds = omega (arith, h, wide) in
+              subst (λ f. tells f (then_on g)) (sym (get_or-set_other folds q g fold d other)) (subst (tells (get_or folds g d)) (sym keeps) (are g d low))
+        ]
+      where
+        wide : length (set folds q fold) ≡ length folds
+        wide = length-set folds q fold
 
     pub after_value : (x : ℤ) (fold : F) → get_or run i None ≡ Some x → tells fold (so_far q ++ x ∷ []) → AreFolds tells (rows ++ take (i + 1) ranks) (values ++ take (i + 1) run) (set folds q fold)
     after_value x fold is told g d h =

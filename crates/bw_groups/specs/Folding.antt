@@ -1,4 +1,4 @@
--- What was asked of the values of each group.
+-- The set functions of the values of each group.
 use Rattle.std.specs.Prelude.{Bool, List, None, Option, Some, if◌then◌else◌, length, map, not, pos, slice_index, slice_index_or, ℕ, ℤ, ◌&&◌, ◌<◌, ◌==◌, ◌≡◌}
 use Rattle.std.specs.List.{range_with_len}
 use Rattle.bw_aggregate.specs.declared.summary.Asked.{Asked}
@@ -7,7 +7,7 @@ use Rattle.bw_cells.specs.SetFunctions.{known}
 use Rattle.bw_code.specs.declared.ends.Ends.{Ends}
 use Rattle.bw_groups.specs.Grouping.{members}
 
--- each tells of the values in its group that are not null
+-- each fold is that of the non-null values in its group
 abbrev pub AreFolds : {F : Type 0} → (F → List ℤ → Type 0) → List ℕ → List (Option ℤ) → List F → Type 0
 AreFolds {F} tells ranks column folds = (g : ℕ) (d : F) → g < length folds → tells (slice_index_or folds g d) (known (members ranks column g))
 
@@ -15,7 +15,7 @@ AreFolds {F} tells ranks column folds = (g : ℕ) (d : F) → g < length folds �
 abbrev pub IsCount : ℕ → List ℤ → Type 0
 IsCount count values = count ≡ length values
 
--- what is told of so many values, where it is asked for and there is any
+-- a result for this number of values, if it is asked for and there are any
 abbrev pub if_any : {A : Type 0} → Bool → ℕ → A → Option A
 if_any asked count x = if asked && not (count == 0) then Some x else None
 
@@ -27,7 +27,7 @@ abbrev pub greatest_in : Option Ends → Option ℤ
 greatest_in None = None
 greatest_in (Some ends) = Some ends.greatest
 
--- of values their number, sum, ends and lower median as far as they are asked for
+-- the summary of values: their number, and their sum, ends and lower median as far as they are asked for
 abbrev pub summary_by : Asked → ℕ → ℤ → Option Ends → ℤ → Summary
 summary_by asked count sum ends median = record {
   count = count;
@@ -37,7 +37,7 @@ summary_by asked count sum ends median = record {
   median = if_any asked.median count median;
 }
 
--- the same of each group, whose entries stand in these lists; a list of what isn't asked for may be empty
+-- the same for each group, from its entries in these lists; a list that isn't asked for may be empty
 abbrev pub summary_at : Asked → List ℕ → List ℤ → List (Option Ends) → List ℤ → ℕ → Summary
 summary_at asked counts sums ends medians g = summary_by asked (slice_index counts g) (slice_index_or sums g (pos 0)) (slice_index_or ends g None) (slice_index_or medians g (pos 0))
 

@@ -1,4 +1,4 @@
--- Values as integers, and as which of them are integers.
+-- Values as a list of integers and a list of which of them are integers.
 use Rattle.std.specs.Prelude.{Bool, List, None, Option, Some, [], if◌then◌else◌, ◌∷◌, ℤ}
 
 -- where one isn't an integer, it is null

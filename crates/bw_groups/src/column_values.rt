@@ -11,12 +11,12 @@ use bw_code::Ends;
 use std::alloc::{AllocError, Global};
 use std::marker::Model;
 
-/// The values of a column in some rows, in 9 bytes each. A contract sees their list.
+/// The values of a column in some rows, in 9 bytes each. Contracts see the list of the values.
 #[derive(Debug, Drop)]
 pub struct ColumnValues {
-    /// The integers, and 0 in place of each NULL.
+    /// The integers, with 0 for each NULL.
     numbers: Vec<i64>,
-    /// Which of them are integers.
+    /// Whether each is an integer, not NULL.
     known: Vec<bool>,
 }
 
@@ -32,7 +32,7 @@ impl Model for ColumnValues {
 }
 
 impl ColumnValues {
-    /// No values, with room for so many.
+    /// No values, with room for `count`.
     pub fn with_capacity(alloc: Global, count: usize) -> Result<ColumnValues, AllocError>
         ensures { IfOk result (λ values. values ≡ []) }
     {
@@ -42,7 +42,7 @@ impl ColumnValues {
         })
     }
 
-    /// The values of a column in its runs.
+    /// Collects the values of a column from its runs.
     pub(crate) fn of<C: ValueRuns>(alloc: Global, column: &C) -> Result<ColumnValues, AllocError>
         ensures { IfOk result (λ values. values ≡ values_in (C.runs column.now)) }
     {
@@ -55,7 +55,7 @@ impl ColumnValues {
         Ok(all)
     }
 
-    /// These values and at most 64 more after them.
+    /// These values with a run of at most 64 appended.
     pub fn with_run(self, run: &[Option<i64>]) -> Result<ColumnValues, AllocError>
         requires { length run.now ≤ 64 }
         ensures { IfOk result (λ values. values ≡ self ++ run.now) }
@@ -66,7 +66,7 @@ impl ColumnValues {
         } = self;
         let mut new_numbers = [0; 64];
         let mut new_known = [false; 64];
-        // No branch a value, so that values are taken side by side.
+        // No branch per value, so that the loop can be vectorized.
         'run: for i in 0..run.len() {
             new_numbers[i] = run[i].unwrap_or(0);
             new_known[i] = run[i].is_some();
@@ -76,14 +76,14 @@ impl ColumnValues {
         Ok(ColumnValues { numbers, known })
     }
 
-    /// How many values there are.
+    /// The number of values.
     pub fn len(&self) -> usize
         ensures { result ≡ length self.now }
     {
         self.numbers.len()
     }
 
-    /// Value i.
+    /// Value `i`.
     #[inline]
     pub fn get(&self, i: usize) -> Option<i64>
         requires { i < length self.now }
@@ -147,7 +147,7 @@ impl ValueRuns for ColumnValues {
     }
 }
 
-/// Whether all of these hold.
+/// Whether all tests are true.
 fn are_all(tests: &[bool]) -> bool
     ensures { result ≡ list_all (λ test. test) tests.now }
 {

@@ -1,6 +1,6 @@
-//! What is told of values one by one.
+//! Folds over values, taken one by one.
 
-ghost use Rattle.std.specs.Prelude.{All, IfOk, IsTrue, List, Option, [], length, pos, unsigned_abs, ℕ, ℤ, ◌*◌, ◌+ℤ◌, ◌+◌, ◌++◌, ◌<◌, ◌^◌, ◌∷◌, ◌≡◌, ◌≤◌};
+ghost use Rattle.std.specs.Prelude.{All, IfOk, IsTrue, List, Option, [], false, if◌then◌else◌, length, pos, unsigned_abs, ℕ, ℤ, ◌*◌, ◌+ℤ◌, ◌+◌, ◌++◌, ◌<◌, ◌^◌, ◌∷◌, ◌≡◌, ◌≤◌};
 ghost use Rattle.bw_code.specs.Fittings.{AreEnds};
 ghost use Rattle.bw_cells.specs.SetFunctions.{total};
 ghost use Rattle.bw_groups.specs.Folding.{AreFolds};
@@ -14,21 +14,22 @@ use bw_code::Ends;
 use bw_mask::has_bit;
 use std::alloc::{AllocError, Global};
 
-/// What is told of values that come one by one.
+/// A fold over values that come one by one.
 pub(crate) trait Fold: Copy {
     ghost tells: { Self → List ℤ → Type 0 };
 
-    /// What is told of no values.
+    /// The fold of no values.
     fn none() -> Self
         ensures { tells result [] };
 
-    /// What is told once a value more has come.
-    fn with(self, value: i64) -> Self
-        requires { (values : List ℤ) × (length values < 2 ^ 24) × tells self values }
-        ensures { (values : List ℤ) → length values < 2 ^ 24 → tells self values → tells result (values ++ value ∷ []) };
+    /// The fold extended by one more cell: an integer, or a NULL, whose number is 0.
+    fn with(self, number: i64, is_there: bool) -> Self
+        requires few { (values : List ℤ) × (length values < 2 ^ 24) × tells self values }
+        requires null { is_there ≡ false → number ≡ pos 0 }
+        ensures { (values : List ℤ) → length values < 2 ^ 24 → tells self values → tells result (values ++ (if is_there then number ∷ [] else [])) };
 }
 
-/// How many values there are.
+/// The number of values.
 impl Fold for u32 {
     ghost tells = { λ count values. count ≡ length values };
 
@@ -36,8 +37,8 @@ impl Fold for u32 {
         0
     }
 
-    fn with(self, _value: i64) -> u32 {
-        self + 1
+    fn with(self, _number: i64, is_there: bool) -> u32 {
+        self + u32::from(is_there)
     }
 }
 
@@ -49,8 +50,9 @@ impl Fold for i128 {
         0
     }
 
-    fn with(self, value: i64) -> i128 {
-        add(self, value)
+    // The number of a NULL is 0, so each is added without a branch.
+    fn with(self, number: i64, _is_there: bool) -> i128 {
+        add(self, number)
     }
 }
 
@@ -62,10 +64,13 @@ impl Fold for Option<Ends> {
         None
     }
 
-    fn with(self, value: i64) -> Option<Ends> {
+    fn with(self, number: i64, is_there: bool) -> Option<Ends> {
+        if !is_there {
+            return self;
+        }
         let ends = Ends {
-            least: value,
-            greatest: value,
+            least: number,
+            greatest: number,
         };
         ends_of_both(self, Some(ends))
     }
@@ -80,7 +85,7 @@ fn add(sum: i128, value: i64) -> i128
     sum + i128::from(value)
 }
 
-/// Of so many groups what is told of no values.
+/// The fold of no values for each of `count` groups.
 fn none_each<F: Fold>(alloc: Global, count: usize) -> Result<Vec<F>, AllocError>
     ensures count { IfOk result (λ folds. length folds.items ≡ count) }
     ensures none { IfOk result (λ folds. All (λ fold. F.tells fold []) folds.items) }
@@ -92,8 +97,7 @@ fn none_each<F: Fold>(alloc: Global, count: usize) -> Result<Vec<F>, AllocError>
     Ok(folds)
 }
 
-/// Adds what a run of values tells to what was told of each group before. The ranks are those of the groups of the run's
-/// rows.
+/// Adds a run of values to the folds of the groups. `ranks` are the group numbers of the run's rows.
 fn fold_run<F: Fold>(folds: &mut Vec<F>, ranks: &[u32], run: &[u64; 64], present: u64)
     requires few { length ranks.now ≤ 64 }
     requires inside { All (λ r. r < length folds.old.items) ranks.now }
@@ -102,14 +106,12 @@ fn fold_run<F: Fold>(folds: &mut Vec<F>, ranks: &[u32], run: &[u64; 64], present
     ensures tells { (rows : List ℕ) (values run_values : List (Option ℤ)) → length values ≡ length rows → length rows + length ranks.now ≤ 2 ^ 24 → IsMeasured (pos 0) run_values (length ranks.now) present run.now → AreFolds F.tells rows values folds.old.items → AreFolds F.tells (rows ++ ranks.now) (values ++ run_values) folds.new.items }
 {
     'rows: for i in 0..ranks.len() {
-        if has_bit(present, i) {
-            let g = ranks[i] as usize;
-            folds[g] = folds[g].with(run[i].cast_signed());
-        }
+        let g = ranks[i] as usize;
+        folds[g] = folds[g].with(run[i].cast_signed(), has_bit(present, i));
     }
 }
 
-/// What is told of a column's values in each group, by one pass over the rows, run by run.
+/// The fold of a column's values in each group, by one pass over the rows, run by run.
 pub(crate) fn fold_each<F: Fold, C: ValueRuns>(
     alloc: Global,
     groups: &Groups,
@@ -132,7 +134,7 @@ pub(crate) fn fold_each<F: Fold, C: ValueRuns>(
     Ok(folds)
 }
 
-/// The same, if it is asked for.
+/// `fold_each` if it is asked for, else an empty list.
 pub(crate) fn fold_if<F: Fold, C: ValueRuns>(
     alloc: Global,
     asked: bool,

@@ -17,8 +17,8 @@ use bw_code::Ends;
 use std::alloc::{AllocError, Global};
 use std::marker::Model;
 
-/// What is asked of a column's values in each group. A contract sees a summary for each. It is told by one pass over the
-/// rows for each thing that is asked for; for medians alone the values are put group after group.
+/// The set functions of a column's values in each group. Contracts see one summary per group. Each function that is
+/// asked for takes one pass over the rows; only medians need the values arranged by group.
 #[derive(Debug, Drop)]
 pub struct Folds {
     asked: Asked,
@@ -39,7 +39,7 @@ impl Model for Folds {
 }
 
 impl Folds {
-    /// What is asked of a column, which has a value for each row that is in the groups.
+    /// Computes what is asked for. The column has a value for each row of the groups.
     pub fn of<C: ValueRuns>(
         alloc: Global,
         groups: &Groups,
@@ -75,7 +75,7 @@ impl Folds {
         }
     }
 
-    /// What is asked of the values in group g.
+    /// The summary of the values in group `g`.
     pub fn summary(&self, g: usize) -> Summary
         requires { g < length self.now }
         ensures { (d : AnySummary) → result ≡ slice_index_or self.now g d }
@@ -90,7 +90,7 @@ impl Folds {
     }
 }
 
-/// How many values each group has that are not NULL. Where none is NULL, they are as many as its rows.
+/// The number of non-null values in each group. If no value is NULL, it is the group's number of rows.
 fn counts_of<C: ValueRuns>(
     alloc: Global,
     groups: &Groups,
@@ -115,14 +115,14 @@ fn asks_ends(asked: Asked) -> bool
     asked.least || asked.greatest
 }
 
-/// Entry g of a list, or this where there is none.
+/// Entry `g` of a list, or `none` past its end.
 fn entry<T: Copy>(list: &[T], g: usize, none: T) -> T
     ensures { result ≡ slice_index_or list.now g none }
 {
     if g < list.len() { list[g] } else { none }
 }
 
-/// What is asked of values that have this number, sum, ends and lower median.
+/// The summary of values with this number, sum, ends and lower median, as far as it is asked for.
 fn summary_by(asked: Asked, count: u32, sum: i128, ends: Option<Ends>, median: i64) -> Summary
     ensures { result ≡ summary_by asked count sum ends median }
 {
@@ -135,7 +135,7 @@ fn summary_by(asked: Asked, count: u32, sum: i128, ends: Option<Ends>, median: i
     }
 }
 
-/// What is told of so many values, where it is asked for and there is any.
+/// `told`, if it is asked for and `count` is not 0.
 fn if_any<T: Copy>(asked: bool, count: u32, told: T) -> Option<T>
     ensures { result ≡ if_any asked count told }
 {

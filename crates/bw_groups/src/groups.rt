@@ -13,9 +13,9 @@ use bw_rank::{Ranked, rank_counted, rank_narrow};
 use std::alloc::{AllocError, Global};
 use std::marker::Model;
 
-/// Rows in groups by the values of a column (SQL-92, group by clause): each value that a row has makes a group, and all NULLs
-/// make one. The groups stand in ascending order of their values, that of NULL last. A contract sees the values of the groups,
-/// and of each row the place of its group among them.
+/// Rows in groups by the values of a column (SQL-92, group by clause): each distinct value makes a group, and all NULLs
+/// make one. The groups are in ascending order of their values, with NULL last. Contracts see the values of the groups,
+/// and the group number of each row.
 #[derive(Debug, Drop)]
 pub struct Groups {
     values: Vec<Option<i64>>,
@@ -35,8 +35,8 @@ impl Model for Groups {
 }
 
 impl Groups {
-    /// The groups of rows that have these values, at most 16,777,216 of them. The values are ranked as numbers of 32
-    /// bits where their bounds allow it, and else as numbers of 64, which takes more memory.
+    /// The groups of at most 16,777,216 rows with these values. The values are ranked as 32-bit numbers if their bounds
+    /// allow it, and else as 64-bit numbers, which takes more memory.
     pub fn of<C: ValueRuns>(alloc: Global, column: &C) -> Result<Groups, AllocError>
         requires { length (values_in (C.runs column.now)) ≤ 2 ^ 24 }
         ensures groups { IfOk result (AreGroups (values_in (C.runs column.now))) }
@@ -49,7 +49,7 @@ impl Groups {
         Groups::of_list(alloc, &values)
     }
 
-    /// The groups of rows by the numbers that their values have on a scale.
+    /// The groups of rows, from the numbers of their values on a scale.
     fn on_scale<C: ValueRuns>(
         alloc: Global,
         column: &C,
@@ -74,7 +74,7 @@ impl Groups {
         })
     }
 
-    /// The groups of rows by how far their values lie above the least.
+    /// The groups of rows, from the distances of their values above the least.
     fn of_list(alloc: Global, values: &ColumnValues) -> Result<Groups, AllocError>
         requires { length values.now ≤ 2 ^ 24 }
         ensures groups { IfOk result (AreGroups values.now) }
@@ -100,14 +100,14 @@ impl Groups {
         })
     }
 
-    /// How many groups there are.
+    /// The number of groups.
     pub fn len(&self) -> usize
         ensures { result ≡ length self.now.values }
     {
         self.values.len()
     }
 
-    /// The value that the rows of group g have.
+    /// The value of the rows of group `g`.
     pub fn value(&self, g: usize) -> Option<i64>
         requires { g < length self.now.values }
         ensures { result ≡ slice_index_or self.now.values g None }
@@ -115,14 +115,14 @@ impl Groups {
         self.values[g]
     }
 
-    /// Of each row the place of its group.
+    /// The group number of each row.
     pub(crate) fn ranks(&self) -> &[u32]
         ensures { result.now ≡ self.now.ranks }
     {
         &self.ranks
     }
 
-    /// Of each group how many rows it has.
+    /// The number of rows of each group.
     pub(crate) fn times(&self) -> &[u32]
         ensures count { length result.now ≡ length self.now.values }
         ensures counted { AreCounted self.now.ranks result.now }
@@ -130,7 +130,7 @@ impl Groups {
         &self.times
     }
 
-    /// How many rows group g has.
+    /// The number of rows of group `g`.
     pub fn row_count(&self, g: usize) -> usize
         requires { g < length self.now.values }
         ensures { result ≡ rows_in self.now.ranks g }
@@ -139,7 +139,7 @@ impl Groups {
     }
 }
 
-/// A scale for the values of a column, where their bounds are known and give one.
+/// A scale for the values of a column, if their bounds are known and close enough.
 fn scale_of<C: ValueRuns>(column: &C) -> Option<Scale>
     ensures { IfSome result (λ scale. All (IsWithin scale.ends) (known (values_in (C.runs column.now)))) }
 {

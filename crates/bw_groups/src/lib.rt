@@ -1,4 +1,4 @@
-//! Groups of rows by the values of a column, and set functions of the values that a group has in another.
+//! Groups of rows by the values of a column, and set functions of each group's values in another column.
 #![tactic(auto)]
 
 mod column_values;

@@ -1,4 +1,4 @@
-//! A run of values by how far each lies above a base.
+//! A run of values as distances above a base.
 
 ghost use Rattle.std.specs.Prelude.{FitsSigned, List, Option, Some, [], is_some, length, ℕ, ℤ, ◌+◌, ◌++◌, ◌<◌, ◌∷◌, ◌≡◌};
 ghost use Rattle.std.specs.Int.{w64};
@@ -7,16 +7,16 @@ ghost use Rattle.bw_groups.specs.Runs.{AreFilled, IsMeasured};
 
 use bw_cells::set_bytes;
 
-/// What a run was measured to: how many values it has, and a bit for each that says whether it is an integer.
+/// The result of measuring a run: its number of values, and a bit for each that tells whether it is an integer.
 #[derive(Clone, Copy, Debug)]
 pub struct MeasuredRun {
-    /// How many values the run has.
+    /// The number of values in the run.
     pub len: usize,
-    /// Bit i says whether value i is an integer.
+    /// Bit i tells whether value i is an integer.
     pub present: u64,
 }
 
-/// Puts a value behind the `at` values before it, by how far it lies above a base and by whether it is an integer.
+/// Writes a value after the `at` values before it: its distance above the base, and whether it is an integer.
 #[inline]
 pub fn put_distance(
     out: &mut [u64; 64],
@@ -33,7 +33,7 @@ pub fn put_distance(
     there[at] = u8::from(is_there);
 }
 
-/// What a run was measured to, whose values were put one after the other.
+/// The measured run of `len` values that were written by `put_distance`.
 pub fn filled_run(len: usize, there: &[u8; 64]) -> MeasuredRun
     ensures { (base : ℤ) (run : List (Option ℤ)) (out : List ℕ) → AreFilled base run len out there.now → IsMeasured base run result.len result.present out }
 {
@@ -43,7 +43,7 @@ pub fn filled_run(len: usize, there: &[u8; 64]) -> MeasuredRun
     }
 }
 
-/// How far a value lies above a base, modulo 2^64; 0 for NULL.
+/// The distance of a value above a base, modulo 2^64; 0 for NULL.
 pub fn distance_of(value: Option<i64>, base: i64) -> u64
     ensures distance { result ≡ distance_from base value }
     ensures fits { (x : ℤ) → value ≡ Some x → FitsSigned w64 x }

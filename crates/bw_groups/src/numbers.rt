@@ -1,4 +1,4 @@
-//! The values of a column as numbers that keep their order.
+//! The values of a column as numbers in the same order.
 
 ghost use Rattle.std.specs.Prelude.{All, IfOk, None, Some, [], filter_map, if◌then◌else◌, length, map, option_map, pos, unsigned_abs, ◌++◌, ◌+ℤ◌, ◌-ℤ◌, ◌∷◌, ◌≡◌, ◌≤ℤ◌};
 ghost use Rattle.bw_cells.specs.SetFunctions.{known};
@@ -8,7 +8,7 @@ use crate::column_values::ColumnValues;
 use bw_code::Ends;
 use std::alloc::{AllocError, Global};
 
-/// The least and the greatest of the values that are not NULL.
+/// The least and the greatest of the non-null values.
 pub(crate) fn known_ends(values: &ColumnValues) -> Ends
     ensures least { All (λ x. result.least ≤ℤ x) (known values.now) }
     ensures greatest { All (λ x. x ≤ℤ result.greatest) (known values.now) }
@@ -24,7 +24,7 @@ pub(crate) fn known_ends(values: &ColumnValues) -> Ends
     Ends { least, greatest }
 }
 
-/// How far above the least each of the values that are not NULL lies, in their order.
+/// The distance of each non-null value above the least, in order.
 pub(crate) fn known_distances(
     alloc: Global,
     values: &ColumnValues,
@@ -48,7 +48,7 @@ fn distances_from(alloc: Global, values: &ColumnValues, base: i64) -> Result<Vec
     Ok(distances)
 }
 
-/// How far a value lies from the base; `None` of NULL.
+/// The distance of a value above the base; `None` for NULL.
 fn distance(value: Option<i64>, base: i64) -> Option<u64>
     ensures { result ≡ option_map (λ x. unsigned_abs (x -ℤ base)) value }
 {
@@ -58,7 +58,7 @@ fn distance(value: Option<i64>, base: i64) -> Option<u64>
     }
 }
 
-/// The values that lie so far above the least, and NULL after them, if it is there.
+/// The values with these distances above the least, followed by NULL if it occurs.
 pub(crate) fn values_at(
     alloc: Global,
     ends: &Ends,
@@ -85,7 +85,7 @@ pub(crate) fn value_at(ends: Ends, distance: u64) -> Option<i64>
     Some(ends.least.wrapping_add_unsigned(distance))
 }
 
-/// The ranks of the values that are not NULL over all values, of which each NULL has this rank.
+/// The ranks of all values, from those of the non-null ones. Each NULL has the given rank.
 pub(crate) fn spread(
     alloc: Global,
     values: &ColumnValues,

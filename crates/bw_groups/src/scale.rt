@@ -1,7 +1,8 @@
-//! The values of a column as numbers of 32 bits that keep their order, that of NULL last.
+//! The values of a column as 32-bit numbers in the same order, with NULL last.
 
-ghost use Rattle.std.specs.Prelude.{All, FitsSigned, IfOk, IfSome, List, OnOk, Option, if◌then◌else◌, map, pos, ℤ, ◌%◌, ◌++◌, ◌+ℤ◌, ◌<◌, ◌^◌, ◌≡◌, ◌≤◌};
+ghost use Rattle.std.specs.Prelude.{All, FitsSigned, IfOk, IfSome, List, OnOk, Option, if◌then◌else◌, map, pos, slice_index, ℕ, ℤ, ◌%◌, ◌++◌, ◌+ℤ◌, ◌<◌, ◌^◌, ◌≡◌, ◌≤◌};
 ghost use Rattle.std.specs.Int.{w64};
+ghost use Rattle.bw_mask.specs.Masks.{bit_of};
 ghost use Rattle.bw_cells.specs.SetFunctions.{known};
 ghost use Rattle.bw_groups.specs.Runs.{IsMeasured, IsWithin, values_in};
 ghost use Rattle.bw_groups.specs.Scales.{IsBelowNull, number_on, value_on};
@@ -13,8 +14,8 @@ use bw_code::Ends;
 use bw_mask::has_bit;
 use std::alloc::{AllocError, Global};
 
-/// How values between two ends are taken as numbers: each as how far it lies above the lower end, and NULL as the
-/// number that is one more than that of the upper end.
+/// A mapping of values between two ends to numbers: each value to its distance above the lower end, and NULL to one
+/// more than the upper end's number.
 #[derive(Drop)]
 pub(crate) struct Scale {
     pub(crate) ends: Ends,
@@ -25,7 +26,7 @@ pub(crate) struct Scale {
 }
 
 impl Scale {
-    /// The scale between these ends, where its numbers have 32 bits.
+    /// The scale between these ends, if its numbers fit 32 bits.
     pub(crate) fn between(ends: Ends) -> Option<Scale>
         ensures { IfSome result (λ scale. scale.ends ≡ ends) }
     {
@@ -69,7 +70,7 @@ impl Scale {
         Ok(values)
     }
 
-    /// The numbers of a column's values, which lie between the ends, run by run.
+    /// The numbers of a column's values, which are between the ends, run by run.
     pub(crate) fn numbers<C: ValueRuns>(
         &self,
         alloc: Global,
@@ -88,7 +89,35 @@ impl Scale {
     }
 }
 
-/// Puts the numbers of a run's values last, by how far each lies above the least.
+/// The lowest 32 bits of each number.
+fn lowest_bits(run: &[u64; 64]) -> [u32; 64]
+    ensures { (k : ℕ) → k < 64 → slice_index result k ≡ slice_index run.now k % 2 ^ 32 }
+{
+    let mut low = [0; 64];
+    for i in 0..64 {
+        low[i] = (run[i] % (1 << 32)) as u32;
+    }
+    low
+}
+
+/// The numbers of a run's values, from their distances above the least.
+fn numbers_of(scale: &Scale, run: &[u64; 64], measured: MeasuredRun) -> [u32; 64]
+    requires { measured.len ≤ 64 }
+    ensures { (k : ℕ) → k < measured.len → slice_index result k ≡ (if bit_of measured.present k then slice_index run.now k % 2 ^ 32 else scale.now.null) }
+{
+    // Most runs are full and have no null; then no bit is tested.
+    if measured.present == u64::MAX {
+        return lowest_bits(run);
+    }
+    let mut new = [0; 64];
+    // No branch per value, so that the loop can be vectorized.
+    'run: for i in 0..measured.len {
+        new[i] = number_where(has_bit(measured.present, i), run[i], scale.null);
+    }
+    new
+}
+
+/// Appends the numbers of a run's values, from their distances above the least.
 fn put_numbers(
     numbers: &mut Vec<u32>,
     scale: &Scale,
@@ -98,17 +127,13 @@ fn put_numbers(
     requires { measured.len ≤ 64 }
     ensures { (values : List (Option ℤ)) → IsMeasured scale.now.ends.least values measured.len measured.present run.now → All (IsBelowNull scale.now.ends.least scale.now.null) (known values) → OnOk result (numbers.new.items ≡ numbers.old.items ++ map (number_on scale.now.ends.least scale.now.null) values) }
 {
-    let mut new = [0; 64];
-    // No branch a value, so that values are taken side by side.
-    'run: for i in 0..measured.len {
-        new[i] = number_where(has_bit(measured.present, i), run[i], scale.null);
-    }
+    let new = numbers_of(scale, run, measured);
     numbers.extend_from_slice(&new[..measured.len])?;
     Ok(())
 }
 
-/// The number of a value that lies so far above the least, or of NULL. It is made at a NULL, too: what is left to choose
-/// takes no branch.
+/// The number of a value at this distance above the least, or of NULL. The distance is converted for a NULL, too, so
+/// that choosing needs no branch.
 #[inline]
 fn number_where(there: bool, distance: u64, null: u32) -> u32
     ensures { result ≡ (if there then distance % 2 ^ 32 else null) }

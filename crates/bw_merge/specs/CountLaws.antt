@@ -1,5 +1,5 @@
--- Laws of counts that are asked: a condition more leaves of the found rows those that meet it too, so that the rows
--- within a bound on a column are counted by the values of the column.
+-- Laws of counts that are queried: an additional condition keeps those of the found rows that meet it too, so that counting the
+-- rows within a bound on a column counts the values of the column.
 use Rattle.std.specs.Prelude.{List, None, Some, length, map, ℕ, ℤ, ◌≡◌}
 use Rattle.bw_cells.specs.SetFunctions.{known}
 use Rattle.bw_lex.specs.declared.token.CompareOp.TheVariants.{Eq, Le, Lt}
@@ -11,14 +11,14 @@ use Rattle.bw_model.specs.Store.{Header, Row, Value, place_of, value_from}
 use Rattle.bw_merge.specs.Merging.{found_in}
 use Rattle.bw_merge.specs.Ranks.{below, inside, up_to}
 
--- the values of a column that are not null
+-- the non-null values of a column
 abbrev pub values_of : List Header → List ℕ → List Row → List ℤ
 values_of headers name rows = known (map (λ row. value_from row (place_of headers name)) rows)
 
 abbrev pub number : ℤ → Operand
 number v = Constant (Some v)
 
--- a AND b finds what b finds among the rows that a finds; so with more of them
+-- a AND b finds what b finds among the rows that a finds; also with more conditions
 abbrev pub AndNarrows : Type 0
 AndNarrows = (headers : List Header) (part : ConditionTree) (parts : ConditionTrees) (rows : List Row)
     → found_in headers (Some (each_of (more part parts))) rows ≡ found_in headers (Some (each_of parts)) (found_in headers (Some part) rows)
@@ -44,7 +44,7 @@ abbrev pub has_value : List ℕ → Value → ConditionTree
 has_value name None = null (Column name)
 has_value name (Some v) = comparison (Column name) Eq (number v)
 
--- it finds the rows of the group of this value
+-- this condition finds the rows of the group of this value
 abbrev pub RowsOfGroupAreFound : Type 0
 RowsOfGroupAreFound = (headers : List Header) (name : List ℕ) (value : Value) (rows : List Row)
     → found_in headers (Some (has_value name value)) rows ≡ rows_having (place_of headers name) value rows

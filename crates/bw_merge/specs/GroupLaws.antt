@@ -1,4 +1,4 @@
--- Laws of groups: those of two lists, one after the other, are those of each, put together by their values.
+-- Laws of groups: the groups of two concatenated lists are the groups of each, merged by their values.
 use Rattle.std.specs.Prelude.{List, Option, Some, false, map, ℕ, ◌++◌, ◌≡◌, ◌≢◌}
 use Rattle.std.specs.List.{Contains, list_any}
 use Rattle.bw_sql.specs.Tree.{SelectTree}
@@ -11,7 +11,7 @@ use Rattle.bw_merge.specs.Merging.{GroupLine, found_in, group_lines, group_of, g
 use Rattle.bw_merge.specs.Merging.{merged_lines, rows_at}
 use Rattle.bw_merge.specs.RowLaws.{Follows}
 
--- the values of the groups of two lists are those of either's groups, each once, ascending, NULL last
+-- the values of the groups of two lists are those of the groups of either, each once, ascending, with NULL last
 abbrev pub ValuesMerge : Type 0
 ValuesMerge = (values more : List Value) → group_values (values ++ more) ≡ group_values (group_values values ++ group_values more)
 
@@ -32,7 +32,7 @@ GroupsHaveRows = (place : Option ℕ) (value : Value) (rows : List Row) → rows
 abbrev pub HasNoGroup : List Group → Value → Type 0
 HasNoGroup groups value = (group : Group) → Contains groups group → group.value ≢ value
 
--- where only the one list has a group of a value, it is the group of both
+-- if only one list has a group of a value, it is the group of both
 abbrev pub FirstGroupStays : Type 0
 FirstGroupStays = (groups others : List Group) (value : Value)
     → HasNoGroup others value → group_of_both groups others value ≡ group_of value (rows_at value groups)
@@ -41,7 +41,7 @@ abbrev pub SecondGroupStays : Type 0
 SecondGroupStays = (groups others : List Group) (value : Value)
     → HasNoGroup groups value → group_of_both groups others value ≡ group_of value (rows_at value others)
 
--- what an item but a median says of a group
+-- the results of any item except a median for a group are merged
 abbrev pub GroupItemsMerge : Type 0
 GroupItemsMerge = (headers : List Header) (value : Value) (item : SelectItem)
     → is_median item ≡ false → Merges item (λ rows. said_in headers (group_of value rows) item)
@@ -53,17 +53,17 @@ GroupLinesMerge = (headers : List Header) (list : List SelectItem) (place : Opti
     → group_lines headers list place (rows ++ more)
     ≡ merged_lines list (group_lines headers list place rows) (group_lines headers list place more)
 
--- the lines by value of the groups that a SELECT with GROUP BY answers
+-- the lines, by value, of the groups in the answer to a SELECT with GROUP BY
 abbrev pub answered : List Header → SelectTree → List ℕ → List Row → List GroupLine
 answered headers query name rows =
     group_lines headers (shown_items headers query.items) (place_of headers name) (found_in headers query.condition rows)
 
--- its answer has these lines
+-- the answer has these lines
 abbrev pub GroupedAnswersAreLines : Type 0
 GroupedAnswersAreLines = (headers : List Header) (query : SelectTree) (name : List ℕ) (rows : List Row)
     → query.grouping ≡ Some name → lines_of headers query rows ≡ map (λ line. line.1) (answered headers query name rows)
 
--- and they are merged
+-- and these lines are merged
 abbrev pub GroupedAnswersMerge : Type 0
 GroupedAnswersMerge = (headers : List Header) (query : SelectTree) (name : List ℕ) (rows more : List Row)
     → list_any is_median (shown_items headers query.items) ≡ false

@@ -1,4 +1,4 @@
--- What is said of the rows of two lists, one after the other, by what is said of each.
+-- Merges: results for the rows of two concatenated lists, from the results for each.
 use Rattle.std.specs.Prelude.{Bool, List, None, Option, Some, [], false, if◌then◌else◌, map, true, ℕ, ℤ, ◌+ℤ◌, ◌++◌, ◌∷◌}
 use Rattle.std.specs.Int.{int_max, int_min}
 use Rattle.bw_sql.specs.Tree.{ConditionTree, SelectTree}
@@ -12,21 +12,21 @@ use Rattle.bw_model.specs.Store.{Header, Row, Value}
 use Rattle.bw_model.specs.declared.answer.Cell.{Cell}
 use Rattle.bw_model.specs.declared.answer.Cell.TheVariants.{Null, Number}
 
--- what a condition finds in rows of these columns
+-- the rows that a condition finds in rows of these columns
 abbrev pub found_in : List Header → Option ConditionTree → List Row → List Row
 found_in headers condition rows = found_rows (record { headers = headers; rows = rows }) condition
 
--- the lines that a SELECT answers of rows of these columns
+-- the lines of the answer to a SELECT over rows of these columns
 abbrev pub lines_of : List Header → SelectTree → List Row → List (List Cell)
 lines_of headers query rows = (answer (record { headers = headers; rows = rows }) query).lines
 
--- a median isn't merged: it is found by counts
+-- whether an item is a median, which isn't merged but found by counts
 abbrev pub is_median : SelectItem → Bool
 is_median (item.Function function.Median name) = true
 is_median _ = false
 
--- what is made of two numbers that an item says: counts and sums are added, of MIN the lesser is taken and of MAX the
--- greater; what a column says of a group is the same in both
+-- the merge of two numbers of an item: counts and sums are added, MIN takes the smaller and MAX the greater; the value of a
+-- grouping column is the same in both
 abbrev pub merging : SelectItem → ℤ → ℤ → ℤ
 merging item.CountRows a b = a +ℤ b
 merging (item.Function function.Count name) a b = a +ℤ b
@@ -35,7 +35,7 @@ merging (item.Function function.Min name) a b = int_min a b
 merging (item.Function function.Max name) a b = int_max a b
 merging _ a b = a
 
--- of two cells what is made of both numbers, or the one that isn't NULL
+-- the merge of two cells: that of both numbers, or the one that isn't NULL
 abbrev pub merged : SelectItem → Cell → Cell → Cell
 merged item (Number a) (Number b) = Number (merging item a b)
 merged item Null cell = cell
@@ -50,16 +50,16 @@ merged_line _ _ _ = []
 abbrev pub group_of : Value → List Row → Group
 group_of value rows = record { value = value; rows = rows }
 
--- the rows of the group of a value, none where there is no such group
+-- the rows of the group of a value, none if there is no such group
 abbrev pub rows_at : Value → List Group → List Row
 rows_at value [] = []
 rows_at value (group ∷ groups) = if is_same group.value value then group.rows else rows_at value groups
 
--- the group of a value in two lists: its rows in the one, and then those in the other
+-- the group of a value in two lists: its rows in the first, followed by those in the second
 abbrev pub group_of_both : List Group → List Group → Value → Group
 group_of_both groups others value = group_of value (rows_at value groups ++ rows_at value others)
 
--- a group for each value of either, ascending, NULL last
+-- a group for each value of either, ascending, with NULL last
 abbrev pub merged_groups : List Group → List Group → List Group
 merged_groups groups others = map (group_of_both groups others) (group_values (map (λ group. group.value) (groups ++ others)))
 
@@ -78,14 +78,14 @@ abbrev pub line_at : Value → List GroupLine → Option (List Cell)
 line_at value [] = None
 line_at value (line ∷ lines) = if is_same line.0 value then Some line.1 else line_at value lines
 
--- of two lines that may be missing: the merge of both, or the one that is there
+-- the merge of two lines, or the one that exists
 abbrev pub line_of_both : List SelectItem → Option (List Cell) → Option (List Cell) → List Cell
 line_of_both list (Some line) (Some other) = merged_line list line other
 line_of_both list (Some line) None = line
 line_of_both list None (Some other) = other
 line_of_both list None None = []
 
--- a line for each value of either, ascending, NULL last
+-- a line for each value of either, ascending, with NULL last
 abbrev pub merged_lines : List SelectItem → List GroupLine → List GroupLine → List GroupLine
 merged_lines list lines others =
     map (λ value. (value, line_of_both list (line_at value lines) (line_at value others)))

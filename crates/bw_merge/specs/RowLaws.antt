@@ -1,5 +1,5 @@
--- Laws of rows: those that are found in two lists, one after the other, and the lines that show columns of them. And what
--- is answered alike of any rows.
+-- Laws of rows: those that are found in two concatenated lists, and the lines that show columns of them. Also, which answers
+-- don't depend on the rows.
 use Rattle.std.specs.Prelude.{List, None, Option, Some, [], false, ◌++◌, ◌≡◌}
 use Rattle.bw_sql.specs.Tree.{ConditionTree, SelectTree}
 use Rattle.bw_sql.specs.declared.tree.SelectItem.{SelectItem}
@@ -9,7 +9,7 @@ use Rattle.bw_model.specs.Store.{Header, Row, Store, Table, table_of}
 use Rattle.bw_model.specs.declared.refusal.Refusal.{Refusal}
 use Rattle.bw_merge.specs.Merging.{found_in, lines_of}
 
--- what is made of two lists is that of the first, and then that of the second
+-- the result for two lists is that for the first, followed by that for the second
 abbrev pub Follows : {B : Type 0} → (List Row → List B) → Type 0
 Follows f = (rows more : List Row) → f (rows ++ more) ≡ f rows ++ f more
 
@@ -26,7 +26,7 @@ abbrev pub AnswersFollow : Type 0
 AnswersFollow = (headers : List Header) (query : SelectTree)
     → query.grouping ≡ None → has_functions (shown_items headers query.items) ≡ false → Follows (lines_of headers query)
 
--- where a condition finds nothing in the one list, any SELECT answers of both what it answers of the other
+-- if a condition finds nothing in one list, any SELECT has the same answer for both as for the other
 abbrev pub FirstAnswers : Type 0
 FirstAnswers = (headers : List Header) (query : SelectTree) (rows more : List Row)
     → found_in headers query.condition more ≡ [] → lines_of headers query (rows ++ more) ≡ lines_of headers query rows
@@ -39,7 +39,7 @@ SecondAnswers = (headers : List Header) (query : SelectTree) (rows more : List R
 abbrev pub refused : SelectTree → Store → Option Refusal
 refused query store = first_that_holds (query_tests query store)
 
--- over tables of the same columns it is refused alike
+-- over tables with the same columns it has the same refusal, or none
 abbrev pub RefusedAlike : Type 0
 RefusedAlike = (query : SelectTree) (store other : Store) (table more : Table)
     → table_of store query.table ≡ Some table

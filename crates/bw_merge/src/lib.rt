@@ -1,4 +1,4 @@
-//! The laws on which it rests that answers from parts of a table are merged.
+//! The laws that justify merging answers from parts of a table.
 #![tactic(auto)]
 
 mod laws;

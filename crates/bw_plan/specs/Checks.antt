@@ -1,4 +1,4 @@
--- What a part of a statement answers, by the tests that it makes.
+-- The result of a part of a statement, by the tests that it makes.
 use Rattle.std.specs.Prelude.{◌≡◌, ◌⊎◌, ◌==◌, ℕ, List, [], ◌∷◌, Option, Some, None, Result, MatchResult, length, nat_lt, not}
 use Rattle.std.specs.List.{list_all, list_any}
 use Rattle.bw_sql.specs.Tree.{ConditionTree}
@@ -8,15 +8,15 @@ use Rattle.bw_model.specs.Store.{Header, Row, are_distinct}
 use Rattle.bw_model.specs.declared.refusal.Refusal.{Refusal}
 use Rattle.bw_model.specs.declared.refusal.Refusal.TheVariants as refusal
 
--- exactly the first test that holds; where none does, a value of which P is true
+-- exactly the first test that holds; if none does, a value of which P is true
 abbrev pub Decides : {T : Type 0} → Tests → Result T Refusal → (T → Type 0) → Type 0
 Decides tests result P = MatchResult result (λ x. (first_that_holds tests ≡ None) × P x) (λ e. first_that_holds tests ≡ Some e)
 
--- the first test that holds; where none does, want of memory
+-- the first test that holds; if none does, out of memory
 abbrev pub MayRefuse : Tests → Refusal → Type 0
 MayRefuse tests e = ((first_that_holds tests ≡ None) × (e ≡ refusal.OutOfMemory)) ⊎ (first_that_holds tests ≡ Some e)
 
--- the same where memory may be wanting for the value
+-- as `Decides`, but making the value may run out of memory
 abbrev pub Answers : {T : Type 0} → Tests → Result T Refusal → (T → Type 0) → Type 0
 Answers tests result P = MatchResult result (λ x. (first_that_holds tests ≡ None) × P x) (MayRefuse tests)
 
@@ -29,7 +29,7 @@ listed_tests headers columns =
     ∷ (refusal.ColumnNamedTwice, not (are_distinct columns))
     ∷ []
 
--- of rows of values for these columns to be added where there is room for so many
+-- the tests of rows to be added for these columns, given the room
 abbrev pub value_tests : List Header → List (List ℕ) → ℕ → List Row → Tests
 value_tests headers columns room rows =
     (refusal.WrongNumberOfValues, not (list_all (λ row. length row == length columns) rows))

@@ -20,21 +20,21 @@ use Rattle.bw_plan.specs.declared.operand.SlotOperand.TheVariants as slot
 use Rattle.bw_plan.specs.declared.plan.Source.{Source}
 use Rattle.bw_plan.specs.declared.plan.Source.TheVariants.{Constant, Place}
 
--- what is read for an operand: a column of the slots, or nothing
+-- the values read for an operand: those of a column, or none
 pub data Reading : Type 0 where
   of_column : ColumnView → Reading
   of_constant : Value → Reading
 
--- column k of slots; for how many values there is room is of no account
+-- column k of slots; its room doesn't matter, and is 0 here
 abbrev pub column_in : SlotsView → ℕ → ColumnView
 column_in slots k = record { values = slot_column slots.slots k; layout = slice_index_or slots.layouts k P; encoding = slice_index_or slots.encodings k (Dictionary []); room = 0 }
 
--- a place past the last column is null
+-- the reading of a source; an index past the last column is null
 abbrev pub reading_in : SlotsView → Source → Reading
 reading_in slots (Place k) = if nat_lt k (length slots.encodings) then of_column (column_in slots k) else of_constant None
 reading_in slots (Constant value) = of_constant value
 
--- what a Rust value reads
+-- the reading of a Rust value
 abbrev pub reading_of : SlotOperand → Reading
 reading_of (slot.Column c) = of_column (record { values = c.now.values; layout = c.now.layout; encoding = c.now.encoding; room = 0 })
 reading_of (slot.Constant value) = of_constant value
@@ -52,8 +52,8 @@ number_of (of_constant value) = value
 abbrev pub known_in : ColumnView → (ℕ → Bool) → ℕ → Bool
 known_in column needed i = needed i && is_some (values.value_at column.values i)
 
--- one scan, or two columns compared at the needed slots at which neither is null; a literal compared with a column costs what the
--- column compared with it does; a null costs nothing
+-- a scan, or two columns compared at the needed slots where neither is null; a literal compared with a column costs as much as
+-- the column compared with the literal; a null costs nothing
 abbrev pub units_of_compared : Reading → CompareOp → Reading → (ℕ → Bool) → ℕ
 units_of_compared (of_column x) sign (of_column y) needed = units_of_both x y (λ i. known_in x needed i && is_some (values.value_at y.values i))
 units_of_compared (of_column x) sign (of_constant None) needed = 0
@@ -62,7 +62,7 @@ units_of_compared (of_constant None) sign (of_column y) needed = 0
 units_of_compared (of_constant (Some number)) sign (of_column y) needed = units_of_test y (test_of y.encoding (cmp_of (mirrored sign)) number) (known_in y needed)
 units_of_compared (of_constant x) sign (of_constant y) needed = 0
 
--- two comparisons, the second of the slots at which the first is not false
+-- two comparisons, the second at the slots where the first is not false
 abbrev pub units_of_ends : Reading → (low high : Reading) → (ℕ → Bool) → ℕ
 units_of_ends value low high needed =
     units_of_compared value Ge low needed + units_of_compared value Le high (λ i. needed i && not (is_value (compared Ge (read_at value i) (read_at low i)) False))
@@ -75,13 +75,13 @@ units_in_range value low high first last needed = units_of_ends value low high n
 abbrev pub units_of_between : Reading → (low high : Reading) → (ℕ → Bool) → ℕ
 units_of_between value low high needed = units_in_range value low high (number_of low) (number_of high) needed
 
--- one scan for each entry, in order, of the slots not yet true; null entries cost nothing
+-- one scan per entry, in order, of the slots not yet true; null entries cost nothing
 abbrev pub units_of_listed : Reading → List Value → (ℕ → Bool) → ℕ
 units_of_listed (of_column x) entries needed = units_of_entries x (known_in x needed) (values.known entries)
 units_of_listed (of_constant value) entries needed = 0
 
--- NOT and an IS test cost what is inside, and a test for null nothing; in a run of AND the next part is needed where no part
--- before it is false, in a run of OR where none is true
+-- NOT and an IS test cost what their operand costs, and a test for null nothing; in a run of AND the next part is needed where no
+-- earlier part is false, in a run of OR where none is true
 abbrev mutual
   pub units_by : Plan → SlotsView → (ℕ → Bool) → ℕ
   units_by (each_of parts) view needed = units_of_each parts view needed

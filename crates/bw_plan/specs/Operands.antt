@@ -1,4 +1,4 @@
--- What a plan says of the slots of a table.
+-- The truth of a plan at the slots of a table.
 use Rattle.std.specs.Prelude.{List, length, ℕ, ◌≡◌}
 use Rattle.bw_lex.specs.declared.token.CompareOp.{CompareOp}
 use Rattle.bw_lex.specs.declared.token.CompareOp.TheVariants as sign
@@ -12,7 +12,7 @@ use Rattle.bw_plan.specs.Plans.{Plan, truth_by}
 use Rattle.bw_plan.specs.declared.operand.SlotOperand.{SlotOperand}
 use Rattle.bw_plan.specs.declared.operand.SlotOperand.TheVariants.{Column, Constant}
 
--- the comparison that a sign spells
+-- the comparison for an operator
 abbrev pub cmp_of : CompareOp → CmpOp
 cmp_of sign.Eq = Eq
 cmp_of sign.Ne = Ne
@@ -21,7 +21,7 @@ cmp_of sign.Le = Le
 cmp_of sign.Gt = Gt
 cmp_of sign.Ge = Ge
 
--- the sign with which the two sides, exchanged, compare alike
+-- the operator that gives the same result with the two sides exchanged
 abbrev pub mirrored : CompareOp → CompareOp
 mirrored sign.Eq = sign.Eq
 mirrored sign.Ne = sign.Ne
@@ -34,12 +34,12 @@ mirrored sign.Ge = sign.Le
 abbrev pub truth_in : Plan → List Slot → ℕ → TruthValue
 truth_in plan slots i = truth_by plan (slot_at slots i).row
 
--- an operand's value at slot i; past the last slot that of a column is null
+-- an operand's value at slot i; a column is null past the last slot
 abbrev pub operand_at : SlotOperand → ℕ → Value
 operand_at (Column column) i = values.value_at column.now.values i
 operand_at (Constant value) i = value
 
--- a column of an operand is as long as the slots are many
+-- a column has as many values as there are slots
 abbrev pub IsOperandOf : ℕ → SlotOperand → Type 0
 IsOperandOf n (Column column) = length column.now.values ≡ n
 IsOperandOf n (Constant value) = Unit {0}

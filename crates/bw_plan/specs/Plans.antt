@@ -1,4 +1,4 @@
--- Conditions whose columns are places in a row, and what they say of it (SQL-92, search condition and predicates).
+-- Conditions with columns given by index, and their truth at a row (SQL-92, search condition and predicates).
 use Rattle.std.specs.Prelude.{ℕ, List, [], ◌∷◌, Option, Some, None, is_none}
 use Rattle.bw_mask.specs.Truth.{and_of, is_of, not_of, or_of, truth_of_bool}
 use Rattle.bw_mask.specs.declared.truth_value.TruthValue.{TruthValue}
@@ -38,7 +38,7 @@ abbrev pub plans_of : List Plan → Plans
 plans_of [] = none
 plans_of (p ∷ ps) = more p (plans_of ps)
 
--- the value that a predicate looks at
+-- the value of a source in a row
 abbrev pub value_by : Source → Row → Value
 value_by (Place place) row = value_at row place
 value_by (Constant value) row = value
@@ -62,7 +62,7 @@ abbrev mutual
   some_by none row = value.False
   some_by (more part parts) row = or_of (truth_by part row) (some_by parts row)
 
--- the place of a column; a column that isn't there is always null
+-- the source for a column's index; a column that doesn't exist is always null
 abbrev pub source_at : Option ℕ → Source
 source_at None = Constant None
 source_at (Some place) = Place place
@@ -71,7 +71,7 @@ abbrev pub source_of : List Header → Operand → Source
 source_of headers (operand.Column name) = source_at (place_of headers name)
 source_of headers (operand.Constant value) = Constant value
 
--- a condition with each column's name as its place among the columns
+-- a condition with each column name replaced by its index
 abbrev mutual
   pub planned : List Header → ConditionTree → Plan
   planned headers (tree.each_of parts) = each_of (all_planned headers parts)

@@ -1,4 +1,4 @@
--- The columns that the rows of an INSERT are for.
+-- The target columns of an INSERT.
 use Rattle.std.specs.Prelude.{List, ℕ}
 use Rattle.bw_model.specs.Store.{Header, names}
 use Rattle.bw_plan.specs.declared.targets.Targets.{Targets}

@@ -1,4 +1,4 @@
-//! What a comparison says at the needed slots.
+//! The truth of a comparison at the needed slots.
 
 ghost use Rattle.std.specs.Prelude.{length, ◌≡◌};
 ghost use Rattle.bw_code.specs.Meters.{raised};
@@ -15,7 +15,7 @@ use bw_column::Column;
 use bw_mask::{Mask, Truth, TruthValue};
 use bw_sql::{CompareOp, Value};
 
-/// The comparison that a sign spells.
+/// The comparison for an operator.
 fn comparison(sign: CompareOp) -> CmpOp
     ensures { result ≡ cmp_of sign }
 {
@@ -29,7 +29,7 @@ fn comparison(sign: CompareOp) -> CmpOp
     }
 }
 
-/// The sign with which the two sides, exchanged, compare alike.
+/// The operator that gives the same result with the two sides exchanged.
 fn exchanged(sign: CompareOp) -> CompareOp
     ensures { result ≡ mirrored sign }
 {
@@ -43,7 +43,7 @@ fn exchanged(sign: CompareOp) -> CompareOp
     }
 }
 
-/// What a comparison says of two values. It is unknown where one is NULL.
+/// The truth of a comparison of two values. It is unknown if one of them is NULL.
 pub(crate) fn compare_values(left: Value, sign: CompareOp, right: Value) -> TruthValue
     ensures { result ≡ compared sign left right }
 {
@@ -53,7 +53,7 @@ pub(crate) fn compare_values(left: Value, sign: CompareOp, right: Value) -> Trut
     TruthValue::of(comparison(sign).compares_integers(left, right))
 }
 
-/// The truth becomes the same at each needed slot, and no unit is added to the meter.
+/// Sets the truth to `value` at each needed slot. No unit is added to the meter.
 pub(crate) fn set_unread(value: TruthValue, need: &Mask, truth: &mut Truth, meter: &mut Meter)
     requires { len need.now ≡ length truth.old }
     ensures truth { AreTruthsAt need.now (λ _. value) truth.new }
@@ -63,7 +63,7 @@ pub(crate) fn set_unread(value: TruthValue, need: &Mask, truth: &mut Truth, mete
     meter.add(0);
 }
 
-/// The truth becomes what a comparison of the column with a value says at the needed slots.
+/// Sets the truth, at the needed slots, to the result of comparing the column with a value.
 fn set_compared_with(
     column: &Column,
     sign: CompareOp,
@@ -83,7 +83,7 @@ fn set_compared_with(
     }
 }
 
-/// The truth becomes what a comparison of the column with an operand says at the needed slots.
+/// Sets the truth, at the needed slots, to the result of comparing the column with an operand.
 fn set_column_compared(
     column: &Column,
     sign: CompareOp,
@@ -108,7 +108,7 @@ fn set_column_compared(
     }
 }
 
-/// The truth becomes what a comparison of a value with an operand says at the needed slots.
+/// Sets the truth, at the needed slots, to the result of comparing a value with an operand.
 fn set_value_compared(
     value: Value,
     sign: CompareOp,
@@ -132,9 +132,9 @@ fn set_value_compared(
     }
 }
 
-/// The truth becomes what a comparison of two operands says at the needed slots. What it was before is of no account.
-/// It is unknown where either is NULL and at every slot that is not needed. What is read is added to the meter. Takes
-/// no memory.
+/// Sets the truth, at the needed slots, to the result of comparing two operands. It is unknown where either is NULL,
+/// and at every slot that isn't needed. The earlier truth is ignored. The units read are added to the meter. Allocates
+/// nothing.
 pub(crate) fn set_compared(
     left: &SlotOperand<'_>,
     sign: CompareOp,

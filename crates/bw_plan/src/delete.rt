@@ -1,4 +1,4 @@
-//! DELETE: the columns of its condition as places in a row.
+//! DELETE: resolves the columns of its condition to indexes.
 
 ghost use Rattle.std.specs.Prelude.{◌≡◌, option_map};
 ghost use Rattle.bw_plan.specs.Checks.{Answers, condition_tests};
@@ -13,8 +13,8 @@ use bw_model::Refusal;
 use bw_sql::Condition;
 use std::alloc::Global;
 
-/// The condition of a DELETE over the places of these columns. It is refused where a column of it isn't
-/// there, and then where an IN list has more than 1,000 entries, before any memory is asked for.
+/// The condition of a DELETE over the indexes of these columns. It is refused if it names a column that doesn't exist,
+/// and else if an IN list has more than 1,000 entries. Refusals are found before anything is allocated.
 pub fn resolve_delete(
     alloc: Global,
     headers: &Headers<'_>,

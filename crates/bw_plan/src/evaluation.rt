@@ -16,10 +16,10 @@ use bw_mask::{Mask, Truth, TruthValue};
 use bw_table::Slots;
 use std::alloc::{AllocError, Global};
 
-/// The truth of a condition at each needed slot, and unknown at the others. In a run of AND the next part is looked
-/// at only in the slots that are not yet false, in a run of OR only in those that are not yet true. The units of what
-/// is read are added to the meter at the end, and none where memory is wanting. Each run takes three masks of all slots
-/// while it lasts.
+/// The truth of a condition at each needed slot, and unknown at the others. In a run of AND, the next part is evaluated
+/// only in the slots that are not yet false; in a run of OR, only in those that are not yet true. The units read are
+/// added to the meter at the end, and none if it runs out of memory. Each run holds three masks of all slots while it
+/// is evaluated.
 #[tactic(auto, using(crate::proofs::Spending::raised_by_read))]
 pub fn evaluate(
     alloc: Global,
@@ -40,7 +40,7 @@ pub fn evaluate(
     Ok(truth)
 }
 
-/// The truth of a condition at each needed slot, and unknown at the others, whatever was said before.
+/// The truth of a condition at each needed slot, and unknown at the others, whatever it was before.
 #[cycle(condition)]
 fn set_truth(
     alloc: Global,
@@ -73,7 +73,7 @@ fn set_truth(
     }
 }
 
-/// The AND of the parts at each needed slot. What is false stays so, and no further part is looked at there.
+/// The AND of the parts at each needed slot. Once a slot is false it stays so, and no further part is evaluated there.
 #[cycle(condition)]
 fn set_each(
     alloc: Global,
@@ -91,7 +91,7 @@ fn set_each(
 {
     let [first, others @ ..] = parts else {
         truth.set_all(TruthValue::True, need);
-        // No part reads anything. A sum of nothing says so without a bound on the meter.
+        // There are no parts, so nothing is read. Adding 0 shows that without a bound on the meter.
         meter.add(0);
         return Ok(());
     };
@@ -107,7 +107,7 @@ fn set_each(
     Ok(())
 }
 
-/// The OR of the parts at each needed slot. What is true stays so, and no further part is looked at there.
+/// The OR of the parts at each needed slot. Once a slot is true it stays so, and no further part is evaluated there.
 #[cycle(condition)]
 fn set_some(
     alloc: Global,
@@ -125,7 +125,7 @@ fn set_some(
 {
     let [first, others @ ..] = parts else {
         truth.set_all(TruthValue::False, need);
-        // No part reads anything. A sum of nothing says so without a bound on the meter.
+        // There are no parts, so nothing is read. Adding 0 shows that without a bound on the meter.
         meter.add(0);
         return Ok(());
     };

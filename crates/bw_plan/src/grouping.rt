@@ -1,4 +1,4 @@
-//! What a SELECT with GROUP BY shows, with places for names.
+//! What a SELECT with GROUP BY shows, with indexes for names.
 
 ghost use Rattle.std.specs.Prelude.{IfOk, Some, false, map, ◌≡◌};
 ghost use Rattle.std.specs.List.{list_any};
@@ -12,7 +12,7 @@ use crate::select::{FunctionPlan, is_mixed, placed_item};
 use bw_sql::{Name, SelectItem, SelectItems};
 use std::alloc::{AllocError, Global};
 
-/// What an item shows of a group.
+/// What an item shows for a group.
 #[derive(Clone, Copy, Debug, PartialEq, Eq)]
 pub enum GroupItem {
     /// The value of the grouping column, which all rows of the group have.
@@ -21,16 +21,16 @@ pub enum GroupItem {
     Function(FunctionPlan),
 }
 
-/// What is shown of each group.
+/// What is shown for each group.
 #[derive(Debug, Drop)]
 pub struct GroupPlan {
-    /// The place of the grouping column.
+    /// The index of the grouping column.
     pub by: usize,
-    /// What the cells of a group's line are.
+    /// The items that a group's line shows, one per cell.
     pub items: Vec<GroupItem>,
 }
 
-/// Whether the grouping column isn't there.
+/// Whether there is a grouping column and it doesn't exist.
 pub(crate) fn lacks_grouping(headers: &Headers<'_>, grouping: &Option<Name>) -> bool
     ensures { result ≡ grouping_is_missing headers.now grouping.now }
 {
@@ -40,7 +40,8 @@ pub(crate) fn lacks_grouping(headers: &Headers<'_>, grouping: &Option<Name>) -> 
     }
 }
 
-/// Whether columns stand beside set functions; with groups, whether an item is a column that isn't the grouping one.
+/// Whether columns and set functions are mixed; with GROUP BY, whether an item is a column other than the grouping
+/// column.
 pub(crate) fn shows_mixed(grouping: &Option<Name>, items: &SelectItems) -> bool
     ensures { result ≡ shows_mixed grouping.now (items_of items.now) }
 {
@@ -52,7 +53,7 @@ pub(crate) fn shows_mixed(grouping: &Option<Name>, items: &SelectItems) -> bool
     }
 }
 
-/// Whether an item is a column that isn't the grouping one.
+/// Whether an item is a column other than the grouping column.
 fn shows_other_column(name: &Name, list: &[SelectItem]) -> bool
     ensures { result ≡ list_any (is_other_column name.now) list.now }
 {
@@ -68,7 +69,7 @@ fn is_other_column(name: &Name, item: &SelectItem) -> bool
     }
 }
 
-/// What an item shows of a group, where the column of its set function is there.
+/// What an item shows for a group; `None` if the column of its set function doesn't exist.
 fn grouped_item(headers: &Headers<'_>, item: &SelectItem) -> Option<GroupItem>
     ensures { result ≡ grouped_item headers.now item.now }
 {
@@ -80,7 +81,7 @@ fn grouped_item(headers: &Headers<'_>, item: &SelectItem) -> Option<GroupItem>
     }
 }
 
-/// What each item of a list shows of a group, where the columns of all set functions are there.
+/// What each item of a list shows for a group, given that the columns of all set functions exist.
 pub(crate) fn group_items(
     alloc: Global,
     headers: &Headers<'_>,

@@ -1,4 +1,4 @@
-//! The columns of a table, by their names.
+//! The columns of a table, found by name.
 
 ghost use Rattle.std.specs.Prelude.{All, IsTrue, ◌≡◌, ◌<◌, get_or, length};
 ghost use Rattle.bw_code.specs.declared.kind.ColumnType.TheVariants.{Integer};
@@ -8,7 +8,7 @@ use bw_code::{ColumnType, Header};
 use bw_sql::Name;
 use std::marker::Model;
 
-/// The columns of a table, lent by it: 1 to 64, each with a name of its own. A contract sees the list of them.
+/// The columns of a table, borrowed from it: 1 to 64, with distinct names. Contracts see the list of their headers.
 #[derive(Drop)]
 pub struct Headers<'a> {
     headers: &'a [Header<Name>],
@@ -26,7 +26,7 @@ impl<'a> Model for Headers<'a> {
 }
 
 impl<'a> Headers<'a> {
-    /// These columns.
+    /// The columns with these headers.
     pub fn new(headers: &'a [Header<Name>]) -> Headers<'a>
         requires { AreHeaders headers.now }
         ensures { result ≡ headers.entry.now }
@@ -34,7 +34,7 @@ impl<'a> Headers<'a> {
         Headers { headers }
     }
 
-    /// How many columns there are.
+    /// The number of columns.
     pub fn len(&self) -> usize
         ensures count { result ≡ length self.now }
         ensures valid { AreHeaders self.now }
@@ -49,7 +49,7 @@ impl<'a> Headers<'a> {
         self.headers
     }
 
-    /// The name of column i.
+    /// The name of column `i`.
     pub fn name(&self, i: usize) -> &'a Name
         requires { i < length self.now }
         ensures { (d : AnyHeader) → result.now ≡ (get_or self.now i d).name }
@@ -60,7 +60,7 @@ impl<'a> Headers<'a> {
         }
     }
 
-    /// The type of column i.
+    /// The type of column `i`.
     pub fn column_type(&self, i: usize) -> ColumnType
         requires { i < length self.now }
         ensures value { (d : AnyHeader) → result ≡ (get_or self.now i d).column_type }
@@ -72,7 +72,7 @@ impl<'a> Headers<'a> {
         }
     }
 
-    /// The type of the column of this name; of a name that no column has, any.
+    /// The type of the column of this name. Unspecified if there is no such column.
     pub fn type_named(&self, name: &Name) -> ColumnType
         ensures { result ≡ type_named self.now name.now }
     {
@@ -94,7 +94,7 @@ impl<'a> Headers<'a> {
         true
     }
 
-    /// The place of the column of this name.
+    /// The index of the column of this name.
     pub fn place(&self, name: &Name) -> Option<usize>
         ensures { result ≡ place_of self.now name.now }
     {

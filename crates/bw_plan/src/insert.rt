@@ -1,4 +1,4 @@
-//! INSERT: the cells of its rows, in the places of their columns.
+//! INSERT: the cells of its rows, in the order of the table's columns.
 
 ghost use Rattle.std.specs.Prelude.{◌≡◌, ◌++◌, ◌<◌, All, length, map, not, position, true, IfOk, OnOk};
 ghost use Rattle.std.specs.List.{list_any};
@@ -17,12 +17,11 @@ use bw_model::Refusal;
 use bw_sql::{Name, NameList, Value, ValueRows};
 use std::alloc::{AllocError, Global};
 
-/// The cells of the rows that an INSERT adds to a table of these columns, row after row: each value
-/// in the place of its column, and NULL in the places of columns that aren't listed. It is refused,
-/// in this order, where a listed column isn't there, where one is listed twice, where a row has
-/// another number of values than there are columns, where a value is not of its column's type, and where there are
-/// more rows than the table has room for. All of this is found before any memory is asked for. Where no column is
-/// listed, the cells are the values as they lie, and take no memory.
+/// The cells of the rows that an INSERT adds to a table of these columns, row after row: each value at the index of its
+/// column, and NULL for columns that aren't listed. It is refused, in this order, if a listed column doesn't exist, if
+/// one is listed twice, if a row has a different number of values than there are columns, if a value isn't of its
+/// column's type, or if there are more rows than the table has room for. Refusals are found before anything is
+/// allocated. If no columns are listed, the cells are the values as they are, and nothing is allocated.
 pub fn resolve_insert(
     alloc: Global,
     headers: &Headers<'_>,
@@ -42,7 +41,7 @@ pub fn resolve_insert(
 fn whole_cells(headers: &Headers<'_>, rows: ValueRows, room: usize) -> Result<Vec<Value>, Refusal>
     ensures { Answers (listed_tests headers.now (names headers.now) ++ value_tests headers.now (names headers.now) room rows) result (λ cells. cells.items ≡ joined (map (row_for headers.now (names headers.now)) rows)) }
 {
-    // There is a column, and no name stands twice.
+    // There is at least one column, and the names are distinct.
     let _valid = headers.len();
     check_rows(headers, Targets::All, &rows, room)?;
     Ok(rows.into_values())
@@ -81,7 +80,7 @@ fn placed_cells(
     Ok(cells)
 }
 
-/// Refuses a list that names what is no column, or a column twice.
+/// Refuses a list that names a column that doesn't exist, or else one that names a column twice.
 fn check_listed(headers: &Headers<'_>, names: &[Name]) -> Result<(), Refusal>
     ensures { Decides (listed_tests headers.now names.now) result (λ _. Unit {0}) }
 {
@@ -94,7 +93,8 @@ fn check_listed(headers: &Headers<'_>, names: &[Name]) -> Result<(), Refusal>
     Ok(())
 }
 
-/// Refuses a row of another width, a value that is not of its column's type, and more rows than there is room for.
+/// Refuses, in this order, a row of another width, a value that isn't of its column's type, and more rows than there is
+/// room for.
 fn check_rows(
     headers: &Headers<'_>,
     targets: Targets<'_>,
@@ -116,15 +116,15 @@ fn check_rows(
     Ok(())
 }
 
-/// Whether one of the names isn't that of a column.
+/// Whether one of the names isn't the name of a column.
 pub(crate) fn lacks_any(headers: &Headers<'_>, names: &[Name]) -> bool
     ensures { result ≡ list_any (is_missing headers.now) names.now }
 {
     names.iter().any(|name| headers.place(name).is_none())
 }
 
-/// Whether a name stands twice. Among more names than columns one stands twice near the front, so
-/// this is quick where all of them are columns.
+/// Whether a name occurs twice. Fast if all names are those of columns: in a list longer than the columns, a duplicate
+/// is found near the start.
 fn name_twice(names: &[Name]) -> bool
     ensures { result ≡ not (are_distinct names.now) }
 {
@@ -136,7 +136,7 @@ fn name_twice(names: &[Name]) -> bool
     false
 }
 
-/// For each column the place in the list at which it is named.
+/// For each column, its index in the list of names, if it is listed.
 fn sources_of(
     alloc: Global,
     headers: &Headers<'_>,
@@ -151,14 +151,14 @@ fn sources_of(
     Ok(sources)
 }
 
-/// The place of this name in the list.
+/// The index of this name in the list.
 fn place_among(names: &[Name], name: &Name) -> Option<usize>
     ensures { result ≡ position (bytes_eq name.now) names.now }
 {
     names.iter().position(|other| name == other)
 }
 
-/// Rows of this width, with their values in the places of their columns, and NULL in the others.
+/// Rows of this width, reordered by `sources`, with NULL for columns that have no source.
 fn spread(
     alloc: Global,
     values: &[Value],
@@ -179,7 +179,7 @@ fn spread(
     Ok(cells)
 }
 
-/// Puts the values from these places of a row last.
+/// Appends the values at these indexes of a row.
 fn place(cells: &mut Vec<Value>, row: &[Value], sources: &[Option<usize>]) -> Result<(), AllocError>
     ensures { OnOk result (cells.new.items ≡ cells.old.items ++ map (value_from row.now) sources.now) }
 {
@@ -189,7 +189,7 @@ fn place(cells: &mut Vec<Value>, row: &[Value], sources: &[Option<usize>]) -> Re
     Ok(())
 }
 
-/// The value at this place, or NULL where there is none.
+/// The value at this index, or NULL if there is no index.
 fn value_from(row: &[Value], source: Option<usize>) -> Value
     ensures { result ≡ value_from row.now source }
 {
@@ -199,7 +199,7 @@ fn value_from(row: &[Value], source: Option<usize>) -> Value
     }
 }
 
-/// The value at this place of a row, or NULL past its end.
+/// The value at this index of a row, or NULL past its end.
 fn value_at(row: &[Value], place: usize) -> Value
     ensures { result ≡ value_at row.now place }
 {

@@ -1,4 +1,4 @@
-//! Statements over the rows of a table: columns' names become places, and a condition the truth of each row.
+//! Statements over the rows of a table: resolves column names to indexes, and evaluates conditions.
 #![tactic(auto)]
 
 mod comparison_truth;

@@ -1,4 +1,4 @@
-//! What IN says at the needed slots.
+//! The truth of IN at the needed slots.
 
 ghost use Rattle.std.specs.Prelude.{IfOk, OnErr, OnOk, is_none, length, option_to_list, ◌++◌, ◌<◌, ◌≡◌};
 ghost use Rattle.std.specs.List.{list_any};
@@ -31,7 +31,7 @@ fn has_null(entries: &[Value]) -> bool
     false
 }
 
-/// Adds an entry that is not NULL.
+/// Appends an entry if it isn't NULL.
 fn push_if_number(numbers: &mut Vec<i64>, entry: Value) -> Result<(), AllocError>
     ensures { OnOk result (numbers.new.items ≡ numbers.old.items ++ option_to_list entry) }
 {
@@ -41,7 +41,7 @@ fn push_if_number(numbers: &mut Vec<i64>, entry: Value) -> Result<(), AllocError
     Ok(())
 }
 
-/// The entries that are not NULL, in order.
+/// The non-null entries, in order.
 #[tactic(auto, using(bw_cells::proofs::Known::known_more))]
 fn numbers_of(alloc: Global, entries: &[Value]) -> Result<Vec<i64>, AllocError>
     ensures { IfOk result (λ numbers. numbers.items ≡ known entries.now) }
@@ -53,7 +53,7 @@ fn numbers_of(alloc: Global, entries: &[Value]) -> Result<Vec<i64>, AllocError>
     Ok(numbers)
 }
 
-/// What IN says of a value.
+/// The truth of `value IN (entries)`.
 fn one_of(value: Value, entries: &[Value]) -> TruthValue
     ensures { result ≡ is_one_of value entries.now }
 {
@@ -64,8 +64,8 @@ fn one_of(value: Value, entries: &[Value]) -> TruthValue
     found
 }
 
-/// The truth becomes whether a column's value is one of some entries, at the needed slots. Where an entry is NULL, no
-/// value is surely none of them.
+/// Sets the truth, at the needed slots, to whether a column's value is one of the entries. If an entry is NULL, the
+/// result is never false.
 fn set_column_listed(
     alloc: Global,
     column: &Column,
@@ -91,8 +91,8 @@ fn set_column_listed(
     Ok(())
 }
 
-/// The truth becomes, at each needed slot, whether the value is one of the entries. What it was before is of no
-/// account, and it is unknown at every slot that is not needed. Where memory is wanting, nothing changes.
+/// Sets the truth, at each needed slot, to whether the value is one of the entries. It is unknown at every slot that
+/// isn't needed. The earlier truth is ignored. If it runs out of memory, nothing changes.
 #[tactic(auto, using(crate::proofs::Counting::nothing_listed))]
 pub(crate) fn set_listed(
     alloc: Global,
@@ -110,7 +110,7 @@ pub(crate) fn set_listed(
     ensures unread { OnErr result (meter.new ≡ meter.old) }
     ensures unchanged { OnErr result (truth.new ≡ truth.old) }
 {
-    // No value is in a list of no entries: not even of a NULL it is unknown.
+    // IN of an empty list is false, even for a NULL.
     if entries.is_empty() {
         set_unread(TruthValue::False, need, truth, meter);
         return Ok(());

@@ -1,4 +1,4 @@
-//! Columns that are to lie in a layout which doesn't hold their type.
+//! Finds columns whose chosen layout doesn't hold their type.
 
 ghost use Rattle.std.specs.Prelude.{◌≡◌};
 ghost use Rattle.std.specs.List.{list_any};
@@ -11,7 +11,7 @@ use crate::words::{layout_of, layout_or, type_of};
 use bw_code::{Header, Layout};
 use bw_sql::{ColumnDefinition, LayoutChoice, Name};
 
-/// Whether one of the columns that are defined is to lie in a layout that doesn't hold its type.
+/// Whether one of the defined columns is given a layout that doesn't hold its type.
 pub fn defines_too_narrow(definitions: &[ColumnDefinition]) -> bool
     ensures { result ≡ list_any (λ definition. is_too_narrow (header_of definition)) definitions.now }
 {
@@ -25,7 +25,7 @@ fn is_too_narrow(definition: &ColumnDefinition) -> bool
     !layout.holds(type_of(definition.column_type))
 }
 
-/// Whether one of these columns, laid as it is chosen, would lie in a layout that doesn't hold its type.
+/// Whether one of the choices gives its column a layout that doesn't hold the column's type.
 pub fn chooses_too_narrow(headers: &Headers<'_>, choices: &[LayoutChoice]) -> bool
     ensures { result ≡ list_any (λ header. is_too_narrow (chosen_header choices.now header)) headers.now }
 {

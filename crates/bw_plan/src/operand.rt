@@ -1,4 +1,4 @@
-//! Where an operand's value at each slot of a table comes from.
+//! The source of an operand's value at each slot of a table.
 
 ghost use Rattle.std.specs.Prelude.{length, ℕ, ◌≡◌};
 ghost use Rattle.bw_plan.specs.Costs.{number_of, reading_in, reading_of};
@@ -11,14 +11,14 @@ use bw_column::Column;
 use bw_sql::Value;
 use bw_table::Slots;
 
-/// Where an operand's value at each slot comes from: from a column, or it is the same at each.
+/// The source of an operand's value at each slot: a column, or one value for all slots.
 #[derive(Drop)]
 pub(crate) enum SlotOperand<'a> {
     Column(&'a Column),
     Constant(Value),
 }
 
-/// The operand that a source is at the slots. A place past the last column is NULL.
+/// The operand of a source over these slots. An index past the last column is NULL.
 pub(crate) fn slot_operand<'a>(source: Source, slots: &'a Slots) -> SlotOperand<'a>
     ensures long { IsOperandOf (length slots.entry.now.slots) result }
     ensures reading { reading_of result ≡ reading_in slots.entry.now source }
@@ -36,7 +36,7 @@ pub(crate) fn slot_operand<'a>(source: Source, slots: &'a Slots) -> SlotOperand<
     }
 }
 
-/// The number that an operand is at every slot, if it is one.
+/// The number that an operand is at every slot, or `None` for a column or NULL.
 pub(crate) fn number(operand: &SlotOperand<'_>) -> Option<i64>
     ensures { result ≡ number_of (reading_of operand.now) }
 {

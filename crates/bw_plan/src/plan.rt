@@ -1,9 +1,9 @@
-//! Conditions whose columns are places in a row.
+//! Conditions with columns given by index.
 
 use bw_mask::TruthValue;
 use bw_sql::{CompareOp, Value};
 
-/// A condition whose columns are places in a row. A run of AND or of OR is one list.
+/// A condition with columns given by index. A run of AND or of OR is one list.
 #[derive(Debug, Drop)]
 pub enum RowCondition {
     And(Vec<RowCondition>),
@@ -26,10 +26,10 @@ pub enum Predicate {
     IsNull(Source),
 }
 
-/// Where a predicate takes a value from.
+/// The source of a predicate's value.
 #[derive(Clone, Copy, Debug)]
 pub enum Source {
-    /// This place of the row.
+    /// The value at this index of the row.
     Place(usize),
     Constant(Value),
 }

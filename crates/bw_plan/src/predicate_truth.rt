@@ -1,4 +1,4 @@
-//! What a predicate says at the needed slots of a table.
+//! The truth of a predicate at the needed slots of a table.
 
 ghost use Rattle.std.specs.Prelude.{OnErr, OnOk, is_none, length, ◌≡◌};
 ghost use Rattle.bw_code.specs.Meters.{raised};
@@ -21,7 +21,7 @@ use bw_mask::{Mask, Truth, TruthValue};
 use bw_table::Slots;
 use std::alloc::{AllocError, Global};
 
-/// The truth becomes whether a column's value is NULL, at the needed slots. No code is read.
+/// Sets the truth, at the needed slots, to whether the column's value is NULL. No code is read.
 fn set_column_null(column: &Column, need: &Mask, truth: &mut Truth)
     requires need { len need.now ≡ length column.now.values }
     requires truth { length truth.old ≡ length column.now.values }
@@ -34,7 +34,7 @@ fn set_column_null(column: &Column, need: &Mask, truth: &mut Truth)
     *truth = Truth::new(trues, falses);
 }
 
-/// The truth becomes whether an operand is NULL, at the needed slots.
+/// Sets the truth, at the needed slots, to whether the operand is NULL.
 fn set_null(value: &SlotOperand<'_>, need: &Mask, truth: &mut Truth)
     requires truth { length truth.old ≡ len need.now }
     requires value { IsOperandOf (len need.now) value.now }
@@ -46,10 +46,10 @@ fn set_null(value: &SlotOperand<'_>, need: &Mask, truth: &mut Truth)
     }
 }
 
-/// The truth becomes what a predicate says at each needed slot, dead or live. What it was before is of no account. It
-/// is unknown at every slot that is not needed. What the comparisons read is added to the meter. Memory is asked for
-/// the numbers of an IN list, and for three masks at a BETWEEN other than of a column between two numbers; where it is
-/// wanting, nothing changes.
+/// Sets the truth to that of a predicate at each needed slot, dead or live. It is unknown at every slot that isn't
+/// needed. The earlier truth is ignored. The units that the comparisons read are added to the meter. Allocates the
+/// numbers of an IN list, and three masks for a BETWEEN other than of a column between two numbers. If it runs out of
+/// memory, nothing changes.
 pub(crate) fn set_predicate(
     alloc: Global,
     predicate: &Predicate,
@@ -86,7 +86,7 @@ pub(crate) fn set_predicate(
         Predicate::IsNull(value) => {
             let value = slot_operand(*value, slots);
             set_null(&value, need, truth);
-            // Which values are NULL stands in a mask beside the codes, so no unit is read.
+            // Which values are NULL is stored in a mask beside the codes, so no unit is read.
             meter.add(0);
             Ok(())
         }

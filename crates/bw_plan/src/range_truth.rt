@@ -1,4 +1,4 @@
-//! What a BETWEEN says at the needed slots.
+//! The truth of BETWEEN at the needed slots.
 
 ghost use Rattle.std.specs.Prelude.{OnErr, OnOk, length, ◌≡◌};
 ghost use Rattle.bw_code.specs.Meters.{raised};
@@ -15,7 +15,7 @@ use bw_mask::{Mask, Truth, TruthValue};
 use bw_sql::CompareOp;
 use std::alloc::{AllocError, Global};
 
-/// What `set_between` says, by two comparisons: the second at the slots where the first is not false.
+/// Does `set_between` by two comparisons, the second only at the slots where the first is not false.
 #[tactic(auto, using(crate::proofs::Comparing::filled_long))]
 fn set_between_ends(
     alloc: Global,
@@ -45,9 +45,9 @@ fn set_between_ends(
     Ok(())
 }
 
-/// The truth becomes, at each needed slot, whether the value lies from `low` to `high`, both ends in. What it was
-/// before is of no account, and it is unknown at every slot that is not needed. A column between two numbers is scanned
-/// once, with no memory. Where memory is wanting, nothing changes.
+/// Sets the truth, at each needed slot, to whether the value is from `low` to `high`, inclusive. It is unknown at every
+/// slot that isn't needed. The earlier truth is ignored. A column between two numbers is scanned once, without
+/// allocating. If it runs out of memory, nothing changes.
 pub(crate) fn set_between(
     alloc: Global,
     value: &SlotOperand<'_>,

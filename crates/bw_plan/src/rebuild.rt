@@ -1,4 +1,4 @@
-//! REBUILD: its columns as places in a row.
+//! REBUILD: resolves its columns to indexes.
 
 ghost use Rattle.std.specs.Prelude.{◌≡◌, IfOk, false, not};
 ghost use Rattle.std.specs.List.{list_any};
@@ -15,8 +15,8 @@ use bw_sql::{LayoutChoice, Name};
 use bw_table::Choice;
 use std::alloc::{AllocError, Global};
 
-/// The places of the columns that a REBUILD lays anew, in a table of these columns. It is refused where
-/// one isn't there, and then where one is named twice, before any memory is asked for.
+/// The indexes of the columns that a REBUILD changes in a table of these columns, with their choices. It is refused if
+/// one doesn't exist, and else if one is named twice. Refusals are found before anything is allocated.
 pub fn resolve_rebuild(
     alloc: Global,
     headers: &Headers<'_>,
@@ -29,7 +29,7 @@ pub fn resolve_rebuild(
     Ok(plan)
 }
 
-/// Refuses columns to be laid anew that aren't there, and then one that is named twice. Takes no memory.
+/// Refuses a REBUILD that names a column that doesn't exist, and else one that names a column twice. Allocates nothing.
 pub fn check_choices(headers: &Headers<'_>, choices: &[LayoutChoice]) -> Result<(), Refusal>
     ensures { Decides (listed_tests headers.now (chosen_columns choices.now)) result (λ _. Unit {0}) }
 {
@@ -42,7 +42,7 @@ pub fn check_choices(headers: &Headers<'_>, choices: &[LayoutChoice]) -> Result<
     Ok(())
 }
 
-/// Whether a column that is to be laid anew isn't there.
+/// Whether a column to be rebuilt doesn't exist.
 fn lacks_chosen_column(headers: &Headers<'_>, choices: &[LayoutChoice]) -> bool
     ensures { result ≡ list_any (is_missing headers.now) (chosen_columns choices.now) }
 {
@@ -54,7 +54,7 @@ fn lacks_chosen_column(headers: &Headers<'_>, choices: &[LayoutChoice]) -> bool
     false
 }
 
-/// Whether a column is to be laid anew twice.
+/// Whether a column is named twice in a REBUILD.
 fn is_chosen_twice(choices: &[LayoutChoice]) -> bool
     ensures { result ≡ not (are_distinct (chosen_columns choices.now)) }
 {
@@ -75,7 +75,7 @@ fn is_chosen(choices: &[LayoutChoice], name: &Name) -> bool
     false
 }
 
-/// The choices with the places of their columns, each of which is there.
+/// The choices with the indexes of their columns, all of which exist.
 fn placed_choices(
     alloc: Global,
     headers: &Headers<'_>,

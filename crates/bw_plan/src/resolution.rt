@@ -1,4 +1,4 @@
-//! A condition's names become places in a row.
+//! Resolves the names in a condition to indexes.
 
 ghost use Rattle.std.specs.Prelude.{◌≡◌, IfOk, List, option_map};
 ghost use Rattle.bw_model.specs.Condition.{truth_at, truth_of_word};
@@ -15,11 +15,10 @@ use bw_model::Refusal;
 use bw_sql::{Condition, Operand, TruthWord};
 use std::alloc::{AllocError, Global};
 
-/// The most entries of an IN list.
+/// The largest number of entries of an IN list.
 const ENTRY_LIMIT: usize = 1_000;
 
-/// Refuses a condition that names a column which isn't there, and else one with an IN list of more than
-/// 1,000 entries.
+/// Refuses a condition that names a column that doesn't exist, and else one with an IN list of more than 1,000 entries.
 pub(crate) fn check_condition(
     headers: &Headers<'_>,
     condition: &Option<Condition>,
@@ -38,7 +37,7 @@ pub(crate) fn check_condition(
     Ok(())
 }
 
-/// Whether a condition names a column that isn't there, where there is a condition.
+/// Whether there is a condition, and it names a column that doesn't exist.
 pub(crate) fn misses(headers: &Headers<'_>, condition: &Option<Condition>) -> bool
     ensures { result ≡ condition_misses headers.now (option_map condition_of condition.now) }
 {
@@ -48,7 +47,7 @@ pub(crate) fn misses(headers: &Headers<'_>, condition: &Option<Condition>) -> bo
     }
 }
 
-/// Whether an IN list of a condition is too long, where there is a condition.
+/// Whether there is a condition, and one of its IN lists is too long.
 pub(crate) fn has_long_lists(condition: &Option<Condition>) -> bool
     ensures { result ≡ lists_too_long (option_map condition_of condition.now) }
 {
@@ -58,7 +57,7 @@ pub(crate) fn has_long_lists(condition: &Option<Condition>) -> bool
     }
 }
 
-/// Whether the condition names a column that isn't there.
+/// Whether the condition names a column that doesn't exist.
 fn names_missing(headers: &Headers<'_>, condition: &Condition) -> bool
     ensures { result ≡ names_missing headers.now (condition_of condition.now) }
 {
@@ -90,7 +89,7 @@ pub(crate) fn is_missing(headers: &Headers<'_>, operand: &Operand) -> bool
     }
 }
 
-/// Whether an IN list of the condition is too long.
+/// Whether one of the condition's IN lists is too long.
 fn has_long_list(condition: &Condition) -> bool
     ensures { result ≡ has_long_list (condition_of condition.now) }
 {
@@ -109,7 +108,7 @@ fn has_long_list(condition: &Condition) -> bool
     }
 }
 
-/// The condition with each column's name as its place among the columns. A column that isn't there is NULL.
+/// The condition with each column name replaced by its index. A column that doesn't exist is NULL.
 pub(crate) fn placed(
     alloc: Global,
     headers: &Headers<'_>,
@@ -160,7 +159,7 @@ pub(crate) fn placed(
     }
 }
 
-/// Where an operand's values come from. A column that isn't there is always NULL.
+/// The source of an operand's values. A column that doesn't exist is always NULL.
 pub(crate) fn source(headers: &Headers<'_>, operand: &Operand) -> Source
     ensures { result ≡ source_of headers.now operand.now }
 {
@@ -183,7 +182,7 @@ fn truth_of_word(word: TruthWord) -> TruthValue
     }
 }
 
-/// A condition with places for names says of each row what the condition says.
+/// A condition with indexes for names has the same truth at each row as the condition itself.
 pub fn plans_keep_truth()
     ensures { (headers : List AnyHeader) (row : Row) (condition : ConditionTree) → truth_by (planned headers condition) row ≡ truth_at headers row condition }
 {}

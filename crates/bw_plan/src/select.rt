@@ -1,4 +1,4 @@
-//! SELECT: its columns as places in a row, and its condition over places.
+//! SELECT: resolves the columns that it shows and those of its condition to indexes.
 
 ghost use Rattle.std.specs.Prelude.{◌≡◌, ◌++◌, ◌∷◌, [], ◌<◌, IfOk, None, OnOk, Some, false, length, map, option_map};
 ghost use Rattle.std.specs.List.{list_any};
@@ -18,40 +18,40 @@ use bw_model::Refusal;
 use bw_sql::{Condition, Name, Select, SelectItem, SelectItems, SetFunction};
 use std::alloc::{AllocError, Global};
 
-/// A set function whose column is a place in a row.
+/// A set function with its column given by index.
 #[derive(Clone, Copy, Debug, PartialEq, Eq)]
 pub enum FunctionPlan {
-    /// How many rows are found.
+    /// The number of found rows.
     CountRows,
-    /// Of the values at this place that are not NULL.
+    /// The function of the non-null values at this index.
     Of(SetFunction, usize),
 }
 
 /// What a SELECT shows.
 #[derive(Debug, Drop)]
 pub enum ShownPlan {
-    /// The values at these places, a line for each found row.
+    /// The values at these indexes, one line per found row.
     Columns(Vec<usize>),
-    /// These functions of the found rows, in one line.
+    /// These functions over the found rows, in one line.
     Functions(Vec<FunctionPlan>),
-    /// A line for each group of the found rows.
+    /// One line per group of the found rows.
     Groups(GroupPlan),
 }
 
-/// A SELECT whose columns are places in a row.
+/// A SELECT with columns given by index.
 #[derive(Debug, Drop)]
 pub struct SelectPlan {
-    /// What is shown, in the order in which it is.
+    /// What is shown, in order.
     pub shown: ShownPlan,
     /// Which rows are found; without a condition every row is.
     pub condition: Option<RowCondition>,
 }
 
-/// What a SELECT shows of a table of these columns, by their places, and its condition over places. It is
-/// refused, in this order, where a column that it shows or folds isn't there, where one of the condition
-/// isn't there, where the grouping column isn't there, where an IN list has more than 1,000 entries, and where
-/// columns stand beside set functions (with GROUP BY: all columns, or one that isn't the grouping one).
-/// All of this is found before any memory is asked for.
+/// What a SELECT shows of a table of these columns, and its condition, both with columns given by index. It is refused,
+/// in this order, if a column that it shows or folds doesn't exist, if one of the condition doesn't exist, if the
+/// grouping column doesn't exist, if an IN list has more than 1,000 entries, or if columns and set functions are mixed
+/// (with GROUP BY: if all columns are shown, or one other than the grouping column). Refusals are found before anything
+/// is allocated.
 pub fn resolve_select(
     alloc: Global,
     headers: &Headers<'_>,
@@ -67,7 +67,7 @@ pub fn resolve_select(
     Ok(SelectPlan { shown, condition })
 }
 
-/// Refuses a SELECT for its first reason.
+/// Returns the first refusal that holds for a SELECT, if any.
 fn check_select(headers: &Headers<'_>, query: &Select) -> Result<(), Refusal>
     requires valid { AreHeaders headers.now }
     ensures some { 0 < length (shown_items headers.now (items_of query.now.items)) }
@@ -91,7 +91,7 @@ fn check_select(headers: &Headers<'_>, query: &Select) -> Result<(), Refusal>
     Ok(())
 }
 
-/// Whether a column that is shown or folded isn't there.
+/// Whether a column that is shown or folded doesn't exist.
 fn lacks_shown(headers: &Headers<'_>, items: &SelectItems) -> bool
     requires { AreHeaders headers.now }
     ensures some { 0 < length (shown_items headers.now (items_of items.now)) }
@@ -103,7 +103,7 @@ fn lacks_shown(headers: &Headers<'_>, items: &SelectItems) -> bool
     }
 }
 
-/// Whether one of the items names a column that isn't there.
+/// Whether one of the items names a column that doesn't exist.
 fn lacks_column(headers: &Headers<'_>, list: &[SelectItem]) -> bool
     ensures { result ≡ list_any (λ item. list_any (is_missing headers.now) (columns_in (item ∷ []))) list.now }
 {
@@ -119,7 +119,7 @@ fn lacks_its_column(headers: &Headers<'_>, item: &SelectItem) -> bool
     }
 }
 
-/// Whether columns stand beside set functions.
+/// Whether columns and set functions are mixed.
 pub(crate) fn is_mixed(list: &[SelectItem]) -> bool
     ensures { result ≡ is_mixed list.now }
 {
@@ -144,7 +144,7 @@ fn has_columns(list: &[SelectItem]) -> bool
     list.iter().any(is_column)
 }
 
-/// The condition over places, where there is one.
+/// The condition with columns given by index, if there is one.
 pub(crate) fn plan_if_any(
     alloc: Global,
     headers: &Headers<'_>,
@@ -158,7 +158,7 @@ pub(crate) fn plan_if_any(
     }
 }
 
-/// What is shown, where every column is there and none stands where it may not.
+/// What is shown, given that no refusal holds.
 fn shown_plan(alloc: Global, headers: &Headers<'_>, query: &Select) -> Result<ShownPlan, AllocError>
     requires there { list_any (is_missing headers.now) (columns_in (shown_items headers.now (items_of query.now.items))) ≡ false }
     requires grouping { grouping_is_missing headers.now query.now.grouping ≡ false }
@@ -178,7 +178,7 @@ fn shown_plan(alloc: Global, headers: &Headers<'_>, query: &Select) -> Result<Sh
     }
 }
 
-/// What a list shows of each group.
+/// What a list shows for each group.
 fn grouped_plan(
     alloc: Global,
     headers: &Headers<'_>,
@@ -213,7 +213,7 @@ fn listed_plan(
     }
 }
 
-/// The places of all columns.
+/// The indexes of all columns.
 fn all_places(alloc: Global, headers: &Headers<'_>) -> Result<Vec<usize>, AllocError>
     ensures { IfOk result (λ places. map (λ place. Some place) places.items ≡ map (place_of headers.now) (names headers.now)) }
 {
@@ -224,7 +224,7 @@ fn all_places(alloc: Global, headers: &Headers<'_>) -> Result<Vec<usize>, AllocE
     Ok(places)
 }
 
-/// Puts the place of the column that an item names last.
+/// Appends the index of the column that an item names.
 fn put_place(
     places: &mut Vec<usize>,
     headers: &Headers<'_>,
@@ -245,7 +245,7 @@ fn put_place(
     Ok(())
 }
 
-/// The places of the columns that items name, each of which is there.
+/// The indexes of the columns that items name, all of which exist.
 fn places_in(
     alloc: Global,
     headers: &Headers<'_>,
@@ -261,7 +261,7 @@ fn places_in(
     Ok(places)
 }
 
-/// A set function with the place of its column, where there is such a column.
+/// A set function with the index of its column, if that column exists.
 pub(crate) fn placed_item(headers: &Headers<'_>, item: &SelectItem) -> Option<FunctionPlan>
     ensures { result ≡ placed_item headers.now item.now }
 {
@@ -274,7 +274,7 @@ pub(crate) fn placed_item(headers: &Headers<'_>, item: &SelectItem) -> Option<Fu
     }
 }
 
-/// The set functions of a list, of which each column is there.
+/// The set functions of a list, whose columns all exist.
 fn functions_in(
     alloc: Global,
     headers: &Headers<'_>,

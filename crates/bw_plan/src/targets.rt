@@ -1,4 +1,4 @@
-//! The columns that the rows of an INSERT are for, and whether the values are of their types.
+//! The target columns of an INSERT, and whether its values are of their types.
 
 ghost use Rattle.std.specs.Prelude.{All as Every, IsTrue, get_or, length, ◌<◌, ◌≡◌};
 ghost use Rattle.std.specs.List.{list_all};
@@ -12,7 +12,7 @@ use crate::headers::Headers;
 use bw_code::ColumnType;
 use bw_sql::{Name, Value, ValueRows};
 
-/// The columns that the rows of an INSERT are for: all of the table's in order, or those that are listed.
+/// The target columns of an INSERT: all columns of the table in order, or the listed ones.
 #[derive(Clone, Copy)]
 pub(crate) enum Targets<'a> {
     All,
@@ -20,7 +20,7 @@ pub(crate) enum Targets<'a> {
 }
 
 impl<'a> Targets<'a> {
-    /// How many columns they are.
+    /// The number of target columns.
     pub(crate) fn len(self, headers: &Headers<'_>) -> usize
         ensures { result ≡ length (names_of headers.now self.entry) }
     {
@@ -30,7 +30,7 @@ impl<'a> Targets<'a> {
         }
     }
 
-    /// The type of the k-th of them.
+    /// The type of target column `k`.
     fn column_type(self, headers: &Headers<'_>, k: usize) -> ColumnType
         requires { k < length (names_of headers.now self) }
         ensures { (d : AnyType) → result ≡ get_or (types_named headers.now (names_of headers.now self.entry)) k d }
@@ -52,13 +52,13 @@ pub(crate) fn is_null_or_of_type(column_type: ColumnType, value: Value) -> bool
     }
 }
 
-/// Whether each value of rows of the columns' width is of its column's type.
+/// Whether each value of the rows, which have the targets' width, is of its column's type.
 pub(crate) fn rows_fit(headers: &Headers<'_>, targets: Targets<'_>, rows: &ValueRows) -> bool
     requires some { 0 < length (names_of headers.now targets) }
     requires widths { Every (λ row. length row ≡ length (names_of headers.now targets)) rows.now }
     ensures { result ≡ list_all (are_of_types (types_named headers.now (names_of headers.now targets.entry))) rows.now }
 {
-    // Where all columns are INTEGER, no value's column is looked for.
+    // If all columns are INTEGER, no column lookup is needed.
     if headers.are_integer() {
         return are_integers(rows.values());
     }

@@ -1,4 +1,4 @@
-//! UPDATE: its columns as places in a row.
+//! UPDATE: resolves its columns to indexes.
 
 ghost use Rattle.std.specs.Prelude.{◌≡◌, IfOk, false, not, option_map};
 ghost use Rattle.std.specs.List.{list_all, list_any};
@@ -21,20 +21,20 @@ use bw_sql::{Condition, Name, Operand, SetClause};
 use bw_table::SetTo;
 use std::alloc::{AllocError, Global};
 
-/// An UPDATE whose columns are places in a row.
+/// An UPDATE with columns given by index.
 #[derive(Debug, Drop)]
 pub struct UpdatePlan {
-    /// The places that are set, each once, and what each is set to.
+    /// The indexes that are set, each once, and what each is set to.
     pub sets: Vec<(usize, SetTo)>,
     /// Which rows are found; without a condition every row is.
     pub condition: Option<RowCondition>,
 }
 
-/// The places of an UPDATE's columns in a table of these columns, and its condition over places. It is
-/// refused, in this order, where a column on a side of SET or of the condition isn't there, where a
-/// column is set twice, where an IN list has more than 1,000 entries, and where a literal on a right side
-/// is not of its column's type. All of this is found before any memory is asked for. That a copied value is of its column's
-/// type is not looked at here.
+/// The indexes of an UPDATE's columns in a table of these columns, and its condition with columns given by index. It is
+/// refused, in this order, if a column on either side of SET or in the condition doesn't exist, if a column is set
+/// twice, if an IN list has more than 1,000 entries, or if a literal on a right side isn't of its column's type.
+/// Refusals are found before anything is allocated. Whether copied values are of their columns' types is not checked
+/// here.
 pub fn resolve_update(
     alloc: Global,
     headers: &Headers<'_>,
@@ -50,7 +50,7 @@ pub fn resolve_update(
     Ok(UpdatePlan { sets, condition })
 }
 
-/// Refuses what can't be set.
+/// Returns the first refusal of the set clauses that holds, if any.
 fn check_sets(
     headers: &Headers<'_>,
     sets: &[SetClause],
@@ -79,7 +79,7 @@ fn check_sets(
     Ok(())
 }
 
-/// Whether a column on a left side isn't there.
+/// Whether a column on a left side doesn't exist.
 fn lacks_set_column(headers: &Headers<'_>, sets: &[SetClause]) -> bool
     ensures { result ≡ list_any (is_missing headers.now) (set_columns sets.now) }
 {
@@ -91,15 +91,15 @@ fn lacks_set_column(headers: &Headers<'_>, sets: &[SetClause]) -> bool
     false
 }
 
-/// Whether a column on a right side isn't there.
+/// Whether a column on a right side doesn't exist.
 fn lacks_source(headers: &Headers<'_>, sets: &[SetClause]) -> bool
     ensures { result ≡ list_any (λ set. operand_is_missing headers.now set.source) sets.now }
 {
     sets.iter().any(|set| is_missing(headers, &set.source))
 }
 
-/// Whether a column is set twice. Among more sets than columns one is set twice near the front, so this is
-/// quick where all of them are columns.
+/// Whether a column is set twice. Fast if all names are those of columns: in a list longer than the columns, a
+/// duplicate is found near the start.
 fn is_set_twice(sets: &[SetClause]) -> bool
     ensures { result ≡ not (are_distinct (set_columns sets.now)) }
 {
@@ -136,7 +136,7 @@ fn may_be_set(column_type: ColumnType, source: &Operand) -> bool
     }
 }
 
-/// The sets with the places of their columns, each of which is there.
+/// The sets with the indexes of their columns, all of which exist.
 fn placed_sets(
     alloc: Global,
     headers: &Headers<'_>,
@@ -156,7 +156,7 @@ fn placed_sets(
     Ok(placed)
 }
 
-/// What a place is set to by a source.
+/// The new value that a source gives.
 fn set_to(source: Source) -> SetTo
     ensures { source_to result ≡ source }
 {

@@ -1,4 +1,4 @@
-//! The types, layouts and kinds that the words of a statement spell.
+//! Translates the words of a statement to types, layouts and kinds.
 
 ghost use Rattle.std.specs.Prelude.{◌≡◌, option_map};
 ghost use Rattle.bw_model.specs.Store.{header_of};
@@ -8,7 +8,7 @@ use bw_code::{ColumnType, Header, Kind, Layout};
 use bw_sql::{ColumnDefinition, KindWord, LayoutWord, Name, TypeWord};
 use bw_table::Choice;
 
-/// The column that a definition makes: in layout V and of kind OFFSET where it says none.
+/// The column of a definition. The default layout is V, the default kind OFFSET.
 pub fn header_for(definition: ColumnDefinition) -> Header<Name>
     ensures { result ≡ header_of definition }
 {
@@ -26,7 +26,7 @@ pub fn header_for(definition: ColumnDefinition) -> Header<Name>
     }
 }
 
-/// What the words of a REBUILD choose for a column.
+/// The choice for a column, from the words of a REBUILD.
 pub(crate) fn choice_for(layout: LayoutWord, kind: Option<KindWord>) -> Choice
     ensures layout { result.layout ≡ layout_of layout }
     ensures kind { result.kind ≡ option_map kind_of kind }

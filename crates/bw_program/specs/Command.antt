@@ -1,4 +1,4 @@
--- The program's command, as `clap` is given it.
+-- The program's command, as it is passed to `clap`.
 use Rattle.std.specs.Prelude.{◌≡◌, ℕ, Bool, true, codes, if◌then◌else◌, List, Some}
 use Rattle.clap.specs.Words.{App, Row, Rule, first_of, new_app, new_rule, one_of, with_rule}
 use Rattle.clap.specs.declared.builder.action.ArgAction.TheVariants.{SetTrue}
@@ -24,11 +24,11 @@ command_app = with_rule (with_rule bare_app stop_rule) script_rule
 abbrev pub flag_text : Bool → List ℕ
 flag_text b = if b then codes "true" else codes "false"
 
--- the rows of the matches hold just what is asked
+-- the rows of the matches hold exactly what is asked
 abbrev pub rows_ask : List Row → Asked → Type 0
 rows_ask rows asked = (first_of (codes "script") rows ≡ asked.script) × (one_of (codes "stop") rows ≡ Some (flag_text asked.stop))
 
--- why words are refused that `clap` refuses for this reason
+-- the fault for an error of `clap`
 abbrev pub fault_by : ErrorKind → WordsFault
 fault_by kind.OutOfMemory = Memory
 fault_by _ = Usage

@@ -10,7 +10,7 @@ use Rattle.bw_shell.specs.declared.running.OnError.TheVariants.{Continue, Stop}
 abbrev pub Text : Type 0
 Text = List ℕ
 
--- what words ask for: to stop at the first error, and which script to read, where they name one
+-- what words ask for: whether to stop at the first error, and which script to read, if they name one
 pub record Asked : Type 0 where
   pub stop : Bool
   pub script : Option Text
@@ -18,7 +18,7 @@ pub record Asked : Type 0 where
 abbrev pub nothing_asked : Asked
 nothing_asked = record { stop = false; script = None }
 
--- `--stop` may be said once
+-- `--stop` may be given once
 abbrev pub with_stop : Asked → Option Asked
 with_stop asked = if asked.stop then None else Some (record asked { stop = true })
 
@@ -36,8 +36,8 @@ abbrev pub asked_by_names : Asked → List Text → Option Asked
 asked_by_names asked [] = Some asked
 asked_by_names asked (word ∷ words) = option_and_then (λ next. asked_by_names next words) (with_script word asked)
 
--- what is asked so far, and what the words ask for besides: a word with a hyphen is `--stop`, is `--`, or is refused, and
--- each other word names a script
+-- what is asked so far, extended by the remaining words: a word with a hyphen is `--stop`, is `--`, or is refused, and any other
+-- word names a script
 abbrev pub asked_from : Asked → List Text → Option Asked
 asked_from asked [] = Some asked
 asked_from asked (word ∷ words) =
@@ -46,7 +46,7 @@ asked_from asked (word ∷ words) =
     else (if is_dashed word then None
     else option_and_then (λ next. asked_from next words) (with_script word asked)))
 
--- what the words of a command line ask for, or `None` where they are refused; the first is the program's name
+-- what the words of a command line ask for, or `None` if they are refused; the first is the program's name
 abbrev pub asked_by : List Text → Option Asked
 asked_by words = asked_from nothing_asked (drop 1 words)
 
@@ -62,7 +62,7 @@ is_stop Continue = false
 abbrev pub asked_of : Request → Asked
 asked_of request = record { stop = is_stop request.on_error; script = option_map (λ path. path.now) request.script }
 
--- a request is what the words ask for, a usage fault says that they are refused, and without memory nothing is said of them
+-- a request is what the words ask for, a usage fault means that they are refused, and out of memory says nothing about them
 abbrev pub Answers : Option Asked → Result Request WordsFault → Type 0
 Answers asked (Ok request) = asked ≡ Some (asked_of request)
 Answers asked (Err Usage) = asked ≡ None

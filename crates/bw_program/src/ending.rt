@@ -1,4 +1,4 @@
-//! How the program ends: its status, and what it says on standard error.
+//! How the program ends: its exit status, and the line that it writes to standard error.
 
 ghost use Rattle.std.specs.Prelude.{◌≡◌, ◌++◌, ◌∷◌, [], option_map};
 ghost use Rattle.std.specs.Process.{exit_status};
@@ -13,16 +13,16 @@ use std::process::ExitCode;
 /// How the program ends.
 #[derive(Clone, Copy, Debug, PartialEq, Eq)]
 pub enum Ending {
-    /// A run over the script ended so.
+    /// The script was run, with this end.
     Ran(RunEnd),
-    /// The script can't be opened.
+    /// The script couldn't be opened.
     NotOpened,
-    /// The words ask for nothing.
+    /// The command line gave no request.
     NotAsked(WordsFault),
 }
 
 impl Ending {
-    /// The status that the program ends with.
+    /// The exit status of the program.
     pub fn status(self) -> u8
         ensures { result ≡ status_of self }
     {
@@ -36,7 +36,7 @@ impl Ending {
         }
     }
 
-    /// What the program says on standard error, without the byte that ends the line.
+    /// The line that the program writes to standard error, without the newline.
     pub fn line(self) -> Option<&'static str>
         ensures { option_map (λ line. line.now) result ≡ line_of self }
     {
@@ -53,7 +53,8 @@ impl Ending {
     }
 }
 
-/// Says on standard error how the program ends, and gives its status. Where writing fails, a prefix of it is written.
+/// Writes the line of this ending to standard error, and returns the exit status. If writing fails, a prefix of the
+/// line is written.
 pub fn end_with<W: Write>(errors: &mut W, ending: Ending) -> ExitCode
     ensures status { exit_status result ≡ status_of ending }
     ensures said { AppendsPrefix (W.contents errors.old) (W.contents errors.new) (said_by ending) }

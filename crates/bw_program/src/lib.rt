@@ -1,5 +1,5 @@
-//! What the program decides: what its words ask for, which script is answered, and the status and the line on
-//! standard error that it ends with.
+//! The program: reads its command line, chooses the script to answer, and ends with an exit status and a line on
+//! standard error.
 #![tactic(auto)]
 
 mod ending;

@@ -1,4 +1,4 @@
-//! The words of the command line, and what they ask for.
+//! Parses the words of the command line.
 
 ghost use Rattle.std.specs.Prelude.{◌≡◌, IfOk, map};
 ghost use Rattle.clap.specs.Words.{app_of, found_of, kind_of, rows_of};
@@ -11,7 +11,7 @@ use clap::{Arg, ArgAction, ArgMatches, Command};
 use std::alloc::{AllocError, Global};
 use std::convert::AsStr;
 
-/// What the words of a command line ask for.
+/// What a command line asks for.
 #[derive(Clone, Copy, Debug, PartialEq, Eq)]
 pub struct Request<'a> {
     /// The path of the script, or `None` for standard input.
@@ -19,12 +19,12 @@ pub struct Request<'a> {
     pub on_error: OnError,
 }
 
-/// Why words ask for nothing.
+/// Why a command line gives no request.
 #[derive(Clone, Copy, Debug, PartialEq, Eq)]
 pub enum WordsFault {
-    /// They aren't those of the program.
+    /// The words don't match the program's usage.
     Usage,
-    /// There is no memory.
+    /// Out of memory.
     Memory,
 }
 
@@ -54,7 +54,7 @@ fn command<'a>(alloc: Global) -> Result<Command<'a>, AllocError>
         .arg(script)
 }
 
-// What the matches of the command ask for.
+// The request in the matches of the command.
 fn request_in<'a>(matches: &ArgMatches<'a>) -> Request<'a>
     ensures { (asked : _) → rows_ask (rows_of (found_of matches.now)) asked → asked_of result ≡ asked }
 {
@@ -74,7 +74,7 @@ fn on_error(stop: bool) -> OnError
     }
 }
 
-// Why `clap` refused the words: out of memory, or for what they are.
+// The fault for an error of `clap`: out of memory, or wrong usage.
 fn fault_of(kind: ErrorKind) -> WordsFault
     ensures { result ≡ fault_by kind }
 {

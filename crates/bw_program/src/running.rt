@@ -1,4 +1,4 @@
-//! The program, but for its streams and its files.
+//! The program, apart from its streams and its files.
 
 ghost use Rattle.std.specs.Prelude.{◌≡◌, List, map, option_map};
 ghost use Rattle.std.specs.Process.{exit_status};
@@ -18,7 +18,7 @@ use std::io::{BufWriter, ErrorKind, Read, Write};
 use std::process::ExitCode;
 use std::{env, fs};
 
-// How many bytes of replies are gathered before they are written.
+// The number of bytes of replies that are buffered before they are written.
 const OUTPUT_BUFFER: usize = 65_536;
 
 /// Runs the program over its words, its files and its three streams.
@@ -36,7 +36,7 @@ pub fn program<E: Env, F: Files, I: Read, O: Write + Drop, W: Write>(
     end_with(errors, ending)
 }
 
-// Answers what the environment's words ask for. Words that can't be read are as words that are refused.
+// Answers what the environment's words ask for. Words that can't be read count as refused.
 fn answer_asked<E: Env, F: Files, I: Read, O: Write + Drop>(
     alloc: Global,
     env: &E,
@@ -60,7 +60,7 @@ fn words_of<E: Env>(alloc: Global, env: &E) -> Result<Vec<String>, WordsFault> {
     }
 }
 
-// The words are looked at first, and then the script is opened.
+// The words are parsed first, then the script is opened.
 fn answer_words<S: AsStr, F: Files, I: Read, O: Write + Drop>(
     alloc: Global,
     words: &[S],
@@ -111,7 +111,7 @@ fn run_script<F: Files, R: Read, O: Write + Drop>(
     };
     let mut folder = HostFolder::new(alloc, files);
     let end = run(alloc, script, &mut output, &mut folder, on_error);
-    // What a failed writer left in the buffer is dropped, not tried once more.
+    // What a failed writer left in the buffer is dropped, and not written again.
     let _ = output.into_parts();
     end
 }

@@ -1,4 +1,4 @@
--- What a statement may be answered, with a folder for its file (this product's own).
+-- The replies that a statement may get, with a folder for its file (this product's own).
 use Rattle.std.specs.Prelude.{◌≡◌, ◌⊎◌, ℕ, List, Option, Some, None, length}
 use Rattle.bw_sql.specs.Tree.{StatementTree, save}
 use Rattle.bw_model.specs.Contents.{IsSaid}
@@ -22,13 +22,13 @@ pub record RunsOutOfMemory (before : State) (statement : StatementTree) (reply :
   pub says : reply ≡ Refused OutOfMemory
   pub stays : Stays before after
 
--- the outcome, with what is said to the statement: the reply and the store are the model's, and the slots and encodings are as the statement leaves them
+-- the outcome, given this content: reply and store are the model's, slots and encodings those that the statement leaves
 pub record Outcome (before : State) (said : Content) (statement : StatementTree) (reply : Reply) (after : State) : Type 0 where
   pub replies : reply ≡ (outcome_of (store_in before) said statement).0
   pub leaves : Leaves before (outcome_of (store_in before) said statement).1 after
   pub stored : LeavesStored before.tables statement reply after.tables
 
--- the outcome, by the file that the folder has
+-- the outcome, given the folder's file
 pub record ByFile (before : State) (statement : StatementTree) (name : List ℕ) (reply : Reply) (after : State) : Type 0 where
   pub file : Option (List ℕ)
   pub there : HasFile before.files name file
@@ -42,7 +42,7 @@ pub record CannotRead (before : State) (reply : Reply) (after : State) : Type 0 
   pub failed : Failed before after
   pub files_stay : KeepsFiles before.files after.files
 
--- the file was made anew with bytes that hold the table
+-- the file was created or replaced with bytes that hold the table
 pub record IsSaved (before : State) (statement : StatementTree) (file : List ℕ) (reply : Reply) (after : State) : Type 0 where
   pub name : List ℕ
   pub asks : statement ≡ save name file
@@ -66,6 +66,6 @@ AnswersBy no_file before statement reply after = Outcome before (said_of before.
 AnswersBy (reads file) before statement reply after = ByFile before statement file reply after ⊎ CannotRead before reply after
 AnswersBy (writes file) before statement reply after = IsSaved before statement file reply after ⊎ CannotWrite before file reply after
 
--- a statement's answer: its outcome, or what it comes to where memory runs out or the folder fails
+-- a statement's answer: its outcome, or that memory ran out or the folder failed
 abbrev pub Answers : State → StatementTree → Reply → State → Type 0
 Answers before statement reply after = RunsOutOfMemory before statement reply after ⊎ AnswersBy (file_use (store_in before) statement) before statement reply after

@@ -1,4 +1,4 @@
--- Which parts of a script leave a file alone (this product's own).
+-- Which parts of a script don't write a file (this product's own).
 use Rattle.std.specs.Prelude.{ℕ, List}
 use Rattle.bw_lex.specs.declared.script.Part.{Part}
 use Rattle.bw_sql.specs.Statements.{Says}

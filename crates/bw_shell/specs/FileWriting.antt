@@ -1,4 +1,4 @@
--- What the writing of a file comes to (this product's own).
+-- The result of writing a file (this product's own).
 use Rattle.std.specs.Prelude.{◌≡◌, ◌⊎◌, ◌+◌, ℕ, List}
 use Rattle.bw_model.specs.declared.refusal.Refusal.TheVariants.{OutOfMemory, UnwritableFile}
 use Rattle.bw_model.specs.declared.reply.Reply.{Reply}
@@ -11,7 +11,7 @@ pub record IsMade (file bytes : List ℕ) (rows : ℕ) (before after : FolderSta
   pub file_set : SetsFile file bytes before.files after.files
   pub failures_stay : after.failures ≡ before.failures
 
--- there was no memory
+-- memory ran out
 pub record WritingRunsOutOfMemory (before after : FolderState) (reply : Reply) : Type 0 where
   pub says : reply ≡ Refused OutOfMemory
   pub files_stay : KeepsFiles before.files after.files

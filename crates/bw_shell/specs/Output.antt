@@ -1,4 +1,4 @@
--- The output of a script (SQL-92, direct invocation of SQL), where nothing fails.
+-- The output of a script (SQL-92, direct invocation of SQL) if nothing fails.
 use Rattle.std.specs.Prelude.{◌≡◌, ◌≢◌, ℕ, IsSome, List, ◌++◌}
 use Rattle.bw_lex.specs.Parts.{AreParts}
 use Rattle.bw_lex.specs.declared.script.Part.{Part}
@@ -12,12 +12,12 @@ use Rattle.bw_shell.specs.declared.running.OnError.{OnError}
 use Rattle.bw_shell.specs.declared.running.RunEnd.{RunEnd}
 use Rattle.bw_shell.specs.declared.running.RunEnd.TheVariants as ends
 
--- nowhere in the bytes a line says that memory ran out
+-- no line of the bytes reports that memory ran out
 abbrev pub NeverOutOfMemory : List ℕ → Type 0
 NeverOutOfMemory bytes = (prefix rest : List ℕ) → bytes ≢ prefix ++ reply_text (Refused OutOfMemory) ++ rest
 
--- A session over the script's parts that ends so, wrote these bytes and left that state, where the folder gives its files, neither it
--- nor the writer failed and memory didn't run out.
+-- A session over the script's parts has this end, these bytes and this final state; the folder's files are known, neither it nor
+-- the writer failed, and memory didn't run out.
 pub record IsOutput (on_error : OnError) (read : ScriptEnd) (script : List ℕ) (state : State) (end : RunEnd) (bytes : List ℕ) (last : State) : Type 0 where
   pub parts : List Part
   pub are_parts : AreParts script parts

@@ -1,4 +1,4 @@
--- Which replies a run wrote: what a session comes to, part by part (SQL-92, direct invocation of SQL).
+-- Which replies a run wrote: a session, part by part (SQL-92, direct invocation of SQL).
 use Rattle.std.specs.Prelude.{◌≡◌, ℕ, true, false, List, [], ◌∷◌, ◌++◌}
 use Rattle.std.specs.List.{flat_map, list_any}
 use Rattle.bw_lex.specs.declared.script.Part.{Part}
@@ -16,7 +16,7 @@ use Rattle.bw_shell.specs.declared.running.OnError.TheVariants.{Stop}
 use Rattle.bw_shell.specs.declared.running.RunEnd.{RunEnd}
 use Rattle.bw_shell.specs.declared.running.RunEnd.TheVariants as ends
 
--- From this state, these parts may be answered so, in order, and leave that state.
+-- From this state, these parts may have these replies, in order, and leave that state.
 pub data Answered : List ℕ → State → List Part → List Reply → State → Type 0 where
   none_left : {script : List ℕ} {state : State} → Answered script state [] [] state
   and_then : {script : List ℕ} {state mid after : State} {part : Part} {parts : List Part} {reply : Reply} {replies : List Reply}
@@ -31,12 +31,12 @@ IsDroppedRest read (part ∷ parts) = (is_dropped read part ≡ true) × (parts 
 abbrev pub IsLastAnError : List Reply → Type 0
 IsLastAnError replies = (earlier : List Reply) × (refusal : Refusal) × (replies ≡ earlier ++ Refused refusal ∷ []) × (list_any (stops Stop) earlier ≡ false)
 
--- these bytes are a prefix of the text of a reply to the next part, which leaves that state
+-- these bytes are a prefix of the text of a reply to the next part, and that part leaves that state
 abbrev pub BeginsNext : List ℕ → State → List Part → List ℕ → State → Type 0
 BeginsNext script state [] begun last = ⊥
 BeginsNext script state (part ∷ parts) begun last = (reply : Reply) × MayAnswer state part.is_closed (text_of script part) reply last × IsPrefixOf begun (reply_text reply)
 
--- where a run ends so: which parts it left, what it wrote after the replies, and the state it left
+-- by the end of a run: which parts are left, what was written after the replies, and the final state
 abbrev pub LeavesOff : OnError → ScriptEnd → List ℕ → State → List Part → List Reply → List ℕ → RunEnd → State → Type 0
 LeavesOff on_error read script state left replies begun ends.Done last = (last ≡ state) × (read ≡ Reached) × (left ≡ []) × (begun ≡ []) × (list_any (stops on_error) replies ≡ false)
 LeavesOff on_error read script state left replies begun ends.ReadFault last = (last ≡ state) × (read ≡ Fault) × IsDroppedRest read left × (begun ≡ []) × (list_any (stops on_error) replies ≡ false)
@@ -44,8 +44,7 @@ LeavesOff on_error read script state left replies begun ends.Stopped last = (las
 LeavesOff on_error read script state left replies begun ends.WriteFault last = BeginsNext script state left begun last × (list_any (stops on_error) replies ≡ false)
 LeavesOff on_error read script state left replies begun ends.Memory last = ⊥
 
--- The first parts were answered in order, and what was written is their replies and, where the writer failed, a prefix
--- of the next.
+-- The first parts were answered in order, and what was written is their replies and, if the writer failed, a prefix of the next.
 pub record WroteReplies (on_error : OnError) (read : ScriptEnd) (script : List ℕ) (state : State) (parts : List Part) (end : RunEnd) (bytes : List ℕ) (last : State) : Type 0 where
   pub answered : List Part
   pub left : List Part

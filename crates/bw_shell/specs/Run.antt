@@ -23,7 +23,7 @@ use Rattle.bw_shell.specs.declared.running.OnError.TheVariants.{Stop}
 use Rattle.bw_shell.specs.declared.running.RunEnd.{RunEnd}
 use Rattle.bw_shell.specs.declared.running.RunEnd.TheVariants as ends
 
--- From this state, a part may be answered so, and leaves that state.
+-- From this state, a part may have this reply, and leaves that state.
 pub data MayAnswer : State → Bool → List ℕ → Reply → State → Type 0 where
   too_long : {state : State} {closed : Bool} {text : List ℕ} → longest_statement < length text → MayAnswer state closed text (Refused StatementTooLong) state
   unclosed : {state : State} {text : List ℕ} → length text ≤ longest_statement → MayAnswer state false text (Refused Syntax) state
@@ -34,7 +34,7 @@ pub data MayAnswer : State → Bool → List ℕ → Reply → State → Type 0 
 abbrev pub text_of : List ℕ → Part → List ℕ
 text_of script part = slice_range script part.span.start part.span.end
 
--- the run is to stop after this reply
+-- whether the run stops after this reply
 abbrev pub stops : OnError → Reply → Bool
 stops Stop (Refused refusal) = true
 stops _ _ = false
@@ -47,7 +47,7 @@ drops Reached closed = false
 abbrev pub is_dropped : ScriptEnd → Part → Bool
 is_dropped read part = drops read part.is_closed
 
--- how a run ends that has no part left
+-- how a run ends if no part is left
 abbrev pub last_end : ScriptEnd → RunEnd
 last_end Reached = ends.Done
 last_end Fault = ends.ReadFault
@@ -60,8 +60,8 @@ abbrev pub Either : Bool → Type 0 → Type 0 → Type 0
 Either true a b = a
 Either false a b = b
 
--- From this state, a run over parts with these bytes may end so, write these bytes and leave that state. Each reply is written whole, or a
--- prefix of it where the writer fails (all of it, where only the flush after it fails), and nothing comes after that.
+-- From this state, a run over parts with these bytes may have this end, write these bytes and leave that state. Each reply is
+-- written whole, or a prefix of it if the writer fails (all of it, if only the flush after it fails), and nothing follows.
 abbrev pub SessionOver : OnError → ScriptEnd → State → List PartText → RunEnd → List ℕ → State → Type 0
 SessionOver on_error read state [] end bytes last = IsOver (last_end read) end bytes state last
 SessionOver on_error read state (part ∷ parts) end bytes last =
@@ -75,13 +75,13 @@ SessionOver on_error read state (part ∷ parts) end bytes last =
 abbrev pub Session : OnError → ScriptEnd → List ℕ → State → List Part → RunEnd → List ℕ → State → Type 0
 Session on_error read script state parts end bytes last = SessionOver on_error read state (map (text_of_part script) parts) end bytes last
 
--- from this state, the parts give a session that ends so in that state, and its bytes were written
+-- from this state, the parts give a session with this end and final state, and its bytes were written
 abbrev pub HasRun : OnError → ScriptEnd → List ℕ → List Part → State → Option (List ℕ) → Option (List ℕ) → RunEnd → State → Type 0
 HasRun on_error read script parts state old new end last =
     (bytes : List ℕ) × Session on_error read script state parts end bytes last × Appends old new bytes
 
--- A run from no table: what the reader gave was read, its parts are a session, its bytes were written, and the folder is left as
--- its statements leave it.
+-- A run that starts without tables: what the reader gave was read, its parts are a session, its bytes were written, and the
+-- folder is as its statements leave it.
 pub record IsRun (on_error : OnError) (given left old new : Option (List ℕ)) (before after : FolderState) (end : RunEnd) : Type 0 where
   pub script : List ℕ
   pub read : ScriptEnd
@@ -92,6 +92,6 @@ pub record IsRun (on_error : OnError) (given left old new : Option (List ℕ)) (
   pub tables : Stored
   pub has_run : HasRun on_error read script parts (with_tables [] before) old new end (with_tables tables after)
 
--- where there is no memory to begin with, nothing is read or written and no file is touched
+-- if memory runs out at the start, nothing is read or written and no file is touched
 abbrev pub RunsTo : OnError → (given left old new : Option (List ℕ)) → (before after : FolderState) → RunEnd → Type 0
 RunsTo on_error given left old new before after end = ((end ≡ ends.Memory) × Keeps given left × Keeps old new × (after ≡ before)) ⊎ IsRun on_error given left old new before after end

@@ -1,5 +1,5 @@
--- What a session holds between two statements: the tables as they are stored, the folder's files where they are known, and how often the
--- folder failed.
+-- What a session holds between two statements: the stored tables, the folder's files if they are known, and the number of the
+-- folder's failures.
 use Rattle.std.specs.Prelude.{◌≡◌, ◌+◌, ℕ, List, Option, Some, None, IsSomeAnd}
 use Rattle.bw_model.specs.Store.{Store}
 use Rattle.bw_engine.specs.Stores.{Stored, store_of}
@@ -10,11 +10,11 @@ pub record State : Type 0 where
   pub files : Option Files
   pub failures : ℕ
 
--- the store as the model has it
+-- the store of the model
 abbrev pub store_in : State → Store
 store_in state = store_of state.tables
 
--- what a folder is seen as
+-- a folder as contracts see it
 pub record FolderState : Type 0 where
   pub files : Option Files
   pub failures : ℕ
@@ -25,22 +25,22 @@ seen files failures = record { files = files; failures = failures }
 abbrev pub with_tables : Stored → FolderState → State
 with_tables tables folder = record { tables = tables; files = folder.files; failures = folder.failures }
 
--- a folder that gives its files keeps them
+-- if the folder's files are known, they stay unchanged
 abbrev pub KeepsFiles : Option Files → Option Files → Type 0
 KeepsFiles None new = Unit {0}
 KeepsFiles (Some old) new = new ≡ Some old
 
--- or makes one of them anew with these bytes
+-- or one of them is created or replaced with these bytes
 abbrev pub SetsFile : List ℕ → List ℕ → Option Files → Option Files → Type 0
 SetsFile name bytes None new = Unit {0}
 SetsFile name bytes (Some old) new = IsSomeAnd new (IsSet name bytes old)
 
--- or keeps all but one
+-- or all but one stay unchanged
 abbrev pub KeepsOthers : List ℕ → Option Files → Option Files → Type 0
 KeepsOthers name None new = Unit {0}
 KeepsOthers name (Some old) new = IsSomeAnd new (IsSameBut name old)
 
--- the file of this name, where the folder gives its files
+-- the file of this name, if the folder's files are known
 abbrev pub HasFile : Option Files → List ℕ → Option (List ℕ) → Type 0
 HasFile None name file = Unit {0}
 HasFile (Some files) name file = file ≡ file_of files name
@@ -49,13 +49,13 @@ abbrev pub file_in : Option Files → List ℕ → Option (List ℕ)
 file_in None name = None
 file_in (Some files) name = file_of files name
 
--- the store is this one, and all else stays
+-- the store is this one, and everything else stays
 pub record Leaves (before : State) (store : Store) (after : State) : Type 0 where
   pub store_is : store_in after ≡ store
   pub files_stay : KeepsFiles before.files after.files
   pub failures_stay : after.failures ≡ before.failures
 
--- all stays, slots and encodings too
+-- everything stays, including slots and encodings
 pub record Stays (before after : State) : Type 0 where
   pub tables_stay : after.tables ≡ before.tables
   pub files_stay : KeepsFiles before.files after.files

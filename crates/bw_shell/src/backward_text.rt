@@ -1,4 +1,4 @@
-//! Text that is put together from its end to its start.
+//! Text that is built from its end to its start.
 
 ghost use Rattle.std.specs.Fmt.{signed_decimal};
 ghost use Rattle.std.specs.Prelude.{◌≡◌, ◌++◌, ◌+◌, ◌<◌, ◌∷◌, ◌≤◌, List, [], codes, drop, length, ℕ};
@@ -6,11 +6,11 @@ ghost use Rattle.std.specs.Prelude.{◌≡◌, ◌++◌, ◌+◌, ◌<◌, ◌�
 use itoa::write_digits;
 use std::marker::Model;
 
-/// How many bytes there is room for.
+/// The capacity in bytes.
 const ROOM: usize = 4096;
 
-/// Text that is put together from its end to its start, since the digits of a number come so. Takes no memory. A contract
-/// sees the text so far.
+/// Text that is built from its end to its start, the order in which the digits of a number come. Allocates nothing.
+/// Contracts see the text so far.
 #[derive(Drop)]
 pub(crate) struct BackwardText {
     bytes: [u8; ROOM],
@@ -25,7 +25,7 @@ impl Model for BackwardText {
     ghost invariant = { λ t. t.start ≤ 4096 };
 }
 
-/// Writes a number in decimal so that it ends at `end`, and answers where it starts.
+/// Writes a number in decimal so that it ends at `end`, and returns where it starts.
 fn write_number(n: i64, bytes: &mut [u8], end: usize) -> usize
     requires room { 20 ≤ end }
     requires inside { end ≤ length bytes.old }
@@ -41,7 +41,7 @@ fn write_number(n: i64, bytes: &mut [u8], end: usize) -> usize
 }
 
 impl BackwardText {
-    /// No text yet.
+    /// An empty text.
     pub(crate) fn new() -> BackwardText
         ensures { result ≡ [] }
     {
@@ -51,14 +51,14 @@ impl BackwardText {
         }
     }
 
-    /// Takes the text away.
+    /// Clears the text.
     pub(crate) fn clear(&mut self)
         ensures { self.new ≡ [] }
     {
         self.start = ROOM;
     }
 
-    /// How many bytes more there is room for.
+    /// The number of bytes that there is still room for.
     pub(crate) fn room(&self) -> usize
         ensures { result + length self.now ≡ 4096 }
     {

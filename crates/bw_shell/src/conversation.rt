@@ -1,4 +1,4 @@
-//! A store that stays between scripts.
+//! A store that is kept between scripts.
 
 ghost use Rattle.std.specs.Prelude.{◌≡◌, [], IfOk, MatchOption, MatchResult, None, Some};
 ghost use Rattle.bw_shell.specs.Conversations.{Held, KeepsRest, Responds, held, state_of, without_replies};
@@ -10,8 +10,8 @@ use crate::session::Session;
 use std::alloc::{AllocError, Global};
 use std::marker::Model;
 
-/// A store that answers script after script, with files in memory. A contract sees its tables, its files, what comes
-/// after a reply that is an error, and the bytes of the replies that weren't dropped yet.
+/// A store that answers script after script, with files in memory. Contracts see its tables, its files, what follows an
+/// error reply, and the bytes of the replies that haven't been dropped.
 #[derive(Drop)]
 pub struct Conversation {
     session: Session,
@@ -32,7 +32,7 @@ impl Model for Conversation {
 }
 
 impl Conversation {
-    /// A store without tables and without files, and no reply.
+    /// A store without tables, files and replies.
     pub fn new(alloc: Global, on_error: OnError) -> Result<Conversation, AllocError>
         ensures { IfOk result (λ c. c ≡ held on_error [] [] []) }
     {
@@ -43,9 +43,9 @@ impl Conversation {
         })
     }
 
-    /// Answers a script over what the scripts before it left, and puts its replies after those that are there. The end of
-    /// the script ends its last part, so nothing of it is left for the next script. `WriteFault` where a reply had no
-    /// memory: its statement was carried out, a prefix of the reply stands, and the parts after it were not answered.
+    /// Runs a script on the state that earlier scripts left, and appends its replies to the existing ones. The end of
+    /// the script ends its last part, so no part continues in the next script. Returns `WriteFault` if a reply ran out
+    /// of memory: then its statement was executed, a prefix of the reply is written, and later parts are not answered.
     pub fn answer(&mut self, script: &[u8]) -> RunEnd
         ensures answers { Responds self.old.on_error script.now (state_of self.old) self.old.replies self.new.replies result (state_of self.new) }
         ensures on_error { self.new.on_error ≡ self.old.on_error }
@@ -71,19 +71,20 @@ impl Conversation {
         self.replies.clear();
     }
 
-    /// Makes one of its files anew with these bytes, for LOAD and OPEN. Where there is no memory, no file changes.
+    /// Creates or replaces one of its files with these bytes, for LOAD and OPEN. If it runs out of memory, no file
+    /// changes.
     pub fn put_file(&mut self, name: &str, bytes: &[u8]) -> Result<(), AllocError>
         ensures files { MatchResult result (λ _. IsSet name.now bytes.now self.old.files self.new.files) (λ _. self.new.files ≡ self.old.files) }
         ensures rest { KeepsRest self.old self.new }
     {
         match self.folder.write(name, bytes) {
             Ok(()) => Ok(()),
-            // Files in memory fail for want of memory alone.
+            // Files in memory fail only by running out of memory.
             Err(_) => Err(AllocError),
         }
     }
 
-    /// The bytes of one of its files, as SAVE or `put_file` made it; `None` where it isn't there.
+    /// The bytes of one of its files, as SAVE or `put_file` wrote it; `None` if there is no such file.
     pub fn file(&self, name: &str) -> Option<&[u8]>
         ensures { MatchOption result (file_of self.now.files name.now ≡ None) (λ bytes. file_of self.now.files name.now ≡ Some bytes.now) }
     {

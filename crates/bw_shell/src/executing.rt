@@ -1,4 +1,4 @@
-//! A statement carried out, with a folder for its file.
+//! Executes a statement, with a folder for its file.
 
 ghost use Rattle.std.specs.Prelude.{◌≡◌, ◌≤◌, ◌<◌, ◌+◌, ◌^◌, IsSome, None};
 ghost use Rattle.bw_engine.specs.Files.{Replies};
@@ -15,7 +15,7 @@ use crate::folders::{Folder, FolderFault};
 use bw_engine::{Engine, FILE_LIMIT, FileAnswer, Outcome, Refusal, Reply, Saving};
 use bw_sql::Statement;
 
-/// Carries out a statement. The file that it wants is read first, and what it hands out is written.
+/// Executes a statement. Reads the file that it wants first, and writes the bytes of a SAVE.
 pub(crate) fn execute<F: Folder>(engine: &mut Engine, folder: &mut F, statement: Statement) -> Reply
     requires { F.failure_count folder.old < 2 ^ 63 }
     ensures answers { Answers (with_tables engine.old (seen (F.files folder.old) (F.failure_count folder.old))) (statement_of statement) result (with_tables engine.new (seen (F.files folder.new) (F.failure_count folder.new))) }
@@ -28,7 +28,7 @@ pub(crate) fn execute<F: Folder>(engine: &mut Engine, folder: &mut F, statement:
     }
 }
 
-/// The bytes of the file that a statement wants, or why they aren't there. `None` where it wants no file.
+/// The bytes of the file that a statement wants, or the fault of reading it. `None` if it wants no file.
 fn read_wanted<F: Folder>(
     engine: &Engine,
     folder: &mut F,
@@ -41,7 +41,7 @@ fn read_wanted<F: Folder>(
     Some(folder.read(name, FILE_LIMIT))
 }
 
-/// Carries out a statement that wants no file.
+/// Executes a statement that wants no file.
 fn execute_alone<F: Folder>(engine: &mut Engine, folder: &mut F, statement: Statement) -> Reply
     requires few { F.failure_count folder.old < 2 ^ 63 }
     requires alone { file_read (file_use (store_of engine.old) (statement_of statement)) ≡ None }
@@ -54,7 +54,7 @@ fn execute_alone<F: Folder>(engine: &mut Engine, folder: &mut F, statement: Stat
     }
 }
 
-/// The reply to a statement whose file the folder didn't give.
+/// The reply to a statement whose file couldn't be read.
 fn answer_fault(engine: &mut Engine, statement: Statement, fault: FolderFault) -> Reply
     requires { IsSome (file_read (file_use (store_of engine.old) (statement_of statement))) }
     ensures replies { AnswersFault fault engine.old (statement_of statement) result (store_of engine.new) }
@@ -80,7 +80,7 @@ fn answer_of(engine: &mut Engine, statement: Statement, file: FileAnswer<'_>) ->
     }
 }
 
-/// Makes a file anew with the bytes of a table.
+/// Creates or replaces a file with the bytes of a table.
 fn save<F: Folder>(folder: &mut F, saving: Saving) -> Reply
     requires { F.failure_count folder.old < 2 ^ 63 }
     ensures { WritesOut saving.file saving.bytes.items saving.rows (seen (F.files folder.old) (F.failure_count folder.old)) (seen (F.files folder.new) (F.failure_count folder.new)) result }

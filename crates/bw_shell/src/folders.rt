@@ -1,4 +1,4 @@
-//! Folders, where a statement's files lie.
+//! Folders that hold the files of statements.
 
 ghost use Rattle.std.specs.Prelude.{◌≡◌, ℕ, ◌<◌, ◌≤◌, ◌^◌, [], None, Option, Some, IfErr, IfOk, MatchOption, length};
 ghost use Rattle.bw_shell.specs.Folders.{Files, IsWriteFault, Reads, Writes, failures_after, file_of};
@@ -8,7 +8,7 @@ use std::alloc::{AllocError, AllocFailed, Global};
 use std::collections::BTreeMap;
 use std::marker::Model;
 
-/// Why a folder didn't do what it was asked.
+/// Why a call to a folder failed.
 #[derive(Clone, Copy, Debug, PartialEq, Eq, Drop)]
 pub enum FolderFault {
     /// There is no such file.
@@ -17,7 +17,7 @@ pub enum FolderFault {
     TooLarge,
     /// The folder failed.
     Failed,
-    /// A growth was refused.
+    /// Out of memory.
     Memory,
 }
 
@@ -37,35 +37,35 @@ impl<T: Drop> From<AllocFailed<T>> for FolderFault {
     }
 }
 
-/// Where a statement's files lie. It counts how often it failed, and may give its files.
+/// A folder that holds the files of statements. It counts its failures, and contracts may see its files.
 pub trait Folder {
-    /// How often it failed so far.
+    /// The number of failures so far.
     ghost failure_count: { Self → ℕ };
 
-    /// Its files, where they are known.
+    /// Its files, if they are known.
     ghost files: { Self → Option Files } = { λ _. None };
 
-    /// The bytes of a file of at most `limit` bytes. No file changes.
+    /// Reads a file of at most `limit` bytes. No file changes.
     fn read(&mut self, name: &str, limit: usize) -> Result<Vec<u8>, FolderFault>
         requires { failure_count self.old < 2 ^ 63 }
         ensures failures { failure_count self.new ≡ failures_after result (failure_count self.old) }
         ensures within { IfOk result (λ bytes. length bytes.items ≤ limit) }
         ensures files { Reads limit name.now (files self.old) (files self.new) result };
 
-    /// Makes the file anew with these bytes. The answer is never `Missing` or `TooLarge`. After
-    /// `Failed` the file holds anything or is gone; no other file changes.
+    /// Creates or replaces the file with these bytes. Never returns `Missing` or `TooLarge`. After `Failed` the file
+    /// may have any content or be gone; no other file changes.
     fn write(&mut self, name: &str, bytes: &[u8]) -> Result<(), FolderFault>
         requires { failure_count self.old < 2 ^ 63 }
         ensures failures { failure_count self.new ≡ failures_after result (failure_count self.old) }
         ensures files { Writes name.now bytes.now (files self.old) (files self.new) result }
         ensures fault { IfErr result IsWriteFault };
 
-    /// How many calls answered `Failed`.
+    /// The number of calls that returned `Failed`.
     fn failures(&self) -> u64
         ensures { result ≡ failure_count self.now };
 }
 
-/// A folder in memory, which never fails. A contract sees the names and bytes of its files.
+/// A folder in memory, which never returns `Failed`. Contracts see the names and bytes of its files.
 #[derive(Drop)]
 pub struct MemoryFolder {
     alloc: Global,
@@ -92,7 +92,7 @@ impl MemoryFolder {
         }
     }
 
-    /// The bytes of a file, where it is there.
+    /// The bytes of a file, if it exists.
     pub fn file(&self, name: &str) -> Option<&[u8]>
         ensures { MatchOption result (file_of self.now name.now ≡ None) (λ bytes. file_of self.now name.now ≡ Some bytes.now) }
     {

@@ -9,7 +9,8 @@ use std::fs::{self, Files, OpenFile};
 use std::io::{Error, ErrorKind, Read, Write};
 use std::marker::Model;
 
-/// The host's files: a name is a path from the working directory. A contract sees how often it failed, and no file.
+/// The host's files: a name is a path relative to the working directory. Contracts see the number of failures, and no
+/// file.
 #[derive(Drop)]
 pub struct HostFolder<'a, H: Files> {
     alloc: Global,
@@ -26,7 +27,7 @@ impl<'a, H: Files> Model for HostFolder<'a, H> {
 }
 
 impl<'a, H: Files> HostFolder<'a, H> {
-    /// The host's files, of which none has failed yet.
+    /// The host's files, with no failures so far.
     pub fn new(alloc: Global, host: &'a H) -> HostFolder<'a, H>
         ensures { result ≡ 0 }
     {
@@ -58,7 +59,7 @@ impl<'a, H: Files> Folder for HostFolder<'a, H> {
     }
 }
 
-// A failure counts, and nothing else.
+// Counts the result if it is `Failed`.
 fn count_failure<T>(failures: &mut u64, answer: &Result<T, FolderFault>)
     requires { failures.old < 2 ^ 63 }
     ensures { failures.new ≡ failures_after answer.now failures.old }
@@ -68,7 +69,7 @@ fn count_failure<T>(failures: &mut u64, answer: &Result<T, FolderFault>)
     }
 }
 
-// The bytes of a file. One that is longer than the limit is not read.
+// Reads a file, unless it is longer than the limit.
 fn read_file<H: Files>(
     alloc: Global,
     host: &H,
@@ -88,9 +89,9 @@ fn read_file<H: Files>(
     if length > limit as u64 {
         return Err(FolderFault::TooLarge);
     }
-    // Room for one byte more, so that the read that finds the end does not make the vector grow.
+    // Room for one more byte, so that the read that finds the end doesn't make the vector grow.
     let mut bytes = Vec::with_capacity(alloc, (length as usize).saturating_add(1))?;
-    // The file may have grown meanwhile, which a byte after the limit shows.
+    // The file may have grown meanwhile; a byte past the limit shows that.
     let mut rest = file.take((limit as u64).saturating_add(1));
     match rest.read_to_end(&mut bytes) {
         Ok(_) if bytes.len() <= limit => Ok(bytes),
@@ -99,7 +100,7 @@ fn read_file<H: Files>(
     }
 }
 
-// Makes a file anew with these bytes.
+// Creates or replaces a file with these bytes.
 fn write_file<H: Files>(host: &H, name: &str, bytes: &[u8]) -> Result<(), FolderFault>
     ensures { IfErr result IsWriteFault }
 {

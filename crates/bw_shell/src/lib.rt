@@ -1,4 +1,4 @@
-//! A script of statements run over a reader, a writer and a folder, and the text of the replies.
+//! Runs a script of statements over a reader, a writer and a folder, and writes the text of the replies.
 #![tactic(auto)]
 
 mod backward_text;

@@ -1,4 +1,4 @@
-//! The lines of an answer. Lines of values are put together in a buffer of their own and written at once.
+//! The lines of an answer. Lines of values are built in a buffer and written at once.
 
 ghost use Rattle.std.specs.Bool.{OnTrue};
 ghost use Rattle.std.specs.Prelude.{◌≡◌, ◌++◌, ◌∷◌};
@@ -14,8 +14,8 @@ use bw_model::{Cell, Cells};
 use bw_sql::Value;
 use std::io::Write;
 
-/// Up to this many values are put together at a time, and at least a line. A value and what parts it from the
-/// next take 21 bytes at most, so there is room for them.
+/// Blocks have up to this many values, but at least one line. A value and its separator take at most 21 bytes, so the
+/// buffer has room for them.
 const VALUES: usize = 192;
 
 /// Writes the lines, each of `width` cells.
@@ -33,7 +33,7 @@ pub(crate) fn put_lines<W: Write>(
     }
 }
 
-/// Writes the lines that show the values, each of `width`, by blocks of whole lines.
+/// Writes the values as lines of `width` values, in blocks of whole lines.
 fn put_values<W: Write>(writer: &mut W, values: &[Value], width: usize) -> Result<(), WriteFault>
     requires { AreWholeLines width (shown_all values.now) }
     ensures { Wrote (W.contents writer.old) (W.contents writer.new) (lines_text (lines_of width (shown_all values.now))) result }
@@ -49,7 +49,7 @@ fn put_values<W: Write>(writer: &mut W, values: &[Value], width: usize) -> Resul
     Ok(())
 }
 
-/// Writes some lines, put together in the buffer where there is room for them.
+/// Writes some lines, built in the buffer if they fit.
 fn put_block<W: Write>(
     writer: &mut W,
     text: &mut BackwardText,
@@ -66,7 +66,7 @@ fn put_block<W: Write>(
     put_each_value_line(writer, values, width)
 }
 
-/// Writes the lines that show the values, value after value.
+/// Writes the lines of the values, value by value.
 fn put_each_value_line<W: Write>(
     writer: &mut W,
     values: &[Value],
@@ -84,8 +84,8 @@ fn put_each_value_line<W: Write>(
     Ok(())
 }
 
-/// Puts the lines that show the values before the text and gives true, unless there is no room. Then the text may be
-/// anything.
+/// Puts the lines of the values before the text and returns true. Returns false if there is no room; then the text is
+/// unspecified.
 fn lines_before(text: &mut BackwardText, values: &[Value], width: usize) -> bool
     requires { AreWholeLines width (shown_all values.now) }
     ensures { OnTrue result (text.new ≡ lines_text (lines_of width (shown_all values.now)) ++ text.old) }
@@ -101,8 +101,8 @@ fn lines_before(text: &mut BackwardText, values: &[Value], width: usize) -> bool
     true
 }
 
-/// Puts the line that shows the values before the text and gives true, unless there is no room. Then the text may be
-/// anything.
+/// Puts the line of the values before the text and returns true. Returns false if there is no room; then the text is
+/// unspecified.
 fn line_before(text: &mut BackwardText, values: &[Value]) -> bool
     ensures { OnTrue result (text.new ≡ line (with_commas value_text values.now) ++ text.old) }
 {
@@ -128,7 +128,7 @@ fn line_before(text: &mut BackwardText, values: &[Value]) -> bool
     true
 }
 
-/// Puts a byte before the text and gives true, unless there is no room.
+/// Puts a byte before the text and returns true. Returns false if there is no room.
 fn byte_before(text: &mut BackwardText, byte: u8) -> bool
     ensures { OnTrue result (text.new ≡ byte ∷ text.old) }
 {
@@ -139,7 +139,7 @@ fn byte_before(text: &mut BackwardText, byte: u8) -> bool
     true
 }
 
-/// Puts a value before the text and gives true, unless there may be no room.
+/// Puts a value before the text and returns true. Returns false if there may be no room.
 fn value_before(text: &mut BackwardText, value: &Value) -> bool
     ensures { OnTrue result (text.new ≡ value_text value.now ++ text.old) }
 {
@@ -153,7 +153,7 @@ fn value_before(text: &mut BackwardText, value: &Value) -> bool
     true
 }
 
-/// Writes the line that shows the values.
+/// Writes the line of the values.
 fn put_value_line<W: Write>(writer: &mut W, values: &[Value]) -> Result<(), WriteFault>
     ensures { Wrote (W.contents writer.old) (W.contents writer.new) (line (with_commas value_text values.now)) result }
 {
@@ -161,7 +161,7 @@ fn put_value_line<W: Write>(writer: &mut W, values: &[Value]) -> Result<(), Writ
     put(writer, b"\n")
 }
 
-/// Writes values with a comma between each two.
+/// Writes values separated by commas.
 fn put_comma_values<W: Write>(writer: &mut W, values: &[Value]) -> Result<(), WriteFault>
     ensures { Wrote (W.contents writer.old) (W.contents writer.new) (with_commas value_text values.now) result }
 {
@@ -185,7 +185,7 @@ fn put_value<W: Write>(writer: &mut W, value: &Value) -> Result<(), WriteFault>
     }
 }
 
-/// Writes the lines, cell after cell.
+/// Writes the lines, cell by cell.
 fn put_each_line<W: Write>(writer: &mut W, cells: &[Cell], width: usize) -> Result<(), WriteFault>
     requires { AreWholeLines width cells.now }
     ensures { Wrote (W.contents writer.old) (W.contents writer.new) (lines_text (lines_of width cells.now)) result }
@@ -207,7 +207,7 @@ fn put_line<W: Write>(writer: &mut W, cells: &[Cell]) -> Result<(), WriteFault>
     put(writer, b"\n")
 }
 
-/// Writes cells with a comma between each two.
+/// Writes cells separated by commas.
 fn put_cells<W: Write>(writer: &mut W, cells: &[Cell]) -> Result<(), WriteFault>
     ensures { Wrote (W.contents writer.old) (W.contents writer.new) (with_commas cell_text cells.now) result }
 {

@@ -1,11 +1,11 @@
-//! A script read piece by piece.
+//! Reads a script piece by piece.
 
 ghost use Rattle.std.specs.Prelude.{◌<◌, length};
 ghost use Rattle.bw_shell.specs.Script.{GivesNext};
 
 use std::io::Read;
 
-/// A longer script is cut here, and its reading counts as failed: 2^30 bytes.
+/// The largest script, 2^30 bytes. A longer one is cut here, and its reading counts as failed.
 pub(crate) const LONGEST_SCRIPT: usize = 1 << 30;
 
 /// How the reading of a script ended.
@@ -17,7 +17,7 @@ pub enum ScriptEnd {
     Fault,
 }
 
-/// What comes next of a script.
+/// The next piece of a script.
 #[derive(Clone, Copy, Debug, PartialEq, Eq)]
 pub(crate) enum Next {
     /// This many bytes, at the start of the buffer.
@@ -25,8 +25,8 @@ pub(crate) enum Next {
     End(ScriptEnd),
 }
 
-/// One read into a buffer, of no more than `left` bytes. Where no byte may follow, one is asked for all the same, since it shows
-/// whether the script ends there.
+/// Reads once into a buffer, at most `left` bytes. If `left` is 0, one byte is still read, as it shows whether the
+/// script ends there.
 pub(crate) fn read_piece<R: Read>(reader: &mut R, buffer: &mut [u8], left: usize) -> Next
     requires room { 0 < length buffer.old }
     ensures { GivesNext (R.remaining reader.old) (R.remaining reader.new) left buffer.new result }

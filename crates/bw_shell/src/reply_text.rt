@@ -1,4 +1,4 @@
-//! The text of a reply. It is written piece by piece and takes no memory.
+//! The text of a reply. It is written piece by piece, without allocating.
 
 ghost use Rattle.std.specs.Prelude.{◌≡◌, ◌++◌, ◌<◌, ◌*◌, ℕ, List, codes, decimal, length};
 ghost use Rattle.bw_model.specs.Answers.{Shown};
@@ -10,7 +10,7 @@ use crate::writing::{WriteFault, put, put_number};
 use bw_model::{Answer, Heading, Refusal, Reply};
 use std::io::Write;
 
-/// Writes the lines of a reply, or a prefix of them where the writer fails.
+/// Writes the lines of a reply, or a prefix of them if the writer fails.
 pub fn write_reply<W: Write>(writer: &mut W, reply: &Reply) -> Result<(), WriteFault>
     ensures { Wrote (W.contents writer.old) (W.contents writer.new) (reply_text reply.now) result }
 {

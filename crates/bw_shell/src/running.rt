@@ -1,4 +1,4 @@
-//! A script run from its bytes to the bytes of its replies.
+//! Runs a script, from its bytes to the bytes of its replies.
 
 ghost use Rattle.std.specs.Prelude.{◌≡◌, ◌≤◌, ◌<◌, ◌^◌, [], IfOk, length};
 ghost use Rattle.bw_shell.specs.Run.{IsRun, RunsTo};
@@ -11,10 +11,10 @@ use crate::session::Session;
 use std::alloc::{AllocError, Global};
 use std::io::{Read, Write};
 
-// How many bytes are asked for at a time.
+// The number of bytes that are read at a time.
 const PIECE: usize = 65_536;
 
-/// What comes after a reply that is an error.
+/// What follows an error reply.
 #[derive(Clone, Copy, Debug, PartialEq, Eq)]
 pub enum OnError {
     Continue,
@@ -26,10 +26,10 @@ pub enum OnError {
 pub enum RunEnd {
     /// Each part of the script was answered.
     Done,
-    /// A reply was an error, and the run was to stop there.
+    /// A reply was an error, and the run stops at errors.
     Stopped,
-    /// The reader failed, or the script is longer than 2^30 bytes. The parts before that which a `;`
-    /// closes were answered.
+    /// The reader failed, or the script is longer than 2^30 bytes. The parts before that point that a `;` closes were
+    /// answered.
     ReadFault,
     /// A write failed or took no byte, or a flush failed. What was written is whole replies and a prefix of
     /// the next.
@@ -38,9 +38,9 @@ pub enum RunEnd {
     Memory,
 }
 
-/// Answers each part of a script in order over a store without tables, and writes the replies. Files are read from
-/// the folder and written to it. Each reply is written before more of the script is asked for than the piece in hand, and
-/// the memory for the script's text doesn't grow with it.
+/// Answers each part of a script in order over a store without tables, and writes the replies. Files are read from the
+/// folder and written to it. Each reply is written before the next piece of the script is read, and the memory for the
+/// script's text doesn't grow with its length.
 pub fn run<R: Read, W: Write, F: Folder>(
     alloc: Global,
     reader: &mut R,

@@ -1,4 +1,4 @@
-//! The parts of a script answered one after the other, while it is read.
+//! Answers the parts of a script one after the other, while it is read.
 
 ghost use Rattle.std.specs.Prelude.{◌≡◌, ◌≤◌, ◌<◌, ◌+◌, ◌^◌, IfOk, IfSome, List, MatchResult, [], length, ℕ};
 ghost use Rattle.bw_lex.specs.declared.fault.SqlFault.TheVariants.{TooLong};
@@ -22,7 +22,7 @@ use bw_sql::{SqlFault, statement};
 use std::alloc::{AllocError, Global};
 use std::io::Write;
 
-/// A store and the part of a script that is begun.
+/// A store, and the part of a script that has begun.
 #[derive(Drop)]
 pub(crate) struct Session {
     alloc: Global,
@@ -48,7 +48,7 @@ impl Session {
         })
     }
 
-    /// Answers the parts that this piece of the script closes. `None` where the run goes on.
+    /// Answers the parts that this piece of the script closes. Returns `None` if the run goes on.
     pub(crate) fn answer_piece<W: Write, F: Folder>(
         &mut self,
         writer: &mut W,
@@ -98,7 +98,7 @@ impl Session {
         }
     }
 
-    /// Answers the part that stands, and begins the next. `None` where the run goes on.
+    /// Answers the current part, and begins the next one. Returns `None` if the run goes on.
     fn answer_part<W: Write, F: Folder>(
         &mut self,
         writer: &mut W,
@@ -127,7 +127,7 @@ impl Session {
     }
 }
 
-// Whether the run is to stop after this reply.
+// Whether the run stops after this reply.
 fn stops(on_error: OnError, reply: &Reply) -> bool
     ensures { result ≡ stops on_error reply.now }
 {
@@ -162,8 +162,8 @@ fn reply_to<F: Folder>(
     }
 }
 
-// Writes a reply and flushes the writer. No clause can name a flush, since the trait says of one only
-// that the bytes stay.
+// Writes a reply and flushes the writer. No clause mentions the flush, since the trait only ensures that it keeps the
+// bytes.
 fn hand_over<W: Write>(writer: &mut W, reply: &Reply) -> Result<(), WriteFault>
     ensures { Wrote (W.contents writer.old) (W.contents writer.new) (reply_text reply.now) result }
 {

@@ -1,4 +1,4 @@
-//! Bytes and numbers written whole, or up to the point where the writer fails.
+//! Writes bytes and numbers completely, or up to the point where the writer fails.
 
 ghost use Rattle.std.specs.Prelude.{◌≡◌, decimal};
 ghost use Rattle.bw_shell.specs.Writing.{Wrote};
@@ -10,7 +10,7 @@ use std::io::Write;
 #[derive(Clone, Copy, Debug, PartialEq, Eq, Drop)]
 pub struct WriteFault;
 
-/// Writes all of the bytes, or a prefix of them where the writer fails.
+/// Writes all of the bytes, or a prefix of them if the writer fails.
 pub fn put<W: Write>(writer: &mut W, bytes: &[u8]) -> Result<(), WriteFault>
     ensures { Wrote (W.contents writer.old) (W.contents writer.new) bytes.now result }
 {

@@ -1,4 +1,4 @@
--- What INSERT, UPDATE, DELETE and REBUILD make of the slots of a table, and of the encodings of its columns.
+-- How INSERT, UPDATE, DELETE and REBUILD change the slots of a table and the encodings of its columns.
 use Rattle.std.specs.Prelude.{Bool, List, None, Option, Some, [], false, if◌then◌else◌, length, map, nat_le, not, slice_index_or, true, ℕ, ℤ, ◌&&◌, ◌++◌, ◌+◌, ◌<◌, ◌==◌, ◌≡◌}
 use Rattle.std.specs.List.{All, filter, list_all, range_with_len}
 use Rattle.std.specs.Map.{lookup}
@@ -18,18 +18,18 @@ use Rattle.bw_table.specs.declared.choice.Choice.{Choice}
 use Rattle.bw_table.specs.declared.setting.SetTo.{SetTo}
 use Rattle.bw_table.specs.declared.setting.SetTo.TheVariants.{Column, Value}
 
--- each column is encoded as its values and its column of the rows ask
+-- each column's encoding follows from its values and its new ones
 abbrev pub AreEncodingsFor : List Slot → List Encoding → List (List (Option ℤ)) → List Encoding → Type 0
 AreEncodingsFor slots own rows encodings = (k : ℕ) (d e : Encoding) → k < length own → IsEncodingFor (slot_column slots k) (slice_index_or own k d) (column_of rows k) (slice_index_or encodings k e)
 
--- the rows stand last, in live slots
+-- the rows are appended in live slots
 pub record AreAppended (old : SlotsView) (rows : List (List (Option ℤ))) (new : SlotsView) : Type 0 where
   pub slots_are : new.slots ≡ old.slots ++ map live_slot rows
   pub layouts_are : new.layouts ≡ old.layouts
   pub width : length new.encodings ≡ length old.encodings
   pub encodings_are : AreEncodingsFor old.slots old.encodings rows new.encodings
 
--- what a column is to be built anew by: of several choices for it, the first
+-- how a column is to be rebuilt: by the first choice for it
 abbrev pub choice_of : List (ℕ × Choice) → ℕ → Option Choice
 choice_of choices k = lookup (λ column. column == k) choices
 
@@ -41,21 +41,21 @@ abbrev pub kind_or : Option Kind → Kind → Kind
 kind_or None own = own
 kind_or (Some kind) own = kind
 
--- a choice that names no kind leaves it
+-- a choice that names no kind keeps the column's kind
 abbrev pub chosen_kind : Option Choice → Kind → Kind
 chosen_kind None own = own
 chosen_kind (Some choice) own = kind_or choice.kind own
 
--- column k by the encoding that fits its values, of the kind that is chosen
+-- a column with the encoding of the chosen kind that fits its values
 pub record IsBuiltAnew (choice : Option Choice) (values : List (Option ℤ)) (own e : Encoding) : Type 0 where
   pub kind : kind_of e ≡ chosen_kind choice (kind_of own)
   pub fits : IsFit (known values) e
 
--- the layout that is chosen for each column holds its values
+-- the layout chosen for each column holds its values
 abbrev pub HoldAsChosen : List (ℕ × Choice) → SlotsView → Type 0
 HoldAsChosen choices slots = (k : ℕ) (l : Layout) → k < length slots.layouts → All (IsNullOrHeld (chosen_layout (choice_of choices k) (slice_index_or slots.layouts k l))) (slot_column slots.slots k)
 
--- the live slots alone, and each column built anew, as the choices say
+-- the live slots alone, with each column rebuilt and the choices applied
 pub record AreRebuilt (choices : List (ℕ × Choice)) (old new : SlotsView) : Type 0 where
   pub slots_are : new.slots ≡ live_slots old.slots
   pub layouts_count : length new.layouts ≡ length old.layouts
@@ -63,7 +63,7 @@ pub record AreRebuilt (choices : List (ℕ × Choice)) (old new : SlotsView) : T
   pub layouts_are : (k : ℕ) (l : Layout) → k < length old.layouts → slice_index_or new.layouts k l ≡ chosen_layout (choice_of choices k) (slice_index_or old.layouts k l)
   pub encodings_are : (k : ℕ) (e : Encoding) → k < length old.encodings → IsBuiltAnew (choice_of choices k) (slot_column new.slots k) (slice_index_or old.encodings k e) (slice_index_or new.encodings k e)
 
--- there is no room for the rows, whatever becomes of the dead slots
+-- there is no room for the rows, even if the dead slots are dropped
 abbrev pub IsFull : SlotsView → List (List (Option ℤ)) → Type 0
 IsFull old rows = slot_limit < length (live_slots old.slots) + length rows
 
@@ -71,15 +71,15 @@ abbrev pub Inserts : Bool → SlotsView → List (List (Option ℤ)) → SlotsVi
 Inserts true old rows new = AreAppended old rows new
 Inserts false old rows new = (compact : SlotsView) × AreRebuilt [] old compact × AreAppended compact rows new
 
--- the rows stand last; where there are not enough slots for them, the dead ones were dropped first
+-- the rows are appended; if there are not enough slots for them, the dead ones are dropped first
 abbrev pub AreInserted : SlotsView → List (List (Option ℤ)) → SlotsView → Type 0
 AreInserted old rows new = Inserts (nat_le (length old.slots + length rows) slot_limit) old rows new
 
--- the slots, of which the found ones are dead
+-- the slots, with the found ones dead
 abbrev pub slots_without : MaskRows → List Slot → List Slot
 slots_without found slots = made (length slots) (λ i. record { row = (slot_at slots i).row; live = (slot_at slots i).live && not (row_at found i) })
 
--- the places that a mask has in, in order
+-- the indexes of the mask's set places, in order
 abbrev pub places_below : MaskRows → ℕ → List ℕ
 places_below mask n = filter (row_at mask) (range_with_len 0 n)
 
@@ -111,28 +111,28 @@ sets_fit types sets row = list_all (λ set. is_null_or_of_type (type_at types se
 abbrev pub rows_found : MaskRows → List Slot → List (List (Option ℤ))
 rows_found found slots = map (λ i. (slot_at slots i).row) (places found)
 
--- whether they do in each found slot; a value that is no copy does anyway
+-- whether the sets fit in each found slot; a value that isn't copied always fits
 abbrev pub copies_fit : List ColumnType → MaskRows → List (ℕ × SetTo) → List Slot → Bool
 copies_fit types found sets slots = list_all (sets_fit types sets) (rows_found found slots)
 
--- what column k is set to, if it is
+-- what column k is set to, if anything
 abbrev pub set_of : List (ℕ × SetTo) → ℕ → Option SetTo
 set_of sets k = lookup (λ column. column == k) sets
 
--- value k of a row, where the column is set, and where it isn't
+-- the new value k of a row: unchanged unless the column is set
 abbrev pub new_value : Option SetTo → List (Option ℤ) → ℕ → Option ℤ
 new_value None row k = value_at row k
 new_value (Some to) row k = value_for to row
 
--- the row with its columns set, each to what the row as it was says
+-- the row with its columns set, each from the row as it was
 abbrev pub row_with : List (ℕ × SetTo) → List (Option ℤ) → List (Option ℤ)
 row_with sets row = made (length row) (λ k. new_value (set_of sets k) row k)
 
--- the slots, of which the found ones have their columns set
+-- the slots, with columns set in the found ones
 abbrev pub slots_with : MaskRows → List (ℕ × SetTo) → List Slot → List Slot
 slots_with found sets slots = made (length slots) (λ i. record { row = if row_at found i then row_with sets (slot_at slots i).row else (slot_at slots i).row; live = (slot_at slots i).live })
 
--- a column that is set is encoded as its values and those that it takes ask, and any other as it was
+-- the encoding of a column that is set follows from its values and its new ones; any other is unchanged
 abbrev pub IsEncodingWith : List (List (Option ℤ)) → Option SetTo → List (Option ℤ) → Encoding → Encoding → Type 0
 IsEncodingWith rows None old own encoding = encoding ≡ own
 IsEncodingWith rows (Some to) old own encoding = IsEncodingFor old own (map (value_for to) rows) encoding

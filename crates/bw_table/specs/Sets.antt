@@ -1,4 +1,4 @@
--- Columns that are set in the rows of a mask, in two halves, and columns built anew from such rows.
+-- Columns that are set in the rows of a mask, in two steps, and columns rebuilt from such rows.
 use Rattle.std.specs.Prelude.{List, None, Option, Some, [], count_by, false, length, map, replicate, slice_index_or, ⊤, ℕ, ℤ, ◌<◌, ◌≡◌}
 use Rattle.std.specs.List.{filter, range_with_len}
 use Rattle.bw_mask.specs.Masks.{MaskRows, bit_of}
@@ -20,7 +20,7 @@ use Rattle.bw_table.specs.declared.taking.Change.{Change}
 use Rattle.bw_table.specs.declared.taking.Taken.{Taken}
 use Rattle.bw_table.specs.declared.taking.Taken.TheVariants.{Copied, Each, Same}
 
--- a column that another is set to is there
+-- a column that another is set to exists
 abbrev pub IsThere : ℕ → SetTo → Type 0
 IsThere columns (Value x) = ⊤
 IsThere columns (Column k) = k < columns
@@ -29,7 +29,7 @@ IsThere columns (Column k) = k < columns
 abbrev pub gathered : List ColumnView → MaskRows → SetTo → List (Option ℤ)
 gathered columns mask to = map (λ i. value_for to (row_of columns i)) (places mask)
 
--- of the values of a run those whose bit is set, in order
+-- the values of a run whose bit is set, in order
 abbrev pub picked : ℕ → List (Option ℤ) → List (Option ℤ)
 picked rows run = map (value_at run) (filter (bit_of rows) (range_with_len 0 (length run)))
 
@@ -39,13 +39,13 @@ taken mask (Each values) = values.items
 taken mask (Same value) = replicate (count_by (λ row. row) mask.rows) value
 taken mask (Copied column) = chosen_values mask column.values
 
--- a copy is of the mask's rows, and both it and the column that takes it are of kind OFFSET
+-- a copy is null outside of the mask's rows, and both it and the column that takes it are of kind OFFSET
 abbrev pub FitsCopy : Kind → MaskRows → Taken → Type 0
 FitsCopy kind mask (Each values) = ⊤
 FitsCopy kind mask (Same value) = ⊤
 FitsCopy kind mask (Copied copy) = (kind ≡ kinds.Offset) × (kind_of copy.encoding ≡ kinds.Offset) × IsMasked mask copy.values
 
--- the change has the values of the set, and is prepared for its column as it stands
+-- the change has the values of the set, and is prepared for its column as it is
 pub record IsReadyFor (columns : List ColumnView) (found : MaskRows) (set : ℕ × SetTo) (change : Change) : Type 0 where
   pub values : taken found change.values ≡ gathered columns found set.1
   pub ready : (c : ColumnView) → IsPreparedFor (slice_index_or columns set.0 c) (taken found change.values) false change.prepared
@@ -54,7 +54,7 @@ pub record IsReadyFor (columns : List ColumnView) (found : MaskRows) (set : ℕ 
 abbrev pub AreReadyFor : List ColumnView → MaskRows → List (ℕ × SetTo) → List Change → Type 0
 AreReadyFor columns found sets changes = (j : ℕ) (s : ℕ × SetTo) (d : Change) → j < length changes → IsReadyFor columns found (slice_index_or sets j s) (slice_index_or changes j d)
 
--- the values stand in the found rows
+-- the values are written in the found rows
 pub record IsWritten (new old : ColumnView) (found : MaskRows) (values : List (Option ℤ)) : Type 0 where
   pub values_are : new.values ≡ overwritten found values old.values
   pub layout : new.layout ≡ old.layout
@@ -69,7 +69,7 @@ pub record AllSet (found : MaskRows) (sets : List (ℕ × SetTo)) (new old : Lis
   pub count : length new ≡ length old
   pub each : (k : ℕ) (d : ColumnView) → IsSet old found (set_of sets k) (slice_index_or new k d) (slice_index_or old k d)
 
--- column k built anew from its values in the rows of a mask, as the choices say
+-- column k rebuilt from its values in the rows of a mask, with the choices applied
 pub record IsBuilt (mask : MaskRows) (choices : List (ℕ × Choice)) (columns : List ColumnView) (k : ℕ) (new old : ColumnView) : Type 0 where
   pub values : new.values ≡ gathered columns mask (Column k)
   pub layout : new.layout ≡ chosen_layout (choice_of choices k) old.layout
@@ -80,7 +80,7 @@ pub record AllBuilt (mask : MaskRows) (choices : List (ℕ × Choice)) (new old 
   pub count : length new ≡ length old
   pub each : (k : ℕ) (d : ColumnView) → k < length old → IsBuilt mask choices old k (slice_index_or new k d) (slice_index_or old k d)
 
--- a column without values, as its header says
+-- an empty column, in the layout and of the kind in its header
 pub record IsEmptyAs {N : Type 0} (header : Header N) (column : ColumnView) : Type 0 where
   pub values : column.values ≡ []
   pub layout : column.layout ≡ header.layout

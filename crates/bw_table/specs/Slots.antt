@@ -18,25 +18,25 @@ pub record SlotsView : Type 0 where
   pub layouts : List Layout
   pub encodings : List Encoding
 
--- how many slots there may be
+-- the largest number of slots
 abbrev pub slot_limit : ℕ
 slot_limit = 2 ^ 24
 
 abbrev pub live_slot : List (Option ℤ) → Slot
 live_slot row = record { row = row; live = true }
 
--- past the last slot, one of an empty row
+-- slot i; past the last slot, one with an empty row
 abbrev pub slot_at : List Slot → ℕ → Slot
 slot_at slots i = slice_index_or slots i (live_slot [])
 
 abbrev pub live_slots : List Slot → List Slot
 live_slots slots = filter (λ slot. slot.live) slots
 
--- column k of rows, downward
+-- column k of rows, from top to bottom
 abbrev pub column_of : List (List (Option ℤ)) → ℕ → List (Option ℤ)
 column_of rows k = map (λ row. value_at row k) rows
 
--- column k of slots, dead ones too
+-- column k of slots, dead ones included
 abbrev pub slot_column : List Slot → ℕ → List (Option ℤ)
 slot_column slots k = column_of (map (λ slot. slot.row) slots) k
 
@@ -54,7 +54,7 @@ slots_of columns live = made (len live) (slot_of columns live)
 abbrev pub IsHeldRow : List Layout → List (Option ℤ) → Type 0
 IsHeldRow layouts row = AllZip IsNullOrHeld layouts row
 
--- columns of what their layouts hold, as long as the mask of the live slots
+-- columns of values that their layouts hold, each as long as the mask of the live slots
 pub record AreColumns (columns : List ColumnView) (live : MaskRows) : Type 0 where
   pub rows : (k : ℕ) (d : ColumnView) → k < length columns → length (slice_index_or columns k d).values ≡ len live
   pub few : len live ≤ 2 ^ 24

@@ -23,19 +23,19 @@ layouts headers = map (λ header. header.layout) headers
 abbrev pub slots_in : {N : Type 0} → TableView N → SlotsView
 slots_in table = record { slots = table.slots; layouts = layouts table.headers; encodings = table.encodings }
 
--- the headers tell the layout and the kind of each column, and its type: each slot has a value of it, which the layout holds
+-- the headers give the layout, the kind and the type of each column: each slot has a value of this type, which the layout holds
 pub record AreHeadersOf {N : Type 0} (headers : List (Header N)) (slots : SlotsView) : Type 0 where
   pub layouts_are : layouts headers ≡ slots.layouts
   pub kinds_are : map (λ header. header.kind) headers ≡ map kind_of slots.encodings
   pub typed : All (λ slot. IsRowOf (types_of headers) slot.row) slots.slots
   pub held : All (λ header. IsTrue (holds_its_type header)) headers
 
--- as many encodings as headers, each of its header's kind and as for no values
+-- one encoding for each header, of its kind, that fits a column without values
 pub record AreFirst {N : Type 0} (headers : List (Header N)) (encodings : List Encoding) : Type 0 where
   pub count : length encodings ≡ length headers
   pub each : (k : ℕ) (h : Header N) (e : Encoding) → k < length headers → IsFitted (slice_index_or headers k h) [] (slice_index_or encodings k e)
 
--- a header with what is chosen for its column
+-- a header with the choice for its column applied
 abbrev pub header_by : {N : Type 0} → Option Choice → Header N → Header N
 header_by choice header = record header { layout = chosen_layout choice header.layout; kind = chosen_kind choice header.kind }
 
@@ -43,6 +43,6 @@ pub record AreChosen {N : Type 0} (choices : List (ℕ × Choice)) (old new : Li
   pub count : length new ≡ length old
   pub each : (k : ℕ) (d : Header N) → k < length old → slice_index_or new k d ≡ header_by (choice_of choices k) (slice_index_or old k d)
 
--- the layout that is chosen for each column holds its type
+-- the layout chosen for each column holds its type
 abbrev pub HoldTypes : {N : Type 0} → List (ℕ × Choice) → List (Header N) → Type 0
 HoldTypes {N} choices headers = (k : ℕ) (h : Header N) → k < length headers → IsTrue (holds (chosen_layout (choice_of choices k) (slice_index_or headers k h).layout) (slice_index_or headers k h).column_type)

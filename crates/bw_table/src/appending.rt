@@ -1,4 +1,4 @@
-//! Rows added to all columns, in two halves: first each growth, then what takes no memory.
+//! Appends rows to all columns in two steps: first every allocation, then the writes, which can't fail.
 
 ghost use Rattle.std.specs.Prelude.{All, IfOk, length, map, replicate, slice_index_or, true, vec_len, ℕ, ◌++◌, ◌+◌, ◌<◌, ◌^◌, ◌≡◌, ◌≤◌};
 ghost use Rattle.std.specs.List.{range_with_len};
@@ -14,7 +14,7 @@ use bw_column::{Column, Prepared};
 use bw_mask::Mask;
 use std::alloc::{AllocError, Global};
 
-/// The first half: each column grows, and its list stays as it is, also where memory is wanting.
+/// The first step: each column reserves room. The values stay unchanged, even if it runs out of memory.
 pub(crate) fn prepare(
     columns: &mut Vec<Column>,
     alloc: Global,
@@ -36,7 +36,7 @@ pub(crate) fn prepare(
     Ok(prepared)
 }
 
-/// The second half: each column takes its values, and no memory.
+/// The second step: each column takes its values. Allocates nothing.
 pub(crate) fn apply(columns: &mut Vec<Column>, prepared: Vec<Prepared>, rows: &Rows<'_>)
     requires widths { All (λ row. vec_len columns.old ≤ length row) rows.now }
     requires count { vec_len prepared ≡ vec_len columns.old }
@@ -52,7 +52,7 @@ pub(crate) fn apply(columns: &mut Vec<Column>, prepared: Vec<Prepared>, rows: &R
     }
 }
 
-/// Adds so many live rows at the end of the mask, within the room.
+/// Appends `n` live rows to the mask, within its room.
 pub(crate) fn push_live(live: &mut Mask, n: usize)
     requires room { len live.old + n ≤ live.old.room }
     requires few { len live.old + n ≤ 2 ^ 32 }

@@ -1,4 +1,4 @@
-//! What a column is built anew by.
+//! How a column is to be rebuilt.
 
 ghost use Rattle.std.specs.Prelude.{◌≡◌};
 ghost use Rattle.bw_table.specs.Changes.{choice_of, chosen_kind, chosen_layout, kind_or};
@@ -6,14 +6,14 @@ ghost use Rattle.bw_table.specs.Tables.{AreChosen, header_by};
 
 use bw_code::{Header, Kind, Layout};
 
-/// The layout that a column is to have, and its kind where it is to have another.
+/// The layout for a column, and its kind if that is to change.
 #[derive(Clone, Copy, Debug, PartialEq, Eq)]
 pub struct Choice {
     pub layout: Layout,
     pub kind: Option<Kind>,
 }
 
-/// The choice for a column: of several, the first.
+/// The first choice for column `k`, if there is one.
 pub(crate) fn choice_of(choices: &[(usize, Choice)], k: usize) -> Option<Choice>
     ensures { result ≡ choice_of choices.now k }
 {
@@ -26,7 +26,7 @@ pub(crate) fn choice_of(choices: &[(usize, Choice)], k: usize) -> Option<Choice>
     None
 }
 
-/// The layout that is chosen, or the column's own.
+/// The chosen layout, or the column's own.
 pub(crate) fn chosen_layout(choice: Option<Choice>, own: Layout) -> Layout
     ensures { result ≡ chosen_layout choice own }
 {
@@ -36,7 +36,7 @@ pub(crate) fn chosen_layout(choice: Option<Choice>, own: Layout) -> Layout
     }
 }
 
-/// The kind that is chosen, or the column's own.
+/// The chosen kind, or the column's own.
 pub(crate) fn chosen_kind(choice: Option<Choice>, own: Kind) -> Kind
     ensures { result ≡ chosen_kind choice own }
 {
@@ -55,7 +55,7 @@ fn kind_or(kind: Option<Kind>, own: Kind) -> Kind
     }
 }
 
-/// Takes over what is chosen for a column.
+/// Puts a column's choice into its header.
 fn choose<N>(header: &mut Header<N>, choice: Option<Choice>)
     ensures { header.new ≡ header_by choice header.old }
 {
@@ -63,7 +63,7 @@ fn choose<N>(header: &mut Header<N>, choice: Option<Choice>)
     header.kind = chosen_kind(choice, header.kind);
 }
 
-/// Takes over what is chosen for columns.
+/// Puts the choices for columns into their headers.
 pub(crate) fn choose_all<N>(headers: &mut Vec<Header<N>>, choices: &[(usize, Choice)])
     ensures { AreChosen choices.now headers.old.items headers.new.items }
 {

@@ -1,4 +1,4 @@
-//! Whether copied values are of the type of the column that they are copied to.
+//! Whether copied values are of the type of their target column.
 
 ghost use Rattle.std.specs.Prelude.{All, IsTrue, length, map, slice_index, true, ℕ, ◌<◌, ◌^◌, ◌↔◌, ◌≡◌, ◌≤◌};
 ghost use Rattle.bw_mask.specs.Masks.{bit_of, len, row_at};
@@ -16,21 +16,21 @@ use bw_code::{CodeTest, ColumnType, Header};
 use bw_column::Column;
 use bw_mask::{Mask, has_bit};
 
-/// The ends of the INTEGERs.
+/// The least and the greatest INTEGER.
 const LEAST: i64 = -2_147_483_648;
 
 const GREATEST: i64 = 2_147_483_647;
 
-/// How far the greatest INTEGER lies above the least one.
+/// The distance from the least INTEGER to the greatest.
 const SPAN: u64 = 4_294_967_295;
 
-/// Whether each of the distances from the least INTEGER whose bit is set is that of an INTEGER.
+/// Whether each of the distances whose bit is set, measured from the least INTEGER, is that of an INTEGER.
 fn are_spanned(distances: &[u64], rows: u64) -> bool
     requires { length distances.now ≤ 64 }
     ensures { IsTrue result ↔ ((k : ℕ) → k < length distances.now → bit_of rows k ≡ true → slice_index distances.now k < 2 ^ 32) }
 {
     let mut greatest = 0;
-    // No branch a distance, so that distances are taken side by side.
+    // No branch per distance, so that the loop can be vectorized.
     for i in 0..distances.len() {
         let distance = if has_bit(rows, i) { distances[i] } else { 0 };
         greatest = greatest.max(distance);
@@ -38,7 +38,7 @@ fn are_spanned(distances: &[u64], rows: u64) -> bool
     greatest <= SPAN
 }
 
-/// Whether the encoding tells that a column has no value but INTEGERs.
+/// Whether the encoding alone shows that a column has only INTEGERs.
 fn is_encoded_so(column: &Column) -> bool
     ensures { IsTrue result → All (IsNullOrOfType Integer) column.now.values }
 {
@@ -48,7 +48,7 @@ fn is_encoded_so(column: &Column) -> bool
     }
 }
 
-/// Whether a column has no value but INTEGERs in the rows of a mask.
+/// Whether a column has only INTEGERs (or NULL) in the rows of a mask.
 fn has_integers(column: &Column, mask: &Mask) -> bool
     requires { len mask.now ≡ length column.now.values }
     ensures { IsTrue result ↔ ((i : ℕ) → row_at mask.now i ≡ true → IsNullOrOfType Integer (value_at column.now.values i)) }
@@ -71,8 +71,8 @@ fn has_integers(column: &Column, mask: &Mask) -> bool
     true
 }
 
-/// Whether the values that a column has in the found slots are of the type of the column that they are copied to. They
-/// are looked at only where a BIGINT column is copied to an INTEGER one.
+/// Whether the values of column `from` in the found slots are of type `target`. The values are read only if a BIGINT
+/// column is copied to an INTEGER column.
 fn copy_fits(slots: &Slots, found: &Mask, from: usize, own: ColumnType, target: ColumnType) -> bool
     requires there { from < length slots.now.encodings }
     requires found { len found.now ≡ length slots.now.slots }
@@ -86,7 +86,7 @@ fn copy_fits(slots: &Slots, found: &Mask, from: usize, own: ColumnType, target: 
     }
 }
 
-/// Whether all copied values are of the type of the column that they are copied to. Takes no memory.
+/// Whether all copied values are of the type of their target column. Allocates nothing.
 pub(crate) fn copies_fit<N>(
     headers: &[Header<N>],
     slots: &Slots,

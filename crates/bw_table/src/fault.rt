@@ -1,18 +1,18 @@
-//! Why rows can't be added or changed.
+//! Errors of adding or changing rows.
 
 ghost use Rattle.std.specs.Prelude.{◌≡◌};
 ghost use Rattle.bw_table.specs.declared.fault.TableFault.TheVariants.{Memory};
 
 use std::alloc::AllocError;
 
-/// Why a table can't take rows or values. It is as it was before.
+/// Why a table can't take rows or values. The table is unchanged.
 #[derive(Clone, Copy, Debug, PartialEq, Eq)]
 pub enum TableFault {
-    /// Its rows and these are more than 16,777,216.
+    /// The table's rows and the new ones are more than 16,777,216.
     Full,
-    /// A copied value is outside of the type of the column that it is copied to.
+    /// A copied value is out of range for its target column's type.
     Range,
-    /// There is no memory.
+    /// Out of memory.
     Memory,
 }
 

@@ -9,17 +9,17 @@ use bw_column::Column;
 use bw_mask::{Mask, has_bit};
 use std::alloc::{AllocError, Global};
 
-/// Of how many rows of a word one is read by itself, and the whole word's from there on.
+/// With fewer wanted rows than this in a word of 64, values are read one by one; else the whole word is read.
 const FEW: u32 = 8;
 
-/// Puts those of at most 64 values whose bit is set to the front of `out`, in order, and answers how many they are.
+/// Writes those of at most 64 values whose bit is set to the start of `out`, in order, and returns their number.
 fn pick(run: &[Option<i64>], rows: u64, out: &mut [Option<i64>; 64]) -> usize
     requires { length run.now ≤ 64 }
     ensures few { result ≤ length run.now }
     ensures front { take result out.new ≡ picked rows run.now }
 {
     let mut count = 0;
-    // No branch a value: each is written, and the next one over it where its bit is not set.
+    // No branch per value: each is written, and overwritten by the next one if its bit is not set.
     for i in 0..run.len() {
         out[count] = run[i];
         if has_bit(rows, i) {
@@ -29,7 +29,7 @@ fn pick(run: &[Option<i64>], rows: u64, out: &mut [Option<i64>; 64]) -> usize
     count
 }
 
-/// The values of the rows of a mask, in order. Where many of a word's rows are asked for, the word's are read at once.
+/// The values of the rows of a mask, in order. If many rows of a word of 64 are wanted, the whole word is read at once.
 pub(crate) fn gather(
     column: &Column,
     alloc: Global,

@@ -1,4 +1,4 @@
-//! Tables: columns side by side, of which some slots are live.
+//! Tables: columns of equal length over slots, some of which are live.
 #![tactic(auto)]
 
 mod appending;

@@ -1,4 +1,4 @@
-//! Columns of cells that become columns of a table.
+//! Builds the columns of a table from cells.
 
 ghost use Rattle.std.specs.Prelude.{All, IfOk, [], length, map, slice_index_or, ℕ, ◌<◌, ◌^◌, ◌≡◌, ◌≤◌};
 ghost use Rattle.bw_column.specs.Values.{IsNullOrHeld};
@@ -9,7 +9,7 @@ use bw_code::Header;
 use bw_column::Column;
 use std::alloc::{AllocError, Global};
 
-/// A column of these cells, as its header says.
+/// A column of these cells, in the layout and of the kind in its header.
 fn column_of<N, C: Measured>(
     alloc: Global,
     header: &Header<N>,
@@ -22,7 +22,7 @@ fn column_of<N, C: Measured>(
     Column::build(alloc, cells, header.layout, header.kind)
 }
 
-/// For each header its column of cells.
+/// The columns for these headers, one for each list of cells.
 pub(crate) fn columns_of<N, C: Measured>(
     alloc: Global,
     headers: &Vec<Header<N>>,

@@ -1,4 +1,4 @@
-//! Columns built anew from the rows of a mask.
+//! Rebuilds columns from the rows of a mask.
 
 ghost use Rattle.std.specs.Prelude.{All, IfOk, length, slice_index_or, ℕ, ◌<◌, ◌^◌, ◌≡◌, ◌≤◌};
 ghost use Rattle.bw_code.specs.Encodings.{IsFit, kind_of};
@@ -16,7 +16,7 @@ use bw_column::Column;
 use bw_mask::Mask;
 use std::alloc::{AllocError, Global};
 
-/// A column of these values, in the layout and of the kind that are chosen, or those of the column `own`.
+/// A column of these values, in the chosen layout and of the chosen kind, or those of the column `own`.
 fn built_as<C: Measured>(
     alloc: Global,
     own: &Column,
@@ -35,7 +35,7 @@ fn built_as<C: Measured>(
     Column::build(alloc, values, layout, kind)
 }
 
-/// A column built anew from its values in the rows of a mask. Where these are all of its rows, no list of them is made.
+/// Rebuilds a column from its values in the rows of a mask. If the mask has all rows, no list of the values is built.
 fn built_anew(
     alloc: Global,
     own: &Column,
@@ -59,7 +59,7 @@ fn built_anew(
     built_as(alloc, own, choice, &values.as_slice())
 }
 
-/// Each column built anew from its values in the rows of a mask, as the choices say.
+/// Rebuilds each column from its values in the rows of a mask, with the choices applied.
 pub(crate) fn build_anew(
     columns: &Vec<Column>,
     alloc: Global,

@@ -1,4 +1,4 @@
-//! A column of rows that lie flat in memory.
+//! One column of rows that are stored flat in memory.
 
 ghost use Rattle.std.specs.Prelude.{All, length, ◌<◌, ◌≡◌};
 ghost use Rattle.bw_table.specs.Slots.{column_of};
@@ -6,7 +6,7 @@ ghost use Rattle.bw_table.specs.Slots.{column_of};
 use crate::rows::Rows;
 use bw_cells::{Cells, Measured};
 
-/// One column of rows, read downward.
+/// One column of rows, read from top to bottom.
 #[derive(Drop)]
 pub(crate) struct RowColumn<'a> {
     rows: &'a Rows<'a>,
@@ -15,7 +15,7 @@ pub(crate) struct RowColumn<'a> {
 }
 
 impl<'a> RowColumn<'a> {
-    /// Column k of the rows.
+    /// Column `k` of the rows.
     pub(crate) fn new(rows: &'a Rows<'a>, k: usize) -> RowColumn<'a>
         requires { All (λ row. k < length row) rows.now }
         ensures rows { result.rows.now ≡ rows.entry.now }

@@ -1,4 +1,4 @@
-//! Rows that lie flat in memory.
+//! Rows that are stored flat in memory.
 
 ghost use Rattle.std.specs.Prelude.{All, drop, length, take, ℕ, ◌*◌, ◌+◌, ◌<◌, ◌^◌, ◌≡◌, ◌≤◌};
 ghost use Rattle.bw_column.specs.Values.{value_at};
@@ -7,14 +7,14 @@ ghost use Rattle.bw_table.specs.Slots.{column_of};
 
 use std::marker::Model;
 
-/// Cells that lie one after the other: in the form that a statement has them, or in the narrower one of a file's rows.
+/// Consecutive cells: as a statement has them, or in the narrower form of a file's rows.
 #[derive(Clone, Copy)]
 pub(crate) enum RowCells<'a> {
     Values(&'a [Option<i64>]),
     Integers(&'a [Option<i32>]),
 }
 
-/// Rows of one width, one after the other in one buffer. A contract sees the list of the rows.
+/// Rows of one width, consecutive in one buffer. Contracts see the list of the rows.
 #[derive(Drop)]
 pub struct Rows<'a> {
     width: usize,
@@ -32,7 +32,7 @@ impl<'a> Model for Rows<'a> {
     ghost invariant = { λ rows. AreWholeRows rows.width (cells_in rows.cells) };
 }
 
-/// Fills `out` with cell k of each row of so many cells, from row `at` on.
+/// Fills `out` with cell `k` of each row of `width` cells, from row `at` on.
 fn read_values(cells: &[Option<i64>], width: usize, k: usize, at: usize, out: &mut [Option<i64>])
     requires small { at + length out.old < 2 ^ 64 }
     requires there { (i : ℕ) → i < length out.old → (at + i) * width + k < length cells.now }
@@ -44,7 +44,7 @@ fn read_values(cells: &[Option<i64>], width: usize, k: usize, at: usize, out: &m
     }
 }
 
-/// Fills `out` with cell k of each row of so many cells, from row `at` on, as a column takes it.
+/// Fills `out` with cell `k` of each row of `width` cells, from row `at` on, widened for a column.
 fn read_integers(cells: &[Option<i32>], width: usize, k: usize, at: usize, out: &mut [Option<i64>])
     requires small { at + length out.old < 2 ^ 64 }
     requires there { (i : ℕ) → i < length out.old → (at + i) * width + k < length cells.now }
@@ -56,7 +56,7 @@ fn read_integers(cells: &[Option<i32>], width: usize, k: usize, at: usize, out: 
     }
 }
 
-/// The cell, as a column takes it.
+/// The cell, widened for a column.
 fn wide_cell(cell: Option<i32>) -> Option<i64>
     ensures { result ≡ cell }
 {
@@ -67,7 +67,7 @@ fn wide_cell(cell: Option<i32>) -> Option<i64>
 }
 
 impl<'a> Rows<'a> {
-    /// The rows of this width that lie in these cells.
+    /// These cells as rows of this width.
     pub fn new(width: usize, cells: &'a [Option<i64>]) -> Rows<'a>
         requires { AreWholeRows width cells.now }
         ensures { result ≡ rows_from width cells.entry.now }
@@ -76,7 +76,7 @@ impl<'a> Rows<'a> {
         Rows { width, cells }
     }
 
-    /// The rows of this width that lie in these cells, which are narrower in memory and as wide as a column allows.
+    /// These narrower cells as rows of this width. A column sees them widened.
     pub fn of_integers(width: usize, cells: &'a [Option<i32>]) -> Rows<'a>
         requires { AreWholeRows width cells.now }
         ensures { result ≡ rows_from width cells.entry.now }
@@ -85,7 +85,7 @@ impl<'a> Rows<'a> {
         Rows { width, cells }
     }
 
-    /// How many rows there are.
+    /// The number of rows.
     #[tactic(auto, using(bw_code::proofs::Lists::made_len))]
     pub fn len(&self) -> usize
         ensures { result ≡ length self.now }
@@ -97,13 +97,13 @@ impl<'a> Rows<'a> {
         cells / self.width
     }
 
-    /// Fills `out` with the values of column k from row `at` on.
+    /// Fills `out` with the values of column `k`, from row `at` on.
     pub(crate) fn read_column(&self, k: usize, at: usize, out: &mut [Option<i64>])
         requires column { All (λ row. k < length row) self.now }
         requires inside { at + length out.old ≤ length self.now }
         ensures { out.new ≡ take (length out.old) (drop at (column_of self.now k)) }
     {
-        // There are no more rows than a number of them can tell.
+        // The number of rows fits a `usize`.
         let _rows = self.len();
         match self.cells {
             RowCells::Values(cells) => read_values(cells, self.width, k, at, out),

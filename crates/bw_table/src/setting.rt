@@ -1,4 +1,4 @@
-//! Columns that are set in the rows of a mask, in two halves: first each growth, then what takes no memory.
+//! Sets columns in the rows of a mask, in two steps: first every allocation, then the writes, which can't fail.
 
 ghost use Rattle.std.specs.Prelude.{All, IfOk, length, slice_index_or, vec_len, ℕ, ◌<◌, ◌^◌, ◌≡◌, ◌≢◌, ◌≤◌};
 ghost use Rattle.std.specs.List.{AllPairs};
@@ -13,15 +13,15 @@ use bw_column::Column;
 use bw_mask::Mask;
 use std::alloc::{AllocError, Global};
 
-/// What a column is set to: a value, or what a column has in the same row.
+/// What a column is set to: a value, or the value of a column in the same row.
 #[derive(Clone, Copy, Debug, PartialEq, Eq)]
 pub enum SetTo {
     Value(Option<i64>),
     Column(usize),
 }
 
-/// The first half: each set column makes ready for its values, which are taken from the columns as they are.
-/// The lists stay as they are, also where memory is wanting.
+/// The first step: each column that is set prepares for its values, which are read from the columns as they are. The
+/// columns' values stay unchanged, even if it runs out of memory.
 pub(crate) fn prepare_sets(
     columns: &mut Vec<Column>,
     alloc: Global,
@@ -47,7 +47,7 @@ pub(crate) fn prepare_sets(
     Ok(changes)
 }
 
-/// The second half: each set column takes its values in the found rows, and no memory.
+/// The second step: each column that is set takes its values in the found rows. Allocates nothing.
 pub(crate) fn apply_sets(
     columns: &mut Vec<Column>,
     found: &Mask,

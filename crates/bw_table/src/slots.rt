@@ -1,4 +1,4 @@
-//! The slots of a table, kept by columns.
+//! The slots of a table, stored by columns.
 
 ghost use Rattle.std.specs.Prelude.{All, Err, IfOk, MatchResult, OnErr, OnOk, [], length, map, slice_index_or, ℕ, ◌+◌, ◌<◌, ◌^◌, ◌≡◌, ◌≢◌, ◌≤◌};
 ghost use Rattle.std.specs.List.{AllPairs};
@@ -24,10 +24,10 @@ use bw_mask::Mask;
 use std::alloc::{AllocError, Global};
 use std::marker::Model;
 
-/// How many slots there may be.
+/// The largest number of slots.
 const SLOT_LIMIT: usize = 16_777_216;
 
-/// The slots of a table: columns side by side, and which slots are live. A contract sees the list of the slots.
+/// The slots of a table: columns of equal length, and which slots are live. Contracts see the list of the slots.
 #[derive(Drop)]
 pub struct Slots {
     pub(crate) columns: Vec<Column>,
@@ -46,7 +46,7 @@ impl Model for Slots {
 }
 
 impl Slots {
-    /// How many slots there are.
+    /// The number of slots.
     #[tactic(auto, using(crate::proofs::Across::slots_count))]
     pub fn len(&self) -> usize
         ensures count { result ≡ length self.now.slots }
@@ -55,7 +55,7 @@ impl Slots {
         self.live.len()
     }
 
-    /// How many columns there are: each slot has a value for each, which its layout holds.
+    /// The number of columns. Each slot has a value for each column, which the column's layout holds.
     #[tactic(auto, using(crate::proofs::Across::slots_wide, crate::proofs::Across::slots_held))]
     pub fn width(&self) -> usize
         ensures count { result ≡ length self.now.encodings }
@@ -65,7 +65,7 @@ impl Slots {
         self.columns.len()
     }
 
-    /// How many slots are live.
+    /// The number of live slots.
     #[tactic(auto, using(crate::proofs::Updated::live_count))]
     pub fn live_count(&self) -> usize
         ensures count { result ≡ length (live_slots self.now.slots) }
@@ -74,7 +74,7 @@ impl Slots {
         self.live.count()
     }
 
-    /// Adds live slots with these rows at the end. Where memory is wanting, nothing changes.
+    /// Appends live slots with these rows. If it runs out of memory, nothing changes.
     fn append(&mut self, alloc: Global, rows: &Rows<'_>) -> Result<(), AllocError>
         requires held { All (IsHeldRow self.old.layouts) rows.now }
         requires few { length self.old.slots + length rows.now ≤ 2 ^ 24 }
@@ -90,7 +90,7 @@ impl Slots {
         Ok(())
     }
 
-    /// The live slots alone, each column built anew as the choices say.
+    /// The live slots alone, with each column rebuilt and the choices applied.
     pub(crate) fn rebuilt(
         &self,
         alloc: Global,
@@ -104,7 +104,7 @@ impl Slots {
         Ok(Slots { columns, live })
     }
 
-    /// Drops the dead slots, and adds live slots with these rows at the end. Where memory is wanting, nothing changes.
+    /// Drops the dead slots, and appends live slots with these rows. If it runs out of memory, nothing changes.
     #[tactic(auto, using(crate::proofs::SameKinds::rebuilt_kinds, crate::proofs::SameKinds::rebuilt_layouts))]
     fn append_compact(&mut self, alloc: Global, rows: &Rows<'_>) -> Result<(), AllocError>
         requires held { All (IsHeldRow self.old.layouts) rows.now }
@@ -114,7 +114,7 @@ impl Slots {
         ensures kinds { map kind_of self.new.encodings ≡ map kind_of self.old.encodings }
         ensures unchanged { OnErr result (self.new ≡ self.old) }
     {
-        // Each value is held where it lies.
+        // Each value is held by its column's layout.
         let _held = self.width();
         let mut compact = self.rebuilt(alloc, &[])?;
         compact.append(alloc, rows)?;
@@ -122,8 +122,8 @@ impl Slots {
         Ok(())
     }
 
-    /// Adds live slots with these rows at the end. Where there are not enough slots, the dead ones are dropped first.
-    /// Refused where the live slots and the rows are too many, or memory is wanting; nothing changes then.
+    /// Appends live slots with these rows. If there are not enough slots, the dead ones are dropped first. Fails if the
+    /// live slots and the rows are too many, or if it runs out of memory; then nothing changes.
     #[tactic(auto, using(crate::proofs::Inserted::fewer_live, crate::proofs::Inserted::inserted_behind, crate::proofs::Inserted::inserted_compact))]
     pub(crate) fn insert(&mut self, alloc: Global, rows: &Rows<'_>) -> Result<(), TableFault>
         requires held { All (IsHeldRow self.old.layouts) rows.now }
@@ -146,8 +146,8 @@ impl Slots {
         Ok(())
     }
 
-    /// Sets columns in the found slots, all at once: a column that is set to another takes what that had before.
-    /// Where memory is wanting, nothing changes.
+    /// Sets columns in the found slots, all at once: a column that is set to another column takes the values that it
+    /// had before. If it runs out of memory, nothing changes.
     pub(crate) fn update(
         &mut self,
         alloc: Global,
@@ -169,7 +169,7 @@ impl Slots {
         Ok(())
     }
 
-    /// Makes the found slots dead. Takes no memory.
+    /// Makes the found slots dead. Allocates nothing.
     #[tactic(auto, using(bw_code::proofs::Lists::made_len))]
     pub(crate) fn delete(&mut self, found: &Mask)
         requires { len found.now ≡ length self.old.slots }
@@ -180,7 +180,7 @@ impl Slots {
         self.live.andnot_in(found);
     }
 
-    /// The slots that are live.
+    /// The mask of the live slots.
     #[tactic(auto, using(crate::proofs::Across::slots_count, crate::proofs::Across::live_rows, crate::proofs::Across::slots_wide))]
     pub fn live(&self) -> &Mask
         ensures wide { All (λ slot. length slot.row ≡ length self.now.encodings) self.now.slots }
@@ -191,7 +191,7 @@ impl Slots {
         &self.live
     }
 
-    /// Column k, dead slots included.
+    /// Column `k`, dead slots included.
     pub fn column(&self, k: usize) -> &Column
         requires { k < length self.now.encodings }
         ensures values { result.now.values ≡ slot_column self.now.slots k }

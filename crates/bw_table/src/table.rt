@@ -28,9 +28,9 @@ use bw_mask::Mask;
 use std::alloc::{AllocError, Global};
 use std::marker::Model;
 
-/// A table: its columns, and slots of which some are live. Its rows are those of the live slots, in order. The values
-/// of a column are of the type that its header says, which its layout holds. A name of a column is whatever the layer
-/// above takes for one.
+/// A table: its columns, and slots, some of which are live. Its rows are those of the live slots, in order. The values
+/// of a column are of the type in its header, which its layout holds. What a column's name is, is left to the layer
+/// above.
 #[derive(Drop)]
 pub struct Table<N> {
     headers: Vec<Header<N>>,
@@ -63,9 +63,9 @@ impl<N: Drop> Table<N> {
         Ok(Table { headers, slots })
     }
 
-    /// The table of these columns: for each header its values, which are of its type, in live slots. Each column is
-    /// encoded as its values ask, in the layout and of the kind that its header says. Refused only where memory is
-    /// wanting.
+    /// The table of these columns: for each header its values, which are of its type, in live slots. Each column gets
+    /// the encoding that fits its values, in the layout and of the kind in its header. Fails only if it runs out of
+    /// memory.
     pub fn of_columns<C: Measured>(
         alloc: Global,
         headers: Vec<Header<N>>,
@@ -88,7 +88,7 @@ impl<N: Drop> Table<N> {
         Ok(Table { headers, slots })
     }
 
-    /// The columns, in order. Each one's layout holds its type.
+    /// The headers of the columns, in order. Each column's layout holds its type.
     pub fn headers(&self) -> &[Header<N>]
         ensures is { result.now ≡ self.now.headers }
         ensures held { All (λ header. IsTrue (holds_its_type header)) self.now.headers }
@@ -96,7 +96,7 @@ impl<N: Drop> Table<N> {
         self.headers.as_slice()
     }
 
-    /// How many slots there are, dead ones included.
+    /// The number of slots, dead ones included.
     pub fn slot_count(&self) -> usize
         ensures count { result ≡ length self.now.slots }
         ensures few { result ≤ slot_limit }
@@ -104,7 +104,7 @@ impl<N: Drop> Table<N> {
         self.slots.len()
     }
 
-    /// How many rows there are.
+    /// The number of rows.
     pub fn row_count(&self) -> usize
         ensures count { result ≡ length (live_slots self.now.slots) }
         ensures few { result ≤ slot_limit }
@@ -112,7 +112,7 @@ impl<N: Drop> Table<N> {
         self.slots.live_count()
     }
 
-    /// The slots, without what the columns are called.
+    /// The slots, without the names of the columns.
     #[tactic(auto, using(crate::proofs::Heads::slots_back))]
     pub fn slots(&self) -> &Slots
         ensures { result.now ≡ slots_in self.now }
@@ -120,7 +120,7 @@ impl<N: Drop> Table<N> {
         &self.slots
     }
 
-    /// The slots that are live. Each slot, dead or live, has for each column null or a value of its type.
+    /// The mask of the live slots. Each slot, dead or live, has for each column null or a value of its type.
     #[tactic(auto, using(crate::proofs::Heads::kinds_count))]
     pub fn live(&self) -> &Mask
         ensures wide { All (λ slot. length slot.row ≡ length self.now.headers) self.now.slots }
@@ -131,7 +131,7 @@ impl<N: Drop> Table<N> {
         self.slots.live()
     }
 
-    /// Column k: a value for each slot, dead ones included.
+    /// Column `k`: a value for each slot, dead ones included.
     #[tactic(auto, using(crate::proofs::Heads::kinds_count))]
     pub fn column(&self, k: usize) -> &Column
         requires { k < length self.now.headers }
@@ -145,7 +145,7 @@ impl<N: Drop> Table<N> {
         self.slots.column(k)
     }
 
-    /// The value of a slot in a column.
+    /// The value of column `column` in slot `slot`.
     #[tactic(auto, using(crate::proofs::Across::column_at, crate::proofs::Heads::kinds_count))]
     pub fn fetch(&self, slot: usize, column: usize) -> Option<i64>
         requires slot { slot < length self.now.slots }
@@ -155,9 +155,9 @@ impl<N: Drop> Table<N> {
         self.slots.column(column).get(slot)
     }
 
-    /// Adds live slots with these rows at the end. Their values are of their columns' types. Where there are not enough
-    /// slots, the dead ones are dropped first. Refused where the live slots and the rows are more than 16,777,216, or
-    /// memory is wanting; nothing changes then.
+    /// Appends live slots with these rows. Their values are of their columns' types. If there are not enough slots, the
+    /// dead ones are dropped first. Fails if the live slots and the rows are more than 16,777,216, or if it runs out of
+    /// memory; then nothing changes.
     pub fn insert(&mut self, alloc: Global, rows: &Rows<'_>) -> Result<(), TableFault>
         requires typed { All (IsRowOf (types_of self.old.headers)) rows.now }
         ensures headers { self.new.headers ≡ self.old.headers }
@@ -170,9 +170,9 @@ impl<N: Drop> Table<N> {
         self.slots.insert(alloc, rows)
     }
 
-    /// Sets columns in the found slots, all at once: a column that is set to another takes what that had before.
-    /// Refused where a value so taken is outside of the type of the column that it is copied to, or memory is wanting;
-    /// nothing changes then.
+    /// Sets columns in the found slots, all at once: a column that is set to another column takes the values that it
+    /// had before. Fails if a copied value is out of range for its target column's type, or if it runs out of memory;
+    /// then nothing changes.
     pub fn update(
         &mut self,
         alloc: Global,
@@ -197,7 +197,7 @@ impl<N: Drop> Table<N> {
         Ok(())
     }
 
-    /// Makes the found slots dead. Takes no memory.
+    /// Makes the found slots dead. Allocates nothing.
     pub fn delete(&mut self, found: &Mask)
         requires { len found.now ≡ length self.old.slots }
         ensures headers { self.new.headers ≡ self.old.headers }
@@ -207,8 +207,8 @@ impl<N: Drop> Table<N> {
         self.slots.delete(found);
     }
 
-    /// Drops the dead slots and builds each column anew, in the layout and of the kind that are chosen for it. That
-    /// layout holds the column's type. Where memory is wanting, nothing changes.
+    /// Drops the dead slots and rebuilds each column in the layout and of the kind chosen for it. That layout holds the
+    /// column's type. If it runs out of memory, nothing changes.
     pub fn rebuild(&mut self, alloc: Global, choices: &[(usize, Choice)]) -> Result<(), AllocError>
         requires held { HoldTypes choices.now self.old.headers }
         ensures headers { OnOk result (AreChosen choices.now self.old.headers self.new.headers) }
@@ -220,7 +220,7 @@ impl<N: Drop> Table<N> {
         Ok(())
     }
 
-    /// Drops the dead slots and builds each column anew. Where memory is wanting, nothing changes.
+    /// Drops the dead slots and rebuilds each column. If it runs out of memory, nothing changes.
     pub fn compact(&mut self, alloc: Global) -> Result<(), AllocError>
         ensures headers { self.new.headers ≡ self.old.headers }
         ensures rebuilt { OnOk result (AreRebuilt [] (slots_in self.old) (slots_in self.new)) }
@@ -231,7 +231,7 @@ impl<N: Drop> Table<N> {
     }
 }
 
-/// A column without values for each header.
+/// An empty column for each header.
 fn empty_columns<N>(alloc: Global, headers: &Vec<Header<N>>) -> Result<Vec<Column>, AllocError>
     ensures { IfOk result (λ columns. AreEmpty headers.now.items columns.items) }
 {

@@ -1,4 +1,4 @@
-//! What a column takes in the rows of a mask: a value for each of them, or one for all.
+//! The values that a column takes in the rows of a mask: one for each row, or the same for all.
 
 ghost use Rattle.std.specs.Prelude.{All, IfOk, count_by, false, length, slice_index_or, vec_len, ◌<◌, ◌^◌, ◌≡◌, ◌≤◌};
 ghost use Rattle.bw_mask.specs.Masks.{len};
@@ -21,20 +21,20 @@ use std::alloc::{AllocError, Global};
 pub(crate) enum Taken {
     /// One for each row, in order.
     Each(Vec<Option<i64>>),
-    /// The same for all rows, and no list of it.
+    /// The same for all rows, stored once.
     Same(Option<i64>),
-    /// Those of a copy of a column, which is null in every other row, and is read again when they are taken.
+    /// Those of a copy of a column. The copy is null in every other row, and is read when the values are taken.
     Copied(Column),
 }
 
-/// What one column takes: the values, and what it has prepared for them.
+/// A change of one column: the values, and what the column has prepared for them.
 #[derive(Drop)]
 pub(crate) struct Change {
     pub(crate) prepared: Prepared,
     pub(crate) values: Taken,
 }
 
-/// Whether so many of a column's rows are meant that a copy of all of them costs less than a list of their values.
+/// Whether the mask has so many of a column's rows that copying the whole column costs less than listing the values.
 fn are_many(mask: &Mask) -> bool {
     mask.len() / 8 < mask.count()
 }
@@ -73,7 +73,7 @@ pub(crate) fn values_for(
     }
 }
 
-/// A column makes ready for values. It keeps its own, also where memory is wanting.
+/// Prepares a column for values. The column keeps its own values, even if it runs out of memory.
 pub(crate) fn make_ready(
     column: &mut Column,
     alloc: Global,
@@ -94,7 +94,7 @@ pub(crate) fn make_ready(
     }
 }
 
-/// A column takes the values of a change in the rows of a mask, and no memory.
+/// Writes the values of a change to a column, in the rows of a mask. Allocates nothing.
 pub(crate) fn take(column: &mut Column, mask: &Mask, change: Change)
     requires prepared { IsPreparedFor column.old (taken mask.now change.values) false change.prepared }
     requires mask { len mask.now ≡ length column.old.values }

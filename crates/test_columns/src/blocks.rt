@@ -1,5 +1,5 @@
-//! Set functions of columns of more rows than the 65,536 whose planes are taken at once, compared with a plain fold over the
-//! values.
+//! Set functions of columns with more rows than the 65,536 whose planes are processed at once, compared with a plain
+//! fold over the values.
 
 use crate::columns::column_of;
 use crate::random::LAYOUTS;
@@ -14,17 +14,17 @@ use std::process::Abort;
 /// Numbers of rows: one block and a part of another, and three blocks and a row.
 const LENGTHS: [usize; 2] = [65_536 + 300, 3 * 65_536 + 1];
 
-/// How many values there are below the greatest.
+/// The number of possible values below the greatest.
 const VALUES: u64 = 100_000;
 
-/// The number after another one (Knuth's linear congruential generator MMIX).
+/// The next number (Knuth's linear congruential generator MMIX).
 fn number_after(number: u64) -> u64 {
     number
         .wrapping_mul(6_364_136_223_846_793_005)
         .wrapping_add(1_442_695_040_888_963_407)
 }
 
-/// So many values, the greatest in the last row alone. If any is to be null, one in eight is.
+/// `length` values, with the greatest only in the last row. If `nulls`, one in eight is null.
 fn many_values<R: Abort + AllocGlobal>(rt: &R, length: usize, nulls: bool) -> Vec<Option<i64>> {
     let mut values = Vec::new(rt.alloc());
     let mut number = 1;
@@ -41,7 +41,8 @@ fn many_values<R: Abort + AllocGlobal>(rt: &R, length: usize, nulls: bool) -> Ve
     values
 }
 
-/// Behind the first 60,000 rows three of four, and the last one: so there are fewer of the first block than of a whole one.
+/// Three of four rows after the first 60,000, and the last row, so the first block has fewer of them than a whole
+/// block.
 fn many_rows<R: Abort + AllocGlobal>(rt: &R, length: usize) -> Vec<bool> {
     let mut chosen = Vec::new(rt.alloc());
     let mut number = 2;

@@ -1,4 +1,4 @@
-//! Values put in place of others at rows of many words, in each layout and kind, against a list.
+//! Overwrites values in rows of several words, in each layout and kind, and compares with a plain list.
 
 ghost use Rattle.std.specs.Prelude.{length, vec_len, ◌≡◌};
 ghost use Rattle.bw_mask.specs.Masks.{len};
@@ -20,7 +20,7 @@ const KINDS: [Kind; 2] = [Kind::Offset, Kind::Dictionary];
 /// What all chosen rows are set to: a value that the columns have, NULL, one that none has, and one far from all.
 const LITERALS: [Option<i64>; 4] = [Some(40), None, Some(-3), Some(-2_000_000_000)];
 
-/// How far apart the numbers lie in the rounds.
+/// The distance between numbers in each round.
 const STEPS: [i64; 3] = [1, 1_000_003, 20_000_003];
 
 /// Whether a row takes another value: in no row of a word, in all, in a few, in its first and its last, or in most.
@@ -53,7 +53,7 @@ fn values_of<R: Abort + AllocGlobal>(rt: &R, round: usize) -> Vec<Option<i64>>
     values
 }
 
-/// The values of the chosen rows alone, of the next round.
+/// The values of the next round in the chosen rows only.
 fn taken<R: Abort + AllocGlobal>(rt: &R, round: usize) -> Vec<Option<i64>> {
     let mut values = Vec::new(rt.alloc());
     for row in 0..ROWS {
@@ -129,7 +129,7 @@ fn copied<R: Abort + AllocGlobal>(
     column
 }
 
-/// The values of a round from the last row to the first.
+/// The values of a round in reverse row order.
 fn turned<R: Abort + AllocGlobal>(rt: &R, round: usize) -> Vec<Option<i64>>
     ensures { vec_len result ≡ 300 }
 {
@@ -142,7 +142,7 @@ fn turned<R: Abort + AllocGlobal>(rt: &R, round: usize) -> Vec<Option<i64>>
     values
 }
 
-/// What the rows have after the chosen ones took the values of the rows turned round.
+/// The rows' values after the chosen ones took the values of the reversed rows.
 fn wanted_of_copy<R: Abort + AllocGlobal>(rt: &R, round: usize) -> Vec<Option<i64>> {
     let mut values = Vec::new(rt.alloc());
     for row in 0..ROWS {
@@ -156,7 +156,7 @@ fn wanted_of_copy<R: Abort + AllocGlobal>(rt: &R, round: usize) -> Vec<Option<i6
     values
 }
 
-/// What the rows have after the values of the next round were put in the chosen ones, or this one value.
+/// The rows' values after the chosen ones took those of the next round, or this one value.
 fn wanted<R: Abort + AllocGlobal>(
     rt: &R,
     round: usize,
@@ -237,7 +237,7 @@ fn copies_that_need_another_encoding(rt: HostRuntime) {
     ] {
         check_taken(&rt, &values, &others, &all, &others);
     }
-    // What isn't taken asks for no code.
+    // A value that isn't taken needs no code.
     let far = [Some(-2_000_000_000), Some(11), Some(2_000_000_000)];
     check_taken(
         &rt,

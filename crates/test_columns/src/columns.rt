@@ -1,4 +1,4 @@
-//! Columns of integers and nulls: worked examples, with each call that may run out of memory seen answering.
+//! Columns of integers and nulls: worked examples, with a success of each call that may run out of memory.
 
 ghost use Rattle.std.specs.Prelude.{All, length, ◌^◌, ◌≡◌, ◌≤◌};
 ghost use Rattle.bw_mask.specs.Masks.{len};
@@ -10,7 +10,7 @@ use bw_column::{Column, Storage};
 use bw_mask::{Mask, Truth};
 use std::process::Abort;
 
-/// The rows where a truth is true, those where it is false, and the units that were read for it.
+/// The rows where a truth is true, the rows where it is false, and the units read for it.
 pub(crate) type Outcome = (u64, u64, u64);
 
 pub(crate) fn check_value<R: Abort>(rt: &R, value: Option<i64>, layout: Layout)
@@ -70,12 +70,12 @@ fn span_of(column: &Column) -> Option<(i64, u32)> {
     }
 }
 
-/// Sees the values of a column.
+/// Checks the values of a column.
 pub(crate) fn see_values<R: Abort + AllocGlobal>(rt: &R, column: &Column, values: &[Option<i64>]) {
     assert!(rt; all_of(rt, column).as_slice() == values);
 }
 
-/// Sees the values of an offset, its base and its width.
+/// Checks the values of an offset, its base and its width.
 fn see_offset<R: Abort + AllocGlobal>(
     rt: &R,
     column: Column,
@@ -86,7 +86,7 @@ fn see_offset<R: Abort + AllocGlobal>(
     see_values(rt, &column, values);
 }
 
-/// The column with these values after its own.
+/// The column with these values appended.
 pub(crate) fn appended<R: Abort + AllocGlobal>(
     rt: &R,
     mut column: Column,
@@ -202,7 +202,7 @@ fn a_value_without_a_code_encodes_the_column_anew(rt: HostRuntime) {
     see_offset(&rt, column, &values, (1, 20));
 }
 
-/// Sees the words of sections of a column in layout H.
+/// Checks the words of sections of a column in layout H.
 fn see_words<R: Abort>(rt: &R, column: Column, words: &[u64]) {
     let Storage::H(codes) = column.storage() else {
         panic!(rt; "another layout")
@@ -260,7 +260,7 @@ fn two_runs<R: Abort + AllocGlobal>(rt: &R) -> Column {
     column_of(rt, &values, Layout::P, Kind::Offset)
 }
 
-/// A constant that two runs are below or not, at which rows it is asked, and what comes of it.
+/// A constant that is compared with the values of `two_runs`, the needed rows, and the outcome.
 const BELOW: [(i64, u64, Outcome); 3] = [
     (128, ALL, (0xffff, 0xffff_0000, 32)),
     (256, ALL, (ALL, 0, 0)),
@@ -368,7 +368,7 @@ fn many<R: Abort + AllocGlobal>(rt: &R) -> Vec<Option<i64>> {
     values
 }
 
-/// Where runs begin and end.
+/// The starts and ends of runs.
 const RUNS: [(usize, usize); 6] = [
     (0, 150),
     (60, 70),
@@ -378,7 +378,7 @@ const RUNS: [(usize, usize); 6] = [
     (149, 150),
 ];
 
-/// Sees the values of a column, read in runs.
+/// Checks the values of a column, read in runs.
 fn see_runs<R: Abort + AllocGlobal>(rt: &R, column: Column, values: &[Option<i64>]) {
     for (at, end) in RUNS {
         assert!(rt; at <= end && end <= values.len());
@@ -406,7 +406,7 @@ fn three_rows<R: Abort + AllocGlobal>(rt: &R) -> Column {
     column_of(rt, &[Some(4), None, Some(7)], Layout::P, Kind::Offset)
 }
 
-/// The first two values of a column, and its rows that are not null.
+/// The first two values of a column, and its non-null rows.
 fn front_of<R: Abort>(rt: &R, column: Column) -> (Option<i64>, Option<i64>, u64) {
     assert!(rt; column.len() == 3);
     (column.get(0), column.get(1), column.nonnull().bits(0, 64))
@@ -417,7 +417,7 @@ fn rows_of_a_column(rt: HostRuntime) {
     see(&rt, front_of(&rt, three_rows(&rt)), (Some(4), None, 0b101));
 }
 
-/// The rows of a column of two bits whose code has the higher one.
+/// The rows of a column of 2-bit codes whose high bit is set.
 fn high_bits<R: Abort + AllocGlobal>(rt: &R, column: Column) -> u64 {
     let mut rows = rows_of(rt, &column, 0b111);
     assert!(rt; column.encoding().width() == 2);

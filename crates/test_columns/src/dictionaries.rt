@@ -1,4 +1,5 @@
-//! Dictionaries of columns against a sort of the values: as they are built, as they grow, and as they lose values.
+//! Dictionaries of columns compared with a sort of the values: when they are built, when they grow, and when they lose
+//! values.
 
 use crate::changes::filled;
 use crate::columns::{appended, check_value, column_of, see_values};
@@ -11,7 +12,7 @@ use std::process::Abort;
 /// More rows than two words have.
 const ROWS: usize = 150;
 
-/// How the values of a column lie.
+/// How the values of a column are distributed.
 #[derive(Clone, Copy, Debug)]
 enum Lie {
     /// Near each other.
@@ -20,9 +21,9 @@ enum Lie {
     FarApart,
     /// Each once, from the greatest to the least.
     Distinct,
-    /// At both ends of what the layout holds.
+    /// At both ends of the layout's range.
     Ends,
-    /// One value alone.
+    /// A single value.
     One,
     /// No value.
     Nulls,
@@ -70,7 +71,7 @@ fn values_of<R: Abort + AllocGlobal>(rt: &R, layout: Layout, lie: Lie) -> Vec<Op
     values
 }
 
-/// The values that are not NULL, each once, ascending: by a sort.
+/// The distinct non-null values, ascending, found by a sort.
 fn distinct_values<R: Abort + AllocGlobal>(rt: &R, values: &[Option<i64>]) -> Vec<i64> {
     let mut list = Vec::new(rt.alloc());
     for value in values {
@@ -83,7 +84,7 @@ fn distinct_values<R: Abort + AllocGlobal>(rt: &R, values: &[Option<i64>]) -> Ve
     list
 }
 
-/// Sees that a column has a dictionary of just these values.
+/// Checks that a column has a dictionary of exactly these values.
 fn see_entries<R: Abort + AllocGlobal>(rt: &R, column: &Column, values: &[Option<i64>]) {
     let wanted = distinct_values(rt, values);
     match column.encoding() {
@@ -94,7 +95,7 @@ fn see_entries<R: Abort + AllocGlobal>(rt: &R, column: &Column, values: &[Option
     }
 }
 
-/// Each of these values after the others.
+/// The first values, followed by the others.
 fn both<R: Abort + AllocGlobal>(
     rt: &R,
     values: &[Option<i64>],
@@ -172,7 +173,7 @@ fn dictionaries_take_in_few(rt: HostRuntime) {
     }
 }
 
-/// So many numbers from 0 on.
+/// `count` numbers from 0 on.
 fn numbers<R: Abort + AllocGlobal>(rt: &R, count: i64) -> Vec<Option<i64>> {
     let mut values = Vec::new(rt.alloc());
     for i in 0..count {
@@ -198,7 +199,7 @@ fn flattened<R: Abort + AllocGlobal>(rt: &R, column: Column, value: Option<i64>)
     filled(rt, column, &all, value)
 }
 
-/// An entry that no row has any more stays until others come, and is gone with them.
+/// An entry that no row has any more stays until others are added, and is dropped then.
 #[test]
 fn dictionaries_lose_values(rt: HostRuntime) {
     for layout in LAYOUTS {
@@ -214,8 +215,8 @@ fn dictionaries_lose_values(rt: HostRuntime) {
     }
 }
 
-/// Sees that a column that is rebuilt has the same values, as a dictionary the entries that some row has, and as an offset the
-/// base that the least of them is.
+/// Checks that a rebuilt column has the same values; a dictionary has only entries that some row has, and an offset's
+/// base is the least value.
 fn check_rebuilt<R: Abort + AllocGlobal>(rt: &R, column: &Column, values: &[Option<i64>]) {
     let _held = column.len();
     let layout = column.layout();
@@ -231,7 +232,7 @@ fn check_rebuilt<R: Abort + AllocGlobal>(rt: &R, column: &Column, values: &[Opti
     see_values(rt, &plain, values);
 }
 
-/// Sees that a column has the least of these values as its base, or 0 where there is none.
+/// Checks that a column has the least of these values as its base, or 0 if there are none.
 fn see_base<R: Abort + AllocGlobal>(rt: &R, column: &Column, values: &[Option<i64>]) {
     let entries = distinct_values(rt, values);
     let least = entries.first().copied().unwrap_or(0);
@@ -256,7 +257,7 @@ fn dictionaries_are_rebuilt(rt: HostRuntime) {
     }
 }
 
-/// The entry that no row has any more is gone, at either end and between.
+/// An entry that no row has any more is dropped, at either end and between.
 #[test]
 fn rebuilt_dictionaries_lose_values(rt: HostRuntime) {
     for layout in LAYOUTS {

@@ -13,13 +13,13 @@ use bw_groups::{ColumnValues, Folds, Groups, ValueRuns};
 use bw_mask::Mask;
 use std::process::Abort;
 
-/// How many rows there are: none, few, and about as many as end a word.
+/// Numbers of rows: none, few, and near a multiple of a word.
 const LENGTHS: [usize; 5] = [0, 1, 63, 65, 200];
 
-/// How many bits the distances of the grouping column's values have: from two groups to as many as there are rows.
+/// The number of bits of the distances in the grouping column: from two groups to one per row.
 const WIDTHS: [u32; 4] = [1, 3, 31, 64];
 
-/// How many of 64 values are not null.
+/// How many of 64 values are non-null.
 const KNOWN_IN_64: [u64; 3] = [64, 40, 0];
 
 /// The values of all rows of a column, read in runs.
@@ -35,7 +35,7 @@ fn gathered<R: Abort + AllocGlobal>(rt: &R, column: &Column) -> ColumnValues {
     all
 }
 
-/// Each of the values once, in ascending order, and NULL last.
+/// The distinct values, in ascending order, with NULL last.
 fn distinct<R: Abort + AllocGlobal>(rt: &R, values: &[Option<i64>]) -> Vec<Option<i64>> {
     let mut known: Vec<i64> = values
         .iter()
@@ -55,7 +55,7 @@ fn distinct<R: Abort + AllocGlobal>(rt: &R, values: &[Option<i64>]) -> Vec<Optio
     found
 }
 
-/// How many rows have this value, and their values in another column that are not null.
+/// The number of rows with this value, and their non-null values in another column.
 fn rows_having<R: Abort + AllocGlobal>(
     rt: &R,
     by: &[Option<i64>],
@@ -75,7 +75,7 @@ fn rows_having<R: Abort + AllocGlobal>(
     (count, known)
 }
 
-/// What the folds tell of group g.
+/// The results of the folds for group `g`.
 fn told(folds: &Folds, g: usize) -> Answers
     requires { g < length folds.now }
 {

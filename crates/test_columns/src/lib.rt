@@ -1,5 +1,5 @@
-//! Worked examples as tests of columns, each call that may run out of memory seen answering, and random columns: changed,
-//! compared with each other, summarized and grouped, each compared with a plain list or a plain fold.
+//! Tests of columns: worked examples, a success of each call that may run out of memory, and random columns that are
+//! changed, compared with each other, summarized and grouped, and compared with a plain list or a plain fold.
 #![tactic(auto)]
 
 #[cfg(test)]

@@ -1,5 +1,5 @@
-//! Two columns compared with each other: worked examples with the units that are read, and random pairs in all layouts and
-//! kinds compared with a plain comparison of their values.
+//! Two columns compared with each other: worked examples with the units that are read, and random pairs in all layouts
+//! and kinds compared with a plain comparison of their values.
 
 use crate::columns::{ALL, Outcome, column_of, side_by_side};
 use crate::random::{LAYOUTS, Random};
@@ -20,7 +20,7 @@ const OPERATORS: [CmpOp; 6] = [
     CmpOp::Ge,
 ];
 
-/// Where the values of one list are below those of another, of kind OFFSET in these layouts.
+/// The rows where the values of one list are less than those of another, of kind OFFSET in these layouts.
 fn below<R: Abort + AllocGlobal>(
     rt: &R,
     layout: Layout,
@@ -90,7 +90,7 @@ fn a_worked_pair_in_all_layouts_and_kinds(rt: HostRuntime) {
     }
 }
 
-/// Where the values of a column begin, the greatest distance from there, and the greatest value that there may be.
+/// The least value of a column, the greatest distance from it, and the greatest allowed value.
 #[derive(Clone, Copy)]
 struct Span {
     base: i64,
@@ -120,7 +120,7 @@ impl Span {
         }
     }
 
-    /// The value so far above the base, and no more than there may be.
+    /// The value at this distance above the base, capped at the greatest allowed value.
     fn value(self, distance: u64) -> i64 {
         match i64::try_from(i128::from(self.base) + i128::from(distance)) {
             Ok(value) => value.min(self.most),
@@ -145,7 +145,7 @@ fn values_of<R: Abort + AllocGlobal>(rt: &R, random: &mut Random, span: Span) ->
     values
 }
 
-/// Whether two numbers compare so, in the words of the operators.
+/// Whether the comparison of two numbers holds.
 fn holds(op: CmpOp, x: i64, y: i64) -> bool {
     match op {
         CmpOp::Eq => x == y,
@@ -157,7 +157,7 @@ fn holds(op: CmpOp, x: i64, y: i64) -> bool {
     }
 }
 
-/// The truth at a row, none where it is unknown or not asked for.
+/// The truth at a row, `None` if it is unknown or the row isn't needed.
 fn wanted(op: CmpOp, x: Option<i64>, y: Option<i64>, needed: bool) -> Option<bool> {
     match (x, y) {
         (Some(x), Some(y)) if needed => Some(holds(op, x, y)),
@@ -165,7 +165,7 @@ fn wanted(op: CmpOp, x: Option<i64>, y: Option<i64>, needed: bool) -> Option<boo
     }
 }
 
-/// So many rows, of which a word chooses some again and again.
+/// `rows` rows, chosen by the bits of a word, which is repeated.
 fn chosen_rows<R: Abort + AllocGlobal>(rt: &R, rows: usize, chosen: u64) -> Mask {
     assert!(rt; rows <= 200);
     let mut need = Mask::filled(rt.alloc(), rows, false).expect(rt, "memory");
@@ -184,7 +184,7 @@ fn bits_of(truth: Option<bool>) -> (u64, u64) {
     }
 }
 
-/// Compares two columns at the needed rows, and each truth with that of the plain values.
+/// Compares two columns at the needed rows, and checks each truth against that of the plain values.
 fn check_truths<R: Abort + AllocGlobal>(
     rt: &R,
     left: &Column,
@@ -203,7 +203,7 @@ fn check_truths<R: Abort + AllocGlobal>(
     }
 }
 
-/// Compares two columns at the rows that a word chooses again and again.
+/// Compares two columns at the rows that a repeated word chooses.
 fn check_pair<R: Abort + AllocGlobal>(rt: &R, left: Column, right: Column, op: CmpOp, chosen: u64) {
     let need = chosen_rows(rt, left.len(), chosen);
     check_truths(rt, &left, &right, op, &need);
@@ -212,7 +212,7 @@ fn check_pair<R: Abort + AllocGlobal>(rt: &R, left: Column, right: Column, op: C
 /// The layouts that hold integers of 64 bits, that of planes twice.
 const WIDE_LAYOUTS: [Layout; 4] = [Layout::P, Layout::V, Layout::S, Layout::V];
 
-/// All pairs of these layouts and of the kinds, of one pair of lists.
+/// Checks one pair of lists in all pairs of these layouts and of the kinds.
 fn check_layouts<R: Abort + AllocGlobal>(
     rt: &R,
     random: &mut Random,
@@ -241,7 +241,7 @@ fn check_spans<R: Abort + AllocGlobal>(
     check_layouts(rt, random, layouts, &values, &others);
 }
 
-/// Two spans, one and the same in one case of four, so that both columns have one encoding.
+/// Two spans; in one case of four they are the same, so that both columns have the same encoding.
 fn paired(case: usize, span: Span, other: Span) -> (Span, Span) {
     (span, if case % 4 == 0 { span } else { other })
 }

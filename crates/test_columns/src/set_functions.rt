@@ -15,12 +15,12 @@ use std::process::Abort;
 /// COUNT, SUM, MIN, MAX and MEDIAN.
 pub(crate) type Answers = (u64, Option<i128>, Option<i64>, Option<i64>, Option<i64>);
 
-/// Numbers of rows at which words and segments of the layouts end, or just don't.
+/// Numbers of rows at or near the ends of the layouts' words and segments.
 const LENGTHS: [usize; 16] = [
     0, 1, 2, 31, 32, 33, 63, 64, 65, 255, 256, 257, 511, 512, 513, 600,
 ];
 
-/// How many of 64 values are not null.
+/// How many of 64 values are non-null.
 const KNOWN_IN_64: [u64; 5] = [64, 56, 32, 4, 0];
 
 /// How many of 64 rows are chosen.
@@ -31,7 +31,7 @@ fn happens(random: &mut Random, times: u64) -> bool {
     (random.next() >> 8 & 63) < times
 }
 
-/// Up to 600 rows, about half the time where something ends.
+/// Up to 600 rows, about half the time one of `LENGTHS`.
 fn drawn_length(random: &mut Random) -> usize {
     let word = random.next() >> 8;
     if happens(random, 32) {
@@ -47,17 +47,17 @@ fn drawn_top(random: &mut Random, width: u32) -> u64 {
     (random.next() | !(below >> 1)) & below
 }
 
-/// How far the integers of a column reach.
+/// The range of a column's integers.
 #[derive(Clone, Copy, Debug, PartialEq, Eq)]
 pub(crate) enum Reach {
-    /// As those of 32 bits.
+    /// Integers of 32 bits.
     Integer,
-    /// As those of 64 bits, which BitWeaving/H doesn't hold.
+    /// Integers of 64 bits, which BitWeaving/H doesn't hold.
     Whole,
 }
 
 impl Reach {
-    /// How far the greatest lies from the least.
+    /// The distance from the least to the greatest.
     fn greatest(self) -> u64 {
         match self {
             Reach::Integer => 0xffff_ffff,
@@ -65,7 +65,7 @@ impl Reach {
         }
     }
 
-    /// The integer at this distance from the least one, counted round.
+    /// The integer at this distance from the least one, wrapping around.
     fn integer(self, distance: u64) -> i64 {
         match self {
             Reach::Integer => (distance & 0xffff_ffff) as i64 - 0x8000_0000,
@@ -107,8 +107,8 @@ pub(crate) fn cell(is_known: bool, distance: u64, reach: Reach) -> Option<i64> {
     }
 }
 
-/// What a random column is like: how far its integers reach, how many bits the codes of an offset have, and how many of 64
-/// values are not null.
+/// The parameters of a random column: the range of its integers, the number of bits of an offset's codes, and how many
+/// of 64 values are non-null.
 #[derive(Clone, Copy, Debug)]
 pub(crate) struct Drawn {
     pub(crate) reach: Reach,
@@ -116,8 +116,8 @@ pub(crate) struct Drawn {
     pub(crate) known: u64,
 }
 
-/// Values whose distances from the least have some of the bits of a top code and no others. Where one is known, 0 and the
-/// top code are known too, half a column apart, so that an offset's codes have this many bits.
+/// Values whose distances from the least have some of the bits of a top code and no others. Where one is known, 0 and
+/// the top code are known too, half a column apart, so that an offset's codes have this many bits.
 pub(crate) fn drawn_values<R: Abort + AllocGlobal>(
     rt: &R,
     random: &mut Random,
@@ -165,7 +165,7 @@ pub(crate) fn mask_of<R: Abort + AllocGlobal>(rt: &R, chosen: &[bool]) -> Mask {
     rows
 }
 
-/// The values of the chosen rows that are not null.
+/// The non-null values of the chosen rows.
 pub(crate) fn chosen_values<R: Abort + AllocGlobal>(
     rt: &R,
     values: &[Option<i64>],
@@ -200,7 +200,7 @@ fn ends(first: i64, others: &[i64]) -> (i64, i64) {
     (least, greatest)
 }
 
-/// The answers from the values themselves, which are sorted for it.
+/// The answers computed from the values themselves. Sorts the values.
 pub(crate) fn folded<R: Abort>(rt: &R, values: &mut Vec<i64>) -> Answers {
     let Some(first) = values.first().copied() else {
         return (0, None, None, None, None);
@@ -231,7 +231,7 @@ fn answered<R: Abort + AllocGlobal>(rt: &R, column: &Column, rows: &Mask) -> Ans
     )
 }
 
-/// The answers of the functions where all are asked for at once.
+/// The answers of the functions when all are asked for at once.
 pub(crate) fn answered_at_once<R: Abort + AllocGlobal>(
     rt: &R,
     column: &Column,

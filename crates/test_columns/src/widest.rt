@@ -1,4 +1,4 @@
-//! Sums and ends of as many rows as a column has at most, each as far from the base as 64 bits reach.
+//! Sums and ends of the largest number of rows, each as far from the base as 64 bits allow.
 
 use crate::columns::column_of;
 use crate::seen::see_at;
@@ -9,7 +9,7 @@ use std::process::Abort;
 
 const ROWS: usize = 16_777_216;
 
-/// One value, and in all rows after it another.
+/// One value, followed by another in all later rows.
 fn values_of<R: Abort + AllocGlobal>(rt: &R, first: i64, rest: i64) -> Vec<Option<i64>> {
     let mut values = Vec::from_elem(rt.alloc(), Some(rest), ROWS).expect(rt, "memory");
     if values.len() > 0 {
@@ -30,7 +30,7 @@ fn check_column<R: Abort + AllocGlobal>(
     see_at(rt, way, answered_at_once(rt, &column, &rows), wanted);
 }
 
-/// Checks columns whose distances from the base are all, but for one, as great as 64 bits make them, or are 0.
+/// Checks columns whose distances from the base are all, except one, the largest 64-bit number, or 0.
 fn check_ways<R: Abort + AllocGlobal>(rt: &R, first: i64, rest: i64, sum: i128) {
     let values = values_of(rt, first, rest);
     let wanted = (

@@ -38,14 +38,14 @@ pub(crate) const SAVING: [Answered; 6] = [
     ("TABLES;", "TABLE,COLUMNS,ROWS\nT,1,3\nU,1,3\nrows 2\n"),
 ];
 
-/// How many replies of the script stand before the one of SAVE.
+/// The number of replies of the script before that of SAVE.
 const BEFORE_SAVE: usize = 2;
 
 pub(crate) fn files() -> [File<'static>; 1] {
     [("f", LOADED)]
 }
 
-/// The statements of a script, one after the other.
+/// The statements of a script, concatenated.
 pub(crate) fn script_of<R: Abort + AllocGlobal>(rt: &R, script: &[Answered]) -> String {
     let mut text = String::new(rt.alloc());
     for (statement, _) in script {
@@ -54,7 +54,7 @@ pub(crate) fn script_of<R: Abort + AllocGlobal>(rt: &R, script: &[Answered]) -> 
     text
 }
 
-/// The replies to this many statements, one after the other.
+/// The replies to this many statements, concatenated.
 pub(crate) fn replies_of<R: Abort + AllocGlobal>(
     rt: &R,
     script: &[Answered],
@@ -67,7 +67,7 @@ pub(crate) fn replies_of<R: Abort + AllocGlobal>(
     text
 }
 
-/// How many statements lie whole in this many bytes of the script.
+/// The number of statements that are complete within this many bytes of the script.
 pub(crate) fn closed_in(script: &[Answered], bytes: usize) -> usize {
     let mut end: usize = 0;
     let mut count: usize = 0;
@@ -111,7 +111,7 @@ fn check_reads<R: Abort + AllocGlobal>(rt: &R, script: &[Answered]) {
     }
 }
 
-/// Checks what was written where the reader fails.
+/// Checks what was written if the reader fails.
 fn check_read<R: Abort + AllocGlobal>(rt: &R, mut reader: FailingReader<'_>, replies: &[u8]) {
     let mut output = Vec::new(rt.alloc());
     let mut folder = folder_of(rt, &files());
@@ -120,8 +120,8 @@ fn check_read<R: Abort + AllocGlobal>(rt: &R, mut reader: FailingReader<'_>, rep
     see_bytes(rt, &output, replies);
 }
 
-// After any number of bytes, taken any number at a time, the writer takes no more: what it took is a prefix of the replies,
-// and the table is saved if the reply to SAVE was begun.
+// After any number of bytes, taken any number at a time, the writer takes no more: what it took is a prefix of the
+// replies, and the table is saved if the reply to SAVE was begun.
 #[test]
 fn each_write_fails(rt: HostRuntime) {
     check_writes(&rt, &LOADING);
@@ -142,7 +142,7 @@ fn check_writes<R: Abort + AllocGlobal>(rt: &R, script: &[Answered]) {
     }
 }
 
-/// Checks what was written, and whether the table is saved, where the writer takes this many bytes, this many at a time.
+/// Checks what was written, and whether the table is saved, if the writer takes this many bytes, this many at a time.
 fn check_write<R: Abort + AllocGlobal>(
     rt: &R,
     mut script: &[u8],
@@ -193,7 +193,7 @@ fn check_flushes<R: Abort + AllocGlobal>(rt: &R, script: &[Answered]) {
     }
 }
 
-/// Checks what was written, and whether the table is saved, where a flush after this many fails.
+/// Checks what was written, and whether the table is saved, if the flush after this many fails.
 fn check_flush<R: Abort + AllocGlobal>(
     rt: &R,
     mut script: &[u8],
@@ -213,7 +213,8 @@ fn check_flush<R: Abort + AllocGlobal>(
     check_saved(rt, folder, is_saved);
 }
 
-// A folder in memory of which one call, counted from 1, answers a fault and does nothing. It gives no files.
+// A folder in memory of which one call, counted from 1, returns a fault and does nothing. Its files are not known to
+// contracts.
 #[derive(Drop)]
 struct FailingFolder {
     folder: MemoryFolder,
@@ -261,7 +262,7 @@ impl Folder for FailingFolder {
     }
 }
 
-// No writing is too large, and no file is missing for it.
+// A write is never too large, and needs no existing file.
 fn fault_at_writing(fault: FolderFault) -> FolderFault
     ensures { IsWriteFault result }
 {
@@ -271,7 +272,7 @@ fn fault_at_writing(fault: FolderFault) -> FolderFault
     }
 }
 
-// A failure counts, and nothing else.
+// Counts the result if it is `Failed`.
 fn count_failure<T>(failures: &mut u64, answer: &Result<T, FolderFault>)
     requires { failures.old < 2 ^ 63 }
     ensures { failures.new ≡ failures_after answer.now failures.old }
@@ -281,7 +282,7 @@ fn count_failure<T>(failures: &mut u64, answer: &Result<T, FolderFault>)
     }
 }
 
-/// A folder whose call of this number answers a fault.
+/// A folder whose call of this number returns a fault.
 fn failing_folder<R: Abort + AllocGlobal>(
     rt: &R,
     calls_left: u32,
@@ -297,7 +298,7 @@ fn failing_folder<R: Abort + AllocGlobal>(
     }
 }
 
-// Checks what a script answers, and how it ends, where this call of the folder answers a fault.
+// Checks the replies to a script, and how it ends, if this call of the folder returns a fault.
 fn check_folder<R: Abort + AllocGlobal>(
     rt: &R,
     (call, fault): (u32, FolderFault),
@@ -320,7 +321,7 @@ const SAVES: &str =
     "CREATE TABLE t (a INT); INSERT INTO t VALUES (3), (NULL), (-1); SAVE t TO 'g'; OPEN u FROM 'g'; \
      SELECT a FROM u; TABLES; SAVE t TO 'g';";
 
-// What stays is as if the statement hadn't been, and the next one over the same file is answered.
+// The state is as if the statement hadn't been run, and the next one over the same file is answered.
 #[test]
 fn each_call_of_a_folder_fails(rt: HostRuntime) {
     let failed = FolderFault::Failed;
@@ -409,7 +410,7 @@ fn a_stop_where_a_folder_fails(rt: HostRuntime) {
     see_bytes(&rt, &output, b"ok\nerror 40: file cannot be read\n");
 }
 
-// What a folder of the host answers to one reading, and how often it failed by then.
+// The result of one read from a folder of the host, and its number of failures after it.
 fn host_read<R: AllocGlobal + Files>(
     rt: &R,
     name: &str,
@@ -420,7 +421,7 @@ fn host_read<R: AllocGlobal + Files>(
     (answer, folder.failures())
 }
 
-// The fault that a folder of the host answers to one reading, if any, and how often it failed by then.
+// The fault of one read from a folder of the host, if any, and its number of failures after it.
 fn host_fault<R: AllocGlobal + Files>(
     rt: &R,
     name: &str,
@@ -430,7 +431,7 @@ fn host_fault<R: AllocGlobal + Files>(
     (answer.err(), failures)
 }
 
-// The fault that a folder of the host answers to one writing, if any, and how often it failed by then.
+// The fault of one write to a folder of the host, if any, and its number of failures after it.
 fn host_write<R: AllocGlobal + Files>(
     rt: &R,
     name: &str,
@@ -462,7 +463,7 @@ fn files_of_the_host(rt: HostRuntime) {
     );
 }
 
-// A folder is no file, and a file in a folder that isn't there can't be made.
+// A folder isn't a file, and a file in a folder that doesn't exist can't be created.
 #[test]
 fn places_of_the_host_without_a_file(rt: HostRuntime) {
     let (missing, failed) = (Some(FolderFault::Missing), Some(FolderFault::Failed));

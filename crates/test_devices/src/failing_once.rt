@@ -1,5 +1,5 @@
-//! Devices of which one call fails, and that work before it and after it: a call that failed ends the run, and its device is not
-//! called again.
+//! Devices of which one call fails, and which work before and after it: the failed call ends the run, and its device
+//! isn't called again.
 
 ghost use Rattle.std.specs.Prelude.{IfOk, ◌≡◌};
 
@@ -11,7 +11,7 @@ use std::io;
 use std::io::{ErrorKind, Read, Write};
 use std::process::Abort;
 
-/// How a call fails: by an error, or since no byte was given or taken.
+/// How a call fails: with an error, or because no byte was given or taken.
 #[derive(Clone, Copy, Debug, PartialEq, Eq)]
 enum Failure {
     Error,
@@ -19,7 +19,7 @@ enum Failure {
 }
 
 impl Failure {
-    /// What the call that fails answers.
+    /// The result of the failing call.
     fn answer(self) -> io::Result<usize>
         ensures { IfOk result (λ n. n ≡ 0) }
     {
@@ -30,7 +30,7 @@ impl Failure {
     }
 }
 
-/// The calls of a device: how many were made, and which one fails, counted from 1.
+/// The calls of a device: the number made, and which one fails, counted from 1.
 #[derive(Clone, Copy)]
 struct Calls {
     made: usize,
@@ -42,14 +42,14 @@ impl Calls {
         Calls { made: 0, failing }
     }
 
-    /// Counts a call. Whether it is the one that fails.
+    /// Counts a call, and returns whether it is the one that fails.
     fn fails_now(&mut self) -> bool {
         self.made = self.made.wrapping_add(1);
         self.made == self.failing
     }
 }
 
-/// Gives at most this many bytes a call.
+/// Gives at most this many bytes per call.
 #[derive(Drop)]
 struct OnceReader<'a> {
     rest: &'a [u8],
@@ -73,7 +73,7 @@ impl Read for OnceReader<'_> {
     }
 }
 
-/// Takes at most this many bytes a call.
+/// Takes at most this many bytes per call.
 #[derive(Drop)]
 struct OnceWriter {
     taken: Vec<u8>,
@@ -101,8 +101,8 @@ impl Write for OnceWriter {
     }
 }
 
-/// The end of a run whose reader fails so, and what it answers after the statements that were closed by then: where the script
-/// ends too early, its rest isn't closed.
+/// The end of a run whose reader fails like this, and its reply after the statements that were closed before: if the
+/// script ends too early, its rest isn't closed.
 fn end_of_read(failure: Failure, is_whole: bool) -> (RunEnd, &'static str) {
     match failure {
         Failure::Error => (RunEnd::ReadFault, ""),
@@ -111,7 +111,7 @@ fn end_of_read(failure: Failure, is_whole: bool) -> (RunEnd, &'static str) {
     }
 }
 
-/// How many bytes of a script the statements take that lie whole in this many of them.
+/// The length in bytes of the statements that are complete within this many bytes of a script.
 fn closed_bytes(script: &[Answered], bytes: usize) -> usize {
     let mut end: usize = 0;
     for (statement, _) in script.iter().take(closed_in(script, bytes)) {
@@ -120,7 +120,8 @@ fn closed_bytes(script: &[Answered], bytes: usize) -> usize {
     end
 }
 
-/// Runs a script over a reader whose call of this number fails, and checks what is answered and that it isn't called again.
+/// Runs a script over a reader whose call of this number fails, and checks the replies and that the reader isn't called
+/// again.
 fn check_read<R: Abort + AllocGlobal>(
     rt: &R,
     script: &[Answered],
@@ -154,7 +155,7 @@ fn check_read<R: Abort + AllocGlobal>(
     see_bytes(rt, &output, replies.as_bytes());
 }
 
-/// Fails each read of a script in turn, the last one among them, at which it is at its end.
+/// Fails each read of a script in turn, including the last one, which finds its end.
 fn check_reads<R: Abort + AllocGlobal>(rt: &R, script: &[Answered], step: usize) {
     let length = script_of(rt, script).len();
     for read in 0..length.div_ceil(step.max(1)).saturating_add(1) {
@@ -171,8 +172,8 @@ fn a_read_that_fails_is_the_last(rt: HostRuntime) {
     }
 }
 
-/// Runs a script over a writer of which one write and one flush fail, each counted from 1, and 0 where none does. Returns how the
-/// run ended, and the writer.
+/// Runs a script over a writer of which one write and one flush fail, each counted from 1, or 0 for none. Returns how
+/// the run ended, and the writer.
 fn written<R: Abort + AllocGlobal>(
     rt: &R,
     script: &[Answered],
@@ -194,7 +195,7 @@ fn written<R: Abort + AllocGlobal>(
     (end, writer)
 }
 
-/// Sees that the bytes are the first ones of all replies to a script.
+/// Checks that the bytes are a prefix of all replies to a script.
 fn see_prefix<R: Abort + AllocGlobal>(rt: &R, taken: &[u8], script: &[Answered]) {
     let replies = replies_of(rt, script, script.len());
     assert!(rt; taken.len() < replies.len());

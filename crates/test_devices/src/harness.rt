@@ -1,4 +1,4 @@
-//! What the tests share: files in memory, and scripts made of pieces.
+//! Shared by the tests: files in memory, and scripts made of pieces.
 
 use bw_shell::{Folder, MemoryFolder, OnError, RunEnd, run};
 use std::alloc::Global;
@@ -31,7 +31,7 @@ pub(crate) fn run_over<I: Read, O: Write>(
     run(alloc, reader, writer, &mut folder, on_error)
 }
 
-/// Pieces, each the given number of times, one after the other.
+/// Concatenates pieces, each repeated the given number of times.
 pub(crate) fn joined<R: Abort + AllocGlobal>(rt: &R, pieces: &[(&str, usize)]) -> String {
     let mut text = String::new(rt.alloc());
     for (piece, times) in pieces {

@@ -1,4 +1,5 @@
-//! Scripts that come in pieces: they are answered alike however they are cut, and each statement before more is asked for.
+//! Scripts that come in pieces: the replies don't depend on how they are cut, and each statement is answered before
+//! more is read.
 
 use crate::harness::{Example, joined, run_over};
 use crate::seen::{see, see_bytes};
@@ -30,7 +31,7 @@ const SCRIPTS: [Example; 6] = [
     (" \t\r\n;; -- nothing; here", ""),
 ];
 
-// Gives a byte a call.
+// Gives one byte per call.
 #[derive(Drop)]
 struct SingleBytes<'a> {
     rest: &'a [u8],
@@ -92,7 +93,7 @@ fn however_a_script_is_cut(rt: HostRuntime) {
     }
 }
 
-// A part of 65,536 bytes and one of a byte more, each after and before another statement.
+// A part of 65,536 bytes and one of one byte more, each between two other statements.
 #[test]
 fn a_part_that_is_too_long_in_pieces(rt: HostRuntime) {
     let told = "TABLE,COLUMNS,ROWS\nrows 0\nTABLE,COLUMNS,ROWS\nrows 0\n";
@@ -109,7 +110,7 @@ fn a_part_that_is_too_long_in_pieces(rt: HostRuntime) {
     }
 }
 
-// Gives one piece a call, and notes how many bytes of replies were flushed by then.
+// Gives one piece per call, and records how many bytes of replies were flushed by then.
 #[derive(Drop)]
 struct NotingReader<'a> {
     pieces: &'a [&'a [u8]],
@@ -129,7 +130,7 @@ impl Read for NotingReader<'_> {
     }
 }
 
-// Counts the bytes of replies, and gives how many were flushed.
+// Counts the bytes of replies, and tells how many were flushed.
 #[derive(Drop)]
 struct CountingWriter<'a> {
     taken: usize,
@@ -148,7 +149,8 @@ impl Write for CountingWriter<'_> {
     }
 }
 
-// Replies of 3, 5 and 11 bytes, each flushed before the read after the piece that closes its statement, and one of 23 to the rest.
+// Replies of 3, 5 and 11 bytes, each flushed before the read after the piece that closes its statement, and one of 23
+// to the rest.
 #[test]
 fn each_reply_before_the_next_read(rt: HostRuntime) {
     let pieces: [&[u8]; 5] = [

@@ -1,4 +1,5 @@
-//! The program over words and streams of the tests' own: what it asks for, writes, says and ends with.
+//! The program over the tests' own words and streams: what it reads and writes, its line on standard error, and its
+//! exit status.
 
 ghost use Rattle.std.specs.Io.{WritesAtMost};
 
@@ -54,7 +55,7 @@ fn check_status<R: Abort + AllocGlobal>(rt: &R, code: ExitCode, status: u8) {
     see_bytes(rt, found.as_bytes(), wanted.as_bytes());
 }
 
-// Runs the program over words after its name, and checks its status and what it says.
+// Runs the program with these words after its name, and checks its exit status and its line on standard error.
 fn check_end<R: Abort + AllocGlobal + Files, I: Read, O: Write + Drop>(
     rt: &R,
     words: &[&str],

@@ -1,5 +1,5 @@
-//! A host that refuses to open files: only a file that isn't there is missing, and a host that has run out of memory
-//! hasn't failed.
+//! A host that refuses to open files: only a file that doesn't exist counts as missing, and running out of memory
+//! doesn't count as a failure.
 
 use crate::seen::see_at;
 use bw_shell::{Folder, FolderFault, HostFolder};
@@ -8,7 +8,7 @@ use std::fs::{Files, Metadata, OpenOptions};
 use std::io;
 use std::io::ErrorKind;
 
-/// The files of a host, of which none can be opened, for this reason.
+/// The files of a host, none of which can be opened, for this reason.
 #[derive(Drop)]
 struct RefusingHost<'a, H: Files> {
     host: &'a H,
@@ -61,8 +61,8 @@ impl<'a, H: Files> Files for RefusingHost<'a, H> {
     }
 }
 
-/// A reason, what a folder answers to a reading and to a writing that the host refuses for it, and how often it failed by
-/// then.
+/// A reason, the faults of a read and of a write that the host refuses for it, and the folder's number of failures
+/// after them.
 type Row = (ErrorKind, FolderFault, FolderFault, u64);
 
 const ROWS: [Row; 4] = [

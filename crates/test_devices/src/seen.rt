@@ -1,15 +1,15 @@
-//! What the tests see: what was found, a value or a list, compared with what is wanted. An assertion of its own in a test costs
-//! the prover three to six times what such a call does.
+//! Checks for the tests: a found value or list is compared with the wanted one. A separate assertion in a test costs
+//! the prover three to six times as much as such a call.
 
 use std::fmt::Debug;
 use std::process::Abort;
 
-/// Sees that what was found is what is wanted.
+/// Checks that the found value is the wanted one.
 pub(crate) fn see<T: PartialEq + Debug + Copy, R: Abort>(rt: &R, found: T, wanted: T) {
     see_at(rt, (), found, wanted);
 }
 
-/// Sees that what was found in some case is what is wanted there.
+/// Checks that the value found in some case is the one wanted there.
 pub(crate) fn see_at<C: Debug + Copy, T: PartialEq + Debug + Copy, R: Abort>(
     rt: &R,
     case: C,
@@ -19,7 +19,7 @@ pub(crate) fn see_at<C: Debug + Copy, T: PartialEq + Debug + Copy, R: Abort>(
     assert_eq!(rt; found, wanted, "{case:?}");
 }
 
-/// Sees that the bytes are the wanted ones.
+/// Checks that the bytes are the wanted ones.
 pub(crate) fn see_bytes<R: Abort>(rt: &R, found: &[u8], wanted: &[u8]) {
     assert_eq!(rt; found, wanted);
 }

@@ -10,7 +10,7 @@ use std::process::Abort;
 const SCRIPT: &[u8] =
     b"CREATE TABLE t (a INTEGER); INSERT INTO t VALUES (3), (NULL), (-1); SELECT a FROM t WHERE a < 3;";
 
-// Gives this many bytes a call, and then fails.
+// Gives this many bytes per call, and then fails.
 #[derive(Drop)]
 pub(crate) struct FailingReader<'a> {
     pub(crate) rest: &'a [u8],
@@ -32,7 +32,7 @@ impl Read for FailingReader<'_> {
     }
 }
 
-// Takes this many bytes in all, this many a call, and then fails.
+// Takes this many bytes in all, this many per call, and then fails.
 #[derive(Drop)]
 pub(crate) struct FullWriter {
     pub(crate) taken: Vec<u8>,

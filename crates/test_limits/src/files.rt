@@ -1,8 +1,8 @@
-//! Files as large as they may be, and files that fill a table.
+//! Files of the largest size, and files that fill a table.
 
 use crate::harness::{check_over_file, repeated};
 
-// The most bytes of a file.
+// The largest size of a file, in bytes.
 const MOST_BYTES: usize = 268_435_456;
 
 const LOADED_ROWS: usize = 1_048_576;
@@ -29,7 +29,7 @@ fn a_file_too_large(rt: HostRuntime) {
     check_over_file(&rt, &bytes, &script, &read);
 }
 
-// Sixteen files fill a table, and one row more is one too many; where they are deleted there is room again.
+// Sixteen files fill a table, and one more row is too many; after deleting the rows there is room again.
 #[test]
 fn a_table_filled_from_a_file(rt: HostRuntime) {
     let lines = repeated(&rt, "", "1\n", LOADED_ROWS, "");
@@ -52,7 +52,8 @@ fn a_table_filled_from_a_file(rt: HostRuntime) {
     );
 }
 
-// Four columns of 32 bits: 4 * 33 planes of 2,097,152 bytes, those of the non-nulls among them, are more than a file may have.
+// Four columns of 32 bits: 4 * 33 planes of 2,097,152 bytes, including those of the non-null rows, are more than a file
+// may have.
 #[test]
 fn a_table_too_large_for_a_file(rt: HostRuntime) {
     let first = "-2147483648,-2147483648,-2147483648,-2147483648\n";
@@ -77,8 +78,8 @@ fn a_table_too_large_for_a_file(rt: HostRuntime) {
     );
 }
 
-// Columns of 32, 32, 32 and 28 bits: 128 planes of 2,097,152 bytes are as many as a file may have, and the front, the headers
-// and the bases and widths are 70 bytes too many. Without the least values each column has one bit.
+// Columns of 32, 32, 32 and 28 bits: 128 planes of 2,097,152 bytes are as many as a file may have, and the start of the
+// file, the headers and the bases and widths are 70 bytes too many. Without the least values each column has one bit.
 #[test]
 fn a_file_of_seventy_bytes_too_many(rt: HostRuntime) {
     let first = "-2147483648,-2147483648,-2147483648,0\n";
@@ -108,7 +109,7 @@ fn a_file_of_seventy_bytes_too_many(rt: HostRuntime) {
     );
 }
 
-// The greatest sum that there is.
+// The greatest possible sum.
 #[test]
 fn a_full_table_of_the_greatest_bigint(rt: HostRuntime) {
     let lines = repeated(&rt, "", "9223372036854775807\n", LOADED_ROWS, "");

@@ -48,7 +48,7 @@ pub(crate) fn check_end<R: Abort + AllocGlobal>(
     assert!(rt; writer.is_complete());
 }
 
-/// A text the given number of times between two others.
+/// A text repeated the given number of times, between two others.
 pub(crate) fn repeated<R: Abort + AllocGlobal>(
     rt: &R,
     before: &str,

@@ -1,5 +1,5 @@
-//! Scripts and answers as large as users have them, as tests: they are made and compared piece by piece, and no test
-//! keeps either.
+//! Tests with scripts and answers up to the limits. They are generated and compared piece by piece, and no test keeps
+//! either in memory.
 #![tactic(auto)]
 
 #[cfg(test)]

@@ -1,18 +1,18 @@
-//! A reader and a writer of texts that are given by their pieces.
+//! A reader and a writer of texts that are given as pieces.
 
 ghost use Rattle.std.specs.Prelude.{◌≤◌, length};
 
 use std::io;
 use std::io::{ErrorKind, Read, Write};
 
-/// A text that is one byte long at least, and how often it stands there, once at least.
+/// A nonempty text, and how often it is repeated, at least once.
 pub(crate) type Piece<'a> = (&'a str, usize);
 
 /// Gives the pieces of a text, one after the other.
 #[derive(Drop)]
 pub(crate) struct Pieces<'a> {
     pieces: &'a [Piece<'a>],
-    // Which piece comes next, and how often it was begun.
+    // The index of the next piece, and how often it was begun.
     place: usize,
     begun: usize,
     rest: &'a [u8],
@@ -28,7 +28,7 @@ impl<'a> Pieces<'a> {
         }
     }
 
-    /// The next bytes, at most this many. There are none only at the end.
+    /// The next bytes, at most `most`. The result is empty only at the end.
     pub(crate) fn next_bytes(&mut self, most: usize) -> &'a [u8]
         ensures { length result.now ≤ most }
     {
@@ -62,7 +62,7 @@ impl Read for Pieces<'_> {
     }
 }
 
-/// Takes the pieces of a text, and fails at the first byte that is another.
+/// Takes the pieces of a text, and fails at the first byte that differs.
 #[derive(Drop)]
 pub(crate) struct Wanted<'a> {
     pieces: Pieces<'a>,

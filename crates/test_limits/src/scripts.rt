@@ -6,7 +6,7 @@ use bw_shell::{MemoryFolder, OnError, RunEnd, run};
 use std::io::{self, Read};
 use std::process::Abort;
 
-// Of lines of this many bytes, each a comment and a cut, 16,384 are a script of the most bytes, 2^30.
+// Of lines of this many bytes, each a comment and a cut, 16,384 are a script of the largest length, 2^30 bytes.
 const LINE_BYTES: usize = 65_536;
 
 #[test]
@@ -86,7 +86,7 @@ fn comments_between_statements(rt: HostRuntime) {
     );
 }
 
-// A script of the most bytes, and one of one more, whose last `;` is too late.
+// A script of the largest length, and one of one byte more, whose last `;` is too late.
 #[test]
 fn a_script_of_all_its_bytes(rt: HostRuntime) {
     let replies = [("TABLE,COLUMNS,ROWS\nrows 0\n", 1)];
@@ -112,7 +112,7 @@ fn check_longest<R: Abort + AllocGlobal>(
     check_end(rt, &mut folder, &script, replies, end);
 }
 
-// Gives blanks without end.
+// Gives endless blanks.
 #[derive(Drop)]
 struct Blanks;
 

@@ -1,4 +1,4 @@
-//! Columns of BIGINT: integers of 64 bits, copies from type to type, and the layout that holds none.
+//! Columns of BIGINT: integers of 64 bits, copies between types, and the layout that doesn't hold them.
 
 use crate::harness::{
     check_bigint_layings, check_examples, check_file, check_files, check_pieces, check_script,
@@ -35,7 +35,7 @@ fn in_every_layout_and_kind(rt: HostRuntime) {
     );
 }
 
-// A column compares with a column and a number of either type.
+// A column can be compared with a column or a number of either type.
 #[test]
 fn types_beside_each_other(rt: HostRuntime) {
     check_bigint_layings(
@@ -49,7 +49,7 @@ fn types_beside_each_other(rt: HostRuntime) {
     );
 }
 
-// A number of a statement has 64 bits, and so a BIGINT holds each.
+// A number in a statement has 64 bits, so a BIGINT holds each.
 #[test]
 fn values_by_the_type_of_their_column(rt: HostRuntime) {
     check_examples(
@@ -73,7 +73,7 @@ fn values_by_the_type_of_their_column(rt: HostRuntime) {
     );
 }
 
-// A copied value is looked at in the found rows alone, and where one is outside of its target's type nothing changes.
+// Copied values are checked only in the found rows, and if one is out of range for its target's type nothing changes.
 #[test]
 fn copies_from_type_to_type(rt: HostRuntime) {
     check_bigint_layings(
@@ -89,7 +89,8 @@ fn copies_from_type_to_type(rt: HostRuntime) {
     );
 }
 
-// A column is copied whose values are outside before the row is updated, and one whose values are outside afterwards.
+// Copies a column whose values are out of range before the row is updated, and one whose values are out of range only
+// afterwards.
 #[test]
 fn copies_are_of_the_row_as_it_was(rt: HostRuntime) {
     check_script(
@@ -101,7 +102,7 @@ fn copies_are_of_the_row_as_it_was(rt: HostRuntime) {
     );
 }
 
-// Error 60 is the last of its statement, and nothing is made.
+// Error 60 is the last error of its statement, and no table is created.
 #[test]
 fn no_bigint_in_layout_h(rt: HostRuntime) {
     check_examples(
@@ -142,7 +143,7 @@ fn limits_before_the_layout(rt: HostRuntime) {
     );
 }
 
-// Checks what a LOAD of a file into a BIGINT and an INTEGER answers, and all rows after it.
+// Checks the reply to a LOAD of a file into a BIGINT and an INTEGER, and all rows after it.
 fn check_load<R: Abort + AllocGlobal>(rt: &R, bytes: &[u8], replies: &str) {
     let script = "CREATE TABLE t (a BIGINT, b INT); LOAD t FROM 'f'; SELECT * FROM t;";
     check_files(rt, &[("f", bytes)], script, replies);
@@ -169,7 +170,7 @@ fn fields_by_the_type_of_their_column(rt: HostRuntime) {
     }
 }
 
-// A table keeps its types in a file.
+// A saved table keeps its types.
 #[test]
 fn saved_and_opened(rt: HostRuntime) {
     check_bigint_layings(
@@ -188,7 +189,7 @@ const SAVED: [u8; 32] = [
     0x01, 0x01, 0x00, 0x05, 0xff, 0xff, 0xff, 0xff, 0xff, 0xff, 0xff, 0xff, 0x03, 0x01, 0x00, 0x00,
 ];
 
-// A file tells a BIGINT of small values from an INTEGER by its type alone.
+// In a file, a BIGINT of small values differs from an INTEGER only by its type.
 #[test]
 fn small_values_saved_and_opened(rt: HostRuntime) {
     let mut folder = check_files(

@@ -1,4 +1,4 @@
-//! Each call that may run out of memory, seen answering.
+//! A success of each call that may run out of memory.
 
 use crate::harness::statement_in;
 use crate::seen::{see, see_at, see_bytes};
@@ -75,7 +75,7 @@ fn insert_in<R: Abort + AllocGlobal>(rt: &R, text: &str) -> Insert {
     }
 }
 
-// Each of these fails where the text says another statement.
+// Each of these fails if the text is another statement.
 #[test]
 fn statements_of_texts(rt: HostRuntime) {
     select_in(&rt, "SELECT * FROM t");
@@ -118,7 +118,7 @@ fn select_below_3<R: Abort + AllocGlobal>(rt: &R) -> Select {
     select_in(rt, "SELECT a FROM t WHERE a < 3")
 }
 
-/// How many rows are found, and how many lines their answer has.
+/// The number of found rows, and the number of lines in their answer.
 fn found_and_answered<R: Abort + AllocGlobal>(
     rt: &R,
     table: &Table,
@@ -135,7 +135,7 @@ fn the_plain_program_answers(rt: HostRuntime) {
     see(&rt, found, (1, 1));
 }
 
-/// Sees the truth of a condition at each of three rows.
+/// Checks the truth of a condition at each of three rows.
 fn see_truths<R: Abort>(rt: &R, table: &Table, condition: &Condition, truths: [TruthValue; 3]) {
     see(rt, table.rows().len(), 3);
     for (row, truth) in table.rows().iter().zip(truths) {
@@ -151,7 +151,7 @@ fn truths_by_the_plain_program(rt: HostRuntime) {
     see_truths(&rt, &three_rows(&rt), condition, truths);
 }
 
-/// What kind of reply it is, and how much it counts.
+/// The kind of a reply, and the number in it.
 #[derive(Clone, Copy, Debug, PartialEq)]
 enum ReplyKind {
     Done,
@@ -171,7 +171,7 @@ fn kind_of(reply: Reply) -> ReplyKind {
     }
 }
 
-/// What the engine replies to a statement without a file, which wants none.
+/// The engine's reply to a statement that wants no file.
 fn replied<R: Abort + AllocGlobal>(rt: &R, engine: &mut Engine, text: &str) -> ReplyKind {
     let statement = statement_in(rt, text);
     assert!(rt; engine.wants(&statement).is_none());

@@ -1,4 +1,4 @@
-//! Rows updated and deleted, and columns laid anew.
+//! Rows updated and deleted, and columns rebuilt.
 
 use crate::harness::{check_examples, check_pieces, joined, numbered};
 

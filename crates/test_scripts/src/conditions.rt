@@ -2,7 +2,7 @@
 
 use crate::harness::{check_examples, check_pieces};
 
-// Three truth values: what is unknown finds no row, also under NOT.
+// Three truth values: unknown finds no row, also under NOT.
 #[test]
 fn rows_that_a_condition_finds(rt: HostRuntime) {
     check_examples(
@@ -30,7 +30,7 @@ fn rows_that_a_condition_finds(rt: HostRuntime) {
     );
 }
 
-// BETWEEN is two comparisons, whose ends may be NULL or stand the wrong way round.
+// BETWEEN is two comparisons. Its ends may be NULL or in the wrong order.
 #[test]
 fn ranges(rt: HostRuntime) {
     check_examples(
@@ -45,7 +45,7 @@ fn ranges(rt: HostRuntime) {
     );
 }
 
-// A column compared with a column, with NULL on a side.
+// A column compared with a column, with NULL on either side.
 #[test]
 fn two_columns(rt: HostRuntime) {
     check_examples(
@@ -79,7 +79,7 @@ fn how_tightly_words_bind(rt: HostRuntime) {
     );
 }
 
-// What looks like a condition and is none.
+// Texts that look like a condition but aren't.
 #[test]
 fn what_is_no_condition(rt: HostRuntime) {
     check_examples(
@@ -100,7 +100,7 @@ fn what_is_no_condition(rt: HostRuntime) {
     );
 }
 
-// A list of 1,000 entries is taken; a longer one is refused, after a column that isn't there.
+// A list of 1,000 entries is accepted; a longer one is refused, after a column that doesn't exist.
 #[test]
 fn entries_of_a_list(rt: HostRuntime) {
     check_pieces(

@@ -1,4 +1,4 @@
-//! What a statement's file says to it, for the plain program.
+//! The content of a statement's file, for the plain program.
 
 use bw_cells::Cells;
 use bw_csvload::{Cells as CsvCells, CsvRows, FirstRecord as CsvFirst, rows};
@@ -9,8 +9,8 @@ use bw_shell::{Folder, FolderFault, MemoryFolder};
 use bw_sql::{FirstRecord, Load, Statement, Value};
 use std::process::Abort;
 
-/// What a statement's file says to it: for a LOAD the rows that it spells for the table's columns or its first fault, for an
-/// OPEN the table that it holds, if it holds one.
+/// The content of a statement's file: for a LOAD its rows, read for the table's columns, or its first fault; for an
+/// OPEN the table that it holds, if any.
 pub(crate) fn content_for<R: Abort + AllocGlobal>(
     rt: &R,
     folder: &mut MemoryFolder,
@@ -30,7 +30,7 @@ pub(crate) fn content_for<R: Abort + AllocGlobal>(
     }
 }
 
-/// The bytes of a file, or what it says without them.
+/// The bytes of a file, or its content if it couldn't be read.
 fn bytes_of<R: Abort>(rt: &R, folder: &mut MemoryFolder, name: &str) -> Result<Vec<u8>, Content> {
     match folder.read(name, FILE_LIMIT) {
         Ok(bytes) => Ok(bytes),
@@ -40,7 +40,7 @@ fn bytes_of<R: Abort>(rt: &R, folder: &mut MemoryFolder, name: &str) -> Result<V
     }
 }
 
-/// What a CSV file says to a LOAD into this table.
+/// The content of a CSV file for a LOAD into this table.
 fn lines_for<R: Abort + AllocGlobal>(
     rt: &R,
     folder: &mut MemoryFolder,
@@ -89,7 +89,7 @@ fn row_of<R: Abort + AllocGlobal>(rt: &R, cells: CsvCells<'_>) -> Row {
     Row::new(values)
 }
 
-/// What a table file says to an OPEN.
+/// The content of a table file for an OPEN.
 fn table_of<R: Abort + AllocGlobal>(rt: &R, bytes: &[u8]) -> Content {
     match decode(rt.alloc(), bytes) {
         Ok(file) => Content::Held(table_in(rt, file)),
@@ -109,7 +109,7 @@ fn table_in<R: Abort + AllocGlobal>(rt: &R, file: TableFile<'_>) -> Table {
     Table::of_rows(headers, rows)
 }
 
-/// The row whose values are the cells at one place of each column.
+/// The row of the cells at one index of each column.
 fn row_at<R: Abort + AllocGlobal>(rt: &R, columns: &[FileColumn<'_>], place: usize) -> Row {
     let mut values: Vec<Value> = Vec::new(rt.alloc());
     for column in columns {

@@ -5,7 +5,7 @@ use crate::seen::{see, see_bytes};
 use bw_shell::{Folder, OnError, RunEnd, run};
 use std::process::Abort;
 
-// Checks what a script after a CREATE TABLE t (a, b) answers over one file f.
+// Checks the replies to a script after a CREATE TABLE t (a, b), with one file f.
 fn check_load<R: Abort + AllocGlobal>(rt: &R, bytes: &[u8], script: &str, replies: &str) {
     let script = format!(in rt.alloc(); "CREATE TABLE t (a INT, b INT); {script}").expect(
         rt, "memory",
@@ -47,7 +47,7 @@ const FAULTS: [(&[u8], &str); 5] = [
         b"\xEF\xBB\xBF\"7\",\r\n9\r\n+5,08\r\n",
         "error 42: record 2 has the wrong number of fields\n",
     ),
-    // The number of fields is looked at before the fields, and a record before those after it.
+    // The number of fields is checked before the fields, and each record before the next one.
     (
         b"1,2\nx,y,z\n3\n",
         "error 42: record 2 has the wrong number of fields\n",
@@ -188,7 +188,7 @@ fn in_every_layout_and_kind(rt: HostRuntime) {
     );
 }
 
-// The saved table with another byte in one place.
+// The saved table with one byte replaced.
 fn saved_but(at: usize, byte: u8) -> [u8; 32] {
     let mut bytes = SAVED;
     if at < bytes.len() {
@@ -197,7 +197,7 @@ fn saved_but(at: usize, byte: u8) -> [u8; 32] {
     bytes
 }
 
-// The same in the first version.
+// The same for the first version.
 fn first_but(at: usize, byte: u8) -> [u8; 31] {
     let mut bytes = SAVED_FIRST;
     if at < bytes.len() {
@@ -206,13 +206,13 @@ fn first_but(at: usize, byte: u8) -> [u8; 31] {
     bytes
 }
 
-// Checks that a file is no table.
+// Checks that a file isn't a table file.
 fn check_no_table<R: Abort + AllocGlobal>(rt: &R, bytes: &[u8]) {
     let replies = "error 44: not a table file\nTABLE,COLUMNS,ROWS\nrows 0\n";
     check_files(rt, &[("f", bytes)], "OPEN v FROM 'f'; TABLES;", replies);
 }
 
-// Checks that a front of a file is no table, nor the file with one byte more.
+// Checks that no proper prefix of a file is a table file, nor the file with one more byte.
 fn check_no_other_length<R: Abort + AllocGlobal>(rt: &R, bytes: &[u8]) {
     for length in 0..bytes.len() {
         check_no_table(rt, &bytes[..length]);
@@ -222,7 +222,7 @@ fn check_no_other_length<R: Abort + AllocGlobal>(rt: &R, bytes: &[u8]) {
     check_no_table(rt, &longer);
 }
 
-/// A byte in place of another in the saved table, so that it is none.
+/// Replaced bytes after which the saved table isn't a table file.
 const NO_TABLE: [(usize, u8); 10] = [
     (15, 0x61), // a small letter
     (16, 0x02), // no type
@@ -246,7 +246,7 @@ fn bytes_that_are_no_table(rt: HostRuntime) {
     bigint_in_h[16] = 0x01;
     bigint_in_h[17] = 0x02;
     check_no_table(&rt, &bigint_in_h);
-    // 64 columns and 16,777,216 rows, of which nothing is there
+    // 64 columns and 16,777,216 rows, with no data
     check_no_table(
         &rt,
         b"\x42\x49\x54\x43\x4f\x4c\x02\x00\x40\x00\x00\x00\x00\x01",
@@ -265,8 +265,8 @@ fn bytes_that_are_no_table_of_the_first_version(rt: HostRuntime) {
     );
 }
 
-// With another byte in any place a file is no table, or is saved again as it was: each fifth value of a byte, 0 and 255
-// among them.
+// With any byte replaced, a file isn't a table file, or it is saved again unchanged. Tries every fifth value of a byte,
+// including 0 and 255.
 #[test]
 fn each_byte_of_a_table_file(rt: HostRuntime) {
     for at in 0..32 {
@@ -305,7 +305,7 @@ fn a_cut_in_the_name_of_a_file(rt: HostRuntime) {
         "CREATE TABLE t (a INTEGER); -- one; two\nSAVE t TO 'x;y';;SELECT a FROM t",
         "ok\nok 0\nerror 10: syntax error\n",
     );
-    // The front, a header of a name of one byte, and a column without rows: its base and its width.
+    // The start of the file, a header with a name of one byte, and a column without rows: its base and its width.
     let file = folder.read("x;y", 28).expect(&rt, "a file");
     see(&rt, file.len(), 28);
 }

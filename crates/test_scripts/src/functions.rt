@@ -1,4 +1,4 @@
-//! Set functions of the found rows, however the columns are laid.
+//! Set functions of the found rows, in every layout and kind of the columns.
 
 use crate::harness::{check_layings, check_pieces, joined};
 use std::process::Abort;
@@ -68,7 +68,7 @@ fn functions_of_nulls_alone(rt: HostRuntime) {
     );
 }
 
-/// The numbers from 1 to 300, each next to its rest by 2.
+/// The numbers from 1 to 300, each with its remainder modulo 2.
 fn numbers_and_rests<R: Abort + AllocGlobal>(rt: &R) -> String {
     let mut pairs = String::from_str(rt.alloc(), "(1, 1)").expect(rt, "memory");
     for number in 2..301u32 {

@@ -1,4 +1,4 @@
-//! GROUP BY, however the columns are laid. The replies are worked by hand.
+//! GROUP BY, in every layout and kind of the columns. The replies are worked out by hand.
 
 use crate::harness::{check_bigint_layings, check_examples, check_layings};
 

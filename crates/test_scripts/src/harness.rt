@@ -1,4 +1,4 @@
-//! Runs a script over bytes in memory, and by the plain program. Where memory runs out, a test fails.
+//! Runs a script over bytes in memory, and by the plain program. If memory runs out, the test fails.
 
 use crate::contents::content_for;
 use crate::seen::{see_at, see_bytes};
@@ -37,13 +37,13 @@ pub(crate) fn run_over<I: Read, O: Write>(
     run(alloc, reader, writer, &mut folder, on_error)
 }
 
-/// The statement that a text says.
+/// The statement of a text.
 pub(crate) fn statement_in<R: Abort + AllocGlobal>(rt: &R, text: &str) -> Statement {
     statement(rt.alloc(), text.as_bytes()).expect(rt, text)
 }
 
-/// What the plain program answers to a script: its step for each statement, over lists of rows. Files are read from this
-/// folder and not written to it.
+/// The output of the plain program for a script: its step for each statement, over lists of rows. Files are read from
+/// this folder and not written to it.
 fn plain_output<R: Abort + AllocGlobal>(
     rt: &R,
     folder: &mut MemoryFolder,
@@ -98,14 +98,15 @@ pub(crate) fn check_script<R: Abort + AllocGlobal>(rt: &R, script: &str, replies
     check_files(rt, &[], script, replies);
 }
 
-/// Checks that a script gets these replies from the run. The plain program has no slots, so it can't count what is read.
+/// Checks that a script gets these replies from the run. The plain program has no slots, so it can't count what is
+/// read.
 pub(crate) fn check_counts<R: Abort + AllocGlobal>(rt: &R, script: &str, replies: &str) {
     check_run(rt, &mut folder_of(rt, &[]), script, replies);
 }
 
-/// Checks that a script gets these replies over a folder with these files, from the run and from the plain program, and gives
-/// the folder that the run left. The plain program reads that one, so a script reads no file before it writes it, and writes
-/// none twice.
+/// Checks that a script gets these replies over a folder with these files, from the run and from the plain program, and
+/// returns the folder that the run left. The plain program reads that folder, so a script must not read a file before
+/// it writes it, or write one twice.
 pub(crate) fn check_files<R: Abort + AllocGlobal>(
     rt: &R,
     files: &[File<'_>],
@@ -147,7 +148,7 @@ fn check_plain<R: Abort + AllocGlobal>(
     see_replies(rt, &output, script, replies);
 }
 
-/// Sees that these are the replies to a script.
+/// Checks that these are the replies to a script.
 fn see_replies<R: Abort>(rt: &R, output: &[u8], script: &str, replies: &str) {
     assert_eq!(rt; output, replies.as_bytes(), "{script}");
 }
@@ -170,7 +171,7 @@ pub(crate) fn check_examples<R: Abort + AllocGlobal>(rt: &R, examples: &[Example
     }
 }
 
-/// Checks that a script gets these replies, which is made of pieces, each the given number of times.
+/// Checks that a script, made of pieces repeated the given numbers of times, gets these replies.
 pub(crate) fn check_pieces<R: Abort + AllocGlobal>(
     rt: &R,
     pieces: &[(&str, usize)],
@@ -180,7 +181,7 @@ pub(crate) fn check_pieces<R: Abort + AllocGlobal>(
     check_script(rt, script.as_str(), replies);
 }
 
-/// How a column may be laid.
+/// The layouts and kinds of a column.
 const LAYINGS: [&str; 8] = [
     "USING P OFFSET",
     "USING V OFFSET",
@@ -192,7 +193,7 @@ const LAYINGS: [&str; 8] = [
     "USING S DICTIONARY",
 ];
 
-/// How a column of BIGINT may be laid.
+/// The layouts and kinds of a BIGINT column.
 const BIGINT_LAYINGS: [&str; 6] = [
     "USING P OFFSET",
     "USING V OFFSET",
@@ -202,12 +203,12 @@ const BIGINT_LAYINGS: [&str; 6] = [
     "USING S DICTIONARY",
 ];
 
-/// Checks that a script gets these replies however the columns are laid at which it says `{using}`.
+/// Checks that a script gets these replies with each layout and kind in place of `{using}`.
 pub(crate) fn check_layings<R: Abort + AllocGlobal>(rt: &R, script: &str, replies: &str) {
     check_each_laying(rt, &LAYINGS, script, replies);
 }
 
-/// The same where these columns may be of BIGINT, which layout H doesn't hold.
+/// The same for columns that may be BIGINT, which layout H doesn't hold.
 pub(crate) fn check_bigint_layings<R: Abort + AllocGlobal>(rt: &R, script: &str, replies: &str) {
     check_each_laying(rt, &BIGINT_LAYINGS, script, replies);
 }
@@ -226,7 +227,7 @@ fn check_each_laying<R: Abort + AllocGlobal>(
     }
 }
 
-/// Pieces, each the given number of times, one after the other.
+/// Concatenates pieces, each repeated the given number of times.
 pub(crate) fn joined<R: Abort + AllocGlobal>(rt: &R, pieces: &[(&str, usize)]) -> String {
     let mut text = String::new(rt.alloc());
     for (piece, times) in pieces {

@@ -1,4 +1,4 @@
-//! Statements as large as the limits let them be, from the run and from the plain program.
+//! Statements as large as the limits allow, in the run and in the plain program.
 
 use crate::harness::{check_pieces, check_script, joined, numbered};
 use std::process::Abort;

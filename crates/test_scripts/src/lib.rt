@@ -1,5 +1,5 @@
-//! Worked examples as tests: scripts with the replies that the language's rules give them, and each call that may run out of
-//! memory, seen answering.
+//! Worked examples as tests: scripts with the replies that the language's rules give them, and a success of each call
+//! that may run out of memory.
 #![tactic(auto)]
 
 #[cfg(test)]

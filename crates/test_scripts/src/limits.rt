@@ -1,4 +1,4 @@
-//! Limits of the language, each with what lies on both of its sides.
+//! Limits of the language, each tested on both sides.
 
 use crate::harness::{check_pieces, check_script, joined, numbered};
 

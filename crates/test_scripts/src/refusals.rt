@@ -1,4 +1,4 @@
-//! Refusals, each the first that holds, after which the store is as before.
+//! Refusals: each is the first that holds, and leaves the store unchanged.
 
 use crate::harness::check_examples;
 

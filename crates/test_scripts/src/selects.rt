@@ -1,4 +1,4 @@
-//! Tables made, filled and read.
+//! Tables created, filled and read.
 
 use crate::harness::{check_examples, check_pieces, numbered};
 

@@ -1,4 +1,4 @@
-//! STATS. The numbers come from the formulas of docs/LAYOUTS.md, worked by hand.
+//! STATS. The numbers come from the formulas of docs/LAYOUTS.md, worked out by hand.
 
 use crate::harness::{check_counts, check_examples};
 use std::process::Abort;
@@ -8,7 +8,7 @@ const TWO_GROUPS: &str = "CREATE TABLE t (a INT USING V); INSERT INTO t VALUES \
      (0), (1), (2), (3), (4), (5), (6), (7), (8), (9), (10), (11), (12), (13), (14), (15), \
      (240), (241), (242), (243), (244), (245), (246), (247), (248), (249), (250), (251), (252), (253), (254), (255); ";
 
-/// Checks what a script about these values is answered after the two replies to what makes them.
+/// Checks the replies to a script about these values, after the two replies to the statements that create them.
 fn check_groups<R: Abort + AllocGlobal>(rt: &R, script: &str, replies: &str) {
     let script = format!(in rt.alloc(); "{TWO_GROUPS}{script}").expect(rt, "memory");
     let replies = format!(in rt.alloc(); "ok\nok 32\n{replies}").expect(rt, "memory");

@@ -1,4 +1,4 @@
-//! Columns of BIGINTs, also next to columns of INTEGERs.
+//! Columns of BIGINTs, also beside columns of INTEGERs.
 
 use crate::harness::{
     To, delete, fill, insert_wide, mixed_table, rebuild, rebuild_as_is, rows_of, see_refused,
@@ -23,13 +23,13 @@ const LEAST: Option<i64> = Some(i64::MIN);
 
 const GREATEST: Option<i64> = Some(i64::MAX);
 
-/// Checks that a table has these rows, one after the other, and as many slots.
+/// Checks that a table has these rows, in order, and no other slots.
 fn check<R: Abort + AllocGlobal>(rt: &R, table: &Table<usize>, cells: &[Option<i64>]) {
     assert!(rt; rows_of(rt, table).as_slice() == cells);
     see(rt, table.slot_count(), cells.len() / 2);
 }
 
-/// A table of two columns of BIGINTs, with the ends of them.
+/// A table of two columns of BIGINTs, with the least and the greatest BIGINT.
 fn ends_in<R: Abort + AllocGlobal>(rt: &R, column: (Layout, Kind)) -> Table<usize> {
     let mut table = wide_table_of(rt, &[column, (Layout::P, Kind::Offset)]);
     let cells = [LEAST, Some(1), None, GREATEST, GREATEST, LEAST];
@@ -38,7 +38,7 @@ fn ends_in<R: Abort + AllocGlobal>(rt: &R, column: (Layout, Kind)) -> Table<usiz
     table
 }
 
-/// Columns of BIGINTs are set to each other, and to an end of them.
+/// Sets columns of BIGINTs to each other, and to an end of the type.
 fn check_updates<R: Abort + AllocGlobal>(rt: &R, table: &mut Table<usize>) {
     set_two(rt, table, ALL, (0, To::Column(1)), (1, To::Column(0)));
     check(
@@ -55,7 +55,7 @@ fn check_updates<R: Abort + AllocGlobal>(rt: &R, table: &mut Table<usize>) {
     );
 }
 
-/// They are built anew, in another layout and without the first row.
+/// Rebuilds the columns, in another layout and without the first row.
 fn check_rebuilds<R: Abort + AllocGlobal>(rt: &R, table: &mut Table<usize>, layout: Layout) {
     let kind = Some(Kind::Dictionary);
     rebuild(rt, table, 1, Choice { layout, kind });
@@ -76,7 +76,7 @@ fn the_ends_of_bigints(rt: HostRuntime) {
     }
 }
 
-/// The INTEGERs of the rows below, by what the BIGINTs are.
+/// The INTEGERs in the rows below, one for each BIGINT.
 const NEXT: [Option<i64>; 5] = [
     Some(-2_147_483_649),
     Some(-2_147_483_648),
@@ -85,7 +85,7 @@ const NEXT: [Option<i64>; 5] = [
     Some(2_147_483_648),
 ];
 
-/// A row for each of them, with 7 in the column of the INTEGERs.
+/// One row for each BIGINT, with 7 in the INTEGER column.
 fn next_to_ends<R: Abort + AllocGlobal>(rt: &R, big: (Layout, Kind)) -> Table<usize> {
     let mut table = mixed_table(rt, big, SMALL);
     for value in NEXT {
@@ -94,7 +94,7 @@ fn next_to_ends<R: Abort + AllocGlobal>(rt: &R, big: (Layout, Kind)) -> Table<us
     table
 }
 
-/// Checks the rows, in which the INTEGERs are these.
+/// Checks the rows, which have these INTEGERs.
 fn check_small<R: Abort + AllocGlobal>(rt: &R, table: &Table<usize>, small: [Option<i64>; 5]) {
     let cells = rows_of(rt, table);
     assert!(rt; cells.len() == 10);
@@ -108,7 +108,7 @@ fn check_small<R: Abort + AllocGlobal>(rt: &R, table: &Table<usize>, small: [Opt
     }
 }
 
-/// A BIGINT is copied to the column of the INTEGERs where each found one is of these, and nothing changes elsewhere.
+/// Copies BIGINTs to the INTEGER column. That works if each found value is an INTEGER, and else nothing changes.
 fn check_copies<R: Abort + AllocGlobal>(rt: &R, big: (Layout, Kind)) {
     let seven = Some(7);
     let mut table = next_to_ends(rt, big);
@@ -134,7 +134,7 @@ fn bigints_copied_to_integers(rt: HostRuntime) {
     }
 }
 
-/// Rows of five words, of which all have INTEGERs in both columns but one.
+/// Five words of rows. All but one have INTEGERs in both columns.
 fn one_far<R: Abort + AllocGlobal>(rt: &R, big: (Layout, Kind), far: usize) -> Table<usize> {
     let mut table = mixed_table(rt, big, SMALL);
     for row in 0..300 {
@@ -155,7 +155,7 @@ fn row_of<R: Abort>(rt: &R, table: &Table<usize>, row: usize) -> (Option<i64>, O
     (table.fetch(row, 0), table.fetch(row, 1))
 }
 
-/// The one value that is no INTEGER is not copied, and the others are where its row is not found.
+/// The one value that isn't an INTEGER is not copied; the others are, if its row is not found.
 fn check_far<R: Abort + AllocGlobal>(rt: &R, big: (Layout, Kind), far: usize) {
     let mut table = one_far(rt, big, far);
     see_refused(rt, &mut table, ALL, 1, 0);

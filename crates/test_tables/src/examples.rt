@@ -1,4 +1,4 @@
-//! Worked examples of tables: what each change makes of the rows, of the slots and of the encodings.
+//! Worked examples of tables: how each change affects rows, slots and encodings.
 
 use crate::harness::{
     Cell, To, check_last, check_rows, delete, header_of, insert, opened, picked, rebuild,
@@ -16,7 +16,7 @@ const OFFSET: (Layout, Kind) = (Layout::P, Kind::Offset);
 
 const DICTIONARY: (Layout, Kind) = (Layout::V, Kind::Dictionary);
 
-/// (i, i mod 2) for i from 1 to 300, of which those with 0 are deleted.
+/// (i, i mod 2) for i from 1 to 300, with the rows of 0 deleted.
 fn odd_rows<R: Abort + AllocGlobal>(rt: &R) -> Table<usize> {
     let mut table = table_of(rt, &[DICTIONARY, OFFSET]);
     for i in 1..301 {
@@ -73,7 +73,7 @@ fn a_compact_drops_dead_slots(rt: HostRuntime) {
     check_odd_rows(&rt, table, 150, DICTIONARY);
 }
 
-/// The least and the greatest INTEGER with a null between them, next to another column.
+/// The least and the greatest INTEGER with a null between them, beside another column.
 const OPENED: [Cell; 6] = [
     Some(i32::MIN),
     Some(7),
@@ -181,7 +181,7 @@ fn columns_are_set_all_at_once(rt: HostRuntime) {
     check_last(&rt, table, &[Some(2), Some(1), Some(5), None], 2);
 }
 
-/// What a column of the row in the middle is set to, and the row then.
+/// What a column of the middle row is set to, and the row after that.
 const SETS: [(usize, To, Cell, Cell); 6] = [
     (0, To::Value(Some(-9)), Some(-9), Some(4)),
     (1, To::Value(None), Some(3), None),

@@ -1,4 +1,4 @@
-//! Tables of columns called 0, 1, 2 and so on, changed and read. Where memory runs out, a test fails.
+//! Tables with columns called 0, 1, 2 and so on, changed and read. If memory runs out, the test fails.
 
 ghost use Rattle.std.specs.Prelude.{All, IsTrue, length, slice_index_or, vec_len, ℕ, ◌%◌, ◌<◌, ◌≡◌};
 ghost use Rattle.bw_code.specs.Types.{IsNullOrOfType, holds_its_type, types_of};
@@ -22,7 +22,7 @@ pub(crate) enum To {
     Column(usize),
 }
 
-/// Adds the header of a column, which is called by its number. Its layout has to hold its type.
+/// Adds the header of a column, whose name is its number. Its layout has to hold its type.
 #[tactic(auto, using(crate::proofs::Flat::one_header_more))]
 fn add_header<R: Abort>(
     rt: &R,
@@ -59,13 +59,13 @@ fn headers_of<R: Abort + AllocGlobal>(
     headers
 }
 
-/// A table without slots, of columns of INTEGERs in these layouts and of these kinds.
+/// A table without slots, with INTEGER columns in these layouts and of these kinds.
 pub(crate) fn table_of<R: Abort + AllocGlobal>(rt: &R, columns: &[(Layout, Kind)]) -> Table<usize> {
     let headers = headers_of(rt, ColumnType::Integer, columns);
     Table::create(rt.alloc(), headers).expect(rt, "memory")
 }
 
-/// A table without slots, of columns of BIGINTs.
+/// A table without slots, with BIGINT columns.
 pub(crate) fn wide_table_of<R: Abort + AllocGlobal>(
     rt: &R,
     columns: &[(Layout, Kind)],
@@ -74,7 +74,7 @@ pub(crate) fn wide_table_of<R: Abort + AllocGlobal>(
     Table::create(rt.alloc(), headers).expect(rt, "memory")
 }
 
-/// A table without slots, of a column of BIGINTs and one of INTEGERs.
+/// A table without slots, with a BIGINT column and an INTEGER column.
 pub(crate) fn mixed_table<R: Abort + AllocGlobal>(
     rt: &R,
     first: (Layout, Kind),
@@ -101,7 +101,7 @@ pub(crate) fn opened<R: Abort + AllocGlobal>(
     Table::of_columns(rt.alloc(), headers, 3, &cells).expect(rt, "memory")
 }
 
-/// The value, as a column takes it.
+/// The value, widened for a column.
 pub(crate) fn wide(cell: Cell) -> Option<i64>
     ensures { IsNullOrInteger result }
 {
@@ -122,7 +122,7 @@ fn wide_cells<R: Abort + AllocGlobal>(rt: &R, cells: &[Cell]) -> Vec<Option<i64>
     wide_cells
 }
 
-/// Inserts the rows that lie one after the other in the cells.
+/// Inserts the rows in the cells, one after the other.
 #[tactic(auto, using(crate::proofs::Flat::are_whole))]
 pub(crate) fn insert<R: Abort + AllocGlobal>(rt: &R, table: &mut Table<usize>, cells: &[Cell]) {
     let width = table.headers().len();
@@ -153,7 +153,7 @@ fn check_types<R: Abort>(rt: &R, table: &Table<usize>, cells: &[Option<i64>])
     }
 }
 
-/// Inserts the rows that lie one after the other in the cells, which have to be of their columns' types.
+/// Inserts the rows in the cells, one after the other. They have to be of their columns' types.
 #[tactic(auto, using(crate::proofs::Flat::are_whole))]
 pub(crate) fn insert_wide<R: Abort + AllocGlobal>(
     rt: &R,
@@ -177,7 +177,7 @@ fn see_integer(cell: Cell)
     }
 }
 
-/// Says that each cell is null or an INTEGER: 32 bits hold no other.
+/// Shows that each cell is null or an INTEGER, since 32 bits hold nothing else.
 fn see_integers(cells: &[Cell])
     ensures { All IsNullOrInteger cells.now }
 {
@@ -186,7 +186,7 @@ fn see_integers(cells: &[Cell])
     }
 }
 
-/// Inserts the rows that lie one after the other in the cells, in the form that the rows of a file have.
+/// Inserts the rows in the cells, one after the other, in the form of a file's rows.
 #[tactic(auto, using(crate::proofs::Flat::are_whole))]
 pub(crate) fn load<R: Abort + AllocGlobal>(rt: &R, table: &mut Table<usize>, cells: &[Cell]) {
     let width = table.headers().len();
@@ -198,7 +198,7 @@ pub(crate) fn load<R: Abort + AllocGlobal>(rt: &R, table: &mut Table<usize>, cel
     table.insert(rt.alloc(), &rows).expect(rt, "inserted");
 }
 
-/// The slots of a table that are the live ones picked by the bits of a word, counted round.
+/// The live slots of a table that are picked by the bits of a word, which is repeated.
 pub(crate) fn picked<R: Abort + AllocGlobal>(rt: &R, table: &Table<usize>, word: u64) -> Mask
     ensures { len result ≡ length table.now.slots }
 {
@@ -241,7 +241,7 @@ pub(crate) fn set_one<R: Abort + AllocGlobal>(
         .expect(rt, "updated");
 }
 
-/// Sees that a column's values are not copied to another one in the picked rows.
+/// Checks that copying a column's values to another one in the picked rows is refused.
 pub(crate) fn see_refused<R: Abort + AllocGlobal>(
     rt: &R,
     table: &mut Table<usize>,
@@ -295,7 +295,7 @@ pub(crate) fn set_two<R: Abort + AllocGlobal>(
         .expect(rt, "updated");
 }
 
-/// Builds a table anew, one column as is chosen, whose type the layout has to hold.
+/// Rebuilds a table, with a choice for one column. The layout has to hold the column's type.
 #[tactic(auto, using(crate::proofs::Flat::one_chosen))]
 pub(crate) fn rebuild<R: Abort + AllocGlobal>(
     rt: &R,
@@ -310,7 +310,7 @@ pub(crate) fn rebuild<R: Abort + AllocGlobal>(
         .expect(rt, "memory");
 }
 
-/// Builds a table anew as it is.
+/// Rebuilds a table without choices.
 #[tactic(auto, using(crate::proofs::Flat::none_chosen))]
 pub(crate) fn rebuild_as_is<R: Abort + AllocGlobal>(rt: &R, table: &mut Table<usize>) {
     let _held = table.headers();
@@ -353,7 +353,7 @@ pub(crate) fn check_last<R: Abort + AllocGlobal>(
     assert!(rt; table.slot_count() == slots);
 }
 
-/// An offset's base and width, where there is such a column and it has one.
+/// The base and width of a column of kind OFFSET; `None` if there is no such column.
 pub(crate) fn span_of(table: &Table<usize>, column: usize) -> Option<(i64, u32)> {
     if column >= table.headers().len() {
         return None;
@@ -364,7 +364,7 @@ pub(crate) fn span_of(table: &Table<usize>, column: usize) -> Option<(i64, u32)>
     }
 }
 
-/// A column's name, layout and kind by its header.
+/// A column's name, layout and kind, from its header.
 pub(crate) fn header_of(table: &Table<usize>, column: usize) -> Option<(usize, Layout, Kind)> {
     match table.headers().get(column) {
         Some(header) => Some((header.name, header.layout, header.kind)),

@@ -1,5 +1,5 @@
-//! Worked examples as tests of tables and conditions, each call that may run out of memory seen answering, and random changes
-//! compared with a plain list of rows.
+//! Tests of tables and conditions: worked examples, a success of each call that may run out of memory, and random
+//! changes compared with a plain list of rows.
 #![tactic(auto)]
 
 #[cfg(test)]

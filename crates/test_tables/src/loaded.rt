@@ -1,4 +1,4 @@
-//! Rows in the form that the rows of a file have, beside the same rows in the form that those of a statement have.
+//! Rows in the form of a file's rows, compared with the same rows in the form of a statement's.
 
 use crate::harness::{Cell, insert, load, rows_of, table_of};
 use crate::random::LAYOUTS;
@@ -7,8 +7,7 @@ use bw_code::{Kind, Layout};
 use bw_table::Table;
 use std::process::Abort;
 
-/// Cells of rows, again and again. Seven divides neither 64 nor a width, so no two runs of rows that are read one after the
-/// other begin alike.
+/// Cells of rows, repeated. Seven divides neither 64 nor a width, so no two consecutive runs of rows begin alike.
 const CELLS: [Cell; 7] = [
     Some(-2_147_483_648),
     None,
@@ -19,7 +18,7 @@ const CELLS: [Cell; 7] = [
     Some(77),
 ];
 
-/// The same cells, as a table gives them back.
+/// The same cells, as a table returns them.
 const VALUES: [Option<i64>; 7] = [
     Some(-2_147_483_648),
     None,
@@ -60,7 +59,7 @@ fn check_loaded<R: Abort + AllocGlobal>(
     check_values(rt, table, column);
 }
 
-/// Checks the values of a table that gets the rows twice in the form that those of a statement have.
+/// Checks the values of a table that gets the rows twice in the form of a statement's rows.
 fn check_inserted<R: Abort + AllocGlobal>(
     rt: &R,
     mut table: Table<usize>,

@@ -31,7 +31,7 @@ impl Random {
         self.state
     }
 
-    /// Null, a wide value, or more often one of few.
+    /// Null, a wide value, or more often one of a few values.
     fn cell(&mut self) -> Cell {
         let word = self.next();
         match word % 8 {
@@ -65,7 +65,7 @@ impl Random {
         }
     }
 
-    /// About a row in eight.
+    /// About one row in eight.
     fn few(&mut self) -> u64 {
         self.next() & self.next() & self.next()
     }

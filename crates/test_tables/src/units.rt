@@ -1,5 +1,5 @@
-//! What conditions read of a column in each layout: of planes, of words of sections and of slices as many units as the rows
-//! of a segment ask for, and of plain codes one unit for each needed row that is not NULL.
+//! What conditions read of a column in each layout: of planes, words of sections and slices, as many units as the rows
+//! of a segment need; of plain codes, one unit for each needed row that isn't NULL.
 
 use crate::harness::{Cell, insert, table_of};
 use crate::random::LAYOUTS;
@@ -24,7 +24,7 @@ fn two_ends<R: Abort + AllocGlobal>(rt: &R, layout: Layout) -> Table<usize> {
     table
 }
 
-/// How many units the condition reads of all slots of the table.
+/// The number of units that the condition reads over all slots of the table.
 fn units_of<R: Abort + AllocGlobal>(rt: &R, table: Table<usize>, condition: &RowCondition) -> u64 {
     let mut meter = Meter::new();
     let truth = evaluate(
@@ -38,7 +38,7 @@ fn units_of<R: Abort + AllocGlobal>(rt: &R, table: Table<usize>, condition: &Row
     meter.units()
 }
 
-/// How many units the condition reads of all slots of that table in the layouts P, V, H and S.
+/// The numbers of units that the condition reads over all slots of that table in the layouts P, V, H and S.
 fn units<R: Abort + AllocGlobal>(rt: &R, condition: &RowCondition) -> [u64; 4] {
     let mut units = [0; 4];
     for i in 0..4 {
@@ -47,12 +47,12 @@ fn units<R: Abort + AllocGlobal>(rt: &R, condition: &RowCondition) -> [u64; 4] {
     units
 }
 
-/// Sees how many units the condition reads in each layout.
+/// Checks how many units the condition reads in each layout.
 fn see_units<R: Abort + AllocGlobal>(rt: &R, condition: RowCondition, wanted: [u64; 4]) {
     see(rt, units(rt, &condition), wanted);
 }
 
-/// Sees how many units the test of one predicate reads in each layout.
+/// Checks how many units a single predicate reads in each layout.
 fn see_predicate<R: Abort + AllocGlobal>(rt: &R, predicate: Predicate, wanted: [u64; 4]) {
     see_units(rt, RowCondition::Test(predicate), wanted);
 }
@@ -84,7 +84,7 @@ fn a_comparison_is_one_scan(rt: HostRuntime) {
     see_units(&rt, RowCondition::Not(below), [32, 4, 9, 1]);
 }
 
-/// The table with a row of 128 more.
+/// The table with one more row, of 128.
 fn with_128<R: Abort + AllocGlobal>(rt: &R, layout: Layout) -> Table<usize> {
     let mut table = two_ends(rt, layout);
     insert(rt, &mut table, &[Some(128)]);
@@ -140,7 +140,7 @@ fn number(value: i64) -> Source {
 fn a_range_is_one_scan_and_else_two_comparisons(rt: HostRuntime) {
     let range = Predicate::Between(column(), number(3), number(200));
     see_predicate(&rt, range, [32, 8, 9, 1]);
-    // A value is at most itself: both columns are scanned side by side at the 29 rows where it is 3 at least.
+    // A value is at most itself: both columns are scanned side by side at the 29 rows where it is at least 3.
     let upto_itself = Predicate::Between(column(), number(3), column());
     let wanted = [32 + 2 * 29, 8 + 2 * 8, 9 + 2 * 9, 1 + 2];
     see_predicate(&rt, upto_itself, wanted);

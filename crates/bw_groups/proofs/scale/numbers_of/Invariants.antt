@@ -1,6 +1,6 @@
 use Rattle.std.proofs.Common.{cond, get_or, length, ℕ, ◌%◌, ◌<◌, ◌^◌, ◌≡◌}
 use Rattle.bw_mask.specs.Masks.{bit_of}
-use Rattle.bw_groups.proofs.scale.put_numbers.Given as goal
+use Rattle.bw_groups.proofs.scale.numbers_of.Given as goal
 
 -- the values before value i are taken
 abbrev pub invariant-run : goal.invariant-run
