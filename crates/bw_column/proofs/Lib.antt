@@ -17,6 +17,7 @@ pub mod Masked
 pub mod MaskedPlanes
 pub mod Measuring
 pub mod Narrow
+pub mod Near
 pub mod Ordered
 pub mod Overwriting
 pub mod PairRows
