@@ -8,6 +8,7 @@ pub mod Coded
 pub mod Extremes
 pub mod Filled
 pub mod Flat
+pub mod Full
 pub mod Grown
 pub mod Held
 pub mod Known
