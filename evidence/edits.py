@@ -1,7 +1,8 @@
 #!/usr/bin/env python3
-"""Tries the wrong bodies that stand outside the gate: each has to be refused by the prover.
+"""Tries the wrong bodies that are not in the gate: the prover has to refuse each.
 
     python3 evidence/edits.py [CRATE ..]      only those of these crates
+    python3 evidence/edits.py --texts         proves nothing: whether each text that an edit replaces is there, once
 
 `rt ci` tries the edits in `crates/NAME/must-fail/`. Those in `evidence/edits/NAME/` show what another edit shows, or
 turn a getter, a constructor or a clone; they have the same form, and their `file:` counts from the crate. Each is tried
@@ -51,6 +52,26 @@ def copy_tree(crates, to):
         shutil.copytree(EDITS / crate, to / "crates" / crate / "must-fail")
 
 
+def stale_texts():
+    """Texts that edits replace, those of the gate too, and that are not in their file exactly once. The texts of an edit
+    are replaced one after the other."""
+    own = ((path, TOP / "crates" / path.parent.name) for path in EDITS.glob("*/*.edit"))
+    gate = ((path, path.parent.parent) for path in TOP.glob("crates/*/must-fail/*.edit"))
+    for path, crate in (*own, *gate):
+        texts, file, old = {}, "", ""
+        for line in path.read_text(encoding="utf-8").splitlines():
+            word, _, text = line.partition(": ")
+            if word == "file":
+                file = text
+                texts.setdefault(file, (crate / file).read_text(encoding="utf-8"))
+            elif word == "old":
+                old = text
+                if texts[file].count(old) != 1:
+                    yield f"{path.relative_to(TOP)}: {texts[file].count(old)} times: {old}"
+            elif word == "new":
+                texts[file] = texts[file].replace(old, text)
+
+
 def outcome_of(line):
     return next((name for name, words in OUTCOMES.items() if words.search(line)), None)
 
@@ -71,6 +92,10 @@ def try_all(crates):
 
 
 def main(words):
+    if words == ["--texts"]:
+        stale = list(stale_texts())
+        print("\n".join([*stale, f"{len(stale)} texts of edits not there once"]))
+        return 1 if stale else 0
     unknown = sorted(set(words) - set(crates_with_edits()))
     if unknown:
         sys.exit(f"no edits in evidence/edits/{unknown[0]}")

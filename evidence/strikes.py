@@ -86,6 +86,11 @@ def of_words():
     return Clause("bw_vertical/src/column.rt", "read_words", "", "words.new")
 
 
+def of_words_put():
+    """The codes of a column in V once words of planes are put at some rows."""
+    return Clause("bw_vertical/src/column.rt", "put_words", "codes", "self.new")
+
+
 def of_segments():
     """What a plane of a segment holds, for sums and ends."""
     return Clause("bw_aggregate/src/plane.rt", "plane_at", "", "result")
@@ -167,6 +172,8 @@ STRIKES = [
     Strike("bw_engine::shown::read_column", (of_column("read", "reading.rt", "", "out.new"),)),
     Strike("bw_column::lent_planes::lent_planes", (of_words(),)),
     Strike("bw_column::ends::plane_ends", (of_words(),)),
+    Strike("bw_column::storage::Codes::put_words", (of_words_put(),)),
+    Strike("bw_column::column::Column::put_planes", (of_column("put_words", "storage.rt", "codes", "self.new"),)),
     Strike("bw_file::planes::write_planes", (Clause("bw_file/src/planes.rt", "planes_at", "planes", "words.new"),)),
 ]
 

@@ -18,6 +18,7 @@ use crate::codes::greatest_code;
 use crate::column::Column;
 use crate::kept::KeptCodes;
 use crate::step::Step;
+use crate::within::has_top;
 use bw_cells::Measured;
 use bw_code::{Encoding, Ends, Layout, Offset};
 use bw_mask::{Mask, has_bit};
@@ -239,7 +240,11 @@ impl Column {
         if covers(own, offset) {
             return true;
         }
-        spans(own, other.ends())
+        // Planes tell their ends sooner than all distances.
+        if other.layout() == Layout::V || !has_top(own) {
+            return spans(own, other.ends());
+        }
+        other.lies_within(own)
     }
 
     /// Writes the values of a copy to some of at most 64 rows from row `at` on, the first row of a word: to row at + i

@@ -1,6 +1,6 @@
 //! The least and the greatest value of a column, found from its codes.
 
-ghost use Rattle.std.specs.Prelude.{Bool, length, slice_index, ℕ, ◌^◌, ◌-◌, ◌≡◌, ◌≤◌};
+ghost use Rattle.std.specs.Prelude.{Bool, length, slice_index, true, ℕ, ◌^◌, ◌-◌, ◌<◌, ◌≡◌, ◌≤◌};
 ghost use Rattle.bw_mask.specs.Masks.{bit_of, row_at};
 ghost use Rattle.bw_code.specs.Columns.{code_at, count};
 ghost use Rattle.bw_code.specs.Fittings.{AreEnds};
@@ -15,11 +15,36 @@ use bw_code::{CodeColumn, Ends};
 use bw_mask::{Mask, has_bit};
 use bw_vertical::{CodeEnds, VerticalColumn, word_ends};
 
+/// The least of `start` and of the codes.
+fn least_of(start: u64, codes: &[u64]) -> u64
+    ensures { (has : ℕ → Bool) → ((i : ℕ) → i < length codes.now → has i ≡ true) → IsLeastFrom start (length codes.now) has (slice_index codes.now) result }
+{
+    let mut least = start;
+    for i in 0..codes.len() {
+        least = least.min(codes[i]);
+    }
+    least
+}
+
+/// The greatest of `start` and of the codes.
+fn greatest_of(start: u64, codes: &[u64]) -> u64
+    ensures { (has : ℕ → Bool) → ((i : ℕ) → i < length codes.now → has i ≡ true) → IsGreatestFrom start (length codes.now) has (slice_index codes.now) result }
+{
+    let mut greatest = start;
+    for i in 0..codes.len() {
+        greatest = greatest.max(codes[i]);
+    }
+    greatest
+}
+
 /// The least of `start` and of the codes whose bit is set.
 fn least_from(start: u64, codes: &[u64], present: u64) -> u64
     requires { length codes.now ≤ 64 }
     ensures { IsLeastFrom start (length codes.now) (bit_of present) (slice_index codes.now) result }
 {
+    if present == u64::MAX {
+        return least_of(start, codes);
+    }
     let mut least = start;
     for i in 0..codes.len() {
         let code = if has_bit(present, i) {
@@ -37,6 +62,9 @@ fn greatest_from(start: u64, codes: &[u64], present: u64) -> u64
     requires { length codes.now ≤ 64 }
     ensures { IsGreatestFrom start (length codes.now) (bit_of present) (slice_index codes.now) result }
 {
+    if present == u64::MAX {
+        return greatest_of(start, codes);
+    }
     let mut greatest = start;
     for i in 0..codes.len() {
         let code = if has_bit(present, i) { codes[i] } else { 0 };

@@ -25,6 +25,7 @@ mod runs;
 mod split;
 mod step;
 mod storage;
+mod within;
 
 pub use change::Prepared;
 pub use column::Column;
