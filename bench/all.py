@@ -3,9 +3,9 @@
 
 Each bench writes what it prints to bench/data/NAME.txt and its tables as JSON to bench/data/NAME.json. When all have
 ended, their tables replace those between the markers in docs/PERFORMANCE.md and docs/WORKLOAD.md, and the plots those
-in docs/plots. A quick run has little data and one round: it shows that all of them work and that the answers agree,
-and leaves the documents alone; what it would have written goes to bench/data. Run the whole on a machine that does
-nothing else; it takes some hours. Where a bench fails the others still run, and the status is 1.
+in docs/plots. A quick run has little data and one round: it shows that all benches work and that the results agree,
+and leaves the documents alone; what it would have written goes to bench/data. Do a full run on a machine that does
+nothing else; it takes some hours. If a bench fails the others still run, and the exit status is 1.
 
     python3 bench/all.py [--quick] [--only NAME[,NAME]] [--program PATH] [--timing-program PATH]
 """
@@ -23,7 +23,7 @@ from documents import read_result, write_documents
 
 @dataclass(frozen=True)
 class Bench:
-    """A script of this folder, with the words of a whole run, and the crate whose program it runs."""
+    """A script of this folder, with its arguments in a full run, and the crate whose program it runs."""
 
     name: str
     script: str
@@ -56,7 +56,7 @@ SHOWN_OF_A_FAULT = 5
 
 
 def progress(words: str) -> None:
-    """A line that the next one replaces, where somebody looks on."""
+    """A progress line that the next one overwrites, if somebody is watching."""
     if sys.stderr.isatty():
         print(f"\r\033[K{words}", end="", file=sys.stderr, flush=True)
 
@@ -66,7 +66,7 @@ def clock(seconds: float) -> str:
 
 
 def run(bench: Bench, place: str, program: Path, is_quick: bool) -> bool:
-    """Runs one bench, and tells whether it ended well."""
+    """Runs one bench, and returns whether it succeeded."""
     result, output = DATA / f"{bench.name}.json", DATA / f"{bench.name}.txt"
     result.unlink(missing_ok=True)
     words = ["--quick"] if is_quick else list(bench.words)
@@ -89,7 +89,7 @@ def run(bench: Bench, place: str, program: Path, is_quick: bool) -> bool:
 
 
 def chosen(only: str | None) -> list[Bench]:
-    """The benches that are named, all if none is."""
+    """The named benches, or all if none is named."""
     names = only.split(",") if only else [bench.name for bench in BENCHES]
     known = {bench.name for bench in BENCHES}
     if unknown := [name for name in names if name not in known]:

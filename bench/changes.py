@@ -1,7 +1,7 @@
 #!/usr/bin/env python3
 """Times an UPDATE of half the rows of a table by values and by a literal, and a REBUILD, in each layout and both kinds;
-and a DELETE of every other row and a SELECT of all of them. sqlite3 does the same in memory, but for the REBUILD, in
-the same run, and what is in the tables then is compared: a difference ends the bench with status 1.
+and a DELETE of every other row and a SELECT of all of them. sqlite3 does the same in memory, except for the REBUILD, in
+the same run, and the contents of the tables are compared: a difference ends the bench with status 1.
 
 Build bitcol first, by `rt run` in crates/bitcol.
 
@@ -45,8 +45,8 @@ KINDS = {"OFFSET": of_distances, "DICTIONARY": of_entries}
 
 
 def four_columns(count: int, value: Callable[[random.Random], int]) -> list[Row]:
-    """Two columns to be set, one that is below 0 at half the rows, and one that is 1 at every other row. In two rows
-    each of the first two has the ends of both, so that neither is encoded anew where it takes the values of the
+    """Two columns to be set, one that is below 0 in half the rows, and one that is 1 in every other row. In two rows
+    each of the first two has the ends of both, so that neither is encoded again when it is set to the values of the
     other."""
     generator = random.Random(count)
     values = [(value(generator), value(generator)) for _ in range(count)]
@@ -56,7 +56,7 @@ def four_columns(count: int, value: Callable[[random.Random], int]) -> list[Row]
 
 
 def changed_base(base: sqlite3.Connection, rounds: int) -> tuple[dict[str, float], list[tuple[str, ...]]]:
-    """Seconds of sqlite3's updates, and what is in its table then."""
+    """Seconds of sqlite3's updates, and the contents of its table after them."""
     costs = {}
     for what, text in UPDATES.items():
         least = float("inf")
@@ -69,7 +69,7 @@ def changed_base(base: sqlite3.Connection, rounds: int) -> tuple[dict[str, float
 
 
 def change(layout: str, kind: str, path: Path, rounds: int) -> tuple[dict[str, float], list[tuple[str, ...]]]:
-    """Seconds of the updates and of a REBUILD in a layout and kind, and what is in the table then."""
+    """Seconds of the updates and of a REBUILD in a layout and kind, and the contents of the table after them."""
     with Program() as program:
         fill(program, "abcd", f"USING {layout} {kind}", path)
         costs = {what: program.least(text, rounds)[0] for what, text in UPDATES.items()}
@@ -79,7 +79,7 @@ def change(layout: str, kind: str, path: Path, rounds: int) -> tuple[dict[str, f
 
 
 def time_kind(kind: str, words: argparse.Namespace, report: Report) -> None:
-    """A table of the changes in one kind: ns for each value that is set or built anew."""
+    """A table of the changes in one kind: ns for each value that is set or rebuilt."""
     count, rounds = words.rows, words.rounds
     rows = four_columns(count, KINDS[kind])
     path = csv_file("changes.csv", rows)

@@ -1,7 +1,7 @@
-"""ClickHouse as one of the stores that are compared: `clickhouse local` where it is installed, or a server of its own.
+"""ClickHouse as one of the compared stores: `clickhouse local` if it is installed, or a server of its own.
 
-The table is in memory (engine Memory), and each query runs in one thread. Times are what ClickHouse tells of each query
-by --time, on the wall's clock. It is asked all queries of a round at once; between their answers a mark is selected.
+The table is in memory (engine Memory), and each query runs in one thread. Times are the wall times that ClickHouse
+reports for each query by --time. It gets all queries of a round at once; between them a marker is selected.
 """
 
 import atexit
@@ -31,7 +31,7 @@ USERS = """<yandex><profiles><default/></profiles><quotas><default/></quotas><us
 
 
 def clickhouse_command() -> list[str] | None:
-    """The command of `clickhouse local`, or that of the client where there is a server too, or None."""
+    """The command of `clickhouse local`, or that of the client if there is a server too, or None."""
     if program := shutil.which("clickhouse"):
         return [program, "local"]
     if program := shutil.which("clickhouse-local"):
@@ -52,7 +52,7 @@ def free_port() -> int:
 
 
 def marked_csv(columns: Columns) -> Path:
-    """All rows in one CSV file, in which a NULL is written as ClickHouse reads it."""
+    """All rows in one CSV file, with NULL written as ClickHouse reads it."""
     path = data_file("clickhouse.csv")
     with path.open("w") as out:
         for source in columns.files:
@@ -62,7 +62,7 @@ def marked_csv(columns: Columns) -> Path:
 
 
 class Server:
-    """A server on the loopback, over a folder of its own, which both go with the bench."""
+    """A server on the loopback, with a folder of its own; both end with the bench."""
 
     def __init__(self) -> None:
         self.folder = tempfile.TemporaryDirectory()
@@ -89,7 +89,7 @@ class Server:
 
 
 class ClickHouse:
-    """ClickHouse with a table in memory. `clickhouse local` reads the table anew for each round of queries."""
+    """ClickHouse with a table in memory. `clickhouse local` reads the table again for each round of queries."""
 
     name = "ClickHouse"
 
@@ -114,7 +114,7 @@ class ClickHouse:
         self.loading = time.perf_counter() - start
 
     def run(self, words: str) -> tuple[list[str], list[float]]:
-        """What the statements write, cut at the marks, and the seconds of each statement."""
+        """What the statements write, split at the markers, and the seconds of each statement."""
         command = [*self.command, "--multiquery", "--time", "--query", words]
         if self.server:
             done = subprocess.run(command, stdin=subprocess.DEVNULL, capture_output=True, text=True)
@@ -134,7 +134,7 @@ class ClickHouse:
             begin.append("CREATE TABLE t ENGINE = Memory AS SELECT * FROM source")
         words = [f"{query.sql(ordered=True)} FORMAT CSV; SELECT '{MARK}' FORMAT CSV" for query in asked]
         answers, seconds = self.run("; ".join(begin + words))
-        # The last times are those of the queries and of the marks between them.
+        # The last times are those of the queries and of the markers between them.
         took = seconds[-2 * len(asked) :: 2]
         if len(took) != len(asked):
             sys.exit("ClickHouse tells other times than those of the queries")
@@ -150,5 +150,5 @@ class ClickHouse:
 
 
 def cells(text: str) -> Iterator[tuple[str, ...]]:
-    """The rows of an answer, as bitcol writes them."""
+    """The rows of a result, as bitcol writes them."""
     return (tuple("NULL" if cell == "\\N" else cell for cell in line.split(",")) for line in text.splitlines())

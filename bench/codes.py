@@ -1,6 +1,6 @@
 #!/usr/bin/env python3
-"""Times how fast values are fitted and encoded and how fast plain codes are scanned, beside plain passes in the same
-run.
+"""Times how fast values are fitted and encoded and how fast plain codes are scanned, compared with plain passes in the
+same run.
 
 The values are random numbers of 32 bits. Build the timing program first, by `rt run` in crates/bw_bench.
 
@@ -16,7 +16,7 @@ from report import Report, figure, times
 # A line that begins with the work; those of the layouts begin with a layout and a width.
 FIGURE = re.compile(r"^(\w+) (\d+) ns", re.MULTILINE)
 
-# What is timed, and what it is measured by.
+# What is timed, and what it is compared with.
 COMPARED = {
     "OFFSET, fit and encode": (("fit_offset", "encode_offset"), ("pass",), "a plain pass that reads and writes"),
     "DICTIONARY, fit and encode": (

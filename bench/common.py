@@ -1,4 +1,4 @@
-"""What the benches share: where programs and data lie, how a script is called, and the statements that fill a table."""
+"""What the benches share: where programs and data are, how a script is run, and the statements that fill a table."""
 
 import argparse
 import functools
@@ -26,11 +26,11 @@ LEAST, MOST = -(2**31), 2**31 - 1
 
 @dataclass
 class Settings:
-    """What the command line of a bench says, for all that it calls."""
+    """The options of a bench's command line, for everything that it calls."""
 
     quick: bool = False
     json: Path | None = None
-    # The programs that are not those which `rt run` builds, by their crates.
+    # Programs used instead of those that `rt run` builds, by crate.
     programs: dict[str, str] = field(default_factory=dict)
 
 
@@ -39,7 +39,7 @@ SETTINGS = Settings()
 
 @dataclass(frozen=True)
 class Number:
-    """A word of the command line that is a number: what it is where it isn't given, and what in a quick run."""
+    """A numeric argument of the command line: its default, and its value in a quick run."""
 
     name: str
     usual: int
@@ -49,8 +49,8 @@ class Number:
 
 def options(document: str | None, *numbers: Number, crate: str = "bitcol",
             more: Callable[[argparse.ArgumentParser], Any] | None = None) -> argparse.Namespace:
-    """The words of the command line. Each bench takes --program, --quick and --json, its numbers in order, and what
-    `more` adds."""
+    """The arguments of the command line. Each bench takes --program, --quick and --json, its numbers in order, and
+    what `more` adds."""
     parser = argparse.ArgumentParser(description=document, formatter_class=argparse.RawDescriptionHelpFormatter)
     for number in numbers:
         parser.add_argument(number.name, nargs="?", type=int, help=f"{number.meaning}; {number.usual:,} if not given")
@@ -70,12 +70,12 @@ def options(document: str | None, *numbers: Number, crate: str = "bitcol",
 
 
 def rounds(usual: int = ROUNDS) -> int:
-    """How many rounds are run: one in a quick run."""
+    """The number of rounds: one in a quick run."""
     return 1 if SETTINGS.quick else usual
 
 
 def built(crate: str) -> str:
-    """The program of this crate: what the command line names, or what `rt run` builds in the folder of the crate."""
+    """The program of this crate: the one that the command line names, or the one that `rt run` builds in its folder."""
     program = Path(SETTINGS.programs.get(crate) or ROOT / "crates" / crate / "out" / crate)
     if not program.exists():
         sys.exit(f"{program} is not there: build {crate} first by rt run in crates/{crate}, or name it by --program")
@@ -93,7 +93,7 @@ def sqlite3() -> str | None:
 
 @functools.cache
 def kernel(name: str) -> str | None:
-    """The program of bench/kernels/NAME.cpp, compiled as the products are, for x86-64-v2; or None without g++."""
+    """The program of bench/kernels/NAME.cpp, compiled for x86-64-v2 as the products are; None without g++."""
     compiler = shutil.which("g++")
     if compiler is None:
         print("g++ is not there: the loops in C++ are left out", file=sys.stderr)
@@ -122,12 +122,12 @@ def written(row: Iterable[object]) -> str:
 
 
 def insert(rows: Iterable[str], table: str = "t") -> str:
-    """One statement that inserts rows as they are written."""
+    """One statement that inserts these rows, given as text."""
     return f"INSERT INTO {table} VALUES " + ",".join(rows) + ";\n"
 
 
 def rows_of_a_statement(next_row: Callable[[], str]) -> list[str]:
-    """So many rows, as they are written, that a statement of them has STATEMENT_BYTES."""
+    """As many rows, as text, as fill a statement of STATEMENT_BYTES."""
     rows: list[str] = []
     length = 0
     while length < STATEMENT_BYTES:
@@ -138,7 +138,7 @@ def rows_of_a_statement(next_row: Callable[[], str]) -> list[str]:
 
 def processor_seconds(command: list[str], source: Path,
                       answers: int | IO[bytes] = subprocess.DEVNULL) -> tuple[float, float]:
-    """The processor time that the command takes over the file, and the most memory that it holds, in megabytes."""
+    """The processor time that the command takes for the file, and its peak memory in megabytes."""
     with source.open("rb") as stdin:
         child = subprocess.Popen(command, stdin=stdin, stdout=answers)
         _, status, usage = os.wait4(child.pid, 0)

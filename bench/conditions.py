@@ -1,7 +1,7 @@
 #!/usr/bin/env python3
-"""Times selects whose condition has 1, 10 and 100 predicates, in bitcol and in sqlite3, in one run.
+"""Times SELECTs whose condition has 1, 10 and 100 predicates, in bitcol and in sqlite3, in one run.
 
-A table of two columns of random 32-bit values. Each select finds no row, so that only the condition is timed. sqlite3
+A table of two columns of random 32-bit values. Each SELECT finds no row, so that only the condition is timed. sqlite3
 is Python's own, in memory. Build bitcol first, by `rt run` in crates/bitcol.
 
     python3 bench/conditions.py [ROWS [ROUNDS]]      how many rows; 1000000 if not given
@@ -18,7 +18,7 @@ PREDICATES = (1, 10, 100)
 
 
 def select(predicates: int) -> str:
-    """Each predicate but the last is true at nearly all rows, so that each looks at them; the last at none."""
+    """Each predicate except the last is true at nearly all rows, so each one reads them; the last is true at none."""
     generator = random.Random(predicates)
     tests = [f"{generator.choice('ab')} <> {random_value(generator)}" for _ in range(predicates - 1)]
     return "SELECT a FROM t WHERE " + " AND ".join(tests + [f"b > {MOST}"])

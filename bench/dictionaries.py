@@ -1,8 +1,8 @@
 #!/usr/bin/env python3
-"""Times six ways to build a dictionary, in C++, beside a REBUILD of a DICTIONARY column in bitcol, in ns a value.
+"""Times six ways to build a dictionary in C++ and a REBUILD of a DICTIONARY column in bitcol, in ns per value.
 
 The ways are those of bench/kernels/dictionaries.cpp; each gives the same entries and codes. The values of bitcol's
-column are drawn alike. Without g++ bitcol is alone. Build bitcol first, by `rt run` in crates/bitcol.
+column are drawn in the same way. Without g++ only bitcol is timed. Build bitcol first, by `rt run` in crates/bitcol.
 
     python3 bench/dictionaries.py [ROWS [ROUNDS]]      how many values; 1048576 if not given
 """
@@ -20,7 +20,7 @@ WAYS = ("search", "table", "bits", "sort", "radix", "hash")
 
 
 def shapes() -> dict[str, Callable[[], int]]:
-    """How the values of each shape are drawn, by the names that the loops have for them."""
+    """How the values of each shape are drawn, by the name that the loops use for the shape."""
     draw = random.Random(7)
     pool = [draw.getrandbits(31) for _ in range(100_000)]
     return {

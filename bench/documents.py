@@ -1,7 +1,7 @@
 """Writes what the benches found into the documents: tables between their markers, and plots beside them.
 
-A table's place is between `<!-- figures: NAME -->` and `<!-- end of figures -->`. Above it stands what it was measured
-on, and below it the plot of its name, where there is one.
+A table's place is between `<!-- figures: NAME -->` and `<!-- end of figures -->`. Above the table is what it was
+measured on, and below it the plot of its name, if there is one.
 """
 
 import json
@@ -18,7 +18,7 @@ from report import Table
 DOCUMENTS = ("PERFORMANCE.md", "WORKLOAD.md")
 PLACE = re.compile(r"(<!-- figures: ([\w-]+) -->\n).*?(<!-- end of figures -->\n)", re.DOTALL)
 LONGEST_LINE = 120
-# The place that tells the machine, and has no table.
+# The place that describes the machine, and has no table.
 MACHINE = "machine"
 
 PLOTS = {
@@ -38,7 +38,7 @@ def wrapped(words: str) -> str:
 
 
 def provenance(found: dict[str, Any], table: Table) -> str:
-    """What a table was measured by, and when."""
+    """The command and commit that a table was measured with, and when."""
     told = found["conditions"]
     figures = table.figures[:1].upper() + table.figures[1:]
     words = f"`{found['command']}`, commit {told['commit']}, {told['date']}, load {told['load']} at the end. {figures}."
@@ -53,7 +53,7 @@ def machine(told: dict[str, Any]) -> str:
 
 
 def body(found: dict[str, Any], table: Table, plots: set[str]) -> str:
-    """What stands between a table's markers."""
+    """The text between a table's markers."""
     parts = [provenance(found, table), "\n".join(table.lines())]
     if table.name in plots:
         parts.append(f"![{PLOTS[table.name].title}](plots/{table.name}.svg)")
@@ -61,7 +61,7 @@ def body(found: dict[str, Any], table: Table, plots: set[str]) -> str:
 
 
 def write_plots(results: list[dict[str, Any]], folder: Path) -> set[str]:
-    """Draws the plots of these results, and gives their names."""
+    """Draws the plots of these results, and returns their names."""
     drawings: dict[str, dict[str, Any]] = {}
     for found in results:
         for line in found["plotted"]:
@@ -74,7 +74,7 @@ def write_plots(results: list[dict[str, Any]], folder: Path) -> set[str]:
 
 def write_documents(results: list[dict[str, Any]], is_quick: bool) -> list[Path]:
     """Writes the tables and plots of these results into docs, or into copies in bench/data after a quick run, whose
-    figures are none. It gives the files of the documents."""
+    figures don't count. Returns the files of the documents."""
     docs = ROOT / "docs"
     target = DATA if is_quick else docs
     plots = write_plots(results, target / "plots")

@@ -1,11 +1,10 @@
 #!/usr/bin/env python3
-"""Times LOAD of CSV files beside sqlite3's `.import`, and SAVE and OPEN of the table that all of them make and of the
-table of one, in one run and in each layout: in fresh pages of 4 KB, in fresh huge pages, and in memory that the program
-has had before. It also tells what the kernel takes for a page that is touched for the first time.
+"""Times LOAD of CSV files and sqlite3's `.import`, and SAVE and OPEN of the table of all files and of the table of
+one, in one run and in each layout: in fresh pages of 4 KB, in fresh huge pages, and in memory that the program has used
+before. It also reports what the kernel takes for a page that is touched for the first time.
 
-The files have two columns of random values of 32 bits, of which one in ten of the second is NULL. Of the LOAD of one
-file it also tells the memory that it takes at its peak beside the bytes of the file. Build bitcol first, by `rt run` in
-crates/bitcol.
+The files have two columns of random values of 32 bits, of which one in ten of the second is NULL. For the LOAD of one
+file it also reports the peak memory beyond the bytes of the file. Build bitcol first, by `rt run` in crates/bitcol.
 
     python3 bench/files.py [FILES [ROWS]]      how many files of how many rows; 4 of 1048576 if not given
 """
@@ -31,16 +30,16 @@ from common import (
 from report import Report, figure, times
 
 TABLE = "CREATE TABLE t (a INT, b INT);\n"
-# So often a table is saved or opened beyond once: the difference leaves out the program's start and what comes before.
+# How many more times than once a table is saved or opened: the difference excludes startup and what comes before.
 MORE = 8
 
 
 @dataclass(frozen=True)
 class Memory:
-    """Which memory the program takes for a file's bytes and for columns."""
+    """Which memory the program uses for a file's bytes and for columns."""
 
     name: str
-    # What glibc is asked for: its tunables.
+    # The tunables of glibc that ask for it.
     tunables: str
     # Whether each table is dropped before the next is opened.
     drops: bool
@@ -54,13 +53,13 @@ MEMORIES = (
     Memory("fresh pages of 4 KB", "", drops=False),
     # From glibc 2.35 on.
     Memory("fresh huge pages", "glibc.malloc.hugetlb=1", drops=False),
-    # What is freed stays with the program.
+    # Freed memory stays with the program.
     Memory("its own memory", f"glibc.malloc.mmap_max=0:glibc.malloc.trim_threshold={1 << 36}", drops=True),
 )
 
 
 def csv_file(number: int, rows: int) -> Path:
-    """A file of so many rows."""
+    """A file with this number of rows."""
     generator = random.Random(number)
     path = data_file(f"load{number}.csv")
     with path.open("w") as file:
@@ -77,14 +76,14 @@ def script_file(name: str, *statements: str) -> Path:
 
 
 def opened(table: Path, count: int, drops: bool) -> str:
-    """Statements that open the table so often, under another name each time, and drop each but the last if so."""
+    """Statements that open the table repeatedly, each time under another name, and drop each but the last if asked."""
     opens = [f"OPEN u{number} FROM '{table}';\n" for number in range(count)]
     between = [f"DROP TABLE u{number};\n" if drops else "" for number in range(count - 1)]
     return "".join(a + b for a, b in zip(opens, [*between, ""]))
 
 
 def made(layout: str, which: str, loads: str) -> Path:
-    """The file of the table that the loads fill, made by a run that isn't timed."""
+    """The file of the table that the loads fill, created by a run that isn't timed."""
     table = data_file(f"{which}_{layout}.table")
     create = f"CREATE TABLE t (a INT USING {layout}, b INT USING {layout});\n"
     script = script_file("make.sql", create, loads, f"SAVE t TO '{table}';\n")
@@ -93,7 +92,7 @@ def made(layout: str, which: str, loads: str) -> Path:
 
 
 def scripts_of(layout: str, which: str, table: Path, drops: bool) -> dict[str, Path]:
-    """Scripts that save a table once and more often, and that open it so, by what they do."""
+    """Scripts that save a table once and several times, and that open it once and several times, by what they do."""
     begin = f"OPEN t FROM '{table}';\n"
     saved = f"SAVE t TO '{data_file('saved.table')}';\n"
     name = f"{which}_{layout}_{'drops' if drops else 'keeps'}.sql"
@@ -106,7 +105,7 @@ def scripts_of(layout: str, which: str, table: Path, drops: bool) -> dict[str, P
 
 
 def quickest_of(runs: dict) -> dict:
-    """The quickest of some rounds of each run: seconds of the processor, and the least of the peaks of memory."""
+    """The fastest of some rounds of each run: processor seconds, and the least of the memory peaks."""
     found = [{name: processor_seconds(*run) for name, run in runs.items()} for _ in range(rounds())]
     return {name: tuple(min(each[name][part] for each in found) for part in (0, 1)) for name in runs}
 
@@ -124,8 +123,8 @@ def time_loads(paths: list[Path], rows: int, report: Report) -> None:
         runs["sqlite3"] = [other, ":memory:"], script
     found = quickest_of(runs)
     seconds = {name: took for name, (took, _) in found.items()}
-    # The process itself is counted in: what a script of one CREATE takes is told too high, since Python was in its
-    # place before.
+    # This includes the process itself: the figure for a script of one CREATE is too high, since the process was
+    # Python before.
     held = found["one"][1] * MEGABYTE - paths[0].stat().st_size
     cost = seconds["loads"] / (len(paths) * rows * 2) * 1e9
     line = [figure(cost), times(seconds.get("sqlite3"), seconds["loads"]), figure(held / (rows * 2), 2)]
@@ -134,7 +133,7 @@ def time_loads(paths: list[Path], rows: int, report: Report) -> None:
 
 
 def time_table(layout: str, which: str, paths: list[Path], rows: int) -> tuple[float, dict[tuple[str, str], float]]:
-    """Megabytes of the table's file, and of each memory and of SAVE and OPEN the megabytes a second."""
+    """Megabytes of the table's file, and for each memory the megabytes per second of SAVE and of OPEN."""
     table = made(layout, which, "".join(f"LOAD t FROM '{path}';\n" for path in paths))
     runs = {
         (memory, name): memory.run(source)
@@ -195,7 +194,7 @@ def main() -> None:
     report = Report("python3 bench/files.py")
     time_loads(paths, words.rows, report)
     time_tables(paths, words.rows, report)
-    # At the end, since a program's peak of memory is told no lower than Python's.
+    # At the end, since a program's peak memory is never reported as lower than Python's.
     report.note(f"The first touch of a page of {mmap.PAGESIZE} bytes: {first_touch():.0f} ns")
     report.finish()
 

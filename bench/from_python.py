@@ -1,11 +1,10 @@
 #!/usr/bin/env python3
-"""Times the Python client (clients/python) beside Python's module sqlite3, in memory, and beside numpy where that is
-installed.
+"""Times the Python client (clients/python), Python's module sqlite3, in memory, and numpy if that is installed.
 
-It tells small statements one by one, rows of two columns of random 32-bit values in and out, of which one in ten of the
-second is NULL, and a COUNT. Times are wall times, since two processes take part: the least of some rounds, in which all
-take turns. The program is what --program or the environment variable BITCOL names, or the one that `rt run` builds in
-crates/bitcol. Small statements are told of the library too, where BITCOL_LIBRARY names it.
+It reports small statements one by one, rows of two columns of random 32-bit values in and out, of which one in ten of
+the second is NULL, and a COUNT. Times are wall times, since two processes take part: the least of some rounds, in which
+all take turns. The program is what --program or the environment variable BITCOL names, or the one that `rt run` builds
+in crates/bitcol. Small statements are also timed through the library, if BITCOL_LIBRARY names it.
 
     python3 bench/from_python.py [ROWS [COUNTED]]      how many rows go in and out, and are counted
 """
@@ -35,10 +34,10 @@ try:
 except ImportError:
     numpy = None
 
-# Statements in a round: few, so that some round meets nothing else on its processor.
+# Statements in a round: few, so that some round runs with nothing else on its processor.
 STATEMENTS = 300
 STATEMENT_ROUNDS = 60
-# Statements in a script, by which the program's own time is told.
+# Statements in the script that measures the program's own time.
 SCRIPT_STATEMENTS = 20_000
 SMALL_ROWS = 100
 
@@ -72,7 +71,7 @@ def sqlite(rows: Iterable[tuple] = ()) -> sqlite3.Connection:
 
 
 def own_seconds(statement: str) -> float:
-    """The processor seconds that the program takes for a statement of a long script, over the small table."""
+    """The processor seconds per statement of a long script over the small table."""
     values = ",".join(f"({row},{-row})" for row in range(SMALL_ROWS))
     fill = f"CREATE TABLE t (a INT, b INT); INSERT INTO t VALUES {values};\n"
     count = 50 if SETTINGS.quick else SCRIPT_STATEMENTS
@@ -84,7 +83,7 @@ def own_seconds(statement: str) -> float:
 
 
 def sessions() -> dict[str, Any]:
-    """Sessions over the program, and over the library where there is one, by their names in what is printed."""
+    """Sessions over the program, and over the library if there is one, by the names under which they are printed."""
     made = {"the program": bitcol.Session(program())}
     if "BITCOL_LIBRARY" in os.environ:
         made["the library"] = bitcol.Session(door=bitcol.Library())
@@ -92,13 +91,13 @@ def sessions() -> dict[str, Any]:
 
 
 def ask(session: Any, statement: str, values: tuple) -> Any:
-    """Executes a statement, and takes its rows out if it has any."""
+    """Executes a statement, and fetches its rows if it has any."""
     reply = session.execute(statement, values)
     return reply.rows() if reply.headings else reply.count
 
 
 def repeated(call: Callable, *arguments: Any) -> Call:
-    """A call that makes this one as often as a round has statements."""
+    """A call that repeats this one as many times as a round has statements."""
     return lambda: [call(*arguments) for _ in range(STATEMENTS)]
 
 

@@ -1,10 +1,10 @@
 #!/usr/bin/env python3
-"""Times set functions over a column of 32-bit values in each layout, in bitcol and in sqlite3, in one run, and beside
-both a loop in C++ over plain 32-bit integers that branches on NULL (bench/kernels/functions.cpp).
+"""Times set functions over a column of 32-bit values in each layout, in bitcol and in sqlite3, in one run, and also
+a loop in C++ over plain 32-bit integers that branches on NULL (bench/kernels/functions.cpp).
 
-One value of ten is NULL. sqlite3 is Python's own, in memory; the answers of all layouts and its are compared, and a
-difference ends the bench with status 1. Build bitcol first, by `rt run` in crates/bitcol. The loop needs g++; without
-it it is left out.
+One value in ten is NULL. sqlite3 is Python's own, in memory; the results of all layouts and of sqlite3 are compared,
+and a difference ends the bench with status 1. Build bitcol first, by `rt run` in crates/bitcol. Without g++ the loop is
+left out.
 
     python3 bench/functions.py [ROWS [ROUNDS]]      how many rows; 4194304 if not given
 """
@@ -23,7 +23,7 @@ STATEMENTS = {functions: f"SELECT {functions} FROM t" for functions in LISTS} | 
     "COUNT(*) where half are found": "SELECT COUNT(*) FROM t WHERE b < 0",
     "a scan that finds none": "SELECT b FROM t WHERE b = 77",
 }
-# What takes little is answered so often in a round.
+# How often a round repeats what takes little time.
 REPEATS = 5
 
 

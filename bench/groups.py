@@ -1,9 +1,9 @@
 #!/usr/bin/env python3
-"""Times GROUP BY over dense and sparse values, with few groups and many, and tells the memory at its peak.
+"""Times GROUP BY over dense and sparse values, with few groups and many, and reports the peak memory.
 
 A row is a group's number and a random value of 32 bits. Dense groups are the numbers from 0; sparse ones are drawn from
 all of 32 bits, and in the last of them nearly each row is a group. All columns are in one layout. sqlite3 in memory,
-and numpy where it is installed, answer the same in the same run, and their answers are compared: a difference ends
+and numpy if it is installed, execute the same in the same run, and the results are compared: a difference ends
 the bench with status 1. Neither has a MEDIAN of groups. Build bitcol first, by `rt run` in crates/bitcol.
 
     python3 bench/groups.py [ROWS [ROUNDS]] [--layout V]      how many rows; 4194304 if not given
@@ -40,7 +40,7 @@ Pairs = list[tuple[int, int]]
 
 @dataclass(frozen=True)
 class Shape:
-    """How many groups there are, and whether their numbers are spread over all of 32 bits."""
+    """The number of groups, and whether their numbers are spread over all of 32 bits."""
 
     name: str
     groups: int
@@ -55,7 +55,7 @@ class Shape:
 
 
 def shapes(rows: int) -> list[Shape]:
-    """The shapes; where there are fewer rows than a million, many groups are a quarter of them."""
+    """The shapes; with fewer rows than a million, the many groups are a quarter of the rows."""
     many = min(1_000_000, rows // 4)
     few = min(1_000, many)
     dense = [Shape(f"{groups:,} dense", groups, False) for groups in sorted({10, few, many})]
@@ -95,7 +95,7 @@ def medians(rows: Pairs) -> list[tuple[str, ...]]:
 
 def peak(statement: str) -> int:
     """The bytes that a statement takes at its peak, beyond the table, in a process of its own. The same over two rows
-    goes before it, so that the program's own pages aren't counted."""
+    runs first, so that the program's own pages aren't counted."""
     with Program(returns_memory=True) as program:
         program.do("CREATE TABLE two (g INT, v INT)", "INSERT INTO two VALUES (1, 1), (2, -1)")
         program.do(statement.replace("FROM t", "FROM two"), f"OPEN t FROM '{data_file('groups.table')}'")
@@ -104,7 +104,7 @@ def peak(statement: str) -> int:
 
 def beside(base: sqlite3.Connection, rows: Pairs,
            expected: dict[str, list[tuple[str, ...]]]) -> dict[str, dict[str, float]]:
-    """Seconds of sqlite3 and of numpy for each statement that they have. Their answers have to be bitcol's."""
+    """Seconds of sqlite3 and of numpy for each statement that they have. Their results have to equal bitcol's."""
     found: dict[str, dict[str, float]] = {"sqlite3": {}}
     for what, text in STATEMENTS.items():
         if what != "MEDIAN":
@@ -122,7 +122,7 @@ def beside(base: sqlite3.Connection, rows: Pairs,
 
 
 def time_shape(shape: Shape, words: argparse.Namespace) -> list[list[str | float]]:
-    """A line for each statement: nanoseconds a row, the others' multiples, bytes a row at the peak."""
+    """A line for each statement: nanoseconds per row, the others' multiples, bytes per row at the peak."""
     rows = shape.rows(words.rows)
     path = csv_file("groups.csv", rows)
     own, expected = {}, {}

@@ -1,9 +1,9 @@
 #!/usr/bin/env python3
-"""Times how fast codes are taken, read and scanned in each layout at each width, beside the same scans in C++.
+"""Times how fast codes are appended, read and scanned in each layout at each width, and the same scans in C++.
 
-Random codes; a tenth of them is found. The quickest of the rounds counts, since a machine's speed swings. The loops in
-C++ (bench/kernels/scans.cpp) take turns with the timing program, and tell what memory gives too: without g++ they are
-left out. Build the timing program first, by `rt run` in crates/bw_bench.
+Random codes; a tenth of them is found. The fastest of the rounds counts, since a machine's speed varies. The loops in
+C++ (bench/kernels/scans.cpp) take turns with the timing program, and also measure memory bandwidth; without g++ they
+are left out. Build the timing program first, by `rt run` in crates/bw_bench.
 
     python3 bench/layouts.py [ROUNDS [CODES]]       3 rounds over 16,777,216 codes if not given
 """
@@ -20,13 +20,13 @@ COUNT = re.compile(r"^count (\d+) ns", re.MULTILINE)
 TOLD = (1, 4, 8, 12, 16, 20, 24, 28, 32, 40, 48, 56, 64)
 IN_LOOPS = (4, 8, 12, 16, 20, 24, 28, 32)
 LOOPS = ("V", "V-branch", "S", "P", "P-count", "memory")
-# So often the two programs take turns.
+# How often the two programs take turns.
 TURNS = 4
 Costs = dict[tuple[str, int, str], float]
 
 
 def own_costs(rounds: int, codes: int) -> tuple[Costs, float | None]:
-    """Nanoseconds a code by layout, width and work, and those of a plain pass that counts."""
+    """Nanoseconds per code by layout, width and work, and those of a plain pass that counts."""
     command = [built("bw_bench"), str(rounds), str(codes)]
     done = subprocess.run(command, input="", capture_output=True, text=True, check=True)
     least: Costs = {}
@@ -53,13 +53,13 @@ def least_costs(rounds: int, codes: int) -> tuple[Costs, dict[tuple[str, int], f
 
 
 def work_lines(own: Costs, what: str) -> list[list[str]]:
-    """A line for each width, with what each layout takes; nothing where a layout has no codes of that width."""
+    """A line for each width, with the time of each layout; empty if a layout has no codes of that width."""
     widths = [width for width in TOLD if any((layout, width, what) in own for layout in LAYOUTS)]
     return [[str(width), *(figure(own.get((layout, width, what))) for layout in LAYOUTS)] for width in widths]
 
 
 def wide_lines(own: Costs) -> list[list[str]]:
-    """Of each work the time at 64 bits as a multiple of that at 32; nothing in H, which has no codes of 64 bits."""
+    """For each work the time at 64 bits as a multiple of that at 32; empty for H, which has no codes of 64 bits."""
     return [
         [what, *(times(own.get((layout, 64, what)), own.get((layout, 32, what))) for layout in LAYOUTS)]
         for what in ("extend", "read", "scan")

@@ -1,7 +1,7 @@
 """The rows of TPC-H's lineitem as integers, by the rules of its specification (clause 4.2.3), as CSV files.
 
 Money is in cents, discount and tax in hundredths, dates are days from 1992-01-01, return flags are A 0, N 1 and R
-2, and line statuses F 0 and O 1. Behind the columns of the specification come four that the queries compute there:
+2, and line statuses F 0 and O 1. After the columns of the specification come four that the queries compute there:
 a number for the pair of flag and status, the discounted price with and without tax, and the revenue of query 6.
 Texts, keys and the ship mode are left out. The generator is Python's, with a seed of its own, and not that of
 `dbgen`: the distributions are the same, and the rows are not.
@@ -38,7 +38,7 @@ RETURNED, NEITHER, ACCEPTED = 2, 1, 0
 
 
 def day(year: int, month: int, date: int) -> int:
-    """A date as days from the first."""
+    """A date as days after the first."""
     return (datetime.date(year, month, date) - START).days
 
 
@@ -70,8 +70,8 @@ def items_of_order(draw: random.Random, parts: int) -> Iterator[tuple[int, ...]]
 
 
 def lineitem(scale: float) -> Columns:
-    """The table at a scale factor, written to files that a LOAD takes; those of an earlier run are taken where they are
-    whole."""
+    """The table at a scale factor, written to files that a LOAD reads; files of an earlier run are reused if they are
+    complete."""
     whole = data_file(f"lineitem-{scale:g}.rows")
     if whole.exists():
         written, *names = whole.read_text().split()
@@ -92,7 +92,7 @@ def lineitem(scale: float) -> Columns:
 
 
 def written_file(scale: float, paths: list[Path], lines: list[str]) -> int:
-    """Writes a file of these lines, and empties the list. It gives their number."""
+    """Writes a file of these lines, and empties the list. Returns their number."""
     if not lines:
         return 0
     paths.append(data_file(f"lineitem-{scale:g}-{len(paths)}.csv"))

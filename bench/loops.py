@@ -1,4 +1,4 @@
-"""What the loops in C++ of bench/kernels take, which are compiled where g++ is installed."""
+"""Times of the C++ loops of bench/kernels, which are compiled if g++ is installed."""
 
 import subprocess
 from collections.abc import Iterable
@@ -10,8 +10,8 @@ PART = 0.1
 
 
 def scan_costs(widths: Iterable[int], rows: int, rounds: int) -> dict[tuple[str, int], float]:
-    """Nanoseconds a row of each loop of scans.cpp at each width; nothing without a compiler. The loop `memory` reads 32
-    bits a row and adds them up."""
+    """Nanoseconds per row of each loop of scans.cpp at each width; nothing without a compiler. The loop `memory` reads
+    32 bits per row and adds them up."""
     program = kernel("scans")
     if program is None:
         return {}
@@ -22,7 +22,7 @@ def scan_costs(widths: Iterable[int], rows: int, rounds: int) -> dict[tuple[str,
 
 
 def dictionary_costs(rows: int, rounds: int) -> dict[str, dict[str, float]]:
-    """Nanoseconds a value of each way of dictionaries.cpp, by the values."""
+    """Nanoseconds per value of each way of dictionaries.cpp, by the values."""
     program = kernel("dictionaries")
     if program is None:
         return {}
@@ -35,7 +35,7 @@ def dictionary_costs(rows: int, rounds: int) -> dict[str, dict[str, float]]:
 
 
 def functions_cost(rows: int) -> float | None:
-    """Nanoseconds a row of the loop of functions.cpp, or None without a compiler."""
+    """Nanoseconds per row of the loop of functions.cpp, or None without a compiler."""
     program = kernel("functions")
     if program is None:
         return None

@@ -1,10 +1,10 @@
 #!/usr/bin/env python3
-"""Times every statement in every layout and kind, beside sqlite3 in memory, in one run, by processor time.
+"""Times every statement in every layout and kind, and in sqlite3 in memory, in one run, by processor time.
 
-A row a statement, a column a layout and kind. Three shapes of values: `byte` (0 to 255), `int` (random, 32 bits) and
-`few` (1,000 values that lie 2,000,000 apart). One in a hundred of the first column is NULL. The replies of all layouts
-and kinds are compared, and with sqlite3's: a difference ends the bench with status 1. Build bitcol first, by `rt run`
-in crates/bitcol.
+A row per statement, a column per layout and kind. Three shapes of values: `byte` (0 to 255), `int` (random, 32 bits)
+and `few` (1,000 values, 2,000,000 apart). One in a hundred of the first column is NULL. The replies of all layouts and
+kinds are compared with each other and with sqlite3's: a difference ends the bench with status 1. Build bitcol first, by
+`rt run` in crates/bitcol.
 
     python3 bench/matrix.py [ROWS [ROUNDS]] [--shapes byte,int,few] [--only WORD]
 """
@@ -30,17 +30,17 @@ Row = tuple[int | None, int, int, int]
 
 @dataclass(frozen=True)
 class Statement:
-    """A statement with the words of a shape in braces; what is done before each time, and whether sqlite3 has it."""
+    """A statement with the words of a shape in braces; what runs before each time, and whether sqlite3 has it."""
 
     title: str
     text: str
     before: tuple[str, ...] = ()
     shared: bool = True
-    # Whether it takes so little that it is told in microseconds, and not for each row.
+    # Whether it takes so little time that it is reported in microseconds, and not per row.
     is_small: bool = False
 
 
-# The table as it was filled; from a file in bitcol.
+# The table as it was filled; in bitcol from a file.
 REFILL = "refill"
 HALF = "DELETE FROM t WHERE d < 50"
 COUNT = "SELECT COUNT(*) FROM t WHERE "
@@ -87,7 +87,7 @@ STATEMENTS = (
 
 
 def drawn(shape: str, generator: random.Random) -> Callable[[], int]:
-    """A call that draws a value of a shape."""
+    """A function that draws a value of a shape."""
     if shape == "byte":
         return lambda: generator.getrandbits(8)
     if shape == "int":
@@ -106,7 +106,7 @@ def rows_of_shape(shape: str, count: int) -> list[Row]:
 
 
 def words_of(rows: list[Row]) -> dict[str, str]:
-    """What the statements' braces stand for: values that are there, evenly over their order."""
+    """What the statements' braces stand for: values of the column, at even steps in sorted order."""
     known = sorted(row[0] for row in rows if row[0] is not None)
     eight, hundred = ([known[i * len(known) // (n + 1)] for i in range(1, n + 1)] for n in (8, 100))
     return {
@@ -118,7 +118,7 @@ def words_of(rows: list[Row]) -> dict[str, str]:
 
 
 def reply_like(rows: list[tuple], count: int) -> str:
-    """What bitcol answers where sqlite3 answers these rows, or changes so many; without the heading."""
+    """What bitcol replies if sqlite3 returns these rows, or changes this many; without the heading."""
     if count >= 0:
         return f"ok {count}"
     lines = [",".join("NULL" if cell is None else str(cell) for cell in row) for row in rows]
@@ -160,7 +160,7 @@ def without_heading(reply: str) -> str:
 
 def in_choice(choice: tuple[str, str], folder: Path, statements: list[Statement], words: dict[str, str],
               rounds: int) -> dict[str, tuple[float, str]]:
-    """The least time and the reply of each statement, in one layout and kind."""
+    """The least time and the reply for each statement, in one layout and kind."""
     made = ", ".join(f"{column} INT USING {' '.join(choice)}" for column in "abcd")
     words = words | {"made": made}
     found: dict[str, tuple[float, str]] = {}

@@ -1,5 +1,5 @@
 #!/usr/bin/env python3
-"""Times `a < b AND a > b` in each layout beside the same with a constant in place of `b`, in ns a row.
+"""Times `a < b AND a > b` in each layout, and the same with a constant instead of `b`, in ns per row.
 
 No row is found. `b` has the encoding of `a`, and `c` another base. Build bitcol first, by `rt run` in crates/bitcol.
 
@@ -17,7 +17,7 @@ COMPARED = {"a constant": "5", "another column, same encoding": "b", "another co
 
 
 def drawn_rows(count: int) -> list[tuple[int, int, int]]:
-    """Rows of which `a` and `b` have the same ends, and `c` no value below 0."""
+    """Rows whose columns `a` and `b` have the same ends, and whose `c` has no value below 0."""
     draw = random.Random(11)
     rows = [(draw.randint(LEAST, MOST), draw.randint(LEAST, MOST), draw.getrandbits(31)) for _ in range(count - 2)]
     return [(LEAST, LEAST, 0), (MOST, MOST, 0), *rows]

@@ -1,8 +1,8 @@
 #!/usr/bin/env python3
-"""Times how fast tokens and statements are read, beside a plain pass over the same bytes in the same run.
+"""Times how fast tokens and statements are read, compared with a plain pass over the same bytes in the same run.
 
-The plain pass looks at one byte after the other. Each script is INSERT statements of about 60 KB: with random
-32-bit values, with values of one digit (the most tokens a byte), and with blanks, signs and NULLs as people
+The plain pass looks at one byte after another. Each script is INSERT statements of about 60 KB: with random
+32-bit values, with values of one digit (the most tokens per byte), and with blanks, signs and NULLs as people
 write them. Build the timing program first, by `rt run` in crates/bw_bench.
 
     python3 bench/parsing.py [ROUNDS]       how often each script is read; 20 if not given

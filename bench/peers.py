@@ -1,8 +1,8 @@
 #!/usr/bin/env python3
 """Times the same queries over two columns with NULLs in bitcol, and in sqlite3, ClickHouse and numpy, in one run.
 
-Four files of 1,048,576 rows: `a` of 0 to 255 and `b` of 32 bits, one in a hundred of each NULL. All stores are asked in
-turns, one thread each, and their answers are compared: a difference ends the bench with status 1. Stores that aren't
+Four files of 1,048,576 rows: `a` of 0 to 255 and `b` of 32 bits, one in a hundred of each NULL. The stores take turns,
+one thread each, and their results are compared: a difference ends the bench with status 1. Stores that aren't
 installed are left out. numpy has arrays with a mask of the NULLs. Build bitcol first, by `rt run` in crates/bitcol.
 
     python3 bench/peers.py [FILES [ROWS]] [--layout V]      how many files of how many rows
@@ -54,7 +54,7 @@ def csv_file(number: int, rows: int) -> Path:
 
 
 class Masked:
-    """numpy's arrays of both columns, each with an array that tells where it isn't NULL."""
+    """numpy's arrays of both columns, each with an array that says where it isn't NULL."""
 
     name = "numpy"
     loading: float | None = None
@@ -115,7 +115,7 @@ class Masked:
 
 
 def stores_here(columns: Columns, layout: str, report: Report) -> list[Store]:
-    """bitcol, and the other stores that this machine has."""
+    """bitcol, and the other stores that are installed here."""
     stores: list[Store] = [Bitcol(columns, layout), Sqlite(columns)]
     if command := clickhouse_command():
         stores.append(other := ClickHouse(columns, command))

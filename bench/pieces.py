@@ -1,6 +1,6 @@
 #!/usr/bin/env python3
-"""Runs scripts of 2^30 bytes that come through a pipe, and prints their time and the memory at its peak. Each is made
-while it is read.
+"""Runs scripts of 2^30 bytes that come through a pipe, and prints their time and the peak memory. Each script is
+generated while it is read.
 
     python3 bench/pieces.py [BYTES]
 
@@ -20,11 +20,11 @@ PIECE = 2**16
 
 
 def repeated(statement: bytes) -> bytes:
-    """A piece of whole statements, filled up with blanks."""
+    """A piece of whole statements, padded with blanks."""
     return (statement * (PIECE // len(statement))).ljust(PIECE, b" ")
 
 
-# What each script is made of, and how many replies a piece of it gets.
+# What each script consists of, and how many replies a piece of it gets.
 SCRIPTS = {
     "comments": (repeated(b"-- nothing; here\n"), 0),
     "blanks": (b" " * PIECE, 0),
@@ -41,7 +41,7 @@ def feed(pipe: IO[bytes], piece: bytes, count: int) -> None:
 
 
 def run(piece: bytes, count: int) -> tuple[int, float, float]:
-    """How many lines the program answers to so many pieces, its processor seconds, and its peak of memory in MB."""
+    """How many lines the program writes for these pieces, its processor seconds, and its peak memory in MB."""
     process = subprocess.Popen([built("bitcol")], stdin=subprocess.PIPE, stdout=subprocess.PIPE)
     assert process.stdin and process.stdout
     feeder = threading.Thread(target=feed, args=(process.stdin, piece, count))

@@ -1,7 +1,7 @@
-"""Plots as SVG: lines over a number, or bars over names, with axes that tell their units.
+"""Plots as SVG: lines over a number, or bars over names, with axes that show their units.
 
-The background is opaque, so that a plot reads the same on a white and on a dark page. Lines differ in colour and in
-dashes, and bars in colour and in order, so that none is told by its colour alone.
+The background is opaque, so a plot reads the same on a white and on a dark page. Lines differ in colour and in
+dashes, and bars in colour and in order, so none is recognised by its colour alone.
 """
 
 import math
@@ -14,7 +14,7 @@ LEFT, RIGHT, TOP, BOTTOM = 70, 190, 44, 62
 INK, FAINT, RULE, PAPER = "#1f2430", "#6b7280", "#dfe3e8", "#ffffff"
 COLOURS = ("#1b6ca8", "#c2571a", "#2e8b57", "#6b4c9a", "#b3261e", "#6b7280", "#8a6d00", "#0f766e", "#be3b84", "#374151")
 DASHES = ("none", "7 3", "2 3", "9 3 2 3")
-# The first so many lines are drawn through.
+# How many of the lines, from the first on, are solid.
 SOLID = 4
 
 Points = Sequence[tuple[float | str, float]]
@@ -22,7 +22,7 @@ Points = Sequence[tuple[float | str, float]]
 
 @dataclass(frozen=True)
 class Plot:
-    """What a plot says beside its lines: a title, the units of both axes, and which of them are logarithmic."""
+    """What a plot shows besides its lines: a title, the units of both axes, and which axes are logarithmic."""
 
     title: str
     across: str
@@ -34,7 +34,7 @@ class Plot:
 
 @dataclass(frozen=True)
 class Axis:
-    """Where values lie between two ends on the paper."""
+    """Maps values to positions between two ends of the picture."""
 
     least: float
     greatest: float
@@ -91,7 +91,7 @@ class Drawing:
             f'<rect width="{WIDE}" height="{HIGH}" fill="{PAPER}"/>',
         ]
         self.words(LEFT, 22, plot.title, "start", INK, 14)
-        # A name of more than 20 letters would begin left of the picture.
+        # A name of more than 20 letters would start left of the picture.
         place, anchor = (LEFT - 8, "end" if len(plot.up) < 9 else "middle") if len(plot.up) <= 20 else (4, "start")
         self.words(place, TOP - 8, plot.up, anchor, FAINT)
         self.words((LEFT + WIDE - RIGHT) / 2, HIGH - 12, plot.across, "middle", FAINT)

@@ -1,4 +1,4 @@
-"""One running bitcol, to which statements are handed one by one: processor time and memory of each, and its reply."""
+"""One running bitcol that gets statements one by one: the processor time and memory of each, and its reply."""
 
 import os
 import re
@@ -13,21 +13,21 @@ from common import DATA, built
 
 # The last line of a reply. A heading is in upper case, and a row of numbers and NULL.
 ENDS = re.compile(rb"^(?:ok|error |rows |units )[^\n]*\n", re.MULTILINE)
-# Freed blocks of more bytes go back to the kernel at once.
+# Freed blocks of more bytes than this go back to the kernel at once.
 RETURNING = "glibc.malloc.mmap_threshold=65536:glibc.malloc.trim_threshold=65536"
 FAULT = re.compile(rb"^error [^\n]*", re.MULTILINE)
 
 
 class Program:
-    """A process of bitcol, which ends with the block that it is opened for. One that returns what it frees tells more
-    exactly what a statement takes of memory, and takes longer."""
+    """A process of bitcol, which ends with the block that it is opened for. A process that returns freed memory shows
+    more exactly how much memory a statement takes, and takes longer."""
 
     def __init__(self, folder: Path = DATA, returns_memory: bool = False) -> None:
         folder.mkdir(exist_ok=True)
         pipe, environment = subprocess.PIPE, os.environ | ({"GLIBC_TUNABLES": RETURNING} if returns_memory else {})
         command = [built("bitcol")]
         self.child = subprocess.Popen(command, cwd=folder, stdin=pipe, stdout=pipe, bufsize=0, env=environment)
-        # The clock of the processor time of another process.
+        # The clock of another process's processor time.
         self.clock = (~self.child.pid << 3) | 2
 
     def __enter__(self) -> "Program":
@@ -44,7 +44,7 @@ class Program:
         self.child.wait()
 
     def replies(self, count: int) -> bytes:
-        """So many replies, as they are written."""
+        """This number of replies, as they are written."""
         assert self.child.stdout
         lines: list[bytes] = []
         rest, found = b"", 0
@@ -60,7 +60,7 @@ class Program:
         return b"".join(lines)
 
     def ask(self, statement: str, times: int = 1) -> tuple[float, str]:
-        """The processor seconds of a statement that is answered so often, for each time, and the last of its
+        """The processor seconds of a statement that is executed this many times, per time, and the last of its
         replies."""
         assert self.child.stdin
         before = self.seconds()
@@ -73,7 +73,8 @@ class Program:
         return took, answered[begins[-2] :].decode()
 
     def seconds(self) -> float:
-        """The processor time so far. It is read while the process waits: while it leaves a processor its clock lags."""
+        """The processor time so far. It is read while the process waits: while a process leaves its processor the clock
+        lags."""
         status = Path(f"/proc/{self.child.pid}/stat")
         while status.read_text().rsplit(")", 1)[1].split()[0] == "R":
             time.sleep(1e-5)
@@ -90,13 +91,13 @@ class Program:
         return min(took for took, _ in asked), asked[-1][1]
 
     def memory(self, line: str) -> int:
-        """Bytes of memory that the kernel tells in this line of the process's status."""
+        """Bytes of memory that the kernel reports in this line of the process's status."""
         status = Path(f"/proc/{self.child.pid}/status").read_text()
         found = re.search(rf"^{line}:\s+(\d+) kB$", status, re.MULTILINE)
         return int(found[1]) * 1024 if found else 0
 
     def peak(self, statement: str) -> int:
-        """How many bytes a statement takes at its peak, beyond what the process held before it."""
+        """The bytes that a statement takes at its peak, beyond what the process held before it."""
         Path(f"/proc/{self.child.pid}/clear_refs").write_text("5")
         before = self.memory("VmRSS")
         self.ask(statement)

@@ -1,4 +1,4 @@
-"""What the stores are asked, and of which tables: queries with their texts, tables of integers, and answers."""
+"""What the stores execute, and over which tables: queries with their texts, tables of integers, and results."""
 
 import zlib
 from collections.abc import Iterable, Iterator
@@ -11,7 +11,7 @@ Answer = list[tuple[str, ...]]
 
 @dataclass(frozen=True)
 class Range:
-    """Whether a column lies between two values, both included; an end that is None isn't asked for."""
+    """Whether a column is between two values, both included; an end that is None isn't tested."""
 
     column: str
     least: int | None = None
@@ -29,7 +29,7 @@ class Range:
 
 @dataclass(frozen=True)
 class Query:
-    """Set functions, COUNT(*) and SUM of columns, over the rows within ranges and orders, and maybe by groups."""
+    """Set functions, COUNT(*) and SUM of columns, over the rows within ranges and orders, optionally by groups."""
 
     title: str
     ranges: tuple[Range, ...] = ()
@@ -39,7 +39,7 @@ class Query:
     group: str | None = None
 
     def sql(self, ordered: bool = False) -> str:
-        """The query's text. bitcol's groups come in order; `ordered` asks others for it."""
+        """The query's text. bitcol's groups come in order; `ordered` asks other stores for that order."""
         items = [*([self.group] if self.group else []), *(f"SUM({column})" for column in self.sums), "COUNT(*)"]
         tests = [*(test.sql() for test in self.ranges), *(f"{less} < {more}" for less, more in self.orders)]
         words = f"SELECT {', '.join(items)} FROM t" + (" WHERE " + " AND ".join(tests) if tests else "")
@@ -50,12 +50,12 @@ class Query:
 
 @dataclass(frozen=True)
 class Written(Query):
-    """A query that has a text of its own, which all stores of SQL understand."""
+    """A query given by its text, which all SQL stores understand."""
 
     text: str = ""
-    # Whether it shows so many rows that a checksum of them is compared.
+    # Whether it returns so many rows that only a checksum of them is compared.
     is_long: bool = False
-    # Whether its answer rests on NULL AND FALSE being FALSE, which old versions of ClickHouse take for NULL.
+    # Whether its result depends on NULL AND FALSE being FALSE, which old versions of ClickHouse evaluate to NULL.
     is_three_valued: bool = False
 
     def sql(self, ordered: bool = False) -> str:
@@ -84,7 +84,7 @@ class Taken:
 
 
 class Store(Protocol):
-    """A store with a table in it. `loading` is how long that took, where it can be compared."""
+    """A store with a table in it. `loading` is how long loading it took, if that can be compared."""
 
     name: str
     loading: float | None
@@ -93,11 +93,11 @@ class Store(Protocol):
         """Each query once, by its title."""
 
     def close(self) -> None:
-        """Gives up the table."""
+        """Releases the table."""
 
 
 def shortened(query: Query, rows: Iterable[tuple[str, ...]]) -> Answer:
-    """The rows; of a long answer their number and a checksum."""
+    """The rows; for a long result their number and a checksum."""
     if not getattr(query, "is_long", False):
         return list(rows)
     count = checksum = 0

@@ -17,7 +17,7 @@ from common import ROOT, SETTINGS
 
 @dataclass
 class Table:
-    """A table of a document: its name there, what its figures are, and its cells as they are written."""
+    """A table of a document: its name there, what its figures are, and its cells as text."""
 
     name: str
     figures: str
@@ -44,7 +44,7 @@ def row_line(cells: Iterable[str]) -> str:
 
 
 def figure(value: float | None, digits: int = 3) -> str:
-    """A number with so many significant digits, and no exponent; nothing where there is none."""
+    """A number with this many significant digits, and no exponent; empty if there is no number."""
     if value is None:
         return ""
     if value == 0:
@@ -61,12 +61,12 @@ def figure(value: float | None, digits: int = 3) -> str:
 
 
 def times(value: float | None, base: float | None) -> str:
-    """A value as a multiple of another, with two digits; nothing where there is one of them alone."""
+    """A value as a multiple of another, with two digits; empty if either is missing."""
     return figure(value / base, 2) if value is not None and base else ""
 
 
 def processor_model() -> str:
-    """The name of the machine's processor, as the kernel tells it."""
+    """The name of the machine's processor, as the kernel reports it."""
     for line in Path("/proc/cpuinfo").read_text().splitlines() if Path("/proc/cpuinfo").exists() else ():
         if line.startswith("model name"):
             return line.split(":", 1)[1].strip()
@@ -74,14 +74,14 @@ def processor_model() -> str:
 
 
 def commit() -> str:
-    """The commit that is checked out, with a mark where files were changed."""
+    """The commit that is checked out, with a mark if files were changed."""
     asked = ["git", "-C", str(ROOT), "describe", "--always", "--dirty", "--abbrev=7", "--exclude=*"]
     done = subprocess.run(asked, capture_output=True, text=True)
     return done.stdout.strip() or "unknown"
 
 
 def conditions() -> dict[str, Any]:
-    """What a figure of this run depends on, beside the program."""
+    """What a figure of this run depends on, besides the program."""
     return {
         "commit": commit(),
         "date": time.strftime("%Y-%m-%d"),
@@ -96,7 +96,7 @@ def conditions() -> dict[str, Any]:
 
 @dataclass
 class Report:
-    """What a bench found. Each table is printed as soon as it is there."""
+    """What a bench found. Each table is printed as soon as it is complete."""
 
     command: str
     tables: list[Table] = field(default_factory=list)
@@ -117,13 +117,13 @@ class Report:
         print(words, flush=True)
 
     def finish(self) -> None:
-        """Writes the report as JSON where the command line names a file."""
+        """Writes the report as JSON if the command line names a file."""
         if SETTINGS.json:
             SETTINGS.json.parent.mkdir(exist_ok=True)
             SETTINGS.json.write_text(json.dumps({"conditions": conditions(), **asdict(self)}, indent=1) + "\n")
 
 
 def require(is_right: bool, what: str) -> None:
-    """Ends the bench with status 1 where answers differ."""
+    """Ends the bench with status 1 if results differ."""
     if not is_right:
         sys.exit(f"answers differ: {what}")

@@ -1,8 +1,8 @@
 #!/usr/bin/env python3
-"""Times statements over 1,000 rows to 16,777,216, which is the most that a table holds: how cost grows.
+"""Times statements over 1,000 rows up to 16,777,216, which is the most that a table holds: how cost grows.
 
-A table of one column of random 32-bit values, one in ten NULL, in layout V, and of 256 groups. Small tables are asked
-many times. sqlite3 in memory answers the same in the same run, and the answers are compared: a difference ends the
+A table of one column of random 32-bit values, one in ten NULL, in layout V, and of 256 groups. Small tables are queried
+many times. sqlite3 in memory executes the same in the same run, and the results are compared: a difference ends the
 bench with status 1. Build bitcol first, by `rt run` in crates/bitcol.
 
     python3 bench/rows.py [ROWS [ROUNDS]] [--layout V]      the most rows; 16777216 if not given
@@ -24,25 +24,25 @@ STATEMENTS = {
 }
 REBUILD, LOAD = "REBUILD", "LOAD"
 A_FILE = 1 << 20
-# About so many rows are gone over in a round.
+# About how many rows are processed in a round.
 IN_A_ROUND = 1 << 20
 
 
 def sizes(most: int) -> list[int]:
-    """1,000, and powers of four up to the most."""
+    """1,000, and powers of four up to the greatest number."""
     return [1_000, *(4**power for power in range(6, 13) if 4**power < most), *([most] if most > 1_000 else [])]
 
 
 def drawn_rows(count: int) -> list[Row]:
-    """Rows of a value and a group's number; 77 is no value."""
+    """Rows of a value and a group's number; 77 doesn't occur as a value."""
     draw = random.Random(5)
     values = (None if draw.random() < 0.1 else draw.randint(LEAST, MOST) for _ in range(count))
     return [(value + 1 if value == 77 else value, draw.getrandbits(8)) for value in values]
 
 
 def costs(rows: list[Row], count: int, words: argparse.Namespace) -> tuple[dict[str, float], dict[str, float]]:
-    """Nanoseconds a row of each statement over so many rows, in bitcol and in sqlite3. Above the rows of a file the
-    same file is loaded many times."""
+    """Nanoseconds per row of each statement over this number of rows, in bitcol and in sqlite3. For more rows than a
+    file has the same file is loaded many times."""
     copies = max(1, count // A_FILE)
     taken = rows[: count // copies]
     path = csv_file("rows.csv", taken)

@@ -1,7 +1,7 @@
 #!/usr/bin/env python3
 """Writes scripts of many rows, runs them through bitcol and sqlite3, and prints how fast each was.
 
-A script makes a table of two columns, fills it by INSERT statements of about 60 KB each, and ends
+A script creates a table of two columns, fills it by INSERT statements of about 60 KB each, and ends
 with one SELECT that finds about 1% of the rows. sqlite3 gets the same statements, in memory and in
 one transaction. Build bitcol first, by `rt run` in crates/bitcol.
 
@@ -33,7 +33,7 @@ from common import (
 )
 from report import Report, figure, require, times
 
-# The values of the first column are spread evenly, so that 1% of them lie below this.
+# The values of the first column are uniform, so 1% of them are below this.
 BOUND = LEAST + (MOST - LEAST + 1) // 100
 
 
@@ -54,7 +54,7 @@ class Run:
 
 
 def write_script(megabytes: float) -> Script:
-    """A script of about this size; the same one each time."""
+    """A script of about this size; the same each time."""
     path = data_file(f"rows-{megabytes:g}.sql")
     generator = random.Random(megabytes)
     size = count = found = 0
@@ -75,7 +75,7 @@ def write_script(megabytes: float) -> Script:
 
 
 def timed(name: str, command: list[str], source: Path, script: Script) -> Run:
-    """Runs the command over the file, and reads how many rows it found from its last lines."""
+    """Runs the command over the file, and reads from its last lines how many rows it found."""
     answers = data_file("answers")
     with answers.open("wb") as stdout:
         seconds, peak = processor_seconds(command, source, stdout)
@@ -85,7 +85,7 @@ def timed(name: str, command: list[str], source: Path, script: Script) -> Run:
 
 
 def quickest_of(programs: dict[str, tuple[list[str], Path]], script: Script) -> dict[str, Run]:
-    """The quickest run of each program. They take turns, so that what else the machine does counts little."""
+    """The fastest run of each program. They take turns, so other load on the machine matters little."""
     found = [
         {name: timed(name, command, source, script) for name, (command, source) in programs.items()}
         for _ in range(rounds())

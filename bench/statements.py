@@ -1,8 +1,8 @@
 #!/usr/bin/env python3
-"""Times a whole `SELECT a FROM t WHERE a = x` that finds no row, beside the scan alone in C++, in one run.
+"""Times a whole `SELECT a FROM t WHERE a = x` that finds no row, and the scan alone in C++, in one run.
 
 Values of 8 and of 32 bits, in each layout. The scan is the best of the loops of bench/kernels/scans.cpp in the same
-layout, which has none in H; without g++ they are left out. Build bitcol first, by `rt run` in crates/bitcol.
+layout; there is none for H, and without g++ they are left out. Build bitcol first, by `rt run` in crates/bitcol.
 
     python3 bench/statements.py [ROWS [ROUNDS]]      how many rows; 4194304 if not given
 """
@@ -17,7 +17,7 @@ from report import Report, figure, require, times
 from tables import csv_file, fill
 
 MISSING = 77
-# Which loops count for a layout.
+# Which loops a layout is compared with.
 LOOPS = {"V": ("V", "V-branch"), "S": ("S",), "P": ("P",)}
 
 
@@ -28,7 +28,7 @@ def values(bits: int, count: int) -> list[tuple[int]]:
 
 
 def least_costs(bits: int, rows: int, rounds: int) -> tuple[dict[str, float], dict[tuple[str, int], float]]:
-    """Nanoseconds a row of the statement in each layout, and of the loops. They take turns, round by round."""
+    """Nanoseconds per row of the statement in each layout, and of the loops. They take turns, round by round."""
     path = csv_file("statements.csv", values(bits, rows))
     own = dict.fromkeys(LAYOUTS, float("inf"))
     loops: dict[tuple[str, int], float] = {}

@@ -1,7 +1,7 @@
-"""The stores that are compared: bitcol in each layout, sqlite3, ClickHouse, numpy, and loops in C++ over plain columns.
+"""The compared stores: bitcol in each layout, sqlite3, ClickHouse, numpy, and loops in C++ over plain columns.
 
-Each has the same integers, without NULL unless it says that it knows them, answers the same queries, and tells the time
-of each. One thread each. Times are of the processor, and of ClickHouse what it tells itself.
+Each has the same integers, without NULL unless it says that it supports NULL, executes the same queries, and reports
+the time of each. One thread each. Times are processor times, for ClickHouse those that it reports itself.
 """
 
 import array
@@ -25,7 +25,7 @@ except ImportError:
 
 
 class Bitcol:
-    """bitcol with all columns in one layout, but for BIGINT in H, which are in V."""
+    """bitcol with all columns in one layout, except BIGINT columns under H, which are in V."""
 
     def __init__(self, columns: Columns, layout: str) -> None:
         self.name = f"bitcol {layout}"
@@ -50,7 +50,7 @@ class Sqlite:
     """Python's module sqlite3, in memory."""
 
     name = "sqlite3"
-    # It is filled by rows of Python, which is not to be compared with a LOAD.
+    # It is filled with rows from Python, which can't be compared with a LOAD.
     loading: float | None = None
 
     def __init__(self, columns: Columns) -> None:
@@ -74,7 +74,7 @@ class Sqlite:
 
 
 def arrays_of(columns: Columns) -> dict[str, array.array]:
-    """Each column as an array of 32 bits, or of 64 where it is a BIGINT. A NULL is 0 there."""
+    """Each column as an array of 32 bits, or of 64 if it is a BIGINT. A NULL is 0 there."""
     made = {name: array.array("q" if kind == "BIGINT" else "i") for name, kind in columns.types.items()}
     appends = [column.append for column in made.values()]
     for record in columns.records():
@@ -175,14 +175,14 @@ class Loops:
 
 
 def swapped(column: array.array) -> array.array:
-    """A copy with the bytes of each number the other way round."""
+    """A copy with the bytes of each number reversed."""
     copy = column[:]
     copy.byteswap()
     return copy
 
 
 def stores_of(columns: Columns, layouts: str) -> tuple[list[Store], list[str]]:
-    """A store of each kind that this machine has, filled, and the names of those that it hasn't."""
+    """A filled store of each kind that is installed here, and the names of those that aren't."""
     stores: list[Store] = [Bitcol(columns, layout) for layout in layouts]
     missing = []
     stores.append(Sqlite(columns))
@@ -204,8 +204,8 @@ def stores_of(columns: Columns, layouts: str) -> tuple[list[Store], list[str]]:
 
 
 def compared(stores: list[Store], queries: list[Query], rounds: int) -> dict[str, dict[str, Taken]]:
-    """Of each store and query the quickest of some rounds, in which all stores take turns. It ends the bench with
-    status 1 where two answers differ."""
+    """For each store and query the fastest of some rounds, in which all stores take turns. Ends the bench with
+    status 1 if two results differ."""
     least: dict[str, dict[str, Taken]] = {store.name: {} for store in stores}
     expected: dict[str, Answer] = {}
     words = {query.title: query.sql() for query in queries}

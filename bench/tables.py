@@ -1,4 +1,4 @@
-"""Tables that several benches fill: CSV files of drawn values, loaded into a running bitcol and into sqlite3."""
+"""Tables that several benches fill: CSV files of random values, loaded into a running bitcol and into sqlite3."""
 
 import sqlite3
 import time
@@ -12,7 +12,7 @@ Row = Sequence[int | None]
 
 
 def csv_file(name: str, rows: Iterable[Row]) -> Path:
-    """A CSV file of these rows, in the folder of data."""
+    """A CSV file of these rows, in the folder `data`."""
     path = data_file(name)
     with path.open("w") as out:
         out.writelines(",".join("" if cell is None else str(cell) for cell in row) + "\n" for row in rows)
@@ -20,8 +20,8 @@ def csv_file(name: str, rows: Iterable[Row]) -> Path:
 
 
 def fill(program: Program, columns: str, choice: str, path: Path, times: int = 1) -> float:
-    """Makes a table t of these columns, each of this layout and kind, and loads the file so often. It gives the seconds
-    of the loads."""
+    """Creates a table t of these columns, each of this layout and kind, and loads the file this many times. Returns
+    the seconds of the loads."""
     program.do(f"CREATE TABLE t ({', '.join(f'{column} INT {choice}' for column in columns)})")
     return sum(program.ask(f"LOAD t FROM '{path}'")[0] for _ in range(times))
 

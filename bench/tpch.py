@@ -1,11 +1,11 @@
 #!/usr/bin/env python3
 """Times scans and sums over TPC-H's lineitem in bitcol, each layout, and in sqlite3, ClickHouse, numpy and C++.
 
-The table has the specification's distributions, as integers (bench/lineitem.py). The scans are of one column by
-selectivity and of conjunctions, as the papers of the layouts measured them, and what of queries 1, 4, 6 and 12 the
-language has. All stores answer the same queries in turns, in one run, one thread each, and their answers are
-compared: a difference ends the bench with status 1. Stores that aren't installed are left out. docs/WORKLOAD.md tells
-what was taken over. Build bitcol first, by `rt run` in crates/bitcol.
+The table has the specification's distributions, as integers (bench/lineitem.py). The queries are scans of one column
+by selectivity and conjunctions, as the papers of the layouts measured them, and the parts of queries 1, 4, 6 and 12
+that the language supports. All stores execute the same queries in turns, in one run, one thread each, and their results
+are compared: a difference ends the bench with status 1. Stores that aren't installed are left out. docs/WORKLOAD.md
+says what was taken over. Build bitcol first, by `rt run` in crates/bitcol.
 
     python3 bench/tpch.py [--scale FACTOR]      scale factor 1 has six million rows; at most 2.7, which a table holds
 """
@@ -53,7 +53,7 @@ QUERIES = [
 
 
 def scans(columns: Columns) -> list[Query]:
-    """Scans of one column, that find about these parts of the rows."""
+    """Scans of one column that find about these fractions of the rows."""
     places = [list(TYPES).index(name) for name in SCANNED]
     records = columns.records()
     sample = sorted_columns([record for record, _ in zip(records, range(SAMPLE))], places)
@@ -73,13 +73,13 @@ def sorted_columns(records: list[tuple[int | None, ...]], places: list[int]) -> 
 
 
 def found_part(answer: list[tuple[str, ...]], rows: int) -> str:
-    """How many rows were found, as a part of all: what COUNT(*) tells, the last item of each row."""
+    """The fraction of all rows that was found, from COUNT(*), the last item of each row."""
     return f"{figure(100 * sum(int(row[-1]) for row in answer) / rows, 2)} %"
 
 
 def tell(report: Report, name: str, queries: list[Query], found: dict[str, dict[str, Taken]], rows: int,
          missing: list[str]) -> None:
-    """A table: ns a row in bitcol, and the others as multiples of V's time."""
+    """A table: ns per row in bitcol, and the others as multiples of V's time."""
     ours = [f"bitcol {layout}" for layout in LAYOUTS]
     others = [store for store in found if store not in ours]
     base = {query.title: found[ours[0]][query.title].seconds for query in queries}

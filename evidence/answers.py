@@ -8,11 +8,11 @@ Line = tuple[int | None, ...]
 
 
 class Unanswered(Exception):
-    """The program ended otherwise than with a right reply to each statement."""
+    """The program didn't end with a correct reply to each statement."""
 
 
 def replies_of(output: str) -> Iterator[str]:
-    """The replies that an output consists of. A reply of several lines ends with `rows n`."""
+    """The replies in an output. A reply of several lines ends with `rows n`."""
     lines: list[str] = []
     for line in output.splitlines():
         lines.append(line)
@@ -25,7 +25,7 @@ def replies_of(output: str) -> Iterator[str]:
 
 
 def ask(program: Program, statements: Sequence[str], files: dict[str, bytes] | None = None) -> list[str]:
-    """The reply to each of these statements, none of which is to be refused."""
+    """The reply to each of these statements, none of which should be refused."""
     script = "".join(f"{statement};\n" for statement in statements)
     ended = program.run(script.encode(), files or {}, set())
     replies = list(replies_of(ended.output.decode()))

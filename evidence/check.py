@@ -1,16 +1,16 @@
 #!/usr/bin/env python3
-"""Holds the program against what stands outside of it: one command for all evidence that needs no prover.
+"""Compares the program with things outside it: one command for all evidence that needs no prover.
 
     python3 evidence/check.py [--program PATH] [--cases N] [--seed S] [--jobs J] [--only PART ..]
 
     scripts     N random scripts (2,000 if none are named), through the program and through the model of evidence/model
-    limits      what a random script hardly meets: the words of the command line, and limits on tables, rows and files
-    counts      large tables, through the program and the model: what STATS counts at the seams of segments
-    relations   what holds of the answers of any right store, over tables that cross the segments of each layout
-    peers       the same SELECTs in sqlite3, and in PostgreSQL where `psql` comes to a server
+    limits      what a random script rarely reaches: command-line arguments, and limits on tables, rows and files
+    counts      large tables, through the program and the model: what STATS counts at the boundaries of segments
+    relations   what holds for the replies of any correct store, over tables that span several segments of each layout
+    peers       the same SELECTs in sqlite3, and in PostgreSQL if `psql` reaches a server
 
 PATH is crates/bitcol/out/bitcol if it isn't named. A difference is printed with the seed and the number of its script,
-and with as few statements as still show it. The last line counts; the status is 1 if anything differs.
+and with as few statements as still show it. The last line has counts; the exit status is 1 if anything differs.
 """
 
 import argparse
@@ -30,7 +30,7 @@ USUAL = TOP / "crates" / "bitcol" / "out" / "bitcol"
 
 
 def run_random(options: argparse.Namespace) -> Told:
-    """The random scripts, and which replies there were."""
+    """Runs the random scripts, and reports which replies there were."""
     told = run_scripts(options.program, options.seed, options.cases, options.jobs)
     print("replies: " + ", ".join(f"{count:,} {kind}" for kind, count in sorted(told.replies.items())))
     return told
@@ -46,7 +46,7 @@ PARTS: dict[str, tuple[str, Callable[[argparse.Namespace], Told]]] = {
 
 
 def options_of(words: list[str]) -> argparse.Namespace:
-    """What the words of the command line ask for."""
+    """The arguments of the command line."""
     parser = argparse.ArgumentParser(description="Holds the program against what stands outside of it.")
     parser.add_argument("--program", default=str(USUAL), help="the program, if it is not the built one")
     parser.add_argument("--cases", type=int, default=CASES, help="how many random scripts")
@@ -57,7 +57,7 @@ def options_of(words: list[str]) -> argparse.Namespace:
 
 
 def main(words: list[str]) -> int:
-    """Runs the parts that are asked for, and gives the status."""
+    """Runs the selected parts, and returns the exit status."""
     options = options_of(words)
     if not Path(options.program).exists():
         sys.exit(f"{options.program} isn't there: build it by rt run in crates/bitcol, or name another by --program")

@@ -1,4 +1,4 @@
-"""What the evidence shares: where the tree and its programs lie, and how far long work is."""
+"""What the evidence shares: where the tree and its programs are, and progress of long work."""
 
 import sys
 import time
@@ -20,7 +20,7 @@ def built(crate: str) -> str:
 
 
 class Progress:
-    """How far long work is: one line on standard error that is written over, where that is a terminal."""
+    """Progress of long work: one line on standard error that is overwritten, if that is a terminal."""
 
     def __init__(self, name: str, total: int) -> None:
         self.name, self.total, self.done = name, total, 0
@@ -38,21 +38,21 @@ class Progress:
             print(f"\r{line[:119]}\x1b[K", end="", file=sys.stderr, flush=True)
 
     def clear(self) -> None:
-        """Takes the line away, so that something else can be printed."""
+        """Removes the line, so that something else can be printed."""
         if self.shows:
             print("\r\x1b[K", end="", file=sys.stderr, flush=True)
 
 
 @dataclass
 class Told:
-    """What a piece of the work came to: how many checks, of each kind of reply how many, and the differences."""
+    """The result of a piece of the work: how many checks, how many replies of each kind, and the differences."""
 
     count: int = 0
     replies: Counter[str] = field(default_factory=Counter)
     differences: list[str] = field(default_factory=list)
 
     def add(self, other: "Told") -> None:
-        """Adds what another piece came to."""
+        """Adds the result of another piece."""
         self.count += other.count
         self.replies.update(other.replies)
         self.differences += other.differences

@@ -1,4 +1,4 @@
-"""Large tables through the program and through the model: what STATS counts, and the rows, at the seams of segments."""
+"""Large tables through the program and the model: what STATS counts, and the rows, at the boundaries of segments."""
 
 from random import Random
 
@@ -10,7 +10,7 @@ from writer import Script
 
 
 def script_over(shape: Shape, seed: int, number: int) -> Script:
-    """A script that asks a table of this shape, changes it, and asks again."""
+    """A script that queries a table of this shape, changes it, and queries it again."""
     generator = Random(f"counts {seed}:{number}")
     table = filled(shape, generator)
     pairs = [f"a {generator.choice(['<', '=', '>='])} b", "b = b AND NOT a > b"]
@@ -30,7 +30,7 @@ def script_over(shape: Shape, seed: int, number: int) -> Script:
 
 
 def run(path: str, seed: int) -> Told:
-    """A script over a table of each shape but the largest."""
+    """A script over a table of each shape except the largest."""
     every = [shape for shape in shapes() if shape.rows < LARGE]
     told, program, progress = Told(len(every)), Program.at(path), Progress("counts", len(every))
     for number, shape in enumerate(every):

@@ -5,11 +5,11 @@
     python3 evidence/edits.py --texts         proves nothing: whether each text that an edit replaces is there, once
 
 `rt ci` tries the edits in `crates/NAME/must-fail/`. Those in `evidence/edits/NAME/` show what another edit shows, or
-turn a getter, a constructor or a clone; they have the same form, and their `file:` counts from the crate. Each is tried
-by `rt ci` itself, on a copy of the tree in which they take the place of the gate's own. What the gate proved on this
-machine is not proved again, so run `rt ci` before: then all of them take about half an hour on four processors.
+change a getter, a constructor or a clone; they have the same form, and their `file:` is relative to the crate. Each is
+tried by `rt ci` itself, on a copy of the tree in which they replace the gate's own. What the gate proved on this
+machine is not proved again, so run `rt ci` first: then all of them take about half an hour on four processors.
 
-The last line says how many were refused. The exit status is 0 where all were.
+The last line says how many were refused. The exit status is 0 if all were.
 """
 
 import re
@@ -23,7 +23,7 @@ from pathlib import Path
 TOP = Path(__file__).resolve().parent.parent
 EDITS = TOP / "evidence" / "edits"
 
-# What the kit says of a try, from the most telling outcome to the least. The first that fits counts.
+# What the kit says of a try, from the most informative outcome to the least. The first that fits counts.
 OUTCOMES = {
     "not refused": re.compile(r"must-fail \S+: NOT REFUSED"),
     "not tried": re.compile(r"must-fail \S+: (NOT TRIED|BAD EDIT)"),
@@ -43,7 +43,7 @@ def edits_of(crate):
 
 
 def copy_tree(crates, to):
-    """Copies what `rt ci` reads, with these crates' own edits in place of the gate's."""
+    """Copies what `rt ci` reads, with these crates' own edits instead of the gate's."""
     skipped = shutil.ignore_patterns("out", "must-fail")
     shutil.copytree(TOP / "crates", to / "crates", ignore=skipped)
     for name in ("crates.txt", "HANDLES"):
@@ -53,8 +53,8 @@ def copy_tree(crates, to):
 
 
 def stale_texts():
-    """Texts that edits replace, those of the gate too, and that are not in their file exactly once. The texts of an edit
-    are replaced one after the other."""
+    """Texts that edits replace, including the gate's, and that don't occur exactly once in their file. The texts of an
+    edit are replaced one after the other."""
     own = ((path, TOP / "crates" / path.parent.name) for path in EDITS.glob("*/*.edit"))
     gate = ((path, path.parent.parent) for path in TOP.glob("crates/*/must-fail/*.edit"))
     for path, crate in (*own, *gate):
@@ -77,7 +77,7 @@ def outcome_of(line):
 
 
 def try_all(crates):
-    """Prints what the kit says of each edit, and returns how many came to what."""
+    """Prints what the kit says of each edit, and returns the number of each outcome."""
     told = Counter()
     with tempfile.TemporaryDirectory(prefix="bitcol-edits-") as room:
         copy_tree(crates, Path(room))

@@ -1,11 +1,11 @@
 #!/usr/bin/env python3
-"""Runs scripts and files that are made to hurt, at three sizes, with a small stack, and prints the time for each byte.
+"""Runs hostile scripts and files, at three sizes, with a small stack, and prints the time per byte.
 
     python3 evidence/hostile.py
 
-The stack has 256 KiB. Each has to end as it should, and its processor time to grow as its bytes do. Table files that
-claim the most columns and rows and have few bytes have to be refused as such in little memory. Build bitcol first, by
-`rt run` in crates/bitcol.
+The stack has 256 KiB. Each run has to end as it should, and its processor time must grow only as its bytes do. Table
+files that claim the most columns and rows and have few bytes have to be refused as such in little memory. Build bitcol
+first, by `rt run` in crates/bitcol.
 """
 
 import os
@@ -34,12 +34,12 @@ WRONG_COUNT = "error 42: record 1 has the wrong number of fields"
 
 
 def one_long(byte):
-    """One part without an end."""
+    """One part that never ends."""
     return lambda size: (byte * size, {}, None)
 
 
 def statements(statement, reply):
-    """The same statement again and again, over a table of three rows."""
+    """The same statement repeated, over a table of three rows."""
 
     def case(size):
         count = size // len(statement)
@@ -56,7 +56,7 @@ def condition(test, joined):
 
 
 def loaded(record, reply):
-    """One LOAD of a file that is a record again and again."""
+    """One LOAD of a file that repeats a record."""
 
     def case(size):
         count = size // len(record)
@@ -100,7 +100,7 @@ CASES = {
 
 
 def claims(version, header):
-    """Table files of this version that claim the most columns and rows, and have little after it, by what that is."""
+    """Table files of this version that claim the most columns and rows, keyed by the little that follows the claim."""
     front = f"BITCOL{chr(version)}\0" + "\x40\0" + "\0\0\0\x01"
     headers = front + "".join(header.replace("A", f"A{number:02}") for number in range(64))
     return {"nothing": front, "64 headers": headers, "64 headers and a column": headers + "\0" * MEGABYTE}

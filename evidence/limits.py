@@ -1,6 +1,6 @@
-"""What random scripts hardly meet: the words of the command line, and the limits on tables, rows and files.
+"""What random scripts rarely reach: the arguments of the command line, and the limits on tables, rows and files.
 
-Each check has what docs/LANGUAGE.md tells the program to write; the checks of whole scripts have it from the model.
+Each check expects what docs/LANGUAGE.md says that the program writes; for whole scripts the model computes it.
 """
 
 import subprocess
@@ -22,7 +22,7 @@ USAGE = (64, "", "usage: bitcol [--stop] [SCRIPT]\n")
 NOT_OPENED = (2, "", "bitcol: cannot open the script\n")
 ENDS = "-9223372036854775808,-9223372036854775808\n9223372036854775807,9223372036854775807\n"
 
-# The words, and the status, the output and the standard error that they come to. The script stands in each of three
+# The arguments, and the exit status, the output and the standard error that they give. The script is in each of three
 # files and on standard input.
 WORDS: list[tuple[list[str], tuple[int, str, str]]] = [
     ([], (0, ANSWERED, "")),
@@ -58,7 +58,7 @@ class Large:
     name: str
     statements: tuple[str, ...]
     replies: tuple[str, ...]
-    files: tuple[tuple[str, str, str, int], ...] = ()  # its name, what it begins with, what then comes, and how often
+    files: tuple[tuple[str, str, str, int], ...] = ()  # its name, what it begins with, what follows, and how many times
 
 
 LARGE = [
@@ -163,7 +163,7 @@ def scripts() -> Iterator[tuple[str, str]]:
 
 
 def check_words(program: Program, words: list[str], wanted: tuple[int, str, str]) -> str | None:
-    """What is otherwise where the program is called with these words."""
+    """The differences if the program is called with these arguments."""
     for name in ("s.sql", "-", "--stop"):
         (program.room / name).write_bytes(SCRIPT)
     ended = subprocess.run([program.path, *words], cwd=program.room, input=SCRIPT, capture_output=True, check=False)
@@ -172,14 +172,14 @@ def check_words(program: Program, words: list[str], wanted: tuple[int, str, str]
 
 
 def check_script(program: Program, name: str, script: str) -> str | None:
-    """What is otherwise than the model answers."""
+    """The differences from the model's output."""
     wanted = run_script(script.encode(), Folder())
     found = program.run(script.encode(), {}, set())
     return None if found == wanted else f"{name}: other replies or files than the model's"
 
 
 def check_large(program: Program, it: Large) -> str | None:
-    """What is otherwise over large files."""
+    """The differences over large files."""
     for name, start, piece, times in it.files:
         Path(program.room / name).write_text(start + piece * times)
     script = "".join(f"{statement};\n" for statement in it.statements).encode()
@@ -197,7 +197,7 @@ def check_large(program: Program, it: Large) -> str | None:
 
 
 def run(path: str) -> Told:
-    """Makes all checks."""
+    """Runs all checks."""
     program = Program.at(path)
     checks = [lambda it=it: check_words(program, *it) for it in WORDS]
     checks.append(lambda: [file.unlink() for file in program.room.iterdir()] and None)

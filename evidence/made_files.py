@@ -1,4 +1,4 @@
-"""Files for random scripts: CSV files and table files, right ones and faulty ones."""
+"""Files for random scripts: CSV files and table files, valid ones and faulty ones."""
 
 from random import Random
 
@@ -15,7 +15,7 @@ NAMES = ["A", "B", "C", "D", "SECONDS", "X_1"]
 
 
 def csv_file(generator: Random, columns: int, values: list[Value]) -> bytes:
-    """A CSV file of so many columns, which now and then has a fault."""
+    """A CSV file with this number of columns, which now and then has a fault."""
     is_faulty = generator.random() < 0.35
     end = generator.choice(LINE_ENDS)
     lines = [",".join(f"c{place}" for place in range(columns))] if generator.random() < 0.4 else []
@@ -62,7 +62,7 @@ def spoil(generator: Random, fields: list[str]) -> None:
 
 
 def table_file(generator: Random, values: list[Value]) -> tuple[list[ColumnDef], bytes]:
-    """A table file of either version and its columns; now and then one with a fault, which has none."""
+    """A table file of either version and its columns; now and then a faulty file, which has no columns."""
     version = generator.choice([1, 2, 2])
     names = generator.sample(NAMES, generator.choice([1, 1, 2, 3]))
     columns = [definition(generator, name, version) for name in names]
@@ -86,7 +86,7 @@ def cell_of(generator: Random, column_type: Type, values: list[Value]) -> Value:
 
 
 def damaged(generator: Random, data: bytes) -> bytes:
-    """The bytes with one of them changed, with a bit of one changed, cut off, or with more behind them."""
+    """The bytes with one of them changed, with one bit changed, truncated, or with more after them."""
     place = generator.randrange(len(data))
     near_front = min(place, generator.randrange(40))
     match generator.randrange(5):

@@ -1,7 +1,7 @@
-"""The same SELECTs in sqlite3, and in PostgreSQL where `psql` comes to a server.
+"""The same SELECTs in sqlite3, and in PostgreSQL if `psql` reaches a server.
 
-Rows, set functions and groups have to agree. Conditions are written for the others with parentheses around each part,
-and rows and groups are put in order there. Values stay so small that no sum leaves 64 bits. sqlite3 has no MEDIAN, and
+Rows, set functions and groups have to agree. Conditions are written for the other programs with parentheses around each
+part, and rows and groups are sorted there. Values are so small that no sum exceeds 64 bits. sqlite3 has no MEDIAN, and
 PostgreSQL's is percentile_disc(0.5).
 """
 
@@ -53,11 +53,11 @@ class Question:
 
 
 class Peer:
-    """Another program that answers SELECTs."""
+    """Another program that executes SELECTs."""
 
     name = "sqlite3"
     median = ""
-    is_unknown = "NULL"  # what stands after IS where the truth is unknown
+    is_unknown = "NULL"  # what follows IS if the truth is unknown
 
     def written(self, it: tree.Condition) -> str:
         """A condition with parentheses around each part."""
@@ -81,7 +81,7 @@ class Peer:
         return f"({text})"
 
     def answers(self, rows: Sequence[Line], questions: Sequence[str]) -> list[list[Line]]:
-        """The lines of each answer over a table of these rows."""
+        """The lines of each result over a table of these rows."""
         with sqlite3.connect(":memory:") as base:
             base.execute("CREATE TABLE t (a INTEGER, b INTEGER, n INTEGER)")
             base.executemany("INSERT INTO t VALUES (?, ?, ?)", rows)
@@ -89,7 +89,7 @@ class Peer:
 
 
 class PostgreSQL(Peer):
-    """PostgreSQL, by psql and a server that it comes to without a password."""
+    """PostgreSQL, by psql and a server that it reaches without a password."""
 
     name = "PostgreSQL"
     median = "percentile_disc(0.5) WITHIN GROUP (ORDER BY {})"
@@ -98,14 +98,14 @@ class PostgreSQL(Peer):
 
     @classmethod
     def is_there(cls) -> bool:
-        """Whether psql comes to a server."""
+        """Whether psql reaches a server."""
         if shutil.which("psql") is None:
             return False
         asked = subprocess.run([*cls.command, "-c", "SELECT 1"], capture_output=True, check=False)
         return asked.returncode == 0
 
     def answers(self, rows: Sequence[Line], questions: Sequence[str]) -> list[list[Line]]:
-        """The lines of each answer over a table of these rows, which lives as long as the connection."""
+        """The lines of each result over a table of these rows, which lives as long as the connection."""
         script = ["CREATE TEMPORARY TABLE t (a BIGINT, b BIGINT, n BIGINT);"]
         script += [f"INSERT INTO t VALUES ({', '.join(map(operand, row))});" for row in rows]
         for question in questions:
@@ -119,7 +119,7 @@ class PostgreSQL(Peer):
 
 
 def operand(it: tree.Operand) -> str:
-    """An operand as others read it. A negative number is in parentheses, and NULL is an integer."""
+    """An operand as the others read it. A negative number is in parentheses, and NULL is an integer."""
     if isinstance(it, tree.Name):
         return it.name
     return "CAST(NULL AS BIGINT)" if it is None else f"({it})"
@@ -148,7 +148,7 @@ class SmallAsker(Asker):
 
 
 def compare(program: Program, peer: Peer, generator: Random) -> tuple[int, list[str]]:
-    """How many SELECTs were asked of one table, and what differs."""
+    """How many SELECTs ran over one table, and what differs."""
     asker = SmallAsker(generator, 0)
     asker.values = asker.some_values()
     layouts = [generator.choice(list(Layout)) for _ in range(2)]
@@ -172,7 +172,7 @@ def compare(program: Program, peer: Peer, generator: Random) -> tuple[int, list[
 
 
 def run(path: str, seed: int) -> Told:
-    """The same SELECTs, over random tables, in each program that is there."""
+    """The same SELECTs, over random tables, in each program that is available."""
     peers = [Peer()] + [PostgreSQL()] * PostgreSQL.is_there()
     if len(peers) == 1:
         print("no PostgreSQL: psql comes to no server")

@@ -1,11 +1,11 @@
 #!/usr/bin/env python3
-"""Plants bugs in the model, one at a time, and tells after how many random scripts each is seen.
+"""Plants bugs in the model, one at a time, and reports after how many random scripts each is seen.
 
-    python3 evidence/planted.py [CASES]     tries so many scripts at most, 2,000 if none are named
+    python3 evidence/planted.py [CASES]     tries at most this number of scripts, 2,000 if none is named
 
-Behind the random scripts come some over tables of more than a segment (counts.py). Where a planted bug changes a reply
+After the random scripts come some over tables of more than a segment (counts.py). If a planted bug changes a reply
 or a file, the same bug in the program would be a difference. So this shows what the scripts of check.py can see,
-without the program. The status is 1 if a bug was never seen.
+without the program. The exit status is 1 if a bug was never seen.
 """
 
 import re
@@ -35,7 +35,7 @@ def null_is_null(left: tree.Value, relation: str, right: tree.Value) -> tree.Tru
 
 
 def wrapped_sum(function: Function, values: list[int]) -> tree.Value:
-    """Set functions whose sums leave 64 bits."""
+    """Set functions whose sums exceed 64 bits."""
     value = RIGHT_FOLDS(function, values)
     return value if function is not Function.SUM or value is None else (value + 2**63) % 2**64 - 2**63
 
@@ -46,13 +46,13 @@ def upper_median(function: Function, values: list[int]) -> tree.Value:
 
 
 def null_first(rows: list[store.Cells], name: str) -> list[list[store.Cells]]:
-    """Groups with that of NULL first."""
+    """Groups with the group of NULL first."""
     groups = RIGHT_GROUPS(rows, name)
     return sorted(groups, key=lambda group: group[0][name] is not None)
 
 
 def live_codes(table: store.Table, column: store.Column, values: Iterable[tree.Value]) -> None:
-    """Codes that are made anew for the live rows alone."""
+    """Codes that are encoded again for the live rows alone."""
     new = {value for value in values if value is not None}
     if not all(map(column.encoding.has_code, new)):
         there = {row[column.name] for row in table.rows()}
@@ -95,7 +95,7 @@ BUGS: dict[str, tuple[object, str, object]] = {
 
 
 def right_runs(cases: int) -> list[Run]:
-    """Random scripts and scripts over large tables, and what the model makes of them."""
+    """Random scripts and scripts over large tables, and what the model returns for them."""
     large = [(number, shape) for number, shape in enumerate(shapes()) if 256 < shape.rows < 1_000]
     progress, runs = Progress("scripts", cases + len(large)), []
     scripts = (script_of(SEED, number) for number in range(cases))
@@ -119,7 +119,7 @@ def seen_after(runs: list[Run], plant: AbstractContextManager) -> int | None:
 
 
 def main(words: list[str]) -> int:
-    """Plants each bug, and gives the status."""
+    """Plants each bug, and returns the exit status."""
     cases = int(words[0]) if words else CASES
     runs, missed = right_runs(cases), 0
     for name, (place, attribute, wrong) in BUGS.items():

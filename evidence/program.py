@@ -24,11 +24,11 @@ class Program:
         return cls(str(Path(path).resolve()), Path(tempfile.mkdtemp(prefix="bitcol-evidence-")))
 
     def close(self) -> None:
-        """Takes the folder away."""
+        """Deletes the folder."""
         shutil.rmtree(self.room, ignore_errors=True)
 
     def run(self, script: bytes, files: dict[str, bytes], folders: set[str], stops: bool = False) -> Ended:
-        """What a run over the script leaves. Nothing is to be on standard error, so what is there counts as output."""
+        """What a run over the script leaves. Standard error should be empty, so what is there counts as output."""
         for folder in folders:
             (self.room / folder).mkdir()
         for name, data in files.items():

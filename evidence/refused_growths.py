@@ -1,12 +1,13 @@
 #!/usr/bin/env python3
-"""Refuses each growth of memory in turn, over scripts that use every statement, and checks what bitcol answers.
+"""Refuses each memory allocation in turn, over scripts that use every statement, and checks bitcol's replies.
 
     python3 evidence/refused_growths.py
 
 The program runs with a small library in front of the C library's `malloc` and `realloc` that refuses the N-th call, N
-from 1 until a run makes none. Each run has to end out of memory with nothing written, or with error 90 in place of one
-reply, and all others those to the script without that statement; with `--stop` it ends behind the error. The files that
-are left have to be those of that script, too. Build bitcol first, by `rt run` in crates/bitcol; it needs a C compiler.
+from 1 until a run makes no such call. Each run has to end out of memory with nothing written, or with error 90 instead
+of one reply, and all others those to the script without that statement; with `--stop` it ends after the error. The
+files that are left have to be those of that script, too. Build bitcol first, by `rt run` in crates/bitcol; a C compiler
+is needed.
 """
 
 import itertools
@@ -226,7 +227,7 @@ WORKED = {
 
 
 def groups_in(layout, kind):
-    """A report by groups over columns that are laid so."""
+    """A report by groups over columns in this layout and kind."""
     return [
         f"CREATE TABLE t (a INT USING {layout} {kind}, b INT USING {layout} {kind});",
         "INSERT INTO t VALUES (2, 7), (1, NULL), (2, -3), (NULL, 4), (1, 5), (-8, 0);",
@@ -279,13 +280,13 @@ class Program:
             return Ended(ended.stdout, ended.stderr, ended.returncode, self.note.exists(), files)
 
     def replies(self, statements):
-        """The reply to each statement: what the script up to it writes, less what it writes up to the one before."""
+        """The reply to each statement: what the script up to it writes, without what it writes up to the one before."""
         outputs = [self.run(statements[:count]).output for count in range(len(statements) + 1)]
         return [after[len(before) :] for before, after in itertools.pairwise(outputs)]
 
 
 def allowed(program, statements, stop):
-    """What a run with one refused growth may leave: error 90 for a statement, and else what the others alone write."""
+    """What a run with one refused allocation may leave: error 90 for a statement, and what the others alone write."""
     for place, others in enumerate(statements[:place] + statements[place + 1 :] for place in range(len(statements))):
         replies = program.replies(others)
         replies.insert(place, WANT)
@@ -320,7 +321,7 @@ def check(program, name, statements, stop):
 def check_address_space():
     """Fills a table under a limit on the address space: each INSERT adds its rows or is out of memory.
 
-    What follows is answered over the rows that were added.
+    What follows is executed on the rows that were added.
     """
     fill = "INSERT INTO t VALUES " + ",".join(f"({i}, {-i})" for i in range(4_000)) + ";"
     count = "SELECT COUNT(*), SUM(a), SUM(b) FROM t;"

@@ -1,9 +1,9 @@
-"""What holds of the answers of any right store, over tables that cross the segments of each layout.
+"""What holds for the replies of any correct store, over tables that span several segments of each layout.
 
     parts      a condition is true, false or unknown at each row, and at no row two of these; NOT exchanges two of them
     folds      set functions, and groups, are those of the rows that are shown
-    kept       an UPDATE to itself, a REBUILD in any layout, and a SAVE and an OPEN change no answer
-    gone       after a DELETE the other rows are there, in their order
+    kept       an UPDATE to itself, a REBUILD in any layout, and a SAVE and an OPEN change no reply
+    gone       after a DELETE the other rows are left, in their order
 """
 
 import itertools
@@ -40,7 +40,7 @@ class Shape:
 
 
 class Asker(Writer):
-    """A writer of conditions that names no columns but those that are there."""
+    """A writer of conditions that names only existing columns."""
 
     def column(self, columns: list[ColumnDef]) -> str:
         """One of these columns."""
@@ -93,7 +93,7 @@ def filled(shape: Shape, generator: Random) -> Filled:
 
 
 def in_turn(replies: list[str], size: int) -> list[list[str]]:
-    """The replies, so many at a time."""
+    """The replies, this number at a time."""
     return [replies[at : at + size] for at in range(0, len(replies), size)]
 
 
@@ -150,7 +150,7 @@ def group_lines(rows: list[Line]) -> Iterator[Line]:
 
 
 def kept(program: Program, table: Filled) -> Iterator[str]:
-    """Faults of statements that are to change no answer."""
+    """Faults of statements that should change no reply."""
     changes = {
         "an UPDATE to itself": ["UPDATE t SET a = a, b = b"],
         "an UPDATE to itself where a condition is true": [f"UPDATE t SET b = b WHERE {table.conditions[0]}"],
@@ -192,7 +192,7 @@ RELATIONS: tuple[Relation, ...] = (parts, folds, kept, gone)
 
 
 def faults_of(relation: Relation, program: Program, table: Filled) -> Iterator[str]:
-    """The faults of a relation, or that there are no answers to hold it against."""
+    """The faults of a relation, or that there are no replies to check it on."""
     try:
         yield from relation(program, table)
     except Unanswered as fault:
@@ -200,7 +200,7 @@ def faults_of(relation: Relation, program: Program, table: Filled) -> Iterator[s
 
 
 def run(path: str, seed: int) -> Told:
-    """Holds all relations over tables of all shapes."""
+    """Checks all relations over tables of all shapes."""
     every = shapes()
     told, program, progress = Told(), Program.at(path), Progress("relations", len(every))
     for number, shape in enumerate(every):

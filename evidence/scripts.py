@@ -1,4 +1,4 @@
-"""Random scripts, through the program and through the model: both have to answer the same and leave the same files."""
+"""Random scripts, through the program and the model: both have to reply the same and leave the same files."""
 
 import signal
 from collections.abc import Iterable, Iterator
@@ -25,22 +25,22 @@ def script_of(seed: int, number: int) -> Script:
 
 
 def by_model(script: Script) -> Ended:
-    """What the model answers."""
+    """What the model writes."""
     return run_script(script.text, Folder(dict(script.files), FOLDERS), script.stops)
 
 
 def by_program(program: Program, script: Script) -> Ended:
-    """What the program answers."""
+    """What the program writes."""
     return program.run(script.text, script.files, FOLDERS, script.stops)
 
 
 def differs(program: Program, script: Script) -> bool:
-    """Whether the program and the model answer the script otherwise."""
+    """Whether the program and the model differ on the script."""
     return by_program(program, script) != by_model(script)
 
 
 def joined(scripts: Iterable[Script]) -> tuple[Script, Ended]:
-    """One script of all these, each of which begins with no tables, and what the model answers."""
+    """One script of all these, each of which begins with no tables, and what the model writes."""
     store, statements, output = Store(Folder({}, FOLDERS)), [], []
     files: dict[str, bytes] = {}
     for script in scripts:
@@ -68,7 +68,7 @@ def shrunk(program: Program, script: Script) -> Script:
 
 
 def difference(program: Program, script: Script, place: str) -> str:
-    """What is to be read of a script that both answer otherwise."""
+    """The text that is printed about a script on which the two differ."""
     script = shrunk(program, script)
     model, found = by_model(script), by_program(program, script)
     lines = [f"{place}{', with --stop' if script.stops else ''}:", script.text.decode(errors="backslashreplace")]
@@ -81,7 +81,7 @@ def difference(program: Program, script: Script, place: str) -> str:
 
 
 def differences(program: Program, seed: int, scripts: dict[int, Script], whole: Script) -> list[str]:
-    """The scripts that are answered otherwise by themselves, or else all of them in one."""
+    """The scripts that differ on their own, or else all of them as one."""
     alone = {number: script for number, script in scripts.items() if differs(program, script)}
     if not alone:
         return [difference(program, whole, f"seed {seed}, scripts {min(scripts)} to {max(scripts)} in one")]
@@ -89,7 +89,7 @@ def differences(program: Program, seed: int, scripts: dict[int, Script], whole: 
 
 
 def run_chunk(path: str, seed: int, numbers: range) -> Told:
-    """What the scripts of these numbers come to."""
+    """The result of the scripts with these numbers."""
     scripts = {number: script_of(seed, number) for number in numbers}
     together = {number: script for number, script in scripts.items() if not script.is_alone}
     told, program = Told(len(scripts)), Program.at(path)
@@ -107,7 +107,7 @@ def run_chunk(path: str, seed: int, numbers: range) -> Told:
 
 
 def kinds_of(output: bytes) -> Iterator[str]:
-    """Of each reply what it is: ok, rows, units, or an error of a number."""
+    """The kind of each reply: ok, rows, units, or an error with its number."""
     for line in output.decode().splitlines():
         word, _, rest = line.partition(" ")
         if word in ("ok", "rows", "units", "error"):
@@ -115,7 +115,7 @@ def kinds_of(output: bytes) -> Iterator[str]:
 
 
 def run_scripts(path: str, seed: int, count: int, jobs: int) -> Told:
-    """Runs so many scripts, by so many workers. What is broken off by the keyboard tells of those that were run."""
+    """Runs this number of scripts, by this number of workers. After an interrupt it reports those that were run."""
     told, progress = Told(), Progress("scripts", -(-count // CHUNK))
     chunks = [range(at, min(at + CHUNK, count)) for at in range(0, count, CHUNK)]
     with ProcessPoolExecutor(jobs, initializer=signal.signal, initargs=(signal.SIGINT, signal.SIG_IGN)) as workers:
@@ -131,7 +131,7 @@ def run_scripts(path: str, seed: int, count: int, jobs: int) -> Told:
 
 
 def add_chunk(told: Told, found: Told, progress: Progress) -> None:
-    """Adds what some scripts came to, and prints their differences."""
+    """Adds the result of some scripts, and prints their differences."""
     told.add(found)
     if found.differences:
         progress.clear()

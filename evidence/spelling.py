@@ -24,7 +24,7 @@ def joined(generator: Random, tokens: list[str]) -> bytes:
 
 
 def must_part(before: str, token: str) -> bool:
-    """Whether the two would be another token, or begin a comment, without a blank between them."""
+    """Whether the two would form another token, or begin a comment, without a blank between them."""
     ends = before[-1:], token[:1]
     are_words = all(end.isalnum() for end in ends) or "_" in ends
     return are_words or ends in (("-", "-"), ("'", "'")) or before + token in ("<=", ">=", "<>")
@@ -38,7 +38,7 @@ def in_case(generator: Random, token: str, is_loud: bool) -> str:
 
 
 def broken(generator: Random, tokens: list[str]) -> bytes:
-    """A statement with one or two tokens left out, doubled, exchanged or put in, or with odd bytes."""
+    """A statement with one or two tokens left out, doubled, exchanged or inserted, or with odd bytes."""
     tokens = list(tokens)
     for _ in range(generator.choice([1, 1, 1, 2])):
         place = generator.randrange(len(tokens) + 1)
@@ -103,7 +103,7 @@ def odd_parts(generator: Random) -> bytes:
 
 
 def last_part(generator: Random) -> bytes:
-    """What stands after the last `;`."""
+    """What follows the last `;`."""
     return generator.choice(
         [
             b"TABLES",

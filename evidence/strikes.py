@@ -1,12 +1,12 @@
 #!/usr/bin/env python3
-"""Strikes clauses, one at a time, and shows that the call above can't do without them.
+"""Strikes clauses, one at a time, and shows that the call above needs them.
 
-A clause of a lower call is made to say nothing (`THING ≡ THING`), in a copy, and what proved it is taken out. Then the
-call above must not be proved any more: so it gets its answer through the lower call, and not past it. Prove the crates
-first, by `rt all check` at the top: the copy goes on from what that kept, and each strike takes 15 to 90 seconds.
+A clause of a lower call is changed to say nothing (`THING ≡ THING`), in a copy, and what proved it is removed. Then the
+call above must no longer be proved: so it computes its result through the lower call, and not past it. Prove the crates
+first, by `rt all check` at the top: the copy reuses what that kept, and each strike takes 15 to 90 seconds.
 
     python3 evidence/strikes.py [WORD ..]      only the strikes whose upper call has one of the words in its name
-    python3 evidence/strikes.py --names        proves nothing: whether each clause and each upper call is still there
+    python3 evidence/strikes.py --names        proves nothing: whether each clause and each upper call still exists
 """
 
 import re
@@ -24,7 +24,8 @@ LAYOUTS = ("bw_vertical", "bw_horizontal", "bw_byteslice")
 
 @dataclass
 class Clause:
-    """A clause of a function's contract, what it comes to be about, and the crates whose proofs answer it."""
+    """A clause of a function's contract, the thing that it equates with itself when struck, and the crates whose
+    proofs answer it."""
 
     file: str
     function: str
@@ -36,7 +37,7 @@ class Clause:
         return self.answered_in or (self.file.split("/")[0],)
 
     def struck(self, text):
-        """The file's text where the clause says nothing."""
+        """The file's text with the clause saying nothing."""
         at = re.search(rf"\bfn {self.function}\b", text).start()
         start = text.index(f"ensures {self.name} {{" if self.name else "ensures {", at)
         end = re.compile(r" \};?\n").search(text, start).end()
@@ -48,7 +49,7 @@ class Clause:
 
 @dataclass
 class Strike:
-    """Clauses that are struck together, and the call that then must not be proved."""
+    """Clauses that are struck together, and the call that must then not be proved."""
 
     upper: str
     clauses: tuple
@@ -58,14 +59,14 @@ class Strike:
 
 
 def scans(crate, column):
-    """The answer and the reads of a layout's `scan_from`, for the column's `scan`."""
+    """The result and the reads of a layout's `scan_from`, for the column's `scan`."""
     upper = f"{crate}::column::{column}CodeColumn::scan"
     for name, thing in (("rows", "out.new"), ("reads", "S.reads source.new")):
         yield Strike(upper, (Clause(f"{crate}/src/scan.rt", "scan_from", name, thing),))
 
 
 def pairs(crate, column):
-    """The answer and the reads of both sources of a layout's `pair_from`, for the column's `scan_pair`."""
+    """The result and the reads of both sources of a layout's `pair_from`, for the column's `scan_pair`."""
     upper = f"{crate}::column::{column}CodeColumn::scan_pair"
     for name, thing in (("rows", "out.new"), ("reads", "A.reads a.new"), ("other_reads", "B.reads b.new")):
         yield Strike(upper, (Clause(f"{crate}/src/pair.rt", "pair_from", name, thing),))
@@ -87,7 +88,7 @@ def of_words():
 
 
 def of_words_put():
-    """The codes of a column in V once words of planes are put at some rows."""
+    """The codes of a column in V after words of planes were put at some rows."""
     return Clause("bw_vertical/src/column.rt", "put_words", "codes", "self.new")
 
 
@@ -101,12 +102,12 @@ def of_column(function, file="compare.rt", name="truth", thing="truth.new"):
 
 
 def rows_of(function, file):
-    """The rows that a call of columns gives."""
+    """The rows that a call on columns returns."""
     return of_column(function, file, "rows", "out.new")
 
 
 def with_its_own(function):
-    """A comparison into a truth that is there, and the same in a truth of its own, which is proved by it."""
+    """A comparison into an existing truth, and the same into a truth of its own, which is proved by the former."""
     return of_column(f"{function}_in"), of_column(function, "compare_anew.rt", thing="result")
 
 
@@ -179,7 +180,7 @@ STRIKES = [
 
 
 def without_answers(text, name):
-    """A file of answers without those to the clause of this name; None if no answer is left."""
+    """A file of proof answers without those to the clause of this name; None if no answer is left."""
     goal = rf"returns\S*-clause-{name}" if name else r"returns\S*"
     rest = re.sub(rf"(?ms)^pub {goal} :.*?(?=^pub |\Z)", "", text)
     return rest if re.search(r"(?m)^pub ", rest) else None
@@ -204,7 +205,7 @@ def strike(crates, clause, kept):
 
 
 def is_refused(crates, tried):
-    """Whether the check came as far as the upper call and did not prove it; and what it said of that."""
+    """Whether the check reached the upper call and did not prove it; and what it said about that."""
     words = ["rt", "check", "--jobs", "2", "--only", tried.upper]
     done = subprocess.run(words, cwd=crates / tried.crate(), capture_output=True, text=True, check=False)
     said = done.stdout + done.stderr
@@ -214,7 +215,7 @@ def is_refused(crates, tried):
 
 
 def what_is_gone():
-    """What the strikes name and is no more: clauses, and upper calls in the file of their module."""
+    """What the strikes name that no longer exists: clauses, and upper calls in the file of their module."""
     for tried in STRIKES:
         for clause in tried.clauses:
             try:

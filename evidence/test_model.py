@@ -1,11 +1,11 @@
 #!/usr/bin/env python3
-"""Holds the model against the examples of the documents, without the program.
+"""Checks the model against the examples of the documents, without the program.
 
     python3 evidence/test_model.py
 
 An example is a script and its output, as docs/check_examples.py finds them in the documents and in examples/. The
 model has to write this output for this script, the numbers of STATS included. The worked table files of
-docs/TABLE_FILE.md have to be written and read as they stand there, and each change of them that the document calls
+docs/TABLE_FILE.md have to be written and read as they are there, and each change of them that the document calls
 refused has to be refused.
 """
 
@@ -29,7 +29,7 @@ DUMP = re.compile(r"^ *\d+ +((?:[0-9a-f]{2} )+) {2,}\S.*$", re.MULTILINE)
 COLUMN = ColumnDef("A", Type.INTEGER, Layout.V, Coding.OFFSET)
 CELLS = [3, None, -1]
 
-# Of the worked file of each version: the byte that is changed, and what it becomes.
+# For the worked file of each version: the byte that is changed, and its new value.
 REFUSED_CHANGES = {
     2: [{15: 0x61}, {16: 2}, {17: 4}, {16: 1, 17: 2}, {19: 0x0D}, {27: 0}, {28: 4}, {29: 0}, {29: 3}, {31: 4}],
     1: [{18: 0x0D}, {23: 1}, {16: 4}, {15: 0x61}],
@@ -56,7 +56,7 @@ def is_refused(data: bytes) -> bool:
 
 
 def worked_files() -> Iterator[bool]:
-    """What holds of the worked files of docs/TABLE_FILE.md."""
+    """What holds for the worked files of docs/TABLE_FILE.md."""
     fences = (TOP / "docs/TABLE_FILE.md").read_text(encoding="utf-8").split("```")[1::2]
     dumps = [bytes.fromhex("".join(DUMP.findall(fence))) for fence in fences]
     for version, data in zip((2, 1), filter(None, dumps), strict=True):
@@ -69,7 +69,7 @@ def worked_files() -> Iterator[bool]:
 
 
 def main() -> int:
-    """Makes all checks, and gives the status."""
+    """Runs all checks, and returns the exit status."""
     documents = [Path(TOP / name) for name in DOCUMENTS]
     examples = [example for document in documents for example in examples_of(document)]
     told = [is_right(example) for example in [*examples, *scripts_with_output()]]

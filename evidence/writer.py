@@ -1,4 +1,4 @@
-"""Random scripts: every statement, type, layout and kind, over tables that the writer keeps in mind."""
+"""Random scripts: every statement, type, layout and kind, over tables that the writer keeps track of."""
 
 from dataclasses import dataclass, field
 from random import Random
@@ -23,9 +23,9 @@ Choice = TypeVar("Choice")
 
 @dataclass(frozen=True)
 class Script:
-    """A script by its statements, each with its `;`, and the files that it finds.
+    """A script as its statements, each with its `;`, and the files that it finds.
 
-    Some have to be run by themselves: those with --stop, and those with a last part that no `;` closes.
+    Some have to be run on their own: those with --stop, and those with a last part that no `;` closes.
     """
 
     statements: list[bytes]
@@ -41,7 +41,7 @@ class Script:
 
 @dataclass
 class Writer:
-    """Writes a random script. It keeps in mind which tables and columns there are if nothing is refused."""
+    """Writes a random script. It keeps track of which tables and columns exist if nothing is refused."""
 
     generator: Random
     number: int  # which begins the names of its files, so that no two scripts share one
@@ -64,7 +64,7 @@ class Writer:
         return Script(statements, self.files, stops, ends_open or stops)
 
     def chance(self, share: float) -> bool:
-        """Whether something comes that comes in this share of cases."""
+        """Whether something happens that happens in this share of cases."""
         return self.generator.random() < share
 
     def one(self, *choices: Choice) -> Choice:
@@ -72,7 +72,7 @@ class Writer:
         return self.generator.choice(choices)
 
     def some_values(self) -> list[Value]:
-        """The values that tables and conditions of one script take: few, so that they meet."""
+        """The values that tables and conditions of one script use: few, so that they coincide."""
         spread = self.one(1, 3, 15, 16, 200, 1000, 70_000, 2**31, 2**40)
         middle = self.one(0, 0, 0, 5, -7, 1000, 2**31 - 10, -(2**31) + 3, 2**62)
         count = self.one(2, 4, 10, 40)
@@ -82,7 +82,7 @@ class Writer:
         return values + nulls + (self.generator.sample(ENDS, 2) if self.chance(0.2) else [])
 
     def statement(self) -> bytes:
-        """A statement of any kind, or what is none."""
+        """A statement of any kind, or something that is none."""
         if self.chance(0.02):
             return odd_parts(self.generator)
         if not self.tables and self.chance(0.7):
@@ -109,7 +109,7 @@ class Writer:
         return broken(self.generator, tokens) if self.chance(0.04) else joined(self.generator, tokens)
 
     def table(self) -> tuple[str, list[ColumnDef]]:
-        """A table and its columns, which now and then isn't there."""
+        """A table and its columns; now and then a table that doesn't exist."""
         if not self.tables or self.chance(0.01):
             return self.one(*MISSING, *TABLE_NAMES), [ColumnDef("A", Type.INTEGER, Layout.V, Coding.OFFSET)]
         name = self.one(*self.tables)
@@ -139,7 +139,7 @@ class Writer:
         return [token for tokens in lists for token in [",", *tokens]][1:]
 
     def create(self) -> bytes:
-        """A CREATE TABLE, hardly ever of too many columns, a column twice, or a BIGINT in layout H."""
+        """A CREATE TABLE, rarely with too many columns, a column twice, or a BIGINT in layout H."""
         name = self.one(*TABLE_NAMES)
         wide = self.one(64, 65, 65) if self.chance(0.004) else 0
         names = [f"w{place}" for place in range(wide)] or self.generator.sample(COLUMN_NAMES, self.one(1, 2, 2, 3, 4))
@@ -185,7 +185,7 @@ class Writer:
         return self.spelled([*tokens, "VALUES", *self.listed(rows)])
 
     def tuple(self, columns: list[ColumnDef]) -> Tokens:
-        """A row of VALUES, which hardly ever has a value too few, too many or out of range."""
+        """A row of VALUES, which rarely has a value too few, too many or out of range."""
         cells = [self.literal(self.value(column.type)) for column in columns]
         if self.chance(0.003):
             cells = self.one(cells[1:] or [["1"], ["1"]], [*cells, ["NULL"]], [["9223372036854775807"]] * len(cells))
@@ -252,7 +252,7 @@ class Writer:
         return self.spelled(["REBUILD", name, *(["(", *self.listed(choices), ")"] if choices else [])])
 
     def load(self) -> bytes:
-        """A LOAD of a file that is made for it, or of none."""
+        """A LOAD of a file that is generated for it, or of none."""
         name, columns = self.table()
         if self.chance(0.06):
             file = self.one(*BAD_PATHS)
@@ -264,7 +264,7 @@ class Writer:
         return self.spelled(["LOAD", name, "FROM", file, *(["WITH", "HEADER"] if self.chance(0.4) else [])])
 
     def save(self) -> bytes:
-        """A SAVE to one of the script's files, or to where none can be made."""
+        """A SAVE to one of the script's files, or to where none can be created."""
         name, columns = self.table()
         if self.chance(0.06):
             return self.spelled(["SAVE", name, "TO", self.one(*BAD_PATHS[1:])])
@@ -273,7 +273,7 @@ class Writer:
         return self.spelled(["SAVE", name, "TO", file])
 
     def open(self) -> bytes:
-        """An OPEN of a table that was saved, of a file that is made for it, or of none."""
+        """An OPEN of a table that was saved, of a file that is generated for it, or of none."""
         name = self.one(*[it for it in TABLE_NAMES if it not in self.tables] or TABLE_NAMES)
         if self.chance(0.05):
             name, file = self.one(*TABLE_NAMES), self.one(*BAD_PATHS, *(f"'{file}'" for file in self.files))
@@ -294,7 +294,7 @@ class Writer:
         return ["WHERE", *self.condition(columns, self.one(0, 0, 1, 2, 3))] if self.chance(0.85) else []
 
     def condition(self, columns: list[ColumnDef], depth: int) -> Tokens:
-        """A condition that goes at most so deep."""
+        """A condition of at most this depth."""
         if depth == 0:
             return self.predicate(columns)
         match self.generator.randrange(6):
@@ -310,7 +310,7 @@ class Writer:
         return self.predicate(columns)
 
     def run(self, word: str, columns: list[ColumnDef], depth: int) -> Tokens:
-        """Two or more parts with the word between them, in parentheses or not: then AND binds closer."""
+        """Two or more parts with the word between them, in parentheses or not; without them AND binds closer."""
         tokens: Tokens = []
         for _ in range(self.one(2, 2, 3)):
             part = self.condition(columns, depth - 1)
@@ -322,14 +322,14 @@ class Writer:
         return [self.column(columns)] if self.chance(0.85) else self.constant()
 
     def constant(self) -> Tokens:
-        """A constant of a condition: a value that is in the tables, one beside it, or one at the end of a type."""
+        """A constant of a condition: a value that is in the tables, one next to it, or one at the end of a type."""
         if self.chance(0.05):
             return self.literal(self.one(*ENDS))
         value = self.one(*self.values)
         return self.literal(value if value is None else value + self.one(0, 0, 0, 0, 1, -1, 7))
 
     def predicate(self, columns: list[ColumnDef]) -> Tokens:
-        """A predicate, now and then with NOT before it or an IS test behind it."""
+        """A predicate, now and then with NOT before it or an IS test after it."""
         operand, other = self.operand(columns), self.constant() if self.chance(0.7) else self.operand(columns)
         negation = ["NOT"] * self.chance(0.2)
         match self.generator.randrange(9):
