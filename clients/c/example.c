@@ -1,4 +1,5 @@
-/* A report from C: a CSV file from memory, a few statements, and the replies as the store writes them. */
+/* A report from C: loads a CSV file from memory, runs a few statements, and prints the replies as the store writes
+ * them. */
 #include <stdio.h>
 #include <stdlib.h>
 #include <string.h>

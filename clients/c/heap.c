@@ -1,7 +1,8 @@
-/* The memory of the stores: the three functions that the library asks, over malloc, with a budget. They are not proved.
+/* The stores' allocator: the three functions that the library calls, built on malloc, with a budget. They are not
+ * proved.
  *
- * A block has its size in front of it, so that the budget needs no more of malloc than the standard says. Counts are atomic,
- * since stores of several threads share them. */
+ * Each block is preceded by its size, so that the budget relies on nothing of malloc but what the standard says. Counts
+ * are atomic, since stores of several threads share them. */
 #include <stdalign.h>
 #include <stdatomic.h>
 #include <stdbool.h>
@@ -11,7 +12,7 @@
 
 #include "bitcol.h"
 
-/* What the library takes: whether there is a block, and where. */
+/* What the library expects: whether there is a block, and where it is. */
 typedef struct {
     bool is_there;
     void *block;
@@ -22,14 +23,14 @@ typedef struct {
 } header;
 
 static atomic_size_t used, budget;
-/* What a refusal points to: the library takes a pointer that isn't null there too. */
+/* What a refusal points to: the library expects a pointer that isn't null there too. */
 static max_align_t nothing;
 
 void bitcol_set_budget(size_t bytes) { atomic_store(&budget, bytes); }
 
 size_t bitcol_used(void) { return atomic_load(&used); }
 
-/* Counts so many bytes more, unless that is over the budget. */
+/* Adds `bytes` to the count, unless that would exceed the budget. */
 static bool grows(size_t bytes) {
     size_t most = atomic_load(&budget), now = atomic_load(&used);
     do {

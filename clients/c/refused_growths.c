@@ -1,5 +1,5 @@
-/* Each growth of memory of a script refused in turn, by an allocator in place of heap.c: up to that growth each reply is the one
- * that it should be, then a call has no memory or a reply is error 90, and closing the store gives all memory back. */
+/* Refuses each memory growth of a script in turn, by an allocator that replaces heap.c: up to that growth each reply is
+ * the expected one, then a call reports no memory or a reply is error 90, and closing the store frees all memory. */
 #include <stdbool.h>
 #include <stdio.h>
 #include <stdlib.h>
@@ -12,7 +12,7 @@ typedef struct {
     void *block;
 } answer;
 
-/* Growths so far, the number of the one that is refused, and blocks that are held. */
+/* The growths so far, the number of the growth that is refused, and the blocks that are allocated. */
 static long growths, refused_growth, held;
 static char nothing;
 
@@ -81,7 +81,7 @@ static void answer_all(bitcol *store) {
     }
 }
 
-/* A run in which this growth is refused. Whether there was such a growth. */
+/* Runs with this growth refused. Returns whether there was such a growth. */
 static bool run(long refused) {
     bitcol store;
     growths = 0;

@@ -1,4 +1,5 @@
-/* What a small statement costs through the library: the least processor time of some rounds, each answered and copied out. */
+/* What a small statement costs through the library: the least processor time of several rounds. Each statement is
+ * answered and its reply copied out. */
 #include <stdio.h>
 #include <stdlib.h>
 #include <string.h>
@@ -20,7 +21,7 @@ static void answer(bitcol *store, const char *script) {
     bitcol_reply(store, 0, replies, sizeof replies);
 }
 
-/* Microseconds of a statement in the quickest round. */
+/* Microseconds per statement in the quickest round. */
 static double cost(bitcol *store, const char *statement) {
     clock_t least = 0;
     for (int round = 0; round < ROUNDS; round++) {

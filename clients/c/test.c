@@ -1,4 +1,4 @@
-/* Each call of the library, with what it answers: what a compiler's sanitizers see of it is a part of the test. */
+/* Tests each call of the library and what it returns. What a compiler's sanitizers report is a part of the test. */
 #include <stdbool.h>
 #include <stdio.h>
 #include <stdlib.h>
@@ -18,7 +18,7 @@ static const uint8_t *bytes_of(const char *text) { return (const uint8_t *)text;
 
 static uint32_t answer(bitcol *store, const char *script) { return bitcol_answer(store, bytes_of(script), strlen(script)); }
 
-/* Whether these are the replies, which are taken a few bytes at a time. */
+/* Whether the replies are these; they are read a few bytes at a time. */
 static bool replied(bitcol *store, const char *expected) {
     char replies[1024];
     size_t length = 0, copied;
@@ -66,7 +66,7 @@ static void files(void) {
     bitcol_close(store);
 }
 
-/* Where there is no memory a call says so, and the store is as it was. */
+/* When out of memory, a call says so, and the store is unchanged. */
 static void budget(void) {
     static const uint8_t rows[100000];
     bitcol store, none = {&faults};
@@ -76,7 +76,7 @@ static void budget(void) {
     bitcol_set_budget(1);
     check(answer(&store, "SELECT a FROM t;") == BITCOL_CUT_OFF, "no memory for a reply");
     bitcol_set_budget(0);
-    /* Room for the replies stays from script to script. */
+    /* The memory for replies is kept from script to script. */
     check(answer(&store, "TABLES; TABLES;") == BITCOL_DONE, "longer replies");
     bitcol_set_budget(bitcol_used() + sizeof rows);
     check(bitcol_put_file(&store, bytes_of("a"), 1, rows, sizeof rows / 2) == BITCOL_DONE, "a file that fits");

@@ -1,11 +1,11 @@
 #!/usr/bin/env python3
-"""Makes a wheel of the package with the program in it, by the standard library alone.
+"""Makes a wheel of the package with the program in it, using only the standard library.
 
-    make_wheel.py [FOLDER]      into this folder, which is made if it isn't there; by default the working directory
+    make_wheel.py [FOLDER]      writes it to this folder, which is made if needed; by default the working directory
 
-The program is what the environment variable BITCOL names, or crates/bitcol/out/bitcol. The shared library that
-BITCOL_LIBRARY names goes in too; without that variable there is none in the wheel. pip calls build_wheel where it
-is asked for this folder. The same files make the same bytes.
+The program is the one that the environment variable BITCOL names, or crates/bitcol/out/bitcol. The shared library that
+BITCOL_LIBRARY names is included too; without that variable the wheel has none. pip calls build_wheel when it builds
+this folder. The same files always make the same bytes.
 """
 
 from __future__ import annotations
@@ -23,28 +23,28 @@ from pathlib import Path
 HERE = Path(__file__).resolve().parent
 TOP = HERE.parent.parent
 PROGRAM, FILE = 0o755, 0o644
-# The files of the package that go into the wheel: modules, and the parts of the page.
+# The suffixes of the package's files that are included in the wheel: modules, and the parts of the page.
 SUFFIXES = (".py", ".typed", ".html", ".css", ".js", ".svg")
-# A wheel's files need a time, and nobody reads it: the first that a zip can hold.
+# A wheel's files need a time, which nobody reads: the earliest that a zip can hold.
 TIME = (1980, 1, 1, 0, 0, 0)
 
 
 @dataclass(frozen=True)
 class Member:
-    """A file of the wheel: its path there, its bytes, and who may do what with it."""
+    """A file of the wheel: its path there, its bytes, and its permissions."""
 
     path: str
     data: bytes
     mode: int = FILE
 
     def record(self) -> str:
-        """Its line of RECORD."""
+        """Returns its line of RECORD."""
         digest = base64.urlsafe_b64encode(hashlib.sha256(self.data).digest()).rstrip(b"=").decode()
         return f"{self.path},sha256={digest},{len(self.data)}\n"
 
 
 def program() -> Path:
-    """The program that goes into the wheel. Ends this script where it isn't there."""
+    """Returns the program for the wheel. Exits if it isn't there."""
     path = Path(os.environ.get("BITCOL") or TOP / "crates/bitcol/out/bitcol")
     if not path.is_file():
         sys.exit(f"{path} isn't there: build it by rt run in crates/bitcol, or name another by BITCOL")
@@ -52,7 +52,7 @@ def program() -> Path:
 
 
 def library() -> Path | None:
-    """The shared library that goes into the wheel, if one is to. Ends this script where it is named and isn't there."""
+    """Returns the shared library for the wheel, if one is named. Exits if it is named but isn't there."""
     named = os.environ.get("BITCOL_LIBRARY")
     if named and not Path(named).is_file():
         sys.exit(f"{named} isn't there: build it by make -C clients library, or unset BITCOL_LIBRARY")
@@ -60,7 +60,7 @@ def library() -> Path | None:
 
 
 def members(version: str, tag: str) -> Iterator[Member]:
-    """All files of the wheel but RECORD."""
+    """Yields all files of the wheel except RECORD."""
     for path in sorted((HERE / "bitcol").rglob("*")):
         if path.suffix in SUFFIXES:
             yield Member(path.relative_to(HERE).as_posix(), path.read_bytes())
@@ -83,7 +83,7 @@ def members(version: str, tag: str) -> Iterator[Member]:
 
 
 def make(folder: Path) -> Path:
-    """Makes the wheel in this folder, and gives its path."""
+    """Makes the wheel in this folder, and returns its path."""
     version = (TOP / "VERSION").read_text().strip()
     tag = f"py3-none-{sysconfig.get_platform().replace('-', '_').replace('.', '_')}"
     files = list(members(version, tag))
@@ -100,7 +100,7 @@ def make(folder: Path) -> Path:
 
 
 def build_wheel(wheel_directory: str, config_settings: object = None, metadata_directory: str | None = None) -> str:
-    """What pip calls, by PEP 517: the name of the wheel that was made in the folder."""
+    """The hook that pip calls (PEP 517): makes the wheel in the folder, and returns its name."""
     return make(Path(wheel_directory)).name
 
 

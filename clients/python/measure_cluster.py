@@ -1,11 +1,11 @@
 #!/usr/bin/env python3
-"""Measures tables of parts on 1, 2 and 4 workers of this machine, beside one program that holds as many rows as it can.
+"""Measures tables of parts on 1, 2 and 4 workers of this machine, beside one program with as many rows as it can hold.
 
     BITCOL=PROGRAM PYTHONPATH=clients/python /usr/bin/python3 measure_cluster.py FOLDER [PARTS] [ROWS] [ROUNDS]
 
-Clusters of 1, 2 and 4 workers of one thread stand side by side and are asked in turns, so that ratios are of one run:
-over all parts, and over as many of the first as one program can hold. Each answer is held against the others. The plot
-goes to the file that PLOT names. It needs numpy, and Debian's python3-distributed.
+Clusters of 1, 2 and 4 single-threaded workers run side by side and are queried in turns, so that ratios come from the
+same run: over all parts, and over as many of the first parts as one program can hold. Each answer is compared with the
+others. The plot is written to the file that PLOT names. It needs numpy, and Debian's python3-distributed.
 """
 
 from __future__ import annotations
@@ -39,20 +39,20 @@ QUESTIONS = {
     "no row": "SELECT COUNT(*) FROM t WHERE b = 7 AND b = 8",
     "one part": "SELECT COUNT(*), SUM(b) FROM t WHERE day = 3",
 }
-# How long a question of a round took, by its name and by who was asked, in milliseconds.
+# How long a query of a round took, by its name and by who was queried, in milliseconds.
 Times = dict[tuple[str, str], list[float]]
 
 
 def timed(call: Callable[[], Any]) -> tuple[float, Any]:
-    """How many milliseconds a call takes, and what it gives."""
+    """Returns how many milliseconds a call takes, and its result."""
     start = time.perf_counter()
     value = call()
     return (time.perf_counter() - start) * 1000, value
 
 
 def make_files(folder: Path, parts: int, rows: int) -> tuple[list[Path], list[Path]]:
-    """The rows of the first parts, as many as one program can hold, as CSV files, and all parts as table files. Those
-    that are there stay."""
+    """Makes CSV files with the rows of the first parts, as many as one program can hold, and table files of all parts.
+    Existing files are kept."""
     csv_files = [folder / f"{number}.csv" for number in range(min(parts, ROW_LIMIT // rows))]
     tables = [folder / f"{number}.table" for number in range(parts)]
     with bitcol.Session() as session:
@@ -72,7 +72,7 @@ def make_files(folder: Path, parts: int, rows: int) -> tuple[list[Path], list[Pa
 
 
 def watch() -> None:
-    """On a worker: adds up from now on how long its parts take to answer."""
+    """On a worker: from now on adds up how long its parts take to answer."""
     from bitcol.cluster import holding
 
     answers = holding.Holding.answers
@@ -88,7 +88,7 @@ def watch() -> None:
 
 
 def spent() -> float:
-    """On a worker: how many milliseconds its parts took since this was last asked."""
+    """On a worker: returns how many milliseconds its parts took since the last call."""
     from bitcol.cluster import holding
 
     took = getattr(holding, "spent", 0.0) * 1000
@@ -97,8 +97,8 @@ def spent() -> float:
 
 
 def load(one: bitcol.Session, clients: dict[int, Client], folder: Path, files: Sequence[Path]) -> None:
-    """Measures LOAD of the same CSV files by one program, which has them then, and by workers, in turns. Workers save
-    what they load, so a SAVE of the one program is measured too."""
+    """Measures LOAD of the same CSV files by one program, which keeps them, and by workers, in turns. Workers save what
+    they load, so a SAVE of the one program is measured too."""
     took: dict[str, list[float]] = {}
     for number in range(3):
         if number:
@@ -111,7 +111,7 @@ def load(one: bitcol.Session, clients: dict[int, Client], folder: Path, files: S
         for workers, client in clients.items():
             table = cluster.create(client, folder / f"load-{workers}-{number}", "t", DEFINITION)
             took.setdefault(f"{workers} workers", []).append(timed(lambda: table.load(files))[0])
-            # Workers open the parts after the call. The next one is not to be measured meanwhile.
+            # Workers open the parts after the call. The next call must not be measured meanwhile.
             wait([group.holding for group in table._questions.groups])
             del table
     alone, saved = median(took[ONE]), median(took[f"{ONE}, and SAVE"])
@@ -122,7 +122,7 @@ def load(one: bitcol.Session, clients: dict[int, Client], folder: Path, files: S
 
 
 def opened(clients: dict[int, Client], folder: Path, files: Sequence[Path]) -> dict[int, cluster.Table]:
-    """A table of these table files, open on each cluster."""
+    """Opens a table of these table files on each cluster."""
     first = cluster.create(clients[4], folder, "t", DEFINITION)
     attaching, _ = timed(lambda: first.attach(files))
     del first
@@ -139,7 +139,7 @@ def opened(clients: dict[int, Client], folder: Path, files: Sequence[Path]) -> d
 def measure(
     one: bitcol.Session | None, tables: dict[int, cluster.Table], clients: dict[int, Client], rounds: int
 ) -> tuple[Times, Times]:
-    """Asks in turns. How long each question took, and how long of that the parts of the busiest worker took."""
+    """Queries in turns. Returns how long each query took, and how long of that the busiest worker's parts took."""
     times: Times = {}
     own: Times = {}
     for number in range(rounds + 1):
@@ -162,7 +162,7 @@ def measure(
 
 
 def tell(times: Times, own: Times, rounds: int) -> dict[str, dict[str, float]]:
-    """Prints the middle of the rounds, and gives it."""
+    """Prints the middle of the rounds, and returns it."""
     print(f"  middle of {rounds} rounds, ms; all answers were equal; load of the machine: {os.getloadavg()}")
     rows: dict[str, dict[str, float]] = {}
     for name in QUESTIONS:
@@ -175,7 +175,7 @@ def tell(times: Times, own: Times, rounds: int) -> dict[str, dict[str, float]]:
 
 
 def draw(path: Path, parts: int, rows: dict[str, dict[str, float]]) -> None:
-    """Draws how many times as fast as 1 worker the others are."""
+    """Draws the speed of the others as a multiple of that of 1 worker."""
     sys.path.insert(0, str(Path(__file__).resolve().parents[2] / "bench"))
     from plots import Plot, drawn
 

@@ -1,4 +1,4 @@
-//! Links the archive that `make -C clients library` makes.
+//! Links the archive that `make -C clients library` builds.
 
 use std::env;
 use std::path::PathBuf;

@@ -7,7 +7,7 @@
         session.executemany("INSERT INTO visits VALUES (?, ?)", [(1, 30), (1, None), (2, 45)])
         print(session.execute("SELECT SUM(seconds) FROM visits WHERE day < ?", [2]).scalar())
 
-Session has the calls of its own, connect those of DB-API 2.0 (PEP 249). Nothing but the standard library is needed.
+Session is this package's own interface, connect that of DB-API 2.0 (PEP 249). Only the standard library is needed.
 """
 
 from .column_type import ColumnType

@@ -1,4 +1,4 @@
-"""`python3 -m bitcol`: the shell for people, and `python3 -m bitcol web`: the page."""
+"""`python3 -m bitcol` runs the shell, and `python3 -m bitcol web` serves the page."""
 
 import sys
 

@@ -1,4 +1,4 @@
-"""The cells of a column, a bit and a word for each row, and how they come from Python."""
+"""The cells of a column: a bit and a word for each row, and how they are made from Python objects."""
 
 from __future__ import annotations
 
@@ -28,9 +28,9 @@ _AS_DIGITS = bytes.maketrans(b"\0\1", b"01")
 
 @dataclass(frozen=True)
 class Cells:
-    """Bit i mod 8 of byte i // 8 of `presence` is 1 where row i isn't NULL, and 0 past the last row. `words` has as
-    many bits for each row as the type says, the lowest byte first: the value in two's complement, and 0 where the row
-    is NULL."""
+    """The cells of a column. Bit i mod 8 of byte i // 8 of `presence` is 1 if row i isn't NULL, and 0 after the last
+    row. `words` has as many bits for each row as the type has, in little-endian order: the value in two's complement,
+    or 0 if the row is NULL."""
 
     rows: int
     presence: Bytes
@@ -38,42 +38,42 @@ class Cells:
     column_type: ColumnType = ColumnType.INTEGER
 
     def presence_bytes(self) -> bytes:
-        """A byte for each row: 1 where it isn't NULL, else 0."""
+        """Returns a byte for each row: 1 if it isn't NULL, else 0."""
         return b"".join(map(_EIGHT_BITS.__getitem__, bytes(self.presence)))[: self.rows]
 
     def numbers(self) -> array.array[int]:
-        """The words as an array of integers of so many bits as the type says."""
+        """Returns the words as an array of integers with as many bits as the type has."""
         words = array.array(_TYPECODES[self.column_type])
         words.frombytes(self.words)
         return _with_lowest_first(words)
 
     def known_numbers(self) -> Sequence[int]:
-        """The values that aren't NULL, in the order of the rows."""
+        """Returns the values that aren't NULL, in the order of the rows."""
         numbers = self.numbers()
         return list(compress(numbers, self.presence_bytes())) if self.null_rows else numbers
 
     @cached_property
     def null_rows(self) -> list[int]:
-        """The rows that are NULL, counted from 0, in order."""
+        """Returns the numbers of the rows that are NULL, counted from 0, in order."""
         if self.presence == _all_present(self.rows):
             return []
         return list(compress(range(self.rows), self.presence_bytes().translate(_INVERTED)))
 
     def to_list(self) -> list[int | None]:
-        """An int for each row, or None where it is NULL."""
+        """Returns an int for each row, or None where it is NULL."""
         cells: list[int | None] = self.numbers().tolist()  # type: ignore[assignment]
         for row in self.null_rows:
             cells[row] = None
         return cells
 
     def to_numpy(self) -> Any:
-        """A masked array of integers of so many bits as the type says, masked where a row is NULL."""
+        """Returns a masked array of integers with as many bits as the type has, masked where a row is NULL."""
         numpy = numpy_module()
         values = numpy.frombuffer(self.words, self._numpy_type).astype(self._numpy_type[1:])
         return numpy.ma.array(values, mask=_numpy_mask(numpy, self))
 
     def fault(self) -> str | None:
-        """Why no table file has these cells, or None where one may."""
+        """Returns why no table file can have these cells, or None if one can."""
         if bytes(self.presence[-1:]) > _all_present(self.rows)[-1:]:
             return "a bit past the last row"
         numpy = imported("numpy")
@@ -89,17 +89,17 @@ class Cells:
 
 
 def presence_size(rows: int) -> int:
-    """How many bytes the presence bits of so many rows have."""
+    """Returns the number of bytes of the presence bits of `rows` rows."""
     return (rows + 7) // 8
 
 
 def cells_of(column: Iterable[Any], column_type: ColumnType | None = None) -> Cells:
-    """The cells of a column: a list, tuple, range or array of integers and None, or another iterable of these, an
-    array of numpy, masked or not, or a series of pandas. Where no type is given it is INTEGER, or BIGINT where a value
-    has more than 32 bits.
+    """Makes cells from a column: a list, tuple, range or array of integers and None, another iterable of these, a numpy
+    array, masked or not, or a pandas series. If no type is given, it is INTEGER, or BIGINT if a value has more than 32
+    bits.
 
-    Raises ProgrammingError where a cell is neither an integer nor None, and DataError where an integer is outside of
-    the type.
+    Raises ProgrammingError if a cell is neither an integer nor None, and DataError if an integer is outside of the
+    type.
     """
     types = tuple(ColumnType) if column_type is None else (ColumnType(column_type),)
     if is_pandas_series(column):
@@ -116,7 +116,7 @@ def cells_of(column: Iterable[Any], column_type: ColumnType | None = None) -> Ce
 
 
 def check_widths(rows: Sequence[Sequence[Any]], width: int, before: int) -> None:
-    """Raises ProgrammingError where a row is no list of values, or hasn't so many. So many rows came before these."""
+    """Raises ProgrammingError if a row isn't a list of `width` values. `before` rows came before these."""
     if not set(map(type, rows)) <= {list, tuple}:
         for row, values in enumerate(rows, before):
             if isinstance(values, UNLISTED) or not hasattr(values, "__len__"):
@@ -129,8 +129,8 @@ def check_widths(rows: Sequence[Sequence[Any]], width: int, before: int) -> None
 
 
 def _cells_of_sequence(column: Sequence[Any], types: Sequence[ColumnType]) -> Cells:
-    """The cells of a sequence, of the first type that holds them. The array's own constructor looks at each, and
-    refuses a None."""
+    """Makes cells from a sequence, of the first type that can hold them. The constructor of the array checks each
+    value, and refuses a None."""
     presence, found = _all_present(len(column)), _typed_array(column, types)
     if found is None:
         presence = _packed(bytes(map(is_not, column, repeat(None))))
@@ -142,7 +142,7 @@ def _cells_of_sequence(column: Sequence[Any], types: Sequence[ColumnType]) -> Ce
 
 
 def _typed_array(column: Sequence[Any], types: Sequence[ColumnType]) -> tuple[ColumnType, array.array[int]] | None:
-    """The first type that holds all cells, with an array of them, or None where one is no integer of any."""
+    """Returns the first type that can hold all cells, with an array of them, or None if no type can."""
     for column_type in types:
         try:
             return column_type, array.array(_TYPECODES[column_type], column)
@@ -154,7 +154,7 @@ def _typed_array(column: Sequence[Any], types: Sequence[ColumnType]) -> tuple[Co
 
 
 def _first_fault(column: Sequence[Any], column_type: ColumnType) -> DataError | ProgrammingError:
-    """What is wrong with the first cell that no column of this type can hold."""
+    """Returns the exception for the first cell that a column of this type can't hold."""
     for row, cell in enumerate(column):
         if cell is not None:
             try:
@@ -187,15 +187,15 @@ def _cells_of_numpy(column: Any, types: Sequence[ColumnType]) -> Cells:
 
 
 def _first_outside(values: Sequence[int], column_type: ColumnType) -> int:
-    """The first row with a value outside of the type. There is one."""
+    """Returns the first row with a value outside of the type. There is one."""
     return next(row for row, value in enumerate(values) if not column_type.least <= value <= column_type.greatest)
 
 
 def _array_of_series(series: Any) -> Any:
-    """A masked array of a series of integers with NA, or an array of objects."""
+    """Returns a masked array for a series of integers with NA, else an array of objects."""
     numpy = numpy_module()
     if series.dtype.kind in "iu":
-        # A type without NA of the same kind, so that no value wraps.
+        # A type of the same kind without NA, so that no value wraps around.
         widest = "int64" if series.dtype.kind == "i" else "uint64"
         return numpy.ma.array(series.to_numpy(dtype=widest, na_value=0), mask=series.isna().to_numpy())
     values = series.to_numpy()
@@ -203,21 +203,21 @@ def _array_of_series(series: Any) -> Any:
 
 
 def _numpy_mask(numpy: Any, cells: Cells) -> Any:
-    """An array that is true where a row is NULL."""
+    """Returns an array that is true where a row is NULL."""
     bits = numpy.frombuffer(cells.presence, numpy.uint8)
     return numpy.unpackbits(bits, count=cells.rows, bitorder="little") == 0
 
 
 def _packed(present: bytes) -> bytes:
-    """The bits of these bytes of 0 and 1."""
+    """Packs bytes of 0 and 1 into bits."""
     if not present:
         return b""
-    # To read digits of base 2 takes linear time, and no step of the interpreter for each.
+    # Parsing digits of base 2 takes linear time, and no interpreter step for each digit.
     return int(present[::-1].translate(_AS_DIGITS), 2).to_bytes(presence_size(len(present)), "little")
 
 
 def _all_present(rows: int) -> bytes:
-    """The presence bits of so many rows without NULL."""
+    """Returns the presence bits of `rows` rows without NULL."""
     last = bytes([(1 << rows % 8) - 1]) if rows % 8 else b""
     return b"\xff" * (rows // 8) + last
 

@@ -1,4 +1,4 @@
-"""The types of columns: the integers of 32 and of 64 bits, each with NULL."""
+"""The types of columns: integers of 32 and of 64 bits, each with NULL."""
 
 from __future__ import annotations
 
@@ -10,14 +10,14 @@ from .reply import Reply
 
 
 class ColumnType(IntEnum):
-    """Which integers a column holds, by its number in a file. The name is its word in statements."""
+    """Which integers a column holds. The value is the type's number in a file, the name its word in statements."""
 
     INTEGER = 0
     BIGINT = 1
 
     @property
     def bits(self) -> int:
-        """How many bits its integers have in two's complement."""
+        """The number of bits of its integers in two's complement."""
         return 64 if self is ColumnType.BIGINT else 32
 
     @property
@@ -32,10 +32,10 @@ class ColumnType(IntEnum):
 
 
 def column_types(execute: Callable[[str], Reply], table: str) -> dict[str, ColumnType]:
-    """The type of each column of a table, by its name, in order. Raises Refused where there is no such table.
+    """Returns the type of each column of a table, by its name, in order. Raises Refused if there is no such table.
 
-    No statement tells a type. But an UPDATE with a number that a column can't hold is refused even where it finds no
-    row, and one that finds no row changes nothing.
+    No statement returns a type. But an UPDATE with a number that a column can't hold is refused even if it finds no
+    row, and an UPDATE that finds no row changes nothing.
     """
     names = execute(f"SELECT * FROM {table} WHERE 1 = 0").headings
     return {name: _type_of(execute, table, name) for name in names}

@@ -1,7 +1,7 @@
-"""The door to the program: a child process behind two pipes, one for scripts and one for replies.
+"""The door to the program: a child process with two pipes, one for scripts and one for replies.
 
-The program answers a statement as soon as it has read it, and stops reading while its answer isn't taken. So the
-client reads replies while it still writes: neither can wait for the other.
+The program answers a statement as soon as it has read it, and stops reading while its answer isn't read. So the client
+reads replies while it is still writing: otherwise the two could block each other.
 """
 
 from __future__ import annotations
@@ -25,23 +25,24 @@ from .errors import InterfaceError, OperationalError, OutOfTime, ProgramEnded
 from .reply import ReplyBuffer
 from .script import PathLike
 
-# Bytes that are read at a time: what a pipe holds. Larger buffers cost more to make than a short reply takes.
+# The number of bytes read at a time: what a pipe holds. A larger buffer costs more to allocate than a short reply
+# takes.
 PIPE_BYTES = 65_536
-# All that is sent to one process is one script, which has a limit. The reserve is for SAVE alone.
+# Everything that is sent to one process is one script, whose length is limited. The reserve is only for SAVE.
 SCRIPT_BYTES = 2**30
 RESERVE_BYTES = 2**20
 SECONDS_TO_END = 10
 
 
 class Coprocess:
-    """A store in a process of its own, which ends with it. Calls from several threads take turns."""
+    """A store in a separate process, which ends with it. Calls from several threads take turns."""
 
     def __init__(self, program: PathLike, folder: PathLike | None = None) -> None:
-        """Starts the program, whose path is one from where this process is, or a name on PATH. `folder` is where it
-        looks for the files that statements name; by default where this process is. OperationalError where it can't be
-        started."""
+        """Starts the program, given by a path relative to this process's working directory, or by a name on PATH. File
+        names in statements are relative to `folder`, by default this process's working directory. Raises
+        OperationalError if the program can't be started."""
         try:
-            # A session of its own keeps an interrupt from the keyboard away from the program.
+            # In a process session of its own the program doesn't get the interrupts from the keyboard.
             self._child = subprocess.Popen(
                 [_path_from_here(os.fspath(program))],
                 stdin=subprocess.PIPE,
@@ -67,7 +68,7 @@ class Coprocess:
         self._lock = threading.Lock()
         self._buffer = ReplyBuffer()
         self._unsent: Bytes = b""
-        # Replies to come: those of the call in hand, and those of calls that were interrupted.
+        # The number of replies to come: those of the current call, and those of calls that were interrupted.
         self._owed = 0
         self._sent = 0
         self._waits = False
@@ -75,13 +76,14 @@ class Coprocess:
         self._deadline: float | None = None
 
     def answer(self, script: bytes, statements: int, seconds: float | None = None) -> list[bytes]:
-        """See Door. An interrupted call's statements may have been carried out, or may yet be; its replies are dropped.
-        One that comes in the middle of a transfer ends the program, since replies could not be told apart after it."""
+        """See Door. The statements of an interrupted call may have been executed, or may still be executed; their
+        replies are dropped. An interrupt in the middle of a transfer ends the program, since after it replies couldn't
+        be told apart."""
         with self._lock:
             self._ensure_usable(script)
             self._deadline = None if seconds is None else time.monotonic() + seconds
             try:
-                # What an interrupted call left comes first.
+                # First finish what an interrupted call left.
                 self._finish()
                 self._unsent, self._owed = script, statements
                 self._send()
@@ -96,7 +98,7 @@ class Coprocess:
 
     @contextlib.contextmanager
     def scratch(self) -> Iterator[HostFile]:
-        """See Door: a file in a temporary folder of its own. TMPDIR says where such folders are made."""
+        """See Door: a file in a temporary folder of its own. Such folders are made where TMPDIR says."""
         try:
             room = tempfile.TemporaryDirectory(prefix="bitcol-")
         except OSError as fault:
@@ -105,7 +107,7 @@ class Coprocess:
             yield HostFile(Path(folder).resolve() / "file")
 
     def close(self) -> None:
-        """See Door. The program ends at the end of its script; where it doesn't in 10 seconds, it is killed."""
+        """See Door. The program ends at the end of its script; if it hasn't ended after 10 seconds, it is killed."""
         with self._lock:
             if self._owner != os.getpid() or self._end is not None:
                 return
@@ -128,7 +130,7 @@ class Coprocess:
         self._sent = sent
 
     def _finish(self) -> list[bytes]:
-        """Sends what isn't sent, and takes the replies that are owed."""
+        """Sends what is still unsent, and returns the replies to come."""
         replies = []
         while self._owed:
             reply = self._buffer.take()
@@ -140,14 +142,14 @@ class Coprocess:
         return replies
 
     def _move(self) -> None:
-        """Waits until a pipe is ready, and moves what it takes or has."""
+        """Waits until a pipe is ready, and writes or reads as much as it can."""
         pipes = self._for_both if self._unsent else self._for_answers
         left = None if self._deadline is None else max(0.0, self._deadline - time.monotonic())
-        # Nothing is on its way here, so what interrupts this loses nothing.
+        # No transfer is in progress here, so an interrupt loses nothing.
         self._waits = True
         ready = pipes.poll(None if left is None else math.ceil(left * 1000))
         self._waits = False
-        # Past the limit one that still writes is ended too.
+        # Past the time limit a program that is still writing is ended too.
         if not ready or left == 0.0:
             self._end_late()
         for pipe, _ in ready:
@@ -157,13 +159,13 @@ class Coprocess:
                 self._send()
 
     def _send(self) -> None:
-        """Sends as much as the pipe takes at once."""
+        """Sends as much as the pipe accepts without blocking."""
         try:
             sent = os.write(self._scripts, self._unsent)
         except BlockingIOError:
             return
         except BrokenPipeError:
-            # The program reads no more. What it wrote before it ended still comes.
+            # The program doesn't read any more. What it wrote before it ended can still be read.
             self._unsent = b""
             return
         self._unsent = memoryview(self._unsent)[sent:] if sent < len(self._unsent) else b""
@@ -175,14 +177,14 @@ class Coprocess:
         self._buffer.add(data)
 
     def _died(self) -> NoReturn:
-        """Raises ProgramEnded with what is known of the end of a program that ended by itself."""
+        """Raises ProgramEnded with what is known about how a program ended by itself."""
         status, said = self._reap()
         how = f"was killed by {_signal_name(-status)}" if status < 0 else f"ended with status {status}"
         self._end = f"the program {how}{': ' + said if said else ''}"
         raise ProgramEnded(f"{self._end}; its tables are gone")
 
     def _end_late(self) -> NoReturn:
-        """Ends a program that took longer than it may."""
+        """Ends a program that exceeded the time limit."""
         self._child.kill()
         self._reap()
         self._end = "a call took longer than it may, and the program was ended"
@@ -195,18 +197,18 @@ class Coprocess:
         self._end = f"{type(fault).__name__} came in the middle of a transfer, and the program was ended"
 
     def _reap(self) -> tuple[int, str]:
-        """The status of the program, which has no more to do, and what it wrote to standard error."""
+        """Returns the exit status of the program, which has nothing left to do, and what it wrote to standard error."""
         self._finalizer.detach()
         return _reaped(self._child)
 
 
 def _path_from_here(program: str) -> str:
-    """The path of a program as it is from any folder. A name without a slash is looked up on PATH, and stays."""
+    """Returns the absolute path of a program. A name without a slash is looked up on PATH, and returned as it is."""
     return os.path.abspath(program) if os.sep in program else program
 
 
 def _signal_name(number: int) -> str:
-    """What a signal is called. One of real time may have no name."""
+    """Returns the name of a signal. A real-time signal may have none."""
     try:
         return signal.Signals(number).name
     except ValueError:
@@ -214,13 +216,13 @@ def _signal_name(number: int) -> str:
 
 
 def _drop(child: subprocess.Popen[bytes], owner: int) -> None:
-    """Ends the program of a session that nobody has any more. In a forked process it isn't that process's to end."""
+    """Ends the program of a session that isn't referenced any more. A forked process must not end its parent's."""
     if owner == os.getpid():
         _reaped(child)
 
 
 def _reaped(child: subprocess.Popen[bytes]) -> tuple[int, str]:
-    """Closes the pipes of a program, waits for its end, and gives its status and what it wrote to standard error."""
+    """Closes a program's pipes, waits for its end, and returns its exit status and what it wrote to standard error."""
     assert child.stdin and child.stdout and child.stderr
     child.stdin.close()
     child.stdout.close()
@@ -233,12 +235,12 @@ def _reaped(child: subprocess.Popen[bytes]) -> tuple[int, str]:
         with child.stderr as stream:
             return status, stream.read().decode(errors="replace").strip()
     except ValueError:
-        # Another thread has read and closed it: the interpreter ends while a call is under way.
+        # Another thread has read and closed it: the interpreter is exiting during a call.
         return status, ""
 
 
 class HostFile:
-    """A file of the host, by its path."""
+    """A file of the host, given by its path."""
 
     def __init__(self, path: Path) -> None:
         self._path = path
@@ -249,7 +251,7 @@ class HostFile:
         return str(self._path)
 
     def write(self, pieces: Iterable[Bytes]) -> None:
-        """See File. OperationalError where the host can't write it."""
+        """See File. Raises OperationalError if the host can't write it."""
         try:
             with self._path.open("wb", buffering=0) as file:
                 for piece in pieces:
@@ -260,7 +262,7 @@ class HostFile:
             raise OperationalError(f"a temporary file can't be written: {fault}") from fault
 
     def read(self) -> bytes:
-        """See File. OperationalError where the host can't read it."""
+        """See File. Raises OperationalError if the host can't read it."""
         try:
             return self._path.read_bytes()
         except OSError as fault:

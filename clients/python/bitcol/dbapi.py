@@ -1,6 +1,6 @@
 """DB-API 2.0 (PEP 249) over a session.
 
-There are no transactions: each statement is final when it is answered. So commit does nothing, and rollback raises
+There are no transactions: each statement is final once it is answered. So commit does nothing, and rollback raises
 NotSupportedError.
 """
 
@@ -25,7 +25,7 @@ paramstyle = "qmark"
 
 
 class TypeObject:
-    """What a column's values are, as `description` says it."""
+    """The type of a column's values, as given in `description`."""
 
     def __init__(self, name: str) -> None:
         self._name = name
@@ -35,12 +35,12 @@ class TypeObject:
 
 
 NUMBER = TypeObject("NUMBER")
-STRING = TypeObject("STRING")  # of the names in a list of tables alone
+STRING = TypeObject("STRING")  # only for the names in a list of tables
 BINARY = TypeObject("BINARY")
 DATETIME = TypeObject("DATETIME")
 ROWID = TypeObject("ROWID")
 
-# PEP 249 asks for these. No column holds what they make, so to bind it raises ProgrammingError.
+# PEP 249 requires these. No column can hold what they return, so binding it raises ProgrammingError.
 Date = datetime.date
 Time = datetime.time
 Timestamp = datetime.datetime
@@ -50,19 +50,19 @@ Binary = bytes
 
 
 def TimeFromTicks(ticks: float) -> datetime.time:  # noqa: N802 - PEP 249 gives the name
-    """The time of day of a number of seconds since the epoch."""
+    """Returns the time of day for a number of seconds since the epoch."""
     return datetime.datetime.fromtimestamp(ticks).time()
 
 
 def connect(
     program: PathLike | None = None, folder: PathLike | None = None, *, door: Door | None = None
 ) -> Connection:
-    """A connection to a store of its own, which is empty and ends with it. See Session for the arguments."""
+    """Returns a connection to a new, empty store, which ends with it. See Session for the arguments."""
     return Connection(Session(program, folder, door=door))
 
 
 class Connection:
-    """A session with the calls of PEP 249. `session` is that session, for what PEP 249 has no calls for."""
+    """A session with the interface of PEP 249. `session` is that session, for what PEP 249 doesn't cover."""
 
     Warning = errors.Warning
     Error = errors.Error
@@ -79,18 +79,18 @@ class Connection:
         self.session = session
 
     def cursor(self) -> Cursor:
-        """A cursor of this connection. Cursors of one connection see the same tables."""
+        """Returns a cursor of this connection. Cursors of one connection see the same tables."""
         return Cursor(self)
 
     def commit(self) -> None:
-        """Does nothing: what was answered is final."""
+        """Does nothing: a statement that was answered is final."""
 
     def rollback(self) -> None:
-        """Raises NotSupportedError: no statement can be taken back."""
+        """Raises NotSupportedError: no statement can be rolled back."""
         raise NotSupportedError("there are no transactions: a statement that was answered is final")
 
     def close(self) -> None:
-        """Ends the store and its tables."""
+        """Ends the store; its tables are gone."""
         self.session.close()
 
     def __enter__(self) -> Connection:
@@ -103,7 +103,7 @@ class Connection:
 
 
 class Cursor:
-    """Executes statements and hands out the rows of the last one."""
+    """Executes statements, and fetches the rows of the last one."""
 
     def __init__(self, connection: Connection) -> None:
         self.connection = connection
@@ -115,7 +115,7 @@ class Cursor:
 
     def execute(self, operation: str, parameters: Sequence[Any] = ()) -> Cursor:
         """Executes a statement with these values in place of its `?`. `rowcount` is then the number of rows of the
-        answer, added or found, or -1 where the reply has no number."""
+        answer, added or found, or -1 if the reply has no number."""
         self._forget()
         reply = self.connection.session.execute(operation, parameters)
         self.rowcount = -1 if reply.count is None else reply.count
@@ -131,22 +131,22 @@ class Cursor:
         return self
 
     def fetchone(self) -> Row | None:
-        """The next row, or None after the last."""
+        """Returns the next row, or None after the last."""
         return next(self._remaining(), None)
 
     def fetchmany(self, size: int | None = None) -> list[Row]:
-        """The next rows, at most so many, or `arraysize`. ProgrammingError where that is no number of rows."""
+        """Returns the next rows, at most `size`, by default `arraysize`. Raises ProgrammingError if that is invalid."""
         limit = self.arraysize if size is None else size
         if not isinstance(limit, int) or limit < 0:
             raise ProgrammingError(f"a number of rows is an integer from 0 on, not {limit!r}")
         return list(islice(self._remaining(), limit))
 
     def fetchall(self) -> list[Row]:
-        """All rows that are left."""
+        """Returns all remaining rows."""
         return list(self._remaining())
 
     def close(self) -> None:
-        """Closes the cursor, which can't be used after it."""
+        """Closes the cursor, which can't be used any more."""
         self._forget()
         self._is_closed = True
 
@@ -160,7 +160,7 @@ class Cursor:
         return self._remaining()
 
     def _forget(self) -> None:
-        """Forgets the last statement's answer."""
+        """Discards the last statement's answer."""
         if self._is_closed:
             raise InterfaceError("the cursor is closed")
         self.description, self.rowcount, self._rows = None, -1, None
@@ -174,7 +174,7 @@ class Cursor:
 
 
 def _description(reply: Reply) -> list[tuple[str, TypeObject, None, None, None, None, bool]]:
-    """The columns of an answer: name, type, four that say nothing, and whether NULL may be among the values."""
+    """Returns for each column of an answer its name, its type, None four times, and whether values may be NULL."""
     is_listing = reply.headings[0] == "TABLE"
     return [
         (heading, STRING if is_listing and place == 0 else NUMBER, None, None, None, None, not is_listing)

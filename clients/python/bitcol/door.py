@@ -1,7 +1,7 @@
-"""What lies between a session and a store: any object that answers scripts and lends files.
+"""The interface between a session and a store: any object that answers scripts and provides temporary files.
 
-A session knows no more of its store than these calls, so a store in a process of its own and one in this process can
-stand behind the same session.
+A session knows its store only by these calls, so the same session class works with a store in a separate process and
+with one in this process.
 """
 
 from __future__ import annotations
@@ -16,8 +16,8 @@ Bytes = Union[bytes, bytearray, memoryview]
 
 
 def pieces_of(pieces: Iterable[Bytes]) -> Iterator[Bytes]:
-    """The pieces, one after the other. ProgrammingError where one isn't bytes, or where bytes or a text stand in place
-    of a list of pieces."""
+    """Iterates over the pieces. Raises ProgrammingError if one isn't bytes, or if bytes or a str are given instead of a
+    list of pieces."""
     fault = ProgrammingError(f"the pieces are to be a list of bytes, not a {type(pieces).__name__}")
     if isinstance(pieces, (str, bytes, bytearray, memoryview)):
         raise fault
@@ -35,32 +35,32 @@ def _piece(piece: Bytes) -> Bytes:
 
 
 class File(Protocol):
-    """A file that a statement and this process can both reach."""
+    """A file that both a statement and this process can reach."""
 
     @property
     def name(self) -> str:
-        """How a statement names it."""
+        """The name by which a statement refers to it."""
 
     def write(self, pieces: Iterable[Bytes]) -> None:
-        """Makes the file hold these pieces, one after the other."""
+        """Replaces the content of the file by these pieces, one after the other."""
 
     def read(self) -> bytes:
-        """All that the file holds."""
+        """Returns the whole content of the file."""
 
 
 class Door(Protocol):
     """A store that answers scripts. Tables live until it is closed."""
 
     def answer(self, script: bytes, statements: int, seconds: float | None = None) -> list[bytes]:
-        """The bytes of the replies to a script of so many statements, one for each, in order.
+        """Executes a script with this number of statements, and returns the bytes of the reply to each, in order.
 
-        Each statement ends with its `;` and isn't blank. Raises InterfaceError where the door is closed, and
-        ProgramEnded where the store is gone. Where the call may take no more than some seconds and takes longer, the
-        store is ended and OutOfTime is raised; NotSupportedError where a door can't end its store.
+        Each statement ends with its `;` and isn't blank. Raises InterfaceError if the door is closed, and ProgramEnded
+        if the store is gone. If `seconds` is given and the call takes longer, the store is ended and OutOfTime is
+        raised; a door that can't end its store raises NotSupportedError instead.
         """
 
     def scratch(self) -> AbstractContextManager[File]:
-        """A file that is gone when the context ends."""
+        """A file that is removed when the context ends."""
 
     def close(self) -> None:
-        """Ends the store. A closed door may be closed again."""
+        """Ends the store. Closing a closed door does nothing."""

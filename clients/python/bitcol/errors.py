@@ -1,21 +1,21 @@
-"""What a client raises: the hierarchy of PEP 249, and the store's numbered refusals inside it.
+"""The exceptions of this package: the hierarchy of PEP 249, and within it the store's numbered refusals.
 
     Warning
     Error
-        InterfaceError            the client was used in a way that it can't be
+        InterfaceError            the client was used in a way that isn't allowed
         DatabaseError
             DataError             a value that no column or statement can hold
-            OperationalError      the program can't be started, or was given more than it takes
+            OperationalError      the program can't be started, or was given more than it accepts
                 ProgramEnded      .. the program ended, and its tables are gone
-                    OutOfTime     .. since a call took longer than it may
+                    OutOfTime     .. because a call exceeded its time limit
             ProgrammingError      a statement or a parameter that is wrong in itself
             NotSupportedError     what the store, or a package that isn't installed, would have to do
-            IntegrityError        never raised: PEP 249 asks for the name
-            InternalError         what parts of a table answer contradicts what they answered before
+            IntegrityError        never raised: PEP 249 requires the name
+            InternalError         answers of a table's parts contradict their earlier answers
             Refused               the store refused a statement, and says so by a number and a text
-                StatementRefused  .. because of what the statement says; a ProgrammingError too
-                DataRefused       .. because of a value or of a file's bytes; a DataError too
-                StoreRefused      .. for want of room, of memory, or of a file; an OperationalError too
+                StatementRefused  .. because of what the statement says; also a ProgrammingError
+                DataRefused       .. because of a value or of a file's bytes; also a DataError
+                StoreRefused      .. because of a lack of room or memory, or a file; also an OperationalError
 """
 
 from __future__ import annotations
@@ -24,19 +24,19 @@ from enum import IntEnum
 
 
 class Warning(Exception):  # noqa: A001 - PEP 249 gives the name
-    """Never raised: PEP 249 asks for the name."""
+    """Never raised: PEP 249 requires the name."""
 
 
 class Error(Exception):
-    """Whatever this package raises."""
+    """The base class of all exceptions that this package raises."""
 
 
 class InterfaceError(Error):
-    """The client was used in a way that it can't be: a closed session, a cursor without rows."""
+    """The client was used in a way that isn't allowed: a closed session, a cursor without rows."""
 
 
 class DatabaseError(Error):
-    """What has to do with the store."""
+    """An error that is related to the store."""
 
 
 class DataError(DatabaseError):
@@ -44,15 +44,15 @@ class DataError(DatabaseError):
 
 
 class OperationalError(DatabaseError):
-    """The program can't be started, was given more than it takes, or ended."""
+    """The program can't be started, was given more than it accepts, or ended."""
 
 
 class ProgramEnded(OperationalError):
-    """The program ended, and its tables are gone. The text tells how."""
+    """The program ended, and its tables are gone. The text says how it ended."""
 
 
 class OutOfTime(ProgramEnded):
-    """A call took longer than it may, and the program was ended. Its tables are gone."""
+    """A call exceeded its time limit, and the program was ended. Its tables are gone."""
 
 
 class IntegrityError(DatabaseError):
@@ -60,7 +60,7 @@ class IntegrityError(DatabaseError):
 
 
 class InternalError(DatabaseError):
-    """What the parts of a table (bitcol.cluster) answer contradicts what they answered before."""
+    """Answers of the parts of a table (bitcol.cluster) contradict their earlier answers."""
 
 
 class ProgrammingError(DatabaseError):
@@ -68,11 +68,11 @@ class ProgrammingError(DatabaseError):
 
 
 class NotSupportedError(DatabaseError):
-    """What the store doesn't do, or what needs a package that isn't installed."""
+    """Something that the store doesn't support, or that needs a package that isn't installed."""
 
 
 class ErrorNumber(IntEnum):
-    """The numbers of refusals. The language's description says when each is answered."""
+    """The numbers of refusals. The description of the language says when each one is returned."""
 
     SYNTAX_ERROR = 10
     STATEMENT_TOO_LONG = 11
@@ -98,10 +98,10 @@ class ErrorNumber(IntEnum):
 
 
 class Refused(DatabaseError):
-    """The store refused a statement. It changed nothing, but for the file of a SAVE that is error 41.
+    """The store refused a statement. It changed nothing, except for the file of a SAVE that failed with error 41.
 
-    `number` is one of ErrorNumber, or a plain int where a later program has a number more; `text` is what the program
-    says after it.
+    `number` is an ErrorNumber, or a plain int if a later program uses a number that isn't one; `text` is the text that
+    the program writes after the number.
     """
 
     def __init__(self, number: int, text: str) -> None:
@@ -118,11 +118,11 @@ class StatementRefused(Refused, ProgrammingError):
 
 
 class DataRefused(Refused, DataError):
-    """Refused because of a value, or of the bytes of a file."""
+    """Refused because of a value or the bytes of a file."""
 
 
 class StoreRefused(Refused, OperationalError):
-    """Refused for want of room, of memory, or of a file."""
+    """Refused because of a lack of room or memory, or because of a file."""
 
 
 _DATA = {
@@ -142,7 +142,7 @@ _STORE = {
 
 
 def refusal(number: int, text: str) -> Refused:
-    """The exception for a refusal of this number and text. A number that isn't known gives a plain Refused."""
+    """Returns the exception for a refusal with this number and text: a plain Refused if the number isn't known."""
     try:
         known = ErrorNumber(number)
     except ValueError:

@@ -1,4 +1,4 @@
-"""Many rows into a table that is there, at once: one INSERT where they fit into a statement, else a CSV file and LOAD.
+"""Adds many rows to an existing table at once: by one INSERT if they fit into a statement, else by a CSV file and LOAD.
 
 Both add all of their rows or none.
 """
@@ -18,11 +18,12 @@ from .errors import DataError, DataRefused, ErrorNumber, ProgrammingError
 from .reply import Reply
 from .script import GREATEST_NUMBER, LEAST_NUMBER, NAME, integer, quoted
 
-# The longest text of rows that goes into a statement: the statement's limit is 65,536 bytes, and the rest is names.
+# The longest text of rows that is put into a statement: a statement has at most 65,536 bytes, and the rest is names.
 STATEMENT_BYTES = 48_000
-# The longest CSV file that LOAD takes.
+# The longest CSV file that LOAD accepts.
 CSV_BYTES = 268_435_456
-# Rows that are written in one step: enough that the step itself costs nothing, few enough for a processor's cache.
+# Rows that are formatted in one step: enough to make the cost of a step negligible, few enough for a processor's
+# cache.
 ROWS_AT_ONCE = 1_000
 
 Batch = list[Any]
@@ -37,20 +38,20 @@ _INSERT = re.compile(
 
 @dataclass(frozen=True)
 class Insertion:
-    """`INSERT INTO table (columns) VALUES (?, ..)`: the columns are None where the statement lists none."""
+    """`INSERT INTO table (columns) VALUES (?, ..)`: the columns are None if the statement lists none."""
 
     table: str
     columns: tuple[str, ...] | None
     places: int
 
     def statement(self, tuples: str) -> str:
-        """The INSERT of these tuples."""
+        """Returns the INSERT of these tuples."""
         listed = "" if self.columns is None else f" ({', '.join(self.columns)})"
         return f"INSERT INTO {self.table}{listed} VALUES {tuples}"
 
 
 def insertion_of(statement: str) -> Insertion | None:
-    """What the statement inserts, where it has a place for each value and nothing else. Else None."""
+    """Parses an INSERT whose values are all `?`. Returns None for any other statement."""
     found = _INSERT.fullmatch(statement)
     if found is None:
         return None
@@ -59,7 +60,7 @@ def insertion_of(statement: str) -> Insertion | None:
 
 
 class Inserter:
-    """Carries out an insertion by the statements and files of a store."""
+    """Performs an insertion through the statements and files of a store."""
 
     def __init__(self, insertion: Insertion, execute: Callable[[str], Reply], door: Door) -> None:
         self._insertion = insertion
@@ -67,8 +68,8 @@ class Inserter:
         self._door = door
 
     def insert(self, rows: Iterable[Sequence[Any]]) -> int:
-        """The number of rows added. Raises Refused, and what batches_of raises; then no row was added, unless the rows
-        need more than one file."""
+        """Adds the rows, and returns their number. Raises Refused, and what batches_of raises; then no row was added,
+        unless the rows need more than one file."""
         batches = batches_of(rows, self._insertion.places)
         held: list[Batch] = []
         tuples: list[str] = []
@@ -80,7 +81,7 @@ class Inserter:
         return self._insert(tuples, held) if tuples else 0
 
     def _insert(self, tuples: Sequence[str], batches: Sequence[Batch]) -> int:
-        """The number of rows that one INSERT of these tuples adds, which have the cells of these batches."""
+        """Adds these tuples, which have the cells of these batches, by one INSERT. Returns the number of rows."""
         try:
             return self._execute(self._insertion.statement(",".join(tuples))).count or 0
         except DataRefused as refusal:
@@ -99,36 +100,36 @@ class Inserter:
         return added
 
     def _load_file(self, name: str, lines: Sequence[bytes], before: int) -> int:
-        """The number of rows that LOAD adds. So many rows came before these."""
+        """Adds these lines by a LOAD, and returns the number of rows added. `before` rows came before them."""
         try:
             return self._execute(f"LOAD {self._insertion.table} FROM {quoted(name)}").count or 0
         except DataRefused as refusal:
             raise self._located(refusal, lines, before) from None
 
     def _located(self, refusal: DataRefused, lines: Sequence[bytes], before: int = 0) -> DataRefused:
-        """The refusal of lines, with the value that is at fault: neither INSERT nor LOAD says which is out of range, so
-        it is looked for. So many rows came before these."""
+        """Returns the refusal of these lines with the offending value added: neither INSERT nor LOAD says which value
+        is out of range, so it is searched for. `before` rows came before these lines."""
         if refusal.number not in (ErrorNumber.NUMBER_TOO_LARGE, ErrorNumber.VALUE_OUT_OF_RANGE):
             return refusal
         types = list(column_types(self._execute, self._insertion.table).values())
         return DataRefused(refusal.number, f"{refusal.text}: {_first_outside(lines, types, before)}")
 
     def _order(self) -> list[int | None]:
-        """For each column of the table the place of its value in a row, or None where the statement lists it not."""
+        """Returns for each column of the table the position of its value in a row, or None if the INSERT omits it."""
         insertion = self._insertion
         columns = self._execute(f"SELECT * FROM {insertion.table} WHERE 1 = 0").headings
         listed = columns if insertion.columns is None else tuple(name.upper() for name in insertion.columns)
         if len(listed) != insertion.places or len(set(listed)) < len(listed) or not set(listed) <= set(columns):
-            # Such an INSERT is refused whatever its values are, and the store says best why.
+            # Such an INSERT is refused whatever its values are. Send it, so that the store says why.
             self._execute(insertion.statement(f"({','.join(['NULL'] * insertion.places)})"))
         return [listed.index(column) if column in listed else None for column in columns]
 
 
 def batches_of(rows: Iterable[Sequence[Any]], places: int) -> Iterator[Batch]:
-    """The rows, some at a time, each batch as the cells of its rows one after the other: ints and None.
+    """Yields the rows in batches, each as one list of the cells of its rows one after the other: ints and None.
 
-    Raises ProgrammingError and DataError, with the row's number from 0, where a row has another number of values than
-    places, or a value is neither None nor an integer of a statement.
+    Raises ProgrammingError or DataError, with the row's number counted from 0, if the number of values in a row isn't
+    `places`, or a value is neither None nor an integer that a statement can hold.
     """
     remaining, taken = iter(rows), 0
     while batch := list(islice(remaining, ROWS_AT_ONCE)):
@@ -141,13 +142,13 @@ def batches_of(rows: Iterable[Sequence[Any]], places: int) -> Iterator[Batch]:
 
 
 def tuples_of(cells: Batch, places: int) -> str:
-    """The tuples of an INSERT that have these cells."""
+    """Returns the tuples of an INSERT with these cells."""
     row = f"({','.join(['%s'] * places)}),"
     return _formatted(row, cells, places)[:-1]
 
 
 def lines_of(cells: Batch, places: int, order: Sequence[int | None]) -> bytes:
-    """The lines of CSV that have these cells. The fields stand in this order; one without a place is NULL."""
+    """Returns the CSV lines with these cells. `order` has the position of each field's value; None makes it NULL."""
     if order != list(range(places)):
         width = len(order)
         woven: Batch = [None] * (len(cells) // places * width)
@@ -159,7 +160,7 @@ def lines_of(cells: Batch, places: int, order: Sequence[int | None]) -> bytes:
 
 
 def _formatted(row: str, cells: Batch, places: int) -> str:
-    """All rows in one step of formatting, which takes half the time of one step for each."""
+    """Formats all rows in one step, which takes half the time of one step for each row."""
     try:
         return (row * (len(cells) // places) % tuple(cells)).replace("None", "NULL")
     except ValueError:  # so many digits that Python doesn't write them
@@ -167,7 +168,7 @@ def _formatted(row: str, cells: Batch, places: int) -> str:
 
 
 def _number(cell: Any, row: int) -> int | None:
-    """The cell as an int or None. ProgrammingError where it is neither, DataError where it has more than 64 bits."""
+    """Converts a cell to an int or None. Raises ProgrammingError if it can't, DataError if it has more than 64 bits."""
     if cell is None:
         return None
     try:
@@ -180,7 +181,7 @@ def _number(cell: Any, row: int) -> int | None:
 
 
 def _files(lines: Iterable[bytes]) -> Iterator[list[bytes]]:
-    """The lines in parts that are files of LOAD: one part, unless they are longer than such a file."""
+    """Splits the lines into parts that LOAD accepts as files: one part, unless they are longer than such a file."""
     part: list[bytes] = []
     size = 0
     for piece in lines:
@@ -194,8 +195,8 @@ def _files(lines: Iterable[bytes]) -> Iterator[list[bytes]]:
 
 
 def _first_outside(lines: Sequence[bytes], types: Sequence[ColumnType], before: int) -> str:
-    """Which value is outside of its column's type: the first, and its row from 0. So many rows came before these
-    lines, and their fields are of these types."""
+    """Describes the first value that is outside of its column's type, with its row counted from 0. `before` rows came
+    before these lines, and their fields have these types."""
     rows = chain.from_iterable(piece.decode().splitlines() for piece in lines)
     for row, line in enumerate(rows, before):
         for value, column_type in zip(line.split(","), types):

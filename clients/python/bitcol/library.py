@@ -1,4 +1,4 @@
-"""The door to the library: a store in this process, behind the calls of `clients/c/bitcol.h`, with files in memory."""
+"""The door to the library: a store in this process, used by the calls of `clients/c/bitcol.h`, with files in memory."""
 
 from __future__ import annotations
 
@@ -17,9 +17,9 @@ from .reply import ReplyBuffer
 from .script import PathLike, quoted
 
 VARIABLE = "BITCOL_LIBRARY"
-# A wheel may have the library beside this module.
+# A wheel may contain the library, beside this module.
 INSTALLED = Path(__file__).resolve().parent / "lib" / "libbitcol.so"
-# Replies of up to so many bytes are taken by one call.
+# Replies shorter than this are fetched by one call.
 ROOM_BYTES = 65_536
 
 _Size = ctypes.c_size_t
@@ -37,7 +37,7 @@ _CALLS = (
 
 
 class Status(IntEnum):
-    """What a call answers: the numbers of bitcol.h."""
+    """What a call returns: the numbers of bitcol.h."""
 
     DONE = 0
     NO_FILE = 40
@@ -46,8 +46,8 @@ class Status(IntEnum):
 
 
 def find_library() -> str:
-    """The path of the shared library: what the environment variable BITCOL_LIBRARY names, else the one that was
-    installed with this package. OperationalError where there is none."""
+    """Returns the path of the shared library: the one that the environment variable BITCOL_LIBRARY names, else the one
+    that was installed with this package. Raises OperationalError if there is none."""
     named = os.environ.get(VARIABLE)
     if named:
         return named
@@ -59,14 +59,14 @@ def find_library() -> str:
 class Library:
     """A store in this process. Calls from several threads take turns.
 
-    Statements reach the files of the store alone, which are in memory: `put_file` and `file` are the way in and out.
+    Statements can reach only the store's own files, which are in memory: `put_file` and `file` write and read them.
     """
 
     def __init__(self, library: PathLike | None = None) -> None:
-        """Opens a store of the shared library at this path, or of the one that find_library finds. OperationalError
-        where it can't be loaded, or there is no memory."""
+        """Opens a store in the shared library at this path, or in the one that find_library finds. Raises
+        OperationalError if the library can't be loaded, or when out of memory."""
         self._calls = _loaded(find_library() if library is None else os.fspath(library))
-        # The C struct of one pointer, which a call takes by its address.
+        # The C struct with one pointer. Calls take its address.
         self._store = _Pointer()
         if self._calls.bitcol_open(0, ctypes.byref(self._store)) != Status.DONE:
             raise OperationalError("no memory for a store")
@@ -79,9 +79,9 @@ class Library:
         self._files_made = 0
 
     def answer(self, script: bytes, statements: int, seconds: float | None = None) -> list[bytes]:
-        """See Door. An interrupt comes when the library has answered; the statements were carried out, and the replies
-        are dropped. OperationalError where there is no memory for a reply: its statement was carried out, and what
-        follows it was not. A call can't be ended, so it has no limit of time."""
+        """See Door. An interrupt takes effect when the library has answered; the statements were executed, and the
+        replies are dropped. Raises OperationalError if there is no memory for a reply: its statement was executed, and
+        those after it were not. A call can't be ended, so it takes no time limit."""
         if seconds is not None:
             raise NotSupportedError("a call of the library can't be ended: it has no limit of time")
         with self._lock:
@@ -98,8 +98,8 @@ class Library:
         return [buffer.take() or b"" for _ in range(statements)]
 
     def put_file(self, name: str, data: Bytes) -> None:
-        """Makes one of the store's own files anew. OperationalError where there is no memory for it, ProgrammingError
-        where no statement can have the name, or the data isn't bytes."""
+        """Writes one of the store's own files, replacing one of that name. Raises OperationalError if there is no
+        memory for it, and ProgrammingError if no statement can have the name, or the data isn't bytes."""
         held = data if isinstance(data, bytes) else b"".join(pieces_of([data]))
         path = _name_bytes(name)
         with self._lock:
@@ -108,8 +108,8 @@ class Library:
                 raise OperationalError(f"no memory for the file {name!r}")
 
     def file(self, name: str) -> bytes:
-        """One of the store's own files. OperationalError where it isn't there, ProgrammingError where no statement can
-        have the name."""
+        """Returns one of the store's own files. Raises OperationalError if there is no such file, and ProgrammingError
+        if no statement can have the name."""
         path = _name_bytes(name)
         with self._lock:
             self._ensure_usable()
@@ -126,7 +126,7 @@ class Library:
 
     @contextlib.contextmanager
     def scratch(self) -> Iterator[StoreFile]:
-        """See Door: a file of the store. Its name stays and is taken again, and nothing is in it then."""
+        """See Door: a file of the store. It is emptied afterwards, and its name is reused."""
         with self._lock:
             file = self._scratch_files.pop() if self._scratch_files else self._new_scratch_file()
         try:
@@ -152,7 +152,7 @@ class Library:
             raise InterfaceError("the session belongs to the process that opened it")
 
     def _replies(self) -> bytes:
-        """All replies to the last script."""
+        """Returns all replies to the last script."""
         length = self._calls.bitcol_reply(self._address, 0, self._room, ROOM_BYTES)
         if length < ROOM_BYTES:
             return ctypes.string_at(self._room, length)
@@ -163,7 +163,7 @@ class Library:
 
 
 class StoreFile:
-    """A file of a store in this process, by its name there."""
+    """A file of a store in this process, given by its name in the store."""
 
     def __init__(self, library: Library, name: str) -> None:
         self._library = library
@@ -175,7 +175,7 @@ class StoreFile:
         return self._name
 
     def write(self, pieces: Iterable[Bytes]) -> None:
-        """See File. OperationalError where there is no memory for it."""
+        """See File. Raises OperationalError if there is no memory for it."""
         self._library.put_file(self._name, b"".join(pieces_of(pieces)))
 
     def read(self) -> bytes:
@@ -184,13 +184,13 @@ class StoreFile:
 
 
 def _name_bytes(name: str) -> bytes:
-    """The bytes of a file's name, of which a statement can have each. ProgrammingError where it can't."""
+    """Returns the bytes of a file's name. Raises ProgrammingError if no statement can have the name."""
     quoted(name)
     return os.fspath(name).encode()
 
 
 def _loaded(path: str) -> ctypes.CDLL:
-    """The library, its calls typed. OperationalError where it isn't one."""
+    """Loads the library, and sets the types of its calls. Raises OperationalError if it isn't one."""
     try:
         library = ctypes.CDLL(path)
         for name, result, arguments in _CALLS:
@@ -202,6 +202,6 @@ def _loaded(path: str) -> ctypes.CDLL:
 
 
 def _close(calls: ctypes.CDLL, store: _Pointer, owner: int) -> None:
-    """Closes the store of a door that nobody has any more. In a forked process it isn't that process's to close."""
+    """Closes the store of a door that isn't referenced any more. A forked process must not close its parent's."""
     if owner == os.getpid():
         calls.bitcol_close(store)

@@ -1,4 +1,4 @@
-"""Packages that are used where they are installed, and never needed."""
+"""Packages that are used if they are installed, but never required."""
 
 from __future__ import annotations
 
@@ -10,28 +10,28 @@ from .errors import NotSupportedError
 
 
 def numpy_module() -> Any:
-    """numpy. NotSupportedError where it isn't installed."""
+    """Returns numpy. Raises NotSupportedError if it isn't installed."""
     return _installed("numpy")
 
 
 def pandas_module() -> Any:
-    """pandas. NotSupportedError where it isn't installed."""
+    """Returns pandas. Raises NotSupportedError if it isn't installed."""
     return _installed("pandas")
 
 
 def imported(name: str) -> Any:
-    """The package of this name where somebody imported it, else None."""
+    """Returns the package of this name if it has already been imported, else None."""
     return sys.modules.get(name)
 
 
 def is_numpy_array(value: object) -> bool:
-    """Whether the value is an array of numpy. It can be none where nobody imported numpy."""
+    """Returns whether the value is a numpy array. It can't be one if numpy hasn't been imported."""
     numpy = imported("numpy")
     return numpy is not None and isinstance(value, numpy.ndarray)
 
 
 def is_pandas_series(value: object) -> bool:
-    """Whether the value is a column of a data frame of pandas."""
+    """Returns whether the value is a pandas series, a column of a data frame."""
     pandas = imported("pandas")
     return pandas is not None and isinstance(value, pandas.Series)
 

@@ -1,8 +1,8 @@
-"""Columns as planes of bits: the cells of table files of version 2.
+"""Columns as bit planes: the cells of table files of version 2.
 
-The code of a row is its value less the column's least value. Plane b has bit b of each code: bit i mod 8 of byte i // 8
-is that of row i. Blocks of rows are turned into planes, and back, by Python's integers, and where somebody imported
-numpy by its arrays, which are faster.
+The code of a row is its value minus the column's least value. Plane b has bit b of each code: bit i mod 8 of byte
+i // 8 is that of row i. Blocks of rows are converted to planes, and back, by Python's integers, or, if numpy has been
+imported, by its arrays, which are faster.
 """
 
 from __future__ import annotations
@@ -18,16 +18,16 @@ from .door import Bytes
 from .optional import imported
 from .planes_by_integers import CodesTold
 
-FRAME = struct.Struct("<qB")  # what the codes are counted from, and how many bits they have
+FRAME = struct.Struct("<qB")  # the value with code 0, and the number of bits of a code
 WIDEST = 64
 
-# The presence of rows that are turned together: enough that a step of the interpreter costs nothing, few enough for a
-# processor's cache.
+# The presence bytes of the rows that are converted together: enough to make an interpreter step's cost negligible, few
+# enough for a processor's cache.
 _BLOCK_BYTES = 8_192
 
 
 class _Turning(Protocol):
-    """How codes and planes are turned: what a module has for it."""
+    """The functions that a module provides to convert between codes and planes."""
 
     def codes_told(self, presence: Bytes, planes: Sequence[Bytes]) -> CodesTold: ...
 
@@ -39,17 +39,17 @@ class _Turning(Protocol):
 
 
 def _turning() -> _Turning:
-    """By arrays of numpy where somebody imported it, else by integers."""
+    """Returns the module that uses numpy if numpy has been imported, else the one that uses integers."""
     if imported("numpy") is None:
         return planes_by_integers
-    # It imports numpy, so it can't be imported where numpy isn't.
+    # This module imports numpy, so it must not be imported if numpy isn't.
     from . import planes_by_numpy
 
     return planes_by_numpy
 
 
 def frame_of(cells: Cells) -> tuple[int, int]:
-    """What the codes of a column are counted from, and how many bits they have: 0 and 1 where all rows are NULL."""
+    """Returns the value with code 0, and the number of bits of a code: 0 and 1 if all rows are NULL."""
     ends = _turning().ends_of(cells)
     if ends is None:
         return 0, 1
@@ -58,7 +58,7 @@ def frame_of(cells: Cells) -> tuple[int, int]:
 
 
 def plane_pieces(cells: Cells) -> Iterator[Bytes]:
-    """The bytes of a column after its presence: base, width, and the planes, the highest first."""
+    """Yields the bytes of a column after its presence: base, width, and the planes, highest first."""
     base, width = frame_of(cells)
     yield FRAME.pack(base, width)
     turning = _turning()
@@ -72,7 +72,7 @@ def plane_pieces(cells: Cells) -> Iterator[Bytes]:
 
 
 def cells_in_planes(presence: memoryview, base: int, planes: Sequence[memoryview], rows: int, of: ColumnType) -> Cells:
-    """The cells of a column of so many rows, the planes given from the highest on. They have no fault, see fault_in."""
+    """Makes the cells of a column of `rows` rows. The planes are given highest first, and have no fault (fault_in)."""
     size = of.bits // 8
     turning = _turning()
     words = bytearray()
@@ -83,7 +83,7 @@ def cells_in_planes(presence: memoryview, base: int, planes: Sequence[memoryview
 
 
 def fault_in(presence: memoryview, base: int, planes: Sequence[memoryview], rows: int, of: ColumnType) -> str | None:
-    """Why no table file has this column, the planes given from the highest on, or None where one may."""
+    """Returns why no table file can have this column, or None if one can. The planes are given highest first."""
     if rows % 8 and presence[-1] >> rows % 8:
         return "a bit past the last row"
     told = _turning().codes_told(presence, planes)
@@ -99,7 +99,7 @@ def fault_in(presence: memoryview, base: int, planes: Sequence[memoryview], rows
 
 
 def _block_of(cells: Cells, start: int) -> tuple[bytes, bytes]:
-    """Presence and words of the block of rows whose presence begins at this byte: a word for each bit of the presence."""
+    """Returns presence and words of the block of rows whose presence begins at this byte: a word for each bit."""
     presence = bytes(cells.presence[start : start + _BLOCK_BYTES])
     size = cells.column_type.bits // 8
     length = 8 * size * len(presence)

@@ -1,4 +1,4 @@
-"""Planes of bits by Python's integers: a block of rows is one integer, so that each step works on thousands of rows."""
+"""Bit planes by Python's integers: a block of rows is one integer, so that each step works on thousands of rows."""
 
 from __future__ import annotations
 
@@ -9,20 +9,20 @@ from typing import NamedTuple
 from .cells import Cells
 from .door import Bytes
 
-# Distance and mask of the exchanges of bits that make columns of 8 times 8 bits its rows.
+# Distance and mask of the bit exchanges that transpose an 8 by 8 bit matrix.
 EXCHANGES = ((7, 0x00AA00AA00AA00AA), (14, 0x0000CCCC0000CCCC), (28, 0x00000000F0F0F0F0))
 
 
 class CodesTold(NamedTuple):
-    """What planes tell of the codes of a column."""
+    """What the planes of a column say about its codes."""
 
     has_bit_at_null: bool
     has_zero: bool  # whether a row that isn't NULL has code 0
-    greatest: int | None  # the greatest code, or None where all rows are NULL
+    greatest: int | None  # the greatest code, or None if all rows are NULL
 
 
 def codes_told(presence: Bytes, planes: Sequence[Bytes]) -> CodesTold:
-    """What planes tell of the codes, the highest given first."""
+    """Returns what the planes say about the codes. They are given highest first."""
     present = int.from_bytes(presence, "little")
     any_bit, greatest, candidates = 0, 0, present
     for plane in planes:
@@ -34,13 +34,13 @@ def codes_told(presence: Bytes, planes: Sequence[Bytes]) -> CodesTold:
 
 
 def ends_of(cells: Cells) -> tuple[int, int] | None:
-    """The least and the greatest value, or None where all rows are NULL."""
+    """Returns the least and the greatest value, or None if all rows are NULL."""
     values = cells.known_numbers()
     return (min(values), max(values)) if len(values) else None
 
 
 def block_words(presence: Bytes, base: int, planes: Sequence[Bytes], size: int) -> bytes:
-    """The words of a block of rows, of so many bytes each, 0 where a row is NULL, of its planes from the lowest on."""
+    """Makes the words of a block of rows, of `size` bytes each, 0 if a row is NULL, from its planes, lowest first."""
     octets = bytearray(8 * size * len(presence))
     for place in range(0, len(planes), 8):
         group = bytearray(8 * len(presence))
@@ -54,10 +54,10 @@ def block_words(presence: Bytes, base: int, planes: Sequence[Bytes], size: int) 
 
 
 def block_planes(presence: Bytes, words: Bytes, base: int, width: int, size: int) -> Iterator[bytes]:
-    """The bits of a block of rows for each plane from the lowest on; the words are as many as the presence has bits."""
+    """Yields the planes of a block of rows, lowest first. There are as many words as the presence has bits."""
     present = _lanes(bytes(presence), size)
     greater = 1 << 8 * size - 1
-    # Counted from the least of its type a value has no sign, and so no lane borrows from the next.
+    # Counted from the least value of the type a value has no sign, so no lane borrows from the next.
     codes = (int.from_bytes(words, "little") ^ present * greater) - present * (base + greater)
     octets = codes.to_bytes(len(words), "little")
     for place in range(0, width, 8):
@@ -66,7 +66,7 @@ def block_planes(presence: Bytes, words: Bytes, base: int, width: int, size: int
 
 
 def _lanes(presence: bytes, size: int) -> int:
-    """A number with a lane of so many bytes for each row: 1 where it isn't NULL, else 0."""
+    """Returns a number with a lane of `size` bytes for each row: 1 if it isn't NULL, else 0."""
     bits = bytearray(8 * len(presence))
     bits[::8] = presence
     lanes = bytearray(8 * size * len(presence))
@@ -75,7 +75,7 @@ def _lanes(presence: bytes, size: int) -> int:
 
 
 def _turned(data: Bytes) -> bytes:
-    """Eight bytes at a time, bit i of byte k as bit k of byte i."""
+    """Transposes each eight bytes as an 8 by 8 bit matrix: bit i of byte k becomes bit k of byte i."""
     bits = int.from_bytes(data, "little")
     for (distance, _), mask in zip(EXCHANGES, _masks(len(data) // 8)):
         changed = (bits ^ bits >> distance) & mask
@@ -85,5 +85,5 @@ def _turned(data: Bytes) -> bytes:
 
 @lru_cache(maxsize=4)
 def _masks(count: int) -> list[int]:
-    """The masks of the exchanges, for so many times eight bytes."""
+    """Returns the masks of the exchanges for `count` groups of eight bytes."""
     return [int.from_bytes(mask.to_bytes(8, "little") * count, "little") for _, mask in EXCHANGES]

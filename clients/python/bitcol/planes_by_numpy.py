@@ -1,4 +1,4 @@
-"""Planes of bits by numpy: the same bytes as `planes_by_integers` makes, several times as fast."""
+"""Bit planes by numpy: makes the same bytes as `planes_by_integers`, several times as fast."""
 
 from __future__ import annotations
 
@@ -13,7 +13,7 @@ from .planes_by_integers import EXCHANGES, CodesTold
 
 
 def codes_told(presence: Bytes, planes: Sequence[Bytes]) -> CodesTold:
-    """What planes tell of the codes, the highest given first."""
+    """Returns what the planes say about the codes. They are given highest first."""
     present = numpy.frombuffer(presence, numpy.uint8)
     any_bit, candidates, greatest = numpy.zeros_like(present), present, 0
     for plane in planes:
@@ -28,7 +28,7 @@ def codes_told(presence: Bytes, planes: Sequence[Bytes]) -> CodesTold:
 
 
 def ends_of(cells: Cells) -> tuple[int, int] | None:
-    """The least and the greatest value, or None where all rows are NULL."""
+    """Returns the least and the greatest value, or None if all rows are NULL."""
     size = cells.column_type.bits // 8
     values = numpy.frombuffer(cells.words, f"<i{size}")
     values = values[_bits(cells.presence)[: cells.rows] == 1]
@@ -36,7 +36,7 @@ def ends_of(cells: Cells) -> tuple[int, int] | None:
 
 
 def block_words(presence: Bytes, base: int, planes: Sequence[Bytes], size: int) -> bytes:
-    """The words of a block of rows, of so many bytes each, 0 where a row is NULL, of its planes from the lowest on."""
+    """Makes the words of a block of rows, of `size` bytes each, 0 if a row is NULL, from its planes, lowest first."""
     octets = numpy.zeros((len(presence), 8, size), numpy.uint8)
     for place in range(0, len(planes), 8):
         group = numpy.zeros((len(presence), 8), numpy.uint8)
@@ -50,7 +50,7 @@ def block_words(presence: Bytes, base: int, planes: Sequence[Bytes], size: int) 
 
 
 def block_planes(presence: Bytes, words: Bytes, base: int, width: int, size: int) -> Iterator[bytes]:
-    """The bits of a block of rows for each plane from the lowest on; the words are as many as the presence has bits."""
+    """Yields the planes of a block of rows, lowest first. There are as many words as the presence has bits."""
     codes = numpy.frombuffer(words, f"<u{size}").copy()
     codes -= codes.dtype.type(base % (1 << 8 * size))
     codes *= _bits(presence)
@@ -61,12 +61,12 @@ def block_planes(presence: Bytes, words: Bytes, base: int, width: int, size: int
 
 
 def _bits(data: Bytes) -> Any:
-    """A byte for each bit, the lowest of a byte first."""
+    """Returns a byte for each bit, the lowest bit of a byte first."""
     return numpy.unpackbits(numpy.frombuffer(data, numpy.uint8), bitorder="little")
 
 
 def _turned(group: Any) -> Any:
-    """Eight bytes at a time, bit i of byte k as bit k of byte i."""
+    """Transposes each eight bytes as an 8 by 8 bit matrix: bit i of byte k becomes bit k of byte i."""
     bits = group.view("<u8")
     for distance, mask in EXCHANGES:
         changed = (bits ^ bits >> numpy.uint64(distance)) & numpy.uint64(mask)

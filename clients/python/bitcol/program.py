@@ -1,4 +1,4 @@
-"""Where the program `bitcol` is, and the command of that name."""
+"""Finds the program `bitcol`, and provides the command of that name."""
 
 from __future__ import annotations
 
@@ -9,14 +9,14 @@ from pathlib import Path
 
 from .errors import OperationalError
 
-# A wheel has the program beside this module.
+# A wheel contains the program, beside this module.
 INSTALLED = Path(__file__).resolve().parent / "bin" / "bitcol"
 VARIABLE = "BITCOL"
 
 
 def find_program() -> str:
-    """The path of the program: what the environment variable BITCOL names, else the one that was installed with this
-    package, else `bitcol` on PATH. OperationalError where there is none."""
+    """Returns the path of the program: the one that the environment variable BITCOL names, else the one that was
+    installed with this package, else `bitcol` on PATH. Raises OperationalError if there is none."""
     named = os.environ.get(VARIABLE)
     if named:
         return named
@@ -29,5 +29,5 @@ def find_program() -> str:
 
 
 def main() -> None:
-    """The command `bitcol`: becomes the program that was installed with this package."""
+    """The command `bitcol`: replaces this process by the program that was installed with this package."""
     os.execv(INSTALLED, [str(INSTALLED), *sys.argv[1:]])

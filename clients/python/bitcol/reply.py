@@ -1,7 +1,7 @@
-"""Replies: where each ends in a stream of bytes, and what it says.
+"""Replies: where each one ends in a stream of bytes, and what it says.
 
 A reply is one line, `ok`, `ok n` or `error n: text`, or it is a line of headings, the rows, and a line `rows n`. No
-heading and no row begins with a small letter, so the first line tells the kind, and `rows` the end.
+heading and no row begins with a lower-case letter, so the first line tells the kind, and `rows` the end.
 """
 
 from __future__ import annotations
@@ -19,13 +19,13 @@ Row = tuple[Any, ...]
 
 _ONE_LINE = (b"ok", b"error ", b"units ")
 _LAST_LINE = b"\nrows "
-# Bytes of rows that are read at a time where an answer isn't wanted as a whole.
+# The bytes of rows that are read at a time when an answer isn't needed as a whole.
 _BATCH_BYTES = 2**18
 _read_json = json.JSONDecoder().raw_decode
 
 
 class ReplyBuffer:
-    """Bytes of replies as they come, cut into replies. The time is linear in the bytes, however they come."""
+    """Splits a stream of bytes into replies. The time is linear in the bytes, in whatever pieces they arrive."""
 
     def __init__(self) -> None:
         self._bytes = bytearray()
@@ -33,11 +33,11 @@ class ReplyBuffer:
         self._looked = 0
 
     def add(self, data: bytes) -> None:
-        """Puts bytes after those that are there."""
+        """Appends bytes."""
         self._bytes += data
 
     def take(self) -> bytes | None:
-        """Takes the first reply out, or gives None where it isn't there to its end."""
+        """Removes and returns the first reply, or returns None if it isn't complete."""
         end = self._first_end()
         if end < 0:
             return None
@@ -48,7 +48,7 @@ class ReplyBuffer:
         return reply
 
     def _first_end(self) -> int:
-        """How many bytes the first reply has, or -1."""
+        """The number of bytes of the first reply, or -1 if it isn't complete."""
         data = self._bytes
         if data.startswith(_ONE_LINE):
             return data.find(b"\n") + 1 or -1
@@ -61,11 +61,11 @@ class ReplyBuffer:
 
 
 class Reply:
-    """What a statement was answered.
+    """The reply to a statement.
 
-    `count` is the n of `ok n`, `rows n` or `units n`, and None where there is none. `headings` has a heading for each
-    column of an answer with rows, and is empty otherwise. `is_units` says whether it is `units n`, the reply to a
-    STATS. `refusal` is the exception of a refused statement, or None.
+    `count` is the n of `ok n`, `rows n` or `units n`, or None if there is none. `headings` has a heading for each
+    column of an answer with rows, and is empty otherwise. `is_units` says whether the reply is `units n`, the reply to
+    a STATS. `refusal` is the exception for a refused statement, or None.
     """
 
     __slots__ = ("_body", "_cells", "_index", "count", "headings", "is_units", "refusal")
@@ -88,22 +88,22 @@ class Reply:
 
     @classmethod
     def of_rows(cls, headings: tuple[str, ...], rows: Sequence[Row]) -> Reply:
-        """An answer of these rows that the program didn't write."""
+        """Makes an answer with these rows, which doesn't come from the program."""
         made = cls(len(rows), headings)
         made._cells = [cell for row in rows for cell in row]
         return made
 
     def rows(self) -> list[Row]:
-        """All rows, a tuple each, NULL as None. InterfaceError where the answer has no rows to show."""
+        """Returns all rows as tuples, with None for NULL. Raises InterfaceError if the reply has no rows to show."""
         return self._rows_of(self._all_cells())
 
     def columns(self) -> list[list[Any]]:
-        """A list of cells for each heading."""
+        """Returns a list of cells for each heading."""
         cells, width = self._all_cells(), len(self.headings)
         return [cells[first::width] for first in range(width)]
 
     def first_rows(self, limit: int) -> list[Row]:
-        """The first rows, at most so many. The others aren't looked at."""
+        """Returns the first rows, at most `limit`. The others aren't parsed."""
         if self._cells is not None:
             return self.rows()[:limit]
         end = 0
@@ -112,8 +112,9 @@ class Reply:
         return self._rows_between(0, end)
 
     def lines_at(self, first: int, limit: int) -> str:
-        """The lines of the rows from this one on, counted from 0, at most so many, as the program wrote them. The
-        others aren't read, so any part of a long answer comes at once. InterfaceError as of batches."""
+        """Returns the lines of at most `limit` rows from row `first` on, counted from 0, as the program wrote them. The
+        other rows aren't parsed, so any part of a long answer is available at once. Raises InterfaceError as batches
+        does."""
         if self._cells is not None or not self.headings:
             return "".join(_line_of(row, "NULL") for row in self.rows()[first : first + limit])
         if self._index is None:
@@ -122,8 +123,8 @@ class Reply:
         return self._body[start:end].decode("ascii")
 
     def batches(self) -> Iterator[list[Row]]:
-        """All rows in order, some at a time, none of which is kept: an answer of millions of rows takes less memory so.
-        InterfaceError where the answer has no rows to show."""
+        """Yields all rows in order, in batches. Rows aren't kept, so an answer of millions of rows takes less memory.
+        Raises InterfaceError if the reply has no rows to show."""
         if self._cells is not None or not self.headings:
             yield self.rows()
             return
@@ -131,7 +132,7 @@ class Reply:
             yield self._rows_between(start, end)
 
     def lines(self, null: str) -> Iterator[str]:
-        """The rows as lines of CSV, some at a time, with this text for NULL. InterfaceError as of batches."""
+        """Yields the rows as CSV lines, some at a time, with `null` for NULL. Raises InterfaceError as batches does."""
         if self._cells is not None or not self.headings or self._names_tables():
             for rows in self.batches():
                 yield "".join(_line_of(row, null) for row in rows)
@@ -140,14 +141,14 @@ class Reply:
                 yield self._body[start:end].decode("ascii").replace("NULL", null)
 
     def scalar(self) -> Any:
-        """The one cell of an answer of one row and one column. ProgrammingError where it has another form."""
+        """Returns the only cell of the answer. Raises ProgrammingError if it isn't one row of one column."""
         cells = self._all_cells()
         if len(cells) != 1:
             raise ProgrammingError(f"the answer has {len(cells)} cells, not one")
         return cells[0]
 
     def to_numpy(self) -> list[Any]:
-        """A masked array of 64-bit integers for each heading, masked where a cell is NULL."""
+        """Returns a masked array of 64-bit integers for each heading, masked where a cell is NULL."""
         numpy = numpy_module()
         arrays = []
         for column in self._integer_columns():
@@ -157,10 +158,10 @@ class Reply:
         return arrays
 
     def to_pandas(self) -> Any:
-        """A data frame of pandas' Int64, whose NULL is NA, with the headings as names."""
+        """Returns a pandas data frame of Int64 columns, with NA for NULL and the headings as names."""
         pandas = pandas_module()
         columns = {place: pandas.array(cells, dtype="Int64") for place, cells in enumerate(self._integer_columns())}
-        # A heading may stand twice, and a mapping has a name once.
+        # A heading may occur twice, but a key of a mapping only once.
         return pandas.DataFrame(columns).set_axis(list(self.headings), axis=1)
 
     def _integer_columns(self) -> list[list[Any]]:
@@ -169,7 +170,7 @@ class Reply:
         return self.columns()
 
     def _all_cells(self) -> list[Any]:
-        """The cells, row after row."""
+        """All cells, row by row."""
         if not self.headings:
             raise InterfaceError("the statement's answer has no rows")
         if self._cells is None:
@@ -185,7 +186,7 @@ class Reply:
         return list(zip(*[remaining] * len(self.headings)))
 
     def _parts(self) -> Iterator[tuple[int, int]]:
-        """Where whole lines of the body begin and end, some at a time."""
+        """Yields the start and end of parts of the body that consist of whole lines."""
         start = 0
         while start < len(self._body):
             # No line is as long as a batch.
@@ -194,7 +195,7 @@ class Reply:
             start = end
 
     def _rows_between(self, start: int, end: int) -> list[Row]:
-        """The rows whose lines are these bytes of the body."""
+        """The rows whose lines are the bytes of the body from start to end."""
         return self._rows_of(self._cells_of(self._body[start:end]))
 
     def _names_tables(self) -> bool:
@@ -221,7 +222,7 @@ class Reply:
 
 
 def reply_of(data: bytes) -> Reply:
-    """The reply that these bytes spell, which are those of one."""
+    """Parses the bytes of one reply."""
     if data.startswith(b"ok"):
         return Reply(int(data[3:]) if len(data) > len(b"ok\n") else None)
     if data.startswith(b"error "):
@@ -235,12 +236,12 @@ def reply_of(data: bytes) -> Reply:
 
 
 def _line_of(row: Row, null: str) -> str:
-    """The line of a row, with this text for NULL."""
+    """The CSV line of a row, with `null` for NULL."""
     return ",".join(null if cell is None else str(cell) for cell in row) + "\n"
 
 
 def _integers(body: bytes) -> list[Any]:
-    """The cells of rows of integers and NULL, as a list of JSON: its reader is the quickest in the standard library."""
+    """Parses rows of integers and NULL as a JSON list: the JSON reader is the quickest in the standard library."""
     listed = b"[" + body[:-1].replace(b"\n", b",").replace(b"NULL", b"null") + b"]"
     cells: list[Any]
     cells, _ = _read_json(listed.decode("ascii"))
@@ -248,6 +249,6 @@ def _integers(body: bytes) -> list[Any]:
 
 
 def _names_and_integers(body: bytes) -> list[Any]:
-    """The cells of a list of tables."""
+    """Parses the rows of a list of tables."""
     cells = body.decode().replace("\n", ",").split(",")[:-1]
     return [int(cell) if cell.isdigit() else cell for cell in cells]

@@ -1,7 +1,7 @@
-"""Statements as text: cutting a script as the program cuts it, putting values in, and writing names of files.
+"""Statements as text: splitting a script as the program does, inserting values, and quoting file names.
 
-The program reads a script to the `;` that ends a statement. So the client has to know where statements end: what is
-sent must be closed, and each statement that is sent gets one reply.
+The program reads a script up to the `;` that ends a statement. So the client has to know where statements end: what is
+sent must be complete, and each statement that is sent gets one reply.
 """
 
 from __future__ import annotations
@@ -19,7 +19,7 @@ PathLike = Union[str, "os.PathLike[str]"]
 
 LEAST_NUMBER, GREATEST_NUMBER = -(2**63), 2**63 - 1
 FILE_NAME_BYTES = 255
-# What has a length and can be gone through, and is no list of values all the same: texts, and what has no order.
+# Types that have a length and can be iterated over, but aren't lists of values: texts, and types without an order.
 UNLISTED = (str, bytes, bytearray, Mapping, Set)
 NAME = re.compile(r"[A-Za-z][A-Za-z0-9_]{0,127}")
 RESERVED = frozenset(
@@ -31,36 +31,36 @@ _BLANKS = b"\t\n\r "
 _PIECE = re.compile(rb"'[^']*'|--[^\n]*|[;']|[^';-]+|-")
 _BLANK_PART = re.compile(rb"(?:[\t\n\r ]|--[^\n]*(?:\n|\Z))*")
 _PLACE = re.compile(r"'[^']*'|--[^\n]*|(\?)")
-# Longer statements hold their values in themselves, and are seldom sent twice.
+# Longer statements contain their values themselves, and are rarely sent twice.
 _LONGEST_REMEMBERED = 4096
 
 
 def statements_of(script: str) -> list[bytes]:
-    """The statements of a script, each with the `;` that ends it. Blank ones are left out, as they get no reply.
+    """Splits a script into statements, each with the `;` that ends it. Blank ones are left out, as they get no reply.
 
-    A last statement without a `;` gets one. Raises ProgrammingError where a text isn't closed, for whose end the
-    program would wait.
+    If the last statement has no `;`, one is added. Raises ProgrammingError if a quoted text isn't closed, since the
+    program would wait for its end.
     """
     data = _encoded(script)
     if b"'" not in data and b"--" not in data:
         return [part + b";" for part in data.split(b";") if part.strip(_BLANKS)]
     parts = _parts(data)
-    # A comment runs to the end of its line, so it would swallow a `;` that is put after it.
+    # A comment extends to the end of its line, so it would swallow a `;` appended to it.
     end = b"\n;" if b"--" in parts[-1] else b";"
     ends = [b";"] * (len(parts) - 1) + [end]
     return [part + end for part, end in zip(parts, ends) if not _BLANK_PART.fullmatch(part)]
 
 
 def statement_of(text: str) -> bytes:
-    """The one statement of a text, with its `;`. ProgrammingError where there is none, or more than one."""
+    """Returns the only statement of a text, with its `;`. Raises ProgrammingError if there is none or more than one."""
     return _remembered_statement(text) if len(text) <= _LONGEST_REMEMBERED else _one_statement(text)
 
 
 def bound(statement: str, values: Sequence[Any]) -> str:
-    """The statement with a value in place of each `?` that stands outside texts and comments.
+    """Returns the statement with each `?` outside quoted texts and comments replaced by a value.
 
-    A value is None or an integer. Raises ProgrammingError where it is neither, or where there are fewer values than
-    places or more, and DataError where an integer has more than 64 bits.
+    A value is None or an integer. Raises ProgrammingError if one is neither, or if the number of values isn't the
+    number of `?`, and DataError if an integer has more than 64 bits.
     """
     if isinstance(values, UNLISTED) or not hasattr(values, "__len__"):
         raise ProgrammingError(f"the values are to be a list or a tuple, not a {type(values).__name__}")
@@ -74,9 +74,9 @@ def bound(statement: str, values: Sequence[Any]) -> str:
 
 
 def literal(value: Any) -> str:
-    """How a statement spells None or an integer, with a blank on both sides.
+    """Returns None or an integer as a statement spells it, with a blank on both sides.
 
-    The blanks keep it a token of its own: `-?` with -1 would else begin a comment.
+    The blanks keep it a separate token: otherwise `-?` with -1 would begin a comment.
     """
     if value is None:
         return " NULL "
@@ -87,7 +87,7 @@ def literal(value: Any) -> str:
 
 
 def integer(value: Any) -> int:
-    """The value as an int: ints and what converts to one without loss, such as numpy's. ProgrammingError otherwise."""
+    """Converts the value to an int, if that loses nothing, as for numpy's integers. Else raises ProgrammingError."""
     try:
         return index(value)
     except TypeError:
@@ -97,7 +97,7 @@ def integer(value: Any) -> int:
 
 
 def path_of(path: PathLike) -> str:
-    """A file's name as a str. ProgrammingError where it is no str and no path of str, or has a zero byte."""
+    """Returns a file's name as a str. Raises ProgrammingError if it isn't a str or path of str, or has a zero byte."""
     if not isinstance(path, (str, os.PathLike)) or not isinstance(name := os.fspath(path), str):
         raise ProgrammingError(f"a file's name is to be a str or a path of str, not a {type(path).__name__}")
     if "\0" in name:
@@ -106,10 +106,10 @@ def path_of(path: PathLike) -> str:
 
 
 def quoted(path: PathLike) -> str:
-    """A file's name as a text of a statement, quotes included.
+    """Returns a file's name quoted for use in a statement.
 
-    Raises ProgrammingError where no statement can name the file: where path_of does, or the name is empty, has more
-    than 255 bytes, or isn't UTF-8.
+    Raises ProgrammingError if no statement can name the file: if path_of does, or if the name is empty, has more than
+    255 bytes, or isn't UTF-8.
     """
     name = path_of(path)
     if not 1 <= len(_encoded(name)) <= FILE_NAME_BYTES:
@@ -118,7 +118,7 @@ def quoted(path: PathLike) -> str:
 
 
 def checked_name(word: str) -> str:
-    """The name of a table or a column, in upper case. ProgrammingError where the word can't be one."""
+    """Returns the name of a table or column in upper case. Raises ProgrammingError if the word isn't a valid name."""
     if not isinstance(word, str) or not NAME.fullmatch(word) or word.upper() in RESERVED:
         raise ProgrammingError(
             f"not a name: {word!r}; a name is a letter, then letters, digits and _, at most 128, and no reserved word"
@@ -127,7 +127,7 @@ def checked_name(word: str) -> str:
 
 
 def checked_text(statement: object) -> str:
-    """The statement, or the script, where it is a str. ProgrammingError otherwise."""
+    """Returns the statement or script if it is a str. Raises ProgrammingError otherwise."""
     if not isinstance(statement, str):
         raise ProgrammingError(f"a statement is to be a str, not a {type(statement).__name__}")
     return statement
@@ -152,7 +152,7 @@ _remembered_statement = lru_cache(maxsize=512)(_one_statement)
 
 @lru_cache(maxsize=512)
 def _between_places(statement: str) -> tuple[str, ...]:
-    """What stands before, between and after the places for values."""
+    """Returns the text before, between and after the `?` for values."""
     places = [found.span() for found in _PLACE.finditer(statement) if found[1]]
     starts = [0, *(end for _, end in places)]
     ends = [*(start for start, _ in places), len(statement)]
@@ -160,7 +160,7 @@ def _between_places(statement: str) -> tuple[str, ...]:
 
 
 def _parts(script: bytes) -> list[bytes]:
-    """The parts between the `;` that stand outside texts and comments, blank ones too."""
+    """Returns the parts between the `;` that are outside quoted texts and comments, including blank ones."""
     parts: list[bytes] = []
     pieces: list[bytes] = []
     for found in _PIECE.finditer(script):

@@ -1,4 +1,4 @@
-"""A session: tables that live until it is closed, and the calls that work on them."""
+"""A session: tables that live until the session is closed, and the calls that work on them."""
 
 from __future__ import annotations
 
@@ -22,7 +22,7 @@ from .table_file import Kind, Layout
 
 @dataclass(frozen=True)
 class TableSize:
-    """A table that is there: its name, and its number of columns and of rows."""
+    """An existing table: its name, its number of columns and its number of rows."""
 
     name: str
     columns: int
@@ -38,13 +38,13 @@ class Session:
     def __init__(
         self, program: PathLike | None = None, folder: PathLike | None = None, *, door: Door | None = None
     ) -> None:
-        """Starts a store: the program at this path, or the one that find_program finds. `folder` is where it looks for
-        the files that statements name. A `door` is taken in place of a program. OperationalError where the program
-        can't be started."""
+        """Starts a store: the program at this path, or the one that find_program finds. File names in statements are
+        relative to `folder`. If a `door` is given, it is used instead of a program. Raises OperationalError if the
+        program can't be started."""
         self._door: Door = Coprocess(find_program() if program is None else program, folder) if door is None else door
 
     def execute(self, statement: str, values: Sequence[Any] = ()) -> Reply:
-        """The reply to one statement, with these values in place of its `?`: integers and None."""
+        """Executes one statement, with these values (integers and None) for its `?`, and returns the reply."""
         text = checked_text(statement)
         if "?" in text or not isinstance(values, tuple) or values:
             text = bound(text, values)
@@ -52,11 +52,11 @@ class Session:
         return _accepted(reply_of(data))
 
     def executemany(self, statement: str, rows: Iterable[Sequence[Any]]) -> int:
-        """Executes a statement once for each row of values, and gives the sum of the counts of its replies.
+        """Executes a statement once for each row of values, and returns the sum of the counts of the replies.
 
-        An INSERT whose values are all `?` adds all rows or none, and is quick, as long as its rows as CSV have no more
-        than 268,435,456 bytes; beyond that, all or none of each such part. Any other statement is executed one by one
-        up to the first that is refused.
+        An INSERT whose values are all `?` is quick. It adds all rows or none, if the rows as CSV have at most
+        268,435,456 bytes; otherwise they are added in parts of at most this size, all or none of each part. Any other
+        statement is executed row by row, up to the first that is refused.
         """
         insertion = insertion_of(checked_text(statement))
         try:
@@ -68,31 +68,32 @@ class Session:
         return sum(self.execute(statement, row).count or 0 for row in remaining)
 
     def run(self, script: str) -> list[Reply]:
-        """The replies to all statements of a script, refusals among them. Nothing is raised for a refusal, and the
-        statements after it are carried out."""
+        """Executes a script, and returns the replies to all of its statements, refusals included. A refusal isn't
+        raised, and the statements after it are executed."""
         statements = statements_of(checked_text(script))
         if not statements:
             return []
         return [reply_of(data) for data in self._door.answer(b"".join(statements), len(statements))]
 
     def answers(self, statements: Sequence[str], seconds: float | None = None) -> list[bytes]:
-        """The bytes of the reply to each statement, as the program wrote them, refusals among them. All are sent at
-        once. Where they take longer than these seconds the store is ended, and OutOfTime is raised."""
+        """Executes statements, and returns the reply to each as the bytes that the program wrote, refusals included.
+        All statements are sent at once. If they take longer than `seconds`, the store is ended, and OutOfTime is
+        raised."""
         if isinstance(statements, str):
             raise ProgrammingError("the statements are to be a list of str, not a str")
         scripts = [statement_of(checked_text(statement)) for statement in statements]
-        # A door that knows no limit of time serves as well, where none is given.
+        # If no time limit is given, a door whose `answer` takes none works as well.
         limit = () if seconds is None else (seconds,)
         return self._door.answer(b"".join(scripts), len(scripts), *limit) if scripts else []
 
     def put_table(self, table: str, data: Bytes) -> int:
-        """OPEN of these bytes of a table file: makes a new table of them, and gives the number of rows."""
+        """OPEN of bytes instead of a table file: makes a new table from them, and returns the number of rows."""
         with self._door.scratch() as file:
             file.write(pieces_of([data]))
             return self.open(table, file.name)
 
     def table_bytes(self, table: str) -> bytes:
-        """SAVE to bytes: the table file of a table."""
+        """SAVE to bytes: returns the table file of a table."""
         with self._door.scratch() as file:
             self.save(table, file.name)
             return file.read()
@@ -105,9 +106,9 @@ class Session:
         kind: Kind = Kind.OFFSET,
         column_type: ColumnType | None = None,
     ) -> int:
-        """Makes a new table of whole columns: a mapping of names to lists, arrays of integers or numpy's, or a data
-        frame of pandas. Where no type is given a column is BIGINT if one of its values has more than 32 bits, else
-        INTEGER. Gives the number of rows. Refused where the table is there (TABLE_EXISTS)."""
+        """Makes a new table from whole columns: a mapping of names to lists, arrays of integers or numpy arrays, or a
+        pandas data frame. If no type is given, a column is BIGINT if one of its values has more than 32 bits, else
+        INTEGER. Returns the number of rows. Raises Refused if the table exists already (TABLE_EXISTS)."""
         made = columns if isinstance(columns, Table) else Table.of(columns, layout, kind, column_type)
         pieces = made.file_pieces()
         with self._door.scratch() as file:
@@ -115,42 +116,42 @@ class Session:
             return self.open(table, file.name)
 
     def read_table(self, table: str) -> Table:
-        """All of a table."""
+        """Returns a whole table."""
         return Table.of_file(self.table_bytes(table))
 
     def load(self, table: str, path: PathLike, header: bool = False) -> int:
-        """LOAD: adds the rows of a CSV file to a table, all or none, and gives their number."""
+        """LOAD: adds the rows of a CSV file to a table, all or none, and returns their number."""
         return self._count(f"LOAD {checked_name(table)} FROM {quoted(path)}{' WITH HEADER' if header else ''}")
 
     def load_bytes(self, table: str, pieces: Iterable[Bytes], header: bool = False) -> int:
-        """LOAD of these bytes in place of a CSV file: adds their rows, all or none, and gives their number.
-        ProgrammingError where a piece isn't bytes."""
+        """LOAD of bytes instead of a CSV file: adds their rows, all or none, and returns their number. Raises
+        ProgrammingError if a piece isn't bytes."""
         with self._door.scratch() as file:
             file.write(pieces_of(pieces))
             return self.load(table, file.name, header)
 
     def save(self, table: str, path: PathLike) -> int:
-        """SAVE: writes a table to a table file, over one that is there, and gives the number of rows."""
+        """SAVE: writes a table to a table file, replacing an existing one, and returns the number of rows."""
         return self._count(f"SAVE {checked_name(table)} TO {quoted(path)}")
 
     def open(self, table: str, path: PathLike) -> int:
-        """OPEN: makes a new table of a table file, and gives the number of rows."""
+        """OPEN: makes a new table from a table file, and returns the number of rows."""
         return self._count(f"OPEN {checked_name(table)} FROM {quoted(path)}")
 
     def tables(self) -> list[TableSize]:
-        """The tables that are there, in the order in which they were made."""
+        """Returns the tables, in the order in which they were created."""
         return [TableSize(*row) for row in self.execute("TABLES").rows()]
 
     def column_types(self, table: str) -> dict[str, ColumnType]:
-        """The type of each column of a table, by its name, in order."""
+        """Returns the type of each column of a table, by the column's name, in order."""
         return column_types(self.execute, checked_name(table))
 
     def scratch(self) -> AbstractContextManager[File]:
-        """A file that statements and this process can both reach. It is gone when the context ends."""
+        """A file that both statements and this process can reach. It is removed when the context ends."""
         return self._door.scratch()
 
     def close(self) -> None:
-        """Ends the store and its tables. A closed session may be closed again."""
+        """Ends the store; its tables are gone. Closing a closed session does nothing."""
         self._door.close()
 
     def _count(self, statement: str) -> int:
@@ -166,7 +167,7 @@ class Session:
 
 
 def _accepted(reply: Reply) -> Reply:
-    """The reply, unless it is a refusal, which is raised."""
+    """Returns the reply, or raises it if it is a refusal."""
     if reply.refusal is not None:
         raise reply.refusal
     return reply

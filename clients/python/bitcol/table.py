@@ -1,4 +1,4 @@
-"""A whole table in this process, as it goes into a store at once, or comes out of it."""
+"""A whole table in this process, as it is written to a store at once or read from it."""
 
 from __future__ import annotations
 
@@ -19,7 +19,7 @@ Choice = TypeVar("Choice", bound=IntEnum)
 
 
 class Table:
-    """Columns of one length. Rows and lists are made when they are asked for."""
+    """Columns of the same length. Rows and lists are made when they are asked for."""
 
     def __init__(self, stored: list[Column]) -> None:
         self.stored = stored
@@ -32,9 +32,9 @@ class Table:
         kind: Kind = Kind.OFFSET,
         column_type: ColumnType | None = None,
     ) -> Table:
-        """A table of named columns: a mapping of names to columns, or a data frame of pandas. All get this layout, kind
-        and type; where no type is given a column is BIGINT if one of its values has more than 32 bits, else INTEGER.
-        Raises what cells_of raises, with the name of the column."""
+        """Makes a table from named columns: a mapping of names to columns, or a pandas data frame. All columns get this
+        layout, kind and type; if no type is given, a column is BIGINT if one of its values has more than 32 bits, else
+        INTEGER. Raises what cells_of raises, with the name of the column."""
         if not hasattr(columns, "items"):
             raise ProgrammingError(f"the columns are to be a mapping of names, not a {type(columns).__name__}")
         return cls([_column(name, cells, layout, kind, column_type) for name, cells in columns.items()])
@@ -48,8 +48,8 @@ class Table:
         kind: Kind = Kind.OFFSET,
         column_type: ColumnType | None = None,
     ) -> Table:
-        """A table of rows, each with a value for each name, as `of` makes one of columns. Raises ProgrammingError where
-        a row has another number of values, and what `of` raises."""
+        """Makes a table from rows, each with one value for each name; see `of` for the other arguments. Raises
+        ProgrammingError if a row has another number of values, and what `of` raises."""
         listed = rows if isinstance(rows, (list, tuple)) else list(rows)
         check_widths(listed, len(names), 0)
         cells = list(chain.from_iterable(listed))
@@ -58,41 +58,41 @@ class Table:
 
     @classmethod
     def of_file(cls, data: bytes) -> Table:
-        """The table of a table file's bytes. DataError where they are none."""
+        """Makes a table from the bytes of a table file. Raises DataError if they aren't a table file."""
         return cls(decode(data))
 
     def file_pieces(self) -> list[Bytes]:
-        """The bytes of a table file of this table, in pieces. Raises what encode raises."""
+        """Returns the bytes of a table file with this table, in pieces. Raises what encode raises."""
         return encode(self.stored)
 
     @property
     def names(self) -> list[str]:
-        """The names of the columns, in upper case where a store gave them."""
+        """The names of the columns, in upper case if they come from a store."""
         return [column.name for column in self.stored]
 
     def types(self) -> dict[str, ColumnType]:
-        """The type of each column, by its name."""
+        """Returns the type of each column, by its name."""
         return {column.name: column.cells.column_type for column in self.stored}
 
     def columns(self) -> dict[str, list[int | None]]:
-        """A list for each column, by its name, with None where a row is NULL."""
+        """Returns a list for each column, by its name, with None where a row is NULL."""
         return {column.name: column.cells.to_list() for column in self.stored}
 
     def rows(self) -> Iterator[tuple[int | None, ...]]:
-        """The rows, one after the other, in the order of insertion."""
+        """Iterates over the rows in the order of insertion."""
         return zip(*(column.cells.to_list() for column in self.stored))
 
     def arrays(self) -> dict[str, tuple[array.array[int], bytes]]:
-        """For each column, by its name, an array of integers of 32 bits, or of 64 where it is BIGINT, 0 where a row is
-        NULL, and a byte for each row: 1 where it isn't NULL, else 0."""
+        """Returns two things for each column, by its name: an array of integers of 32 bits, or of 64 if it is BIGINT,
+        with 0 where a row is NULL; and a byte for each row: 1 where it isn't NULL, else 0."""
         return {column.name: (column.cells.numbers(), column.cells.presence_bytes()) for column in self.stored}
 
     def to_numpy(self) -> dict[str, Any]:
-        """A masked array of integers of 32 bits for each column, by its name, or of 64 where it is BIGINT."""
+        """Returns a masked array for each column, by its name: of 32-bit integers, or 64-bit ones if it is BIGINT."""
         return {column.name: column.cells.to_numpy() for column in self.stored}
 
     def to_pandas(self) -> Any:
-        """A data frame of pandas' Int32, or Int64 where a column is BIGINT. NULL is NA."""
+        """Returns a pandas data frame of Int32 columns, or Int64 for BIGINT columns, with NA for NULL."""
         pandas = pandas_module()
         arrays = self.to_numpy()
         columns = {name: pandas.arrays.IntegerArray(cells.data, cells.mask) for name, cells in arrays.items()}
@@ -120,7 +120,7 @@ def _column(
 
 
 def _chosen(choices: type[Choice], value: Any) -> Choice:
-    """The choice that a value is. ProgrammingError where it is none."""
+    """Converts a value to one of the choices. Raises ProgrammingError if it isn't one."""
     try:
         return choices(value)
     except ValueError:

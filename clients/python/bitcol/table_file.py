@@ -1,9 +1,10 @@
-"""The table file, versions 1 and 2: the one place that knows its bytes. docs/TABLE_FILE.md describes them.
+"""The table file format, versions 1 and 2: the only module that knows it. docs/TABLE_FILE.md describes it.
 
     pieces = encode([Column("A", cells_of([3, None, -1]))])     # the pieces of a file, in order
     columns = decode(b"".join(pieces))                          # and back
 
-A table has one spelling in each version, so encode gives for decode's columns and the version of its bytes these bytes.
+In each version a table has exactly one encoding. So encoding the columns that decode returned, in the version of the
+decoded bytes, gives the same bytes.
 """
 
 from __future__ import annotations
@@ -27,12 +28,12 @@ FILE_BYTES = 268_435_456
 _FRONT = struct.Struct("<6sHHI")  # mark, version, columns, rows
 # A cell of version 1.
 _WORD_BYTES = 4
-# The front, and for each column a name of at most 128 bytes with its length, a type, a layout and a kind.
+# The front, and for each column its name of at most 128 bytes with the length, its type, layout and kind.
 HEADERS_BYTES = _FRONT.size + COLUMN_LIMIT * (1 + 128 + 3)
 
 
 class Layout(IntEnum):
-    """How a column's codes lie in memory, by its number in a file. It never changes an answer."""
+    """How a column's codes are arranged in memory, by its number in a file. It never changes an answer."""
 
     P = 0
     V = 1
@@ -41,7 +42,7 @@ class Layout(IntEnum):
 
 
 class Kind(IntEnum):
-    """How a column's values become codes, by its number in a file. It never changes an answer."""
+    """How a column's values are encoded, by its number in a file. It never changes an answer."""
 
     OFFSET = 0
     DICTIONARY = 1
@@ -58,16 +59,16 @@ class Column:
 
     @property
     def header(self) -> ColumnHeader:
-        """What a file tells of the column before its cells."""
+        """What a file says about the column before its cells."""
         return ColumnHeader(self.name, self.layout, self.kind, self.cells.column_type)
 
 
 def encode(columns: Sequence[Column], version: int | None = None) -> list[Bytes]:
-    """The bytes of the file that holds these columns, in pieces, by this version of the file. Where none is given it is
-    1, whose cells need no change, if it holds them: all are INTEGER, and the file isn't too large.
+    """Returns the bytes of a file with these columns, in pieces, in this version of the format. If no version is given,
+    it is 1, whose cells need no conversion, if that can hold them: all are INTEGER, and the file isn't too large.
 
-    Raises ProgrammingError where no file holds them: there are none or more than 64, their lengths differ, a name is no
-    name or stands twice, or a BIGINT has layout H; and DataError where they have more rows or bytes than a file.
+    Raises ProgrammingError if no file can hold them: there are none or more than 64, their lengths differ, a name isn't
+    valid or occurs twice, or a BIGINT has layout H; and DataError if they have more rows or bytes than a file can have.
     """
     rows = _checked(columns)
     if version is None:
@@ -84,7 +85,7 @@ def encode(columns: Sequence[Column], version: int | None = None) -> list[Bytes]
 
 
 def _checked(columns: Sequence[Column]) -> int:
-    """The number of rows. Raises what encode raises where no file has these columns."""
+    """Returns the number of rows. Raises what encode raises if no file can hold these columns."""
     if not 1 <= len(columns) <= COLUMN_LIMIT:
         raise ProgrammingError(f"a table has 1 to {COLUMN_LIMIT} columns, not {len(columns)}")
     names = [checked_name(column.name) for column in columns]
@@ -103,7 +104,7 @@ def _checked(columns: Sequence[Column]) -> int:
 
 
 def _words_file_size(columns: Sequence[Column], rows: int) -> int:
-    """How many bytes the file of version 1 has."""
+    """Returns the number of bytes of the file in version 1."""
     headers = sum(3 + len(column.name) for column in columns)
     return _FRONT.size + headers + len(columns) * (presence_size(rows) + _WORD_BYTES * rows)
 
@@ -116,7 +117,7 @@ def _header_bytes(version: int, header: ColumnHeader) -> bytes:
 
 @dataclass(frozen=True)
 class ColumnHeader:
-    """What a file tells of a column before its cells."""
+    """What a file says about a column before its cells."""
 
     name: str
     layout: Layout
@@ -125,13 +126,13 @@ class ColumnHeader:
 
     @property
     def holds_its_type(self) -> bool:
-        """Whether a column of the type may have the layout."""
+        """Whether a column of this type may have this layout."""
         return (self.layout, self.column_type) != (Layout.H, ColumnType.BIGINT)
 
 
 @dataclass(frozen=True)
 class _Front:
-    """A file up to its cells: version, headers, rows, where each header ends, and so where the cells begin."""
+    """A file up to its cells: version, headers, rows, and where each header ends, and so where the cells begin."""
 
     version: int
     headers: list[ColumnHeader]
@@ -140,14 +141,14 @@ class _Front:
 
 
 def headers_of(data: bytes) -> list[ColumnHeader]:
-    """The headers of a table file's columns. No more than its first HEADERS_BYTES are needed. DataError, with the
-    reason, where the bytes are none."""
+    """Returns the headers of a table file's columns. Its first HEADERS_BYTES are sufficient. Raises DataError, with the
+    reason, if the bytes aren't a table file."""
     return _front(data).headers
 
 
 def with_types(data: bytes, types: Mapping[str, ColumnType]) -> bytes:
-    """A table file of version 2 with other types for some of its columns, by their names. The cells stay as they are,
-    and have to be of these types."""
+    """Returns a table file of version 2 with other types for some of its columns, given by their names. The cells stay
+    as they are, and have to be valid for these types."""
     changed, front = bytearray(data), _front(data)
     for header, end in zip(front.headers, front.ends):
         changed[end - 3] = types.get(header.name, header.column_type)
@@ -155,7 +156,7 @@ def with_types(data: bytes, types: Mapping[str, ColumnType]) -> bytes:
 
 
 def decode(data: bytes) -> list[Column]:
-    """The columns of a table file. DataError, with the reason, where the bytes are none."""
+    """Returns the columns of a table file. Raises DataError, with the reason, if the bytes aren't a table file."""
     front = _front(data)
     found = list((_cells_in_words if front.version == 1 else _cells_in_planes)(data, front))
     return [Column(header.name, cells, header.layout, header.kind) for header, cells in zip(front.headers, found)]
@@ -182,7 +183,7 @@ def _front(data: bytes) -> _Front:
 
 
 def _header(version: int, data: bytes, at: int) -> tuple[ColumnHeader, int]:
-    """The header at this byte, and where the next part begins."""
+    """Returns the header at this byte, and where the next part begins."""
     name_end = at + 1 + data[at] if at < len(data) else at
     end = name_end + version + 1
     if end > len(data):
@@ -201,7 +202,7 @@ def _header(version: int, data: bytes, at: int) -> tuple[ColumnHeader, int]:
 
 
 def _cells_in_words(data: bytes, front: _Front) -> Iterator[Cells]:
-    """The cells of the columns of version 1, not copied."""
+    """Yields the cells of each column of a file of version 1, without copying them."""
     view, rows, at = memoryview(data), front.rows, front.ends[-1]
     size = presence_size(rows)
     if len(data) != at + len(front.headers) * (size + _WORD_BYTES * rows):
@@ -217,7 +218,7 @@ def _cells_in_words(data: bytes, front: _Front) -> Iterator[Cells]:
 
 
 def _cells_in_planes(data: bytes, front: _Front) -> Iterator[Cells]:
-    """The cells of the columns of version 2. No cell is made before the bytes are as many as all columns have."""
+    """Yields the cells of each column of a file of version 2, once the number of bytes is checked for all columns."""
     view, at = memoryview(data), front.ends[-1]
     size = presence_size(front.rows)
     frames: list[tuple[int, int, int]] = []

@@ -1,4 +1,4 @@
-"""Tests of tables of parts: `make -C clients check-cluster`. What needs a package that isn't installed is left out."""
+"""Tests of tables of parts: `make -C clients check-cluster`. Tests whose packages aren't installed are skipped."""
 
 import sys
 from importlib.util import find_spec

@@ -1,4 +1,4 @@
-"""Random tables and statements, from a seed."""
+"""Random tables and statements, generated from a seed."""
 
 from __future__ import annotations
 
@@ -7,7 +7,7 @@ from collections.abc import Callable
 from typing import Optional
 
 Cell = Optional[int]
-# The type, the layout and the kind that a column may have.
+# The type, layout and kind of a column.
 Form = tuple[str, str, str]
 FORMS: list[Form] = [
     (column_type, layout, kind)
@@ -24,7 +24,7 @@ class Chance(random.Random):
     forms: list[Form]
 
     def table(self, most_rows: int = 2000) -> tuple[str, list[list[Cell]]]:
-        """Columns as CREATE TABLE has them, and rows."""
+        """Returns columns as given to CREATE TABLE, and rows."""
         self.names = self.sample(["a", "b", "c_1", "Day"], self.randrange(1, 5))
         self.forms = [self.choice(FORMS) for _ in self.names]
         definition = ", ".join(f"{name} {self._column(*form)}" for name, form in zip(self.names, self.forms))
@@ -33,7 +33,7 @@ class Chance(random.Random):
         return definition, [[pool() for pool in self._pools] for _ in range(rows)]
 
     def _column(self, column_type: str, layout: str, kind: str) -> str:
-        """What CREATE TABLE says of a column. V and OFFSET needn't be said."""
+        """Returns a column as given to CREATE TABLE. V and OFFSET may be omitted."""
         words = [self.choice(["INTEGER", "INT"]) if column_type == "INTEGER" else column_type]
         if layout != "V" or self.random() < 0.5:
             words.append(f"USING {layout}")
@@ -124,11 +124,11 @@ class Chance(random.Random):
         )
 
     def stats(self) -> str:
-        """A STATS of a SELECT."""
+        """Returns a STATS of a SELECT."""
         return f"STATS {self.select()}"
 
     def change(self) -> str:
-        """An INSERT, an UPDATE or a DELETE."""
+        """Returns an INSERT, an UPDATE or a DELETE."""
         sets = ", ".join(
             f"{name} = {self.operand()}" for name in self.sample(self.names, self.randrange(1, len(self.names) + 1))
         )

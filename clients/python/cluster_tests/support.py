@@ -1,4 +1,4 @@
-"""What the tests share: tables as one store and as parts, workers, and calls that are made in this process."""
+"""Shared by the tests: tables as one store and as parts, workers, and calls that are made in this process."""
 
 from __future__ import annotations
 
@@ -22,18 +22,18 @@ except ImportError:
     distributed = None
 
 SEED = int(os.environ.get("BITCOL_SEED") or "1")
-# How many random statements are asked.
+# The number of random statements.
 STATEMENTS = int(os.environ.get("BITCOL_STATEMENTS") or "1500")
 Row = Sequence[Optional[int]]
 
 
 def say(text: str) -> None:
-    """Tells what a test counted, or what was left out."""
+    """Reports what a test counted, or what was left out."""
     print(text, file=sys.stderr, flush=True)
 
 
 class Done:
-    """A call that was made at once, as a future. What goes in and out is pickled, as it is on its way to a worker."""
+    """A call that was made at once, as a future. Arguments and results are pickled, as on their way to a worker."""
 
     status = "finished"
 
@@ -75,13 +75,13 @@ class Inline:
 
 
 def write_csv(path: Path, rows: Iterable[Row]) -> Path:
-    """A CSV file of these rows."""
+    """Writes a CSV file with these rows."""
     path.write_text("".join(",".join("NULL" if cell is None else str(cell) for cell in row) + "\n" for row in rows))
     return path
 
 
 def cut_rows(chance: random.Random, rows: Sequence[Row], most: int = 6) -> list[Sequence[Row]]:
-    """The rows in some parts, as they follow one another; some may have none."""
+    """Splits the rows into consecutive parts, some of which may be empty."""
     cuts = sorted(chance.randrange(len(rows) + 1) for _ in range(chance.randrange(most)))
     return [rows[start:end] for start, end in zip([0, *cuts], [*cuts, len(rows)])]
 
@@ -99,7 +99,7 @@ class PartsTestCase(unittest.TestCase):
             self.client = Inline()
 
     def one_store(self, definition: str, files: Iterable[Path]) -> bitcol.Session:
-        """One store with the rows of CSV files."""
+        """Makes one store with the rows of CSV files."""
         session = bitcol.Session()
         self.addCleanup(session.close)
         session.execute(f"CREATE TABLE t ({definition})")
@@ -110,19 +110,19 @@ class PartsTestCase(unittest.TestCase):
     def both(
         self, definition: str, parts: Sequence[Sequence[Row]], name: str = "table", together: int | None = None
     ) -> tuple[cluster.Table, bitcol.Session]:
-        """The same rows as a table of parts and in one store."""
+        """Makes a table of parts and one store with the same rows."""
         files = [write_csv(self.folder / f"{name}-{number}.csv", rows) for number, rows in enumerate(parts)]
         table = cluster.create(self.client, self.folder / name, "t", definition, together).load(files)
         return table, self.one_store(definition, files)
 
     def same(self, table: cluster.Table, one: bitcol.Session, statement: str) -> bitcol.Reply:
-        """The reply of both to a SELECT, which is the same bytes."""
+        """Checks that both reply to a SELECT with the same bytes, and returns the reply."""
         (wanted,) = one.answers([statement])
         self.assertEqual(table.answer(statement), wanted, statement)
         return bitcol.reply_of(wanted)
 
     def refused(self, text: str, call: Callable[[], Any], kind: type[BaseException] = bitcol.Error) -> BaseException:
-        """Makes a call that is to raise an error of this class with this text in it."""
+        """Checks that a call raises an error of this class with this text in it, and returns the error."""
         with self.assertRaises(kind) as caught:
             call()
         self.assertIn(text, str(caught.exception))
@@ -130,7 +130,7 @@ class PartsTestCase(unittest.TestCase):
 
 
 def start_cluster(workers: int, threads: int = 1, memory_limit: str = "1GB") -> tuple[Any, Any]:
-    """Workers on this machine, and a client of them."""
+    """Starts workers on this machine, and a client of them."""
     made = distributed.LocalCluster(
         n_workers=workers,
         threads_per_worker=threads,
@@ -143,7 +143,7 @@ def start_cluster(workers: int, threads: int = 1, memory_limit: str = "1GB") -> 
 
 @unittest.skipIf(distributed is None, "dask.distributed is not installed")
 class ClusterTestCase(PartsTestCase):
-    """A test with two workers on this machine: those of its class, or, where `IS_OWN`, its own."""
+    """A test with two workers on this machine: those of its class, or, if `IS_OWN`, its own."""
 
     WORKERS, THREADS, IS_OWN = 2, 1, False
     workers: Any = None

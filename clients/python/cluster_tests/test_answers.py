@@ -22,7 +22,7 @@ except ImportError:
 
 class Answers(PartsTestCase):
     def test_medians(self) -> None:
-        """Parts whose medians are far apart, all equal, at the ends of a type, of NULLs alone."""
+        """Parts whose medians are far apart, all equal, or at the ends of a type, and parts with only NULLs."""
         least, greatest = -(2**63), 2**63 - 1
         parts = [
             [(least, 1), (least, 2), (greatest, None)],
@@ -65,7 +65,8 @@ class Answers(PartsTestCase):
         self.refused("no such column", lambda: table.sql("SELECT z FROM t"), bitcol.StatementRefused)
 
     def test_stats(self) -> None:
-        """The number of a STATS is the sum over the parts that its SELECT is asked of, and is refused as that is."""
+        """The number of a STATS is the sum over the parts that its SELECT is sent to, and it is refused like that
+        SELECT."""
         rows = [(number, number % 7) for number in range(600)]
         table, one = self.both("a INT, b INT USING S", [rows[:300], rows[300:]], together=1)
         for condition, places in (("a <> 5", [0, 1]), ("b < 3", [0, 1]), ("a > 299 AND b = 1", [1]), ("a > 600", [0])):
@@ -100,7 +101,7 @@ class Answers(PartsTestCase):
 
 class Groups(PartsTestCase):
     def test_groups_of_several_parts(self) -> None:
-        """Groups that lie in several parts, that of NULL among them, with medians far apart."""
+        """Groups that occur in several parts, including that of NULL, with medians far apart."""
         parts = [
             [(None, 1), (None, 2), (1, 5), (2, None)],
             [(None, 100), (None, 101), (1, 7), (None, 50)],
@@ -127,7 +128,7 @@ def forget() -> None:
 
 
 class AnswersOfWorkers(ClusterTestCase, Answers):
-    """The same by two workers."""
+    """The same with two workers."""
 
     THREADS = 2
 
@@ -140,7 +141,7 @@ class AnswersOfWorkers(ClusterTestCase, Answers):
         self.assertEqual(first.sql("SELECT SUM(a) FROM t").scalar(), 28)
 
     def test_calls_and_tasks(self) -> None:
-        """Questions are calls to the workers, and tasks where these hold a part no more or can't be reached."""
+        """Queries are calls to the workers, and tasks if these don't hold a part any more or can't be reached."""
         statements = ("SELECT a FROM t WHERE a > 2", "SELECT COUNT(*), MEDIAN(a) FROM t", "STATS SELECT a FROM t")
         table, _ = self.both("a INT", [[(number,)] for number in range(8)], together=2)
         wait([group.holding for group in table._questions.groups])
@@ -183,7 +184,7 @@ class AnswersOfWorkers(ClusterTestCase, Answers):
                 self.assertEqual(table.sql("SELECT SUM(a), MEDIAN(a) FROM t").rows(), [(28, 3)])
             self.assertEqual(set(table._questions._calls._addresses.values()), set(client.scheduler_info()["workers"]))
 
-    # What takes many rounds, or no worker, is asked in this process alone.
+    # Tests that take many rounds, or need no worker, are run only in this process.
     test_long_and_deep_statements = test_other_statements = test_medians = None  # type: ignore[assignment]
 
 

@@ -1,4 +1,4 @@
-"""Changes that are broken off at each of their steps: the folder opens as before or as after."""
+"""Changes that fail at each of their steps: the folder opens in the state before or after the change."""
 
 from __future__ import annotations
 
@@ -20,19 +20,19 @@ from .support import PartsTestCase, say, write_csv
 
 Change = Callable[[cluster.Table], object]
 ALL = "SELECT * FROM t"
-# The calls of the system by which a storage writes.
+# The system calls by which a storage writes.
 CALLS = ("fsync", "link", "replace", "open", "close")
 
 
 class Faults:
-    """Has the step of this number fail, of all by which files are put in place, and where `is_end` all after it as
-    well: then a folder is left as by a process that was killed there."""
+    """Makes the step with this number fail, of all those by which files are put in place, and, if `is_end`, also all
+    later ones: then the folder is left as by a process that was killed there."""
 
     def __init__(self, number: int, is_end: bool) -> None:
         self.number, self.is_end, self.made = number, is_end, 0
 
     def planted(self, call: Callable[..., Any]) -> Callable[..., Any]:
-        """A call whose step may fail."""
+        """Returns a call whose step may fail."""
 
         def made(*arguments: Any, **rest: Any) -> Any:
             self.made += 1
@@ -43,7 +43,7 @@ class Faults:
         return made
 
     def broken_off(self, change: Callable[[], object]) -> bool:
-        """Whether a change that is made so has come to the step that fails."""
+        """Makes a change, and returns whether it reached the step that fails."""
         calls = types.SimpleNamespace(**vars(os))
         for name in CALLS:
             setattr(calls, name, self.planted(getattr(os, name)))
@@ -58,7 +58,7 @@ class Faults:
 
 class BrokenOff(PartsTestCase):
     def changes(self) -> dict[str, Change]:
-        """Each call that changes a table."""
+        """Returns each call that changes a table."""
         more = [write_csv(self.folder / f"{name}.csv", [(number, 7)]) for number, name in enumerate("xy")]
         file = self.folder / "more.table"
         with bitcol.Session() as session:
@@ -87,7 +87,7 @@ class BrokenOff(PartsTestCase):
         self.assertTrue(seen["as before"] and seen["as after"])
 
     def is_broken_off(self, name: str, change: Change, faults: Faults, after: bytes, seen: Counter[str]) -> bool:
-        """Whether the change was broken off. Its folder is looked over."""
+        """Returns whether the change failed. Checks its folder."""
         before = self.rows_of("whole")
         copy = self.copy("copy")
         if not faults.broken_off(lambda: change(copy)):
@@ -99,7 +99,7 @@ class BrokenOff(PartsTestCase):
         self.assertEqual(there.version, 2 if found == before and before != after else there.version)
         self.assertEqual(self.rows_of("copy", 2), before)
         seen["as after" if there.version > 2 else "as before"] += 1
-        # What was broken off is swept away, and the change can be made again.
+        # What the failed change left is removed, and the change can be made again.
         there.vacuum(0)
         self.assertEqual(self.rows_of("copy"), found)
         if there.version == 2:
@@ -108,13 +108,13 @@ class BrokenOff(PartsTestCase):
         return True
 
     def copy(self, name: str) -> cluster.Table:
-        """A copy of the table's folder, in place of one that is there."""
+        """Makes a copy of the table's folder, replacing an existing one."""
         shutil.rmtree(self.folder / name, ignore_errors=True)
         shutil.copytree(self.folder / "whole", self.folder / name)
         return cluster.open(self.client, self.folder / name)
 
     def rows_of(self, name: str, version: int | None = None) -> bytes:
-        """The rows of a folder's table."""
+        """Returns the rows of a folder's table."""
         return cluster.open(self.client, self.folder / name, version).answer(ALL)
 
 

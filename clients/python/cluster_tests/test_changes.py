@@ -1,4 +1,4 @@
-"""Changes: versions, files that are cut, parts that are put together."""
+"""Changes: versions, files that are cut, parts that are combined."""
 
 from __future__ import annotations
 
@@ -91,7 +91,7 @@ class Changes(PartsTestCase):
 
 
 class ChangesByWorkers(ClusterTestCase, Changes):
-    """The same by two workers."""
+    """The same with two workers."""
 
     test_a_path_that_is_too_long_for_a_statement = test_files_are_cut = None  # type: ignore[assignment]
 

@@ -1,4 +1,4 @@
-"""Parts that aren't asked: the truths of conditions by the ends of columns, against the rows themselves."""
+"""Parts that aren't queried: truth values of conditions by the ends of columns, compared with the rows themselves."""
 
 from __future__ import annotations
 

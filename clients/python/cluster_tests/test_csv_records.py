@@ -34,7 +34,7 @@ class Cut(unittest.TestCase):
             pieces(b'1\n"2\n3\n4\n5\n', 4)
 
     def test_random_files(self) -> None:
-        """The program reads the pieces as it reads the whole: each is loaded behind a line without a byte."""
+        """The program reads the pieces as it reads the whole file: each is loaded after an empty line."""
         chance = random.Random(f"csv-{SEED}")
         with bitcol.Session() as session:
             for quote in ("", '"'):

@@ -1,4 +1,4 @@
-"""Folders of tables: files that are there whole or not at all, manifests, and versions that are taken once."""
+"""Folders of tables: files that are complete or don't exist, manifests, and versions that are taken once."""
 
 from __future__ import annotations
 
@@ -33,7 +33,7 @@ class Host(PartsTestCase):
         self.refused("No such file", lambda: storage.read("b"), bitcol.OperationalError)
 
         def name() -> str:
-            """When it is asked for, all bytes are written, and no file is in place."""
+            """When the name is asked for, all bytes are written, and no file is in place."""
             (unfinished,) = set(storage.names()) - {"a"}
             self.assertTrue(unfinished.endswith(UNFINISHED))
             self.assertEqual(storage.read(unfinished), b"12345")
@@ -68,7 +68,7 @@ class Host(PartsTestCase):
 
 
 class FileSystem:
-    """A file system as fsspec has them, in memory, of a kind that can put a file only where there is none."""
+    """An in-memory file system as in fsspec, which can create a file only if there is none."""
 
     files: dict[str, bytes] = {}
 
@@ -158,7 +158,7 @@ class Manifests(PartsTestCase):
 
 
 class BadInput(PartsTestCase):
-    """Each is an error that names what is at fault, and the table stays as it was."""
+    """Each is an error that names what is faulty, and the table stays as it was."""
 
     def setUp(self) -> None:
         super().setUp()
@@ -230,7 +230,7 @@ class BadInput(PartsTestCase):
             self.refused(told, lambda: cluster.open(self.client, name), bitcol.ProgrammingError)
 
     def test_files_that_are_none(self) -> None:
-        """One path in place of a list would be gone through letter by letter."""
+        """A single path instead of a list would be iterated letter by letter."""
         path = write_csv(self.folder / "good.csv", [(7, 8)])
         for call in (self.table.load, self.table.attach):
             for one in (str(path), os.fsencode(path), path):
@@ -239,7 +239,7 @@ class BadInput(PartsTestCase):
             self.refused("not a int", lambda: call([5]), bitcol.ProgrammingError)
 
     def test_a_host_that_writes_nothing(self) -> None:
-        """The file that can't be written is named, and not the CSV file whose rows it was to have."""
+        """The file that can't be written is named, and not the CSV file with its rows."""
         path = write_csv(self.folder / "good.csv", [(7, 8)])
         for call in ("link", "replace"):
             with mock.patch.object(os, call, side_effect=OSError(28, "No space left on device")):
@@ -254,7 +254,7 @@ class BadInput(PartsTestCase):
         whole = path.read_bytes()
         ask = "SELECT COUNT(*) FROM t"
         self.table = None  # type: ignore[assignment]
-        # A bit of the last row's presence: a table file still, but another.
+        # A bit of the last row's presence: still a valid table file, but a different one.
         for damaged in (whole[:-1], whole + b"x", whole[:-9] + bytes([whole[-9] ^ 1]) + whole[-8:], b""):
             path.write_bytes(damaged)
             self.refused(f"part {path} is damaged", lambda: cluster.open(self.client, self.folder / "table").sql(ask))

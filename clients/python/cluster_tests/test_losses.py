@@ -21,13 +21,13 @@ from bitcol.cluster.programs import Place
 
 from .support import SEED, ClusterTestCase, PartsTestCase, say, write_csv
 
-# How long each test goes on.
+# How many seconds each test runs.
 SECONDS = float(os.environ.get("BITCOL_SECONDS", "20"))
 PACKAGE = Path(__file__).resolve().parent.parent
 
 
 def programs() -> dict[int, int]:
-    """The processes of the program, with the process that each belongs to."""
+    """Returns the processes of the program, with the process to which each belongs."""
     program, found = os.path.realpath(bitcol.find_program()), {}
     for path in Path("/proc").glob("[0-9]*"):
         try:
@@ -39,17 +39,17 @@ def programs() -> dict[int, int]:
 
 
 def orphans() -> set[int]:
-    """The programs whose worker has ended."""
+    """Returns the programs whose worker has ended."""
     return {pid for pid, parent in programs().items() if parent == 1}
 
 
 def use_program(path: str) -> None:
-    """On a worker: the program that is run from now on."""
+    """On a worker: sets the program that is run from now on."""
     os.environ["BITCOL"] = path
 
 
 def runs_in_little_memory(program: str) -> bool:
-    """Whether the program answers with 200 megabytes of addresses."""
+    """Returns whether the program answers with 200 megabytes of address space."""
     words = ["sh", "-c", 'ulimit -v 200000; exec "$0"', program]
     return subprocess.run(words, input=b"TABLES;", capture_output=True).stdout.endswith(b"rows 0\n")
 
@@ -70,13 +70,13 @@ class Losses(ClusterTestCase):
 
     @contextmanager
     def killing(self, counts: dict[str, int]) -> Iterator[None]:
-        """Kills workers, and programs of parts, meanwhile."""
+        """Kills workers, and programs of parts, during the context."""
         ending = threading.Event()
 
         def kill() -> None:
             while not ending.wait(self.chance.uniform(0.5, 2.5)):
                 if len(self.workers.scheduler.workers) < self.WORKERS:
-                    # A worker that is killed before it is ready is given up by dask.
+                    # Dask gives up a worker that is killed before it is ready.
                     continue
                 pids = [worker.pid for worker in self.workers.workers.values()]
                 kind = self.chance.choice(["workers", "programs"])
@@ -97,7 +97,7 @@ class Losses(ClusterTestCase):
             killer.join()
 
     def test_killed_workers_and_programs(self) -> None:
-        """Each answer is right, or an error is told; no program is left without a worker."""
+        """Each answer is right, or an error is reported; no program is left without a worker."""
         left_before = orphans()
         table, one = self.random_table(6, 20_000)
         statements = [
@@ -125,7 +125,7 @@ class Losses(ClusterTestCase):
         self.assertEqual(orphans() - left_before, set())
 
     def test_killed_workers_in_loads_and_changes(self) -> None:
-        """A load, or a change, is carried out or told to have failed, and never in part."""
+        """A load, or a change, is executed or reported as failed, but never executed in part."""
         table, _ = self.random_table(4, 2_000)
         file = write_csv(self.folder / "more.csv", [(7, 7)] * 500)
         counts, told, value = {"workers": 0, "programs": 0}, [], 0
@@ -150,7 +150,7 @@ class Losses(ClusterTestCase):
             self.assertEqual(whole.sql("SELECT COUNT(*) FROM t").scalar(), len(whole))
 
     def test_killed_clients(self) -> None:
-        """A client is killed in the middle of changes: the version before or the version after is there, whole."""
+        """A client is killed in the middle of changes: the version before or after is there, complete."""
         table, _ = self.random_table(4, 500)
         script = (
             "import sys\nfrom bitcol import cluster\nfrom distributed import Client\n"
@@ -198,7 +198,7 @@ class Losses(ClusterTestCase):
             small.write_text(f'#!/bin/sh\nulimit -v {kilobytes}\nexec {program} "$@"\n')
             small.chmod(0o755)
             self.client.run(use_program, str(small))
-            # Under another name the parts are opened anew.
+            # Under another name the parts are opened again.
             name = f"T{kilobytes}"
             again = cluster.Table(self.client, Place(table._place.storage, name), table.manifest, 1)
             for statement in (f"SELECT SUM(a), MEDIAN(a) FROM {name}", f"UPDATE {name} SET a = b"):
@@ -229,7 +229,7 @@ class ShortMemory(ClusterTestCase):
         super().setUp()
 
     def test_more_parts_than_memory(self) -> None:
-        """A worker whose memory holds some of ten parts: dask spills the others, and their programs end."""
+        """A worker whose memory can hold only some of ten parts: dask spills the others, and their programs end."""
         chance = random.Random(f"short-{SEED}")
         parts = [[(chance.randrange(2**31), chance.choice([None, 1, 2])) for _ in range(30_000)] for _ in range(10)]
         table, one = self.both("a INT, b INT", parts, together=1)
@@ -259,7 +259,7 @@ class SlowProgram(PartsTestCase):
             "    child.write(data.decode()); child.flush()\n"
         )
         slow.chmod(0o755)
-        # Its parts would be shared.
+        # Otherwise its parts would be shared.
         del table
         with mock.patch.dict(os.environ, {"BITCOL": str(slow)}):
             again = cluster.open(self.client, self.folder / "table")

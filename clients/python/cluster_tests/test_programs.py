@@ -1,4 +1,4 @@
-"""Parts that are open in one program: what is asked by one script, under which names, and what comes of faults."""
+"""Parts that are open in one program: what one script queries, under which names, and the effects of faults."""
 
 from __future__ import annotations
 
@@ -31,24 +31,24 @@ QUESTIONS = (
 
 
 def small_parts(count: int) -> list[list[Row]]:
-    """Parts of a few rows each."""
+    """Returns parts with a few rows each."""
     return [[(number * 5 + row, (number + row) % 5 or None) for row in range(4)] for number in range(count)]
 
 
 def programs_of(table: cluster.Table) -> list[Program]:
-    """The programs of a table whose questions are asked in this process, each once."""
+    """Returns the programs of a table that is queried in this process, each once."""
     holdings = [group.holding.result() for group in table._questions.groups]
     return list(dict.fromkeys(part.program for holding in holdings for part in holding._open))
 
 
 def process_of(program: Program) -> int:
-    """The process of a program."""
+    """Returns the process of a program."""
     return program._session._door._child.pid  # type: ignore[union-attr, attr-defined, no-any-return]
 
 
 @contextmanager
 def counted() -> Iterator[list[int]]:
-    """How many statements each script has that is sent meanwhile."""
+    """Yields a list with the number of statements of each script that is sent during the context."""
     sent: list[int] = []
     answers = Session.answers
 
@@ -63,7 +63,7 @@ def counted() -> Iterator[list[int]]:
 
 class Names(unittest.TestCase):
     def test_names(self) -> None:
-        """Each is as long as the table's, and is another; none is reserved."""
+        """Each is as long as the table's name, and different from it; none is reserved."""
         for table in ("A", "Z", "T", "AA", "AS", "B_", "DAY", "V" * 128):
             names = programs._names_like(table)
             self.assertEqual((len(set(names)), {len(name) for name in names}), (PARTS, {len(table)}))
@@ -91,7 +91,8 @@ class Names(unittest.TestCase):
 
 class Programs(PartsTestCase):
     def test_one_script_asks_all_parts_of_a_program(self) -> None:
-        """More parts than a program has: answers are those of one store, and a question is a script for each."""
+        """More parts than fit into a program: answers are those of one store, and a query is one script for each
+        program."""
         count = 2 * PARTS + 3
         table, one = self.both("a INT, b INT", small_parts(count), together=count)
         for statement in QUESTIONS:
@@ -106,7 +107,7 @@ class Programs(PartsTestCase):
         self.assertEqual(sent, [4])
 
     def test_other_tables(self) -> None:
-        """The names of parts are those of no table, nor is any other; and lengths stay as they were written."""
+        """Neither the names of parts nor any others are those of tables; and lengths stay as they were written."""
         table, one = self.both("a INT, t INT", [[(1, 2)], [(3, 4)], [(5, None)]], together=3)
         for name in (*programs._names_like("T"), "u", "tt", "t_", "1t", "'t'", "\u0165", "FROM t", "t t", ""):
             for statement in (f"SELECT COUNT(*) FROM {name}", f"STATS SELECT a FROM {name} WHERE t = 1"):
@@ -129,7 +130,7 @@ class Programs(PartsTestCase):
                     self.assertEqual([table.answer(statement)], one.answers([statement]), statement[:60])
 
     def test_a_script_and_its_answers_are_longer_than_pipes(self) -> None:
-        """Neither waits for the other, with scripts cut and uncut."""
+        """Neither blocks the other, whether scripts are cut or not."""
         parts = [[(part * 20_000 + row, None) for row in range(20_000)] for part in range(6)]
         table, one = self.both("a INT, b INT", parts, together=6)
         statement = "SELECT a, b FROM t".ljust(65_000)
@@ -140,7 +141,7 @@ class Programs(PartsTestCase):
             self.assertEqual(max(sent), {1: 1, 195_000: 3, 2**20: 6}[length])
 
     def test_parts_that_are_wanted_no_more(self) -> None:
-        """Their tables are dropped, and their names taken again: a program has the parts of the version alone."""
+        """Their tables are dropped, and their names reused: a program has only the parts of the version."""
         table, one = self.both("a INT, b INT", small_parts(PARTS - 4), together=PARTS)
         (program,) = programs_of(table)
         table.answer(QUESTIONS[0])
@@ -150,7 +151,7 @@ class Programs(PartsTestCase):
             self.assertEqual([table.answer(change)], one.answers([change]))
             self.same(table, one, QUESTIONS[number % 4])
         self.assertEqual(programs_of(table), [program])
-        # Those that were left last are dropped by the next question.
+        # Those that were released last are dropped by the next query.
         self.same(table, one, QUESTIONS[0])
         self.assertEqual(len(program._session.tables()), len(table.manifest.parts))  # type: ignore[union-attr]
         self.assertEqual(process_of(program), process)
@@ -172,7 +173,7 @@ class Programs(PartsTestCase):
 
 class Faults(PartsTestCase):
     def slow(self, script: str) -> str:
-        """A program that does something before it is given what it is asked: `data`."""
+        """Returns a program that runs this code before it is given its input: `data`."""
         path = self.folder / f"program-{len(list(self.folder.glob('program-*')))}.sh"
         path.write_text(
             "#!/usr/bin/env python3\nimport os, pathlib, re, subprocess, sys, time\n"
@@ -196,12 +197,13 @@ class Faults(PartsTestCase):
             self.assertNotEqual(process_of(program), killed)
 
     def test_a_program_that_ends_in_the_middle_of_a_script(self) -> None:
-        """It has answered some of the parts. Asked again it answers all, and where it ends again that is told."""
+        """It has answered for some of the parts. Queried again it answers for all; if it ends again, that is
+        reported."""
         table, one = self.both("a INT, b INT", small_parts(6), together=6)
         statement = QUESTIONS[0]
         (wanted,) = one.answers([statement])
         del table
-        # It gets the first statements alone, and is killed.
+        # It gets only the first statements, and is killed.
         cut = "data = data[: [found.end() for found in re.finditer(b';', data)][2]]"
         ends = f"{cut}; child.stdin.write(data); child.stdin.flush(); time.sleep(0.2); child.kill(); os._exit(7)"
         for condition, is_answered in (("not mark.exists()", True), ("True", False)):
@@ -234,7 +236,7 @@ class Faults(PartsTestCase):
         self.same(cluster.open(self.client, self.folder / "table"), one, "SELECT SUM(a) FROM t")
 
     def test_a_turn_that_does_not_come(self) -> None:
-        """A question of another thread takes longer than this one may."""
+        """A query of another thread takes longer than this one's limit."""
         table, _ = self.both("a INT, b INT", small_parts(2), together=2)
         (program,) = programs_of(table)
         statement, told = "SELECT SUM(a) FROM t", "longer than it may"
@@ -244,7 +246,7 @@ class Faults(PartsTestCase):
         self.assertEqual(table.sql("SELECT COUNT(*) FROM t", seconds=30).scalar(), 8)
 
     def test_no_memory(self) -> None:
-        """Of a program that gets no memory for one of its parts, that part is named; the others are asked as before."""
+        """If a program gets no memory for one of its parts, that part is named; the others are queried as before."""
         table, one = self.both("a INT, b INT", small_parts(4), together=4)
         answers = Session.answers
 
@@ -261,7 +263,7 @@ class Faults(PartsTestCase):
         self.same(table, one, QUESTIONS[0])
 
     def test_no_memory_to_open_a_part(self) -> None:
-        """The part is named. Those that are open in the same program stay so."""
+        """The part is named. Those that are open in the same program stay open."""
         table, one = self.both("a INT, b INT", small_parts(4), together=4)
         self.same(table, one, "SELECT COUNT(*) FROM t WHERE a < 10")
         (program,) = programs_of(table)
@@ -281,7 +283,7 @@ class Faults(PartsTestCase):
         self.assertEqual(process_of(program), process)
 
     def test_a_damaged_part_among_others(self) -> None:
-        """It is named when it is opened; those that are open in the same program stay so."""
+        """It is named when it is opened; those that are open in the same program stay open."""
         table, one = self.both("a INT, b INT", small_parts(4), together=4)
         part = table.manifest.parts[2]
         path = self.folder / "table" / part.file
@@ -300,7 +302,7 @@ class Faults(PartsTestCase):
 
 class Objects(PartsTestCase):
     def test_one_part_twice(self) -> None:
-        """Parts of the same bytes are one file, and are asked as often as they are there."""
+        """Parts with the same bytes are one file, and are queried as often as they occur."""
         rows = small_parts(1)[0]
         table, one = self.both("a INT, b INT", [rows, rows, rows], together=3)
         self.assertEqual(len({part.digest for part in table.manifest.parts}), 1)
@@ -308,7 +310,7 @@ class Objects(PartsTestCase):
             self.same(table, one, statement)
 
     def test_parts_of_programs_that_follow_one_another_no_more(self) -> None:
-        """An object of parts in several programs has their replies in order."""
+        """An object with parts in several programs returns their replies in order."""
         table, _ = self.both("a INT, b INT", small_parts(8), together=2)
         parts: list[Part] = [*table.manifest.parts[::2], *table.manifest.parts[1::2]]
         holding = Holding(table._place, parts)

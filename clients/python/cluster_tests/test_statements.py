@@ -1,8 +1,8 @@
-"""Random statements of all kinds over the same rows in one store and in parts: the answers are the same bytes.
+"""Random statements of all kinds on the same rows in one store and in parts: the answers are the same bytes.
 
     make -C clients check-cluster STATEMENTS=5000 SEED=7
 
-asks so many of them, and no other test. A difference is told with what makes it anew.
+runs this number of them, and no other test. A difference is reported together with how to reproduce it.
 """
 
 from __future__ import annotations
@@ -26,21 +26,21 @@ from bitcol.cluster.select import Select
 from .statements import FORMS, Chance
 from .support import SEED, STATEMENTS, ClusterTestCase, PartsTestCase, cut_rows, say
 
-# How many statements a table is asked.
+# The number of statements for each table.
 OF_A_TABLE = 50
-# How many seconds pass between two lines that tell how far a run is.
+# The seconds between two lines that show the progress of a run.
 TELLING_SECONDS = 10.0
 ALL = "SELECT * FROM t"
 
 
 def _with_all(manifest: Manifest, parts: Iterable[Part]) -> Manifest:
-    """The next version, in which parts without rows stay."""
+    """Returns the next version, in which parts without rows are kept."""
     return replace(manifest, version=manifest.version + 1, parts=tuple(parts))
 
 
 @contextlib.contextmanager
 def _searches(chance: Chance, few: int, probes: int) -> Iterator[None]:
-    """Medians are looked for in other steps than usual, and answers merged by fewer."""
+    """Makes the search for medians use other steps than usual, and merges fewer answers at a time."""
     with mock.patch.object(questions, "FEW_VALUES", few), mock.patch.object(median, "PROBES", probes), \
             mock.patch.object(questions, "FAN_IN", chance.choice([2, 3, 32])):
         yield
@@ -56,7 +56,7 @@ class Asked:
     told: str
 
     def wanted(self, statement: str) -> bytes:
-        """The bytes that are to be answered. A STATS adds up what the parts that are asked read."""
+        """Returns the expected bytes. For a STATS it adds up what the queried parts read."""
         (reply,) = self.one.answers([statement])
         if not statement.startswith("STATS") or reply.startswith(b"error"):
             return reply
@@ -71,7 +71,7 @@ class Asked:
 
 
 class Statements(PartsTestCase):
-    """Tables of columns of each form, in parts of which some have no row."""
+    """Tables with columns of each form, in parts, some of which have no rows."""
 
     COUNT = STATEMENTS
     MOST_ROWS = 2000
@@ -85,7 +85,7 @@ class Statements(PartsTestCase):
         self.last_told = time.monotonic()
 
     def test_random_statements(self) -> None:
-        """As many statements as are wanted, table after table."""
+        """Runs the requested number of statements, table after table."""
         while self.counts["statements"] < self.COUNT:
             self.ask_table(self.counts["tables"], min(OF_A_TABLE, self.COUNT - self.counts["statements"]))
         self.tell("all asked")
@@ -94,7 +94,7 @@ class Statements(PartsTestCase):
             self.assertEqual(set(self.forms), set(FORMS))
 
     def ask_table(self, number: int, count: int) -> None:
-        """Makes a table, asks it some statements, and then for its older versions."""
+        """Makes a table, sends it some statements, and then reads its older versions."""
         chance = Chance(f"statements-{SEED}-{number}")
         few, probes = chance.choice(self.FEW), chance.choice([1, 2, 3, 14])
         definition, rows = chance.table(40 if few == 0 else self.MOST_ROWS)
@@ -112,7 +112,7 @@ class Statements(PartsTestCase):
         one.close()
 
     def ask_statements(self, asked: Asked, count: int) -> dict[int, bytes]:
-        """Asks so many statements, up to the first difference. Gives the rows of each version."""
+        """Sends `count` statements, up to the first difference. Returns the rows of each version."""
         chance, table = asked.chance, asked.table
         versions = {table.version: table.answer(ALL)}
         for _ in range(count):
@@ -130,12 +130,12 @@ class Statements(PartsTestCase):
         return versions
 
     def ask(self, asked: Asked, kind: str, statement: str) -> bool:
-        """Whether a statement is answered alike."""
+        """Sends a statement, and returns whether both answers are equal."""
         wanted = asked.wanted(statement)
         try:
             found = asked.table.answer(statement)
         except bitcol.NotSupportedError as refused:
-            # Of a single store it is had.
+            # A single store supports it.
             self.counts["not supported"] += 1
             groups = bitcol.reply_of(wanted).count or 0
             return self.hold(asked, statement, str(refused).encode() if groups <= questions.GROUP_LIMIT else b"", b"")
@@ -147,7 +147,7 @@ class Statements(PartsTestCase):
         return self.hold(asked, statement, found, wanted)
 
     def hold(self, asked: Asked, statement: str, found: bytes, wanted: bytes) -> bool:
-        """Holds an answer against the one that is wanted, and tells a difference."""
+        """Compares an answer with the expected one, and reports a difference."""
         if found == wanted:
             return True
         told = f"{asked.told}: {statement!r}: parts {found[:200]!r}, one store {wanted[:200]!r}"
@@ -156,19 +156,19 @@ class Statements(PartsTestCase):
         return False
 
     def tell_sometimes(self) -> None:
-        """A line that tells how far the run is, where none was told lately."""
+        """Writes a line with the progress of the run, if none was written recently."""
         if time.monotonic() - self.last_told >= TELLING_SECONDS:
             self.tell("so far")
 
     def tell(self, when: str) -> None:
-        """A line that tells what was asked."""
+        """Writes a line that says what was sent."""
         self.last_told = time.monotonic()
         told = ", ".join(f"{what} {count}" for what, count in self.counts.items())
         say(f"seed {SEED}, of {self.COUNT} statements {when}: {told}, differences {len(self.differences)}")
 
 
 class StatementsOfWorkers(ClusterTestCase, Statements):
-    """The same by two workers. A round of theirs takes longer, so there are few."""
+    """The same with two workers. Their rounds take longer, so there are only few."""
 
     THREADS = 2
     COUNT = STATEMENTS // 5

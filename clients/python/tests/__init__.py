@@ -2,6 +2,6 @@
 
 import signal
 
-# A shell that starts this run in the background has it, and all that it starts, ignore interrupts. Tests send some.
+# A shell that starts this run in the background makes it and its children ignore interrupts. Tests send interrupts.
 if signal.getsignal(signal.SIGINT) is signal.SIG_IGN:
     signal.signal(signal.SIGINT, signal.default_int_handler)

@@ -1,4 +1,4 @@
-"""A browser for tests of the page: chromium with its driver, by selenium, where they are installed."""
+"""A browser for tests of the page: chromium with its driver, by selenium, if they are installed."""
 
 from __future__ import annotations
 
@@ -22,7 +22,7 @@ try:
 except ImportError:
     webdriver = Keys = None  # type: ignore[assignment,misc]
 
-# What isn't installed of what these tests need.
+# What these tests need but isn't installed.
 MISSING = [
     name
     for name, found in (
@@ -33,14 +33,14 @@ MISSING = [
     if found is None
 ]
 LONG = 1_000_000
-# A file that is dropped on the page, as a browser tells of one.
+# A file dropped on the page, as a browser reports it.
 DROP = """
 const files = new DataTransfer();
 files.items.add(new File([arguments[1]], arguments[0]));
 for (const kind of ["dragover", "drop"])
   document.body.dispatchEvent(new DragEvent(kind, {dataTransfer: files, bubbles: true, cancelable: true}));
 """
-# How many pixels of the chart, or of it between two places, have this colour.
+# The number of pixels of the chart, or between two positions of it, that have this colour.
 PIXELS = """
 const canvas = document.getElementById("canvas");
 const pen = document.createElement("canvas").getContext("2d");
@@ -60,7 +60,7 @@ return found;
 
 
 class BrowserTestCase(WebTestCase):
-    """Tests with one browser for all of them."""
+    """Tests that share one browser."""
 
     browser: Any
 
@@ -72,10 +72,10 @@ class BrowserTestCase(WebTestCase):
         options.binary_location = shutil.which("chromium")
         for word in ("--headless=new", "--window-size=1200,1000", "--disable-gpu", "--disable-dev-shm-usage"):
             options.add_argument(word)
-        # A name of somebody else's that leads here.
+        # A foreign host name that leads here.
         options.add_argument("--host-resolver-rules=MAP evil.example 127.0.0.1")
         if os.geteuid() == 0:
-            # The browser's sandbox isn't for the system's administrator.
+            # The browser's sandbox can't be used by root.
             options.add_argument("--no-sandbox")
         options.set_capability("goog:loggingPrefs", {"browser": "ALL"})
         options.add_experimental_option("prefs", {"download.default_directory": cls.room.name})
@@ -84,7 +84,7 @@ class BrowserTestCase(WebTestCase):
         cls.browser.set_script_timeout(SECONDS)
 
     def open(self, *words: object, **variables: str) -> Server:
-        """A server, and its page in the browser, once its tables are listed."""
+        """Starts a server, and opens its page in the browser. Returns once its tables are listed."""
         server = self.start(*words, **variables)
         self.browser.get_log("browser")
         self.browser.get(server.address)
@@ -93,16 +93,16 @@ class BrowserTestCase(WebTestCase):
         return server
 
     def assert_quiet(self) -> None:
-        """No fault of the page's parts, and no request that its policy forbids."""
+        """Checks that no part of the page had an error, and that no request was forbidden by its policy."""
         said = [entry["message"] for entry in self.browser.get_log("browser")]
-        # What the browser says of these tests, which read the chart.
+        # The browser's warning about these tests, which read the chart.
         self.assertEqual([text for text in said if "getImageData" not in text], [])
 
     def js(self, script: str, *arguments: object) -> Any:
         return self.browser.execute_script(script, *arguments)
 
     def loaded(self, name: str) -> list[str]:
-        """The addresses of what the page loaded, as far as they have this in them."""
+        """Returns the addresses that the page loaded and that contain this name."""
         names: list[str] = self.js("return performance.getEntriesByType('resource').map((part) => part.name)")
         return [each for each in names if name in each]
 
@@ -114,7 +114,7 @@ class BrowserTestCase(WebTestCase):
         return found
 
     def wait(self, holds: Callable[[], Any]) -> Any:
-        """What this gives as soon as it gives something true."""
+        """Waits until this returns something true, and returns that."""
         limit = time.monotonic() + SECONDS
         while not (found := holds()):
             if time.monotonic() > limit:
@@ -126,25 +126,25 @@ class BrowserTestCase(WebTestCase):
         self.wait(lambda: text in self.text(selector))
 
     def press(self, *keys: str) -> None:
-        """Presses keys where the focus is, one after the other."""
+        """Presses keys at the focus, one after the other."""
         webdriver.ActionChains(self.browser).send_keys(*keys).perform()
 
     def press_with(self, holding: str, key: str) -> None:
         webdriver.ActionChains(self.browser).key_down(holding).send_keys(key).key_up(holding).perform()
 
     def run_script(self, script: str) -> None:
-        """Types a script in place of what is there, and runs it, by the keyboard alone."""
+        """Replaces the text of the editor by a script, and runs it, using only the keyboard."""
         self.js("document.getElementById('script').focus()")
         self.press_with(Keys.CONTROL, "a")
         before = self.js("return document.querySelectorAll('#replies li').length")
-        # No list of completions is to come between the keys.
+        # No list of completions must come between the keys.
         self.press(script + " ")
         self.press_with(Keys.CONTROL, Keys.ENTER)
         self.wait(lambda: self.js("return document.querySelectorAll('#replies li').length") > before)
         self.wait(lambda: not self.find("#run").get_attribute("disabled"))
 
     def cells(self) -> list[list[str]]:
-        """The cells of the rows that the grid shows, once none is awaited."""
+        """Returns the cells of the rows that the grid shows, once all have been loaded."""
         self.wait(lambda: self.find("#grid").get_attribute("aria-busy") == "false")
         found: list[list[str]] = self.js(
             "return [...document.querySelectorAll('#grid .seen .row')].map("
@@ -156,7 +156,7 @@ class BrowserTestCase(WebTestCase):
         self.js(DROP, name, content)
 
     def long_table(self) -> Path:
-        """A table file whose column A has 0 up to 999,999, and B their negatives."""
+        """Returns a table file whose column A has the values 0 to 999,999, and B their negatives."""
         table = Table.of({"a": array.array("i", range(LONG)), "b": array.array("i", range(0, -LONG, -1))})
         return self.write("long.table", b"".join(table.file_pieces()))
 
@@ -164,7 +164,7 @@ class BrowserTestCase(WebTestCase):
         return int(self.js("return document.getElementById('current-cell').dataset.row"))
 
     def shown_cell(self) -> str:
-        """The current cell, which is to be seen whole, and not below the numbers of the rows."""
+        """Returns the current cell. Checks that it is completely visible, and not hidden by the row numbers."""
         text, is_shown = self.js(
             "const cell = document.getElementById('current-cell'), box = document.getElementById('grid');"
             "const at = cell.getBoundingClientRect(), around = box.getBoundingClientRect();"

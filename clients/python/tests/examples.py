@@ -1,4 +1,4 @@
-"""The examples of documents: the commands in their fences are run, and what they write is compared or taken."""
+"""The examples of documents: runs the commands in their fences, and compares or takes over what they write."""
 
 from __future__ import annotations
 
@@ -22,7 +22,7 @@ FENCE = re.compile(
 )
 PROMPTS = (PROMPT, MORE, IN_TEXT)
 COLUMNS = 72
-# What is measured differs from run to run: seconds, microseconds in sentences and in columns, and what is advised.
+# Measured values differ from run to run: seconds, microseconds in sentences and in columns, and what is advised.
 _SECONDS = re.compile(r"^\d+\.\d{3} s$", re.MULTILINE)
 _MICROSECONDS = re.compile(r"\b\d+ microseconds\b")
 _REBUILD = re.compile(r"^(REBUILD \w+)( \(.*\))?: \d+ units, ", re.MULTILINE)
@@ -31,21 +31,21 @@ _NOTE = re.compile(r"(-+|(, )?advised|\s+)$")
 
 
 def taken(text: str, examples: Iterable[Example]) -> str:
-    """The text of a document with its examples as they are now."""
+    """Returns the text of a document with its examples as they are now."""
     for example in examples:
         text = text.replace(example.before, example.now)
     return text
 
 
 def runs_of(body: str) -> Iterator[tuple[str, str]]:
-    """The commands of a fence, and what each writes."""
+    """Yields the commands of a fence, and what each writes."""
     for run in re.split(r"^\$ ", body, flags=re.MULTILINE)[1:]:
         command, _, output = run.partition("\n")
         yield command, output
 
 
 def without_times(text: str) -> str:
-    """The text with nothing in place of times that were measured, and of what is advised because of these."""
+    """Returns the text without measured times, and without what is advised because of them."""
     text = _REBUILD.sub(r"\1: ", _MICROSECONDS.sub("microseconds", _SECONDS.sub("s", text)))
     lines, place = [], None
     for line in text.split("\n"):
@@ -61,8 +61,8 @@ def without_times(text: str) -> str:
 
 @dataclass(frozen=True)
 class Example:
-    """A fence of a document: the line that it begins on, its commands with their outputs, and these as they are now. Of
-    Python, what is wrong stands in place of it."""
+    """A fence of a document: the line on which it begins, its commands with their outputs, and these as they are now.
+    For a faulty Python example, `now` is a description of what is wrong."""
 
     line: int
     before: str
@@ -70,7 +70,7 @@ class Example:
 
     @property
     def is_right(self) -> bool:
-        """Whether it is as before, but for times."""
+        """Whether it is as before, except for times."""
         return without_times(self.before) == without_times(self.now)
 
 
@@ -78,7 +78,7 @@ class Room:
     """A folder in which the examples of a document are run, in their order."""
 
     def __init__(self, folder: Path) -> None:
-        """The folder is there. The program and the histories of its shells lie beside it."""
+        """The folder exists. The program and the histories of its shells are beside it."""
         self._folder = folder
         self._names: dict[str, Any] = {}
         programs = folder.parent / "bin"
@@ -87,7 +87,7 @@ class Room:
         self._path = f"{programs}{os.pathsep}{os.environ.get('PATH', '')}"
 
     def examples(self, text: str) -> Iterator[Example]:
-        """Runs the examples of a document. The files that it shows with their names are made."""
+        """Runs the examples of a document. The files that it shows with their names are created."""
         for fence in FENCE.finditer(text):
             line, body = text.count("\n", 0, fence.start("body")), fence["body"]
             if fence["file"]:
@@ -98,16 +98,16 @@ class Room:
                 yield Example(line, body, self._python_faults(body, f"line {line}") or body)
 
     def _rerun(self, body: str) -> str:
-        """A fence of commands of the system's shell, with what they write now in place of what they wrote."""
+        """Returns a fence of commands of the system's shell, with what they write now instead of what they wrote."""
         return "".join(f"$ {command}\n{self._output(command, output)}" for command, output in runs_of(body))
 
     def _output(self, command: str, output: str) -> str:
-        """What a command writes. It is typed into where its output has prompts."""
+        """Returns what a command writes. If its output has prompts, lines are typed into it."""
         is_typed = any(line.startswith(PROMPT) for line in output.splitlines())
         return self._typed(command, output) if is_typed else self._piped(command)
 
     def _python_faults(self, body: str, place: str) -> str:
-        """What is wrong with the examples in a fence of Python, which share their names with those before."""
+        """Returns what is wrong with the examples in a Python fence, which share their names with those before."""
         test = doctest.DocTestParser().get_doctest(body, self._names, place, place, 0)
         told: list[str] = []
         before = os.getcwd()
@@ -120,7 +120,7 @@ class Room:
         return "".join(told)
 
     def _piped(self, command: str) -> str:
-        """What a command of the system's shell writes to standard output and to standard error."""
+        """Returns what a command of the system's shell writes to standard output and standard error."""
         ended = subprocess.run(
             ["sh", "-c", command.replace("python3", shlex.quote(sys.executable))],
             stdout=subprocess.PIPE,
@@ -135,7 +135,7 @@ class Room:
         return ended.stdout
 
     def _typed(self, command: str, output: str) -> str:
-        """What a terminal shows where the lines are typed that stand after prompts in the output."""
+        """Returns what a terminal shows when the lines after the prompts in the output are typed."""
         words = shlex.split(command)
         if words[:3] != ["python3", "-m", "bitcol"]:
             raise ValueError(f"no shell to type into: {command}")

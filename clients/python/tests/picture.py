@@ -1,4 +1,4 @@
-"""A picture of a terminal's text, as SVG: bold, faint and red as the shell's colours are."""
+"""Draws a terminal's text as SVG: bold, faint and red like the shell's colours."""
 
 from __future__ import annotations
 
@@ -13,7 +13,7 @@ _BACKGROUND, _TEXT = "#14171c", "#d7dbe0"
 
 
 def svg_of(text: str, title: str) -> str:
-    """The picture of some lines with their colours."""
+    """Returns the picture of some lines with their colours."""
     lines = text.rstrip("\n").split("\n")
     width = round(2 * _ROOM + _LETTER * max(len(_COLOUR.sub("", line)) for line in lines))
     height = 2 * _ROOM + _LINE * len(lines)
@@ -28,7 +28,7 @@ def svg_of(text: str, title: str) -> str:
 
 
 def _drawn(line: str, height: float) -> str:
-    """A line, as wide as its letters are many in whatever font."""
+    """Draws a line with a width that depends only on its number of letters, in whatever font."""
     shown = "".join(
         f'<tspan style="{_STYLES[style]}">{escape(piece)}</tspan>' if style in _STYLES else escape(piece)
         for style, piece in _pieces(line)
@@ -38,7 +38,7 @@ def _drawn(line: str, height: float) -> str:
 
 
 def _pieces(line: str) -> Iterator[tuple[str, str]]:
-    """The pieces of a line, each with the number of its style, or none."""
+    """Yields the pieces of a line, each with the number of its style, if it has one."""
     parts = ["", *_COLOUR.split(line)]
     for style, piece in zip(parts[::2], parts[1::2]):
         if piece:

@@ -1,4 +1,4 @@
-"""The shell as people and scripts run it: behind a pseudo-terminal, and behind pipes."""
+"""Runs the shell as people and scripts do: with a pseudo-terminal, and with pipes."""
 
 from __future__ import annotations
 
@@ -29,19 +29,19 @@ COLUMNS = 100
 SECONDS = 30
 _ESCAPES = re.compile(r"\x1b\[[0-9;?]*[A-Za-z]")
 _NO_COLOURS = re.compile(r"\x1b\[[0-9;?]*[A-Za-ln-z]")
-# Once the returns are left out, this is how a line is erased.
+# How a line is erased, once carriage returns are left out.
 _ERASING = "\x1b[K"
 
 
 def erased(text: str, keeps_colours: bool = False) -> str:
-    """What of a terminal's text is left to see, without its escapes, or with those of colours: progress lines are
-    erased from their start."""
+    """Returns what remains visible of a terminal's text, without its escapes, or with those of colours: progress lines
+    are erased from their start."""
     lines = "\n".join(line.rpartition(_ERASING)[2] for line in text.split("\n"))
     return (_NO_COLOURS if keeps_colours else _ESCAPES).sub("", lines)
 
 
 def environment(folder: Path, **variables: str) -> dict[str, str]:
-    """The variables of a shell whose history and temporary files lie in this folder."""
+    """Returns the environment variables of a shell whose history and temporary files are in this folder."""
     named = {
         "BITCOL": os.path.abspath(bitcol.find_program()),
         "PYTHONPATH": str(PACKAGE),
@@ -65,13 +65,13 @@ class ShellTestCase(unittest.TestCase):
         self.folder.mkdir()
 
     def write(self, name: str, content: str | bytes) -> Path:
-        """Makes a file in the folder."""
+        """Writes a file in the folder."""
         path = self.folder / name
         path.write_bytes(content.encode() if isinstance(content, str) else content)
         return path
 
     def run_shell(self, *words: object, typed: str = "", **variables: str) -> subprocess.CompletedProcess[str]:
-        """Runs the shell behind pipes, with this on its standard input."""
+        """Runs the shell with pipes, and with this on its standard input."""
         return subprocess.run(
             [*SHELL, *map(str, words)],
             input=typed,
@@ -84,7 +84,7 @@ class ShellTestCase(unittest.TestCase):
         )
 
     def assert_answers(self, words: tuple[object, ...], out: str, typed: str = "") -> None:
-        """Runs the shell behind pipes: it is to write exactly this, nothing on standard error, and end with 0."""
+        """Runs the shell with pipes: it has to write exactly this, nothing to standard error, and exit with 0."""
         ended = self.run_shell(*words, typed=typed)
         self.assertEqual((ended.stdout, ended.stderr, ended.returncode), (out, "", 0))
 
@@ -97,24 +97,24 @@ class ShellTestCase(unittest.TestCase):
         typed: str = "",
         **variables: str,
     ) -> None:
-        """Runs the shell behind pipes: it is to write exactly this on standard error, and end with this status."""
+        """Runs the shell with pipes: it has to write exactly this to standard error, and exit with this status."""
         ended = self.run_shell(*words, typed=typed, **variables)
         self.assertEqual((ended.stderr, ended.stdout, ended.returncode), (errors, out, status))
 
     def terminal(self, *words: object, **variables: str) -> Terminal:
-        """A shell behind a terminal, at its first prompt. It ends with the test."""
+        """Starts a shell in a terminal, and waits for its first prompt. It ends with the test."""
         terminal = self.start_terminal(*words, **variables)
         terminal.wait_for(PROMPT)
         return terminal
 
     def start_terminal(self, *words: object, **variables: str) -> Terminal:
-        """A shell behind a terminal, which wrote nothing yet. It ends with the test."""
+        """Starts a shell in a terminal, without waiting for output. It ends with the test."""
         terminal = Terminal(self.folder, list(map(str, words)), environment(self.folder.parent, **variables))
         self.addCleanup(terminal.kill)
         return terminal
 
     def observed_program(self) -> tuple[Path, Path]:
-        """A program for BITCOL that is the real one, and the file in which the number of its process is."""
+        """Returns a program for BITCOL that becomes the real one, and the file with its process number."""
         number = self.folder.parent / "number"
         program = self.folder.parent / "program"
         program.write_text(f"#!/bin/sh\necho $$ > '{number}'\nexec '{os.path.abspath(bitcol.find_program())}'\n")
@@ -123,7 +123,7 @@ class ShellTestCase(unittest.TestCase):
 
 
 class Terminal:
-    """A shell behind a pseudo-terminal, and what it wrote."""
+    """A shell in a pseudo-terminal, and what it wrote."""
 
     def __init__(self, folder: Path, words: list[str], variables: dict[str, str]) -> None:
         self._pid, self._side = pty.fork()
@@ -139,7 +139,8 @@ class Terminal:
         self._status: int | None = None
 
     def wait_for(self, text: str, seconds: float = SECONDS) -> str:
-        """What was written up to this text, and not waited for before. AssertionError where it doesn't come."""
+        """Waits for this text, and returns what was written up to it since the last wait. AssertionError if it doesn't
+        come."""
         limit = time.monotonic() + seconds
         while text not in self._unread:
             if not self._read(limit - time.monotonic()):
@@ -152,34 +153,34 @@ class Terminal:
         self.press_bytes(keys.encode())
 
     def press_bytes(self, keys: bytes) -> None:
-        """Types keys by the bytes that they send."""
+        """Types keys, given as the bytes that they send."""
         os.write(self._side, keys)
 
     def interrupt(self, prompt: str = PROMPT) -> None:
-        """Presses Ctrl-C, and waits for the next prompt. Nobody presses it within the moment between a prompt and the
-        wait for keys, when Python doesn't look at it before the next key."""
+        """Presses Ctrl-C, and waits for the next prompt. It isn't pressed in the moment between a prompt and the wait
+        for keys, when Python doesn't notice it before the next key."""
         time.sleep(0.2)
         self.press("\x03")
         self.wait_for(prompt)
 
     def say(self, line: str, prompt: str = PROMPT) -> str:
-        """Types a line at a prompt, and gives what is written up to the next."""
+        """Types a line at a prompt, and returns what is written up to the next prompt."""
         self.press(line + "\n")
         return self.wait_for(prompt).partition("\n")[2]
 
     def finish(self, line: str = ".quit") -> tuple[str, int]:
-        """Types a last line, and gives what is written to the end, and the status."""
+        """Types a last line, and returns what is written up to the end, and the exit status."""
         self.press(line + "\n" if line else "\x04")
         return self.rest(), self.status()
 
     def rest(self) -> str:
-        """What is written up to the end of the shell, which ends by itself."""
+        """Returns what is written up to the end of the shell, which ends by itself."""
         while self._read(SECONDS):
             pass
         return self._unread
 
     def status(self) -> int:
-        """The status of a shell that ends."""
+        """Waits for the end of the shell, and returns its exit status."""
         if self._status is None:
             _, status = os.waitpid(self._pid, 0)
             self._status = os.waitstatus_to_exitcode(status)
@@ -187,17 +188,17 @@ class Terminal:
         return self._status
 
     def kill(self) -> None:
-        """Ends the shell where it hasn't ended."""
+        """Kills the shell if it hasn't ended."""
         if self._status is None:
             os.kill(self._pid, signal.SIGKILL)
             self.status()
 
     def _read(self, seconds: float) -> bool:
-        """Reads what was written. False where nothing comes in time, or the shell has ended."""
+        """Reads what was written. Returns False if nothing comes in time, or the shell has ended."""
         ready, _, _ = select.select([self._side], [], [], max(seconds, 0))
         try:
             data = os.read(self._side, 65_536) if ready else b""
-        except OSError:  # what Linux says at the end of the other side
+        except OSError:  # raised by Linux when the other side is closed
             data = b""
         text = data.decode(errors="replace")
         self._unread += (text if self.keeps_escapes else _ESCAPES.sub("", text)).replace("\r", "")

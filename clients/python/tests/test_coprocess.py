@@ -1,4 +1,4 @@
-"""The program as a co-process: large answers, ends, interrupts, threads, and bad use."""
+"""The program as a co-process: large answers, ends of the program, interrupts, threads, and misuse."""
 
 import os
 import signal
@@ -19,7 +19,7 @@ ROWS = 200_000
 
 
 def door_of(session: bitcol.Session) -> Coprocess:
-    """The door behind a session, which is a program's."""
+    """Returns the door of a session, which is that of a program."""
     door = session._door
     assert isinstance(door, Coprocess)
     return door
@@ -104,7 +104,7 @@ class Ends(SessionTestCase):
         self.assertEqual(child.returncode, 0)
 
     def test_the_limit_of_a_script(self) -> None:
-        """Near the program's limit on scripts a statement is refused by the client, and a SAVE is not."""
+        """Near the program's limit on scripts the client refuses a statement, but not a SAVE."""
         self.session.write_table("t", {"a": [1, 2]})
         door_of(self.session)._sent = SCRIPT_BYTES - RESERVE_BYTES
         for _ in range(2):
@@ -147,7 +147,7 @@ class BadStatements(SessionTestCase):
 
 class Interrupts(SessionTestCase):
     def interrupted(self, call: object) -> None:
-        """Makes a call that a KeyboardInterrupt comes into after a while."""
+        """Makes a call into which a KeyboardInterrupt comes after a while."""
         timer = threading.Timer(0.2, lambda: os.kill(os.getpid(), signal.SIGINT))
         timer.start()
         with self.assertRaises(KeyboardInterrupt):
@@ -155,7 +155,7 @@ class Interrupts(SessionTestCase):
         timer.join()
 
     def test_a_wait_that_is_interrupted_loses_no_table(self) -> None:
-        """The program is held still while the client waits for it."""
+        """The program is stopped while the client waits for it."""
         self.session.write_table("t", {"a": range(100)})
         child = door_of(self.session)._child
         self.addCleanup(child.send_signal, signal.SIGCONT)
@@ -168,7 +168,7 @@ class Interrupts(SessionTestCase):
             self.assertEqual(self.session.execute("SELECT COUNT(*) FROM t").scalar(), expected)
 
     def test_an_interrupt_from_the_keyboard_spares_the_program(self) -> None:
-        """A terminal sends it to the group of processes in the foreground, and the program isn't in that one."""
+        """A terminal sends it to the foreground process group, and the program isn't in that one."""
         self.assertNotEqual(os.getpgid(door_of(self.session)._child.pid), os.getpgid(0))
 
     def test_a_transfer_that_is_broken_off_ends_the_program(self) -> None:
@@ -185,7 +185,7 @@ class Interrupts(SessionTestCase):
 
 
 class Sharing(SessionTestCase):
-    # How a session of this kind is opened, for a script.
+    # How a script opens a session of this kind.
     OPENED = "bitcol.Session()"
 
     def test_threads_take_turns(self) -> None:

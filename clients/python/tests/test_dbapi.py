@@ -1,4 +1,4 @@
-"""DB-API 2.0: what PEP 249 asks for."""
+"""DB-API 2.0: what PEP 249 requires."""
 
 import contextlib
 import datetime

@@ -1,4 +1,4 @@
-"""The client's page: each of its examples is run."""
+"""The client's page: runs each of its examples."""
 
 import doctest
 import os

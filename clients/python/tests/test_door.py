@@ -1,4 +1,4 @@
-"""A session over another door: it needs no more of one than Door says."""
+"""A session on another door: it needs nothing of a door but what Door declares."""
 
 import contextlib
 import unittest
@@ -24,7 +24,7 @@ class MemoryFile:
 
 
 class ScriptedDoor:
-    """Answers what the test says, and remembers what it was sent."""
+    """Answers as the test says, and records what it was sent."""
 
     def __init__(self, *replies: bytes) -> None:
         self.replies = list(replies)

@@ -20,7 +20,7 @@ REPLIES = "ok\nok 3\nA\n-1\nrows 1\n"
 
 
 def run(*words: object, folder: Path = CLIENTS, **environment: str) -> str:
-    """What a command writes to standard output. An error where it fails."""
+    """Returns what a command writes to standard output. Raises an error if it fails."""
     variables = {name: value for name, value in os.environ.items() if name not in ("BITCOL", "PYTHONPATH")}
     variables.update(environment)
     ended = subprocess.run(
@@ -76,7 +76,7 @@ class Manual(unittest.TestCase):
 
 class Wheel(InFolder):
     def make(self, folder: Path) -> Path:
-        """Makes the wheel into a folder, and gives its path."""
+        """Makes the wheel in a folder, and returns its path."""
         return Path(run(sys.executable, "-B", CLIENTS / "python/make_wheel.py", folder, BITCOL=self.program).strip())
 
     def test_the_same_files_make_the_same_bytes(self) -> None:

@@ -1,4 +1,4 @@
-"""The library as a door: what holds of any store holds of this one, and what is its own."""
+"""The library as a door: what holds for any store holds for this one, and what is specific to it."""
 
 import ctypes
 import os
@@ -12,7 +12,7 @@ from tests.support import SessionTestCase
 
 
 def library_is_there() -> bool:
-    """Whether there is a library to test."""
+    """Returns whether there is a library to test."""
     try:
         bitcol.find_library()
     except bitcol.OperationalError:
@@ -22,7 +22,7 @@ def library_is_there() -> bool:
 
 @unittest.skipUnless(library_is_there(), "the library isn't there: BITCOL_LIBRARY names it")
 class LibraryTestCase(SessionTestCase):
-    """A test whose session is over the library."""
+    """A test whose session uses the library."""
 
     def new_session(self, **arguments: Any) -> bitcol.Session:
         return super().new_session(door=bitcol.Library(), **arguments)
@@ -44,7 +44,7 @@ class Sharing(LibraryTestCase):
 
 
 class Statements(LibraryTestCase):
-    """Those of test_session that need no file of the host."""
+    """The tests of test_session that need no file of the host."""
 
     test_the_examples_of_the_language = test_session.Statements.test_the_examples_of_the_language
     test_set_functions_are_folds = test_session.Statements.test_set_functions_are_folds
@@ -119,7 +119,7 @@ class Large(LibraryTestCase):
 
 class Memory(LibraryTestCase):
     def test_a_budget(self) -> None:
-        """The archive's allocator has one, and a statement that is over it is refused."""
+        """The archive's allocator has one, and a statement that exceeds it is refused."""
         calls = ctypes.CDLL(bitcol.find_library())
         calls.bitcol_used.restype = ctypes.c_size_t
         calls.bitcol_set_budget.argtypes = [ctypes.c_size_t]

@@ -1,4 +1,4 @@
-"""numpy and pandas, where they are installed. What isn't is left out, and the run says so."""
+"""numpy and pandas, if they are installed. Otherwise the tests are skipped, and the run says so."""
 
 import sys
 import unittest
@@ -111,7 +111,7 @@ class Pandas(SessionTestCase):
         self.assertEqual(self.session.read_table("t").columns(), expected)
 
     def test_floats_are_refused(self) -> None:
-        """pandas makes floats of integers where one is missing: these are no integers to this store."""
+        """pandas turns integers into floats if one is missing: this store doesn't accept these as integers."""
         with self.assertRaisesRegex(bitcol.ProgrammingError, "column a: an array of float64"):
             self.session.write_table("t", pandas.DataFrame({"a": [1, None]}))
 

@@ -1,6 +1,6 @@
-"""Columns as planes of bits, with Python's integers and with numpy, where it is installed: both make the same bytes.
+"""Columns as bit planes, with Python's integers and with numpy, if it is installed: both make the same bytes.
 
-What is expected is written bit by bit as docs/TABLE_FILE.md says.
+The expected bytes are written bit by bit as docs/TABLE_FILE.md says.
 """
 
 import random
@@ -19,7 +19,7 @@ try:
 except ImportError:
     numpy = None  # type: ignore[assignment]
 
-# Lengths round the ends of bytes, and two blocks.
+# Lengths around byte boundaries, and one of two blocks.
 LENGTHS = (0, 1, 7, 8, 9, 64, 100, 70_001)
 ENDS = {
     ColumnType.INTEGER: [(0, 0), (5, 6), (-3, 250), (0, 256), (LEAST, GREATEST), (GREATEST, GREATEST)],
@@ -69,7 +69,7 @@ class Planes(unittest.TestCase):
         return cells_in_planes(presence, base, planes, len(cells), of)
 
     def test_faults(self) -> None:
-        """Three rows, of which the second is NULL. Planes are given from the highest on."""
+        """Three rows, of which the second is NULL. Planes are given highest first."""
         greatest = GREATEST
         for presence, base, planes, reason in (
             (0b1101, 0, (0b001,), "a bit past the last row"),

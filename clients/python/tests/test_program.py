@@ -1,4 +1,4 @@
-"""Which program a session runs, and what it says where there is none."""
+"""Which program a session runs, and what it says if there is none."""
 
 import os
 import tempfile

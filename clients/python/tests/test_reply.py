@@ -1,4 +1,4 @@
-"""Replies as the language's description spells them, whole and in pieces."""
+"""Replies as the language's description gives them, whole and in pieces."""
 
 import unittest
 
@@ -90,14 +90,14 @@ class Parts(unittest.TestCase):
             reply_of(b"ok 3\n").lines_at(0, 1)
 
     def test_each_line_around_blocks(self) -> None:
-        """Rows 0 to 3999 are of 5 bytes, then come 16,384 rows of 2: blocks end within lines and between them."""
+        """Rows 0 to 3999 have 5 bytes, and 16,384 rows of 2 bytes follow: blocks end within lines and between them."""
         reply = reply_of(b"A\n" + b"1234\n" * 4000 + b"7\n" * 16_384 + b"rows 20384\n")
         for row in (0, 1, 3275, 3276, 3277, 3999, 4000, 4001, 10_383, 10_384, 10_385, 12_191, 12_192, 12_193, 20_383):
             expected = ["1234\n" if place < 4000 else "7\n" for place in (row, row + 1) if place < 20_384]
             self.assertEqual(reply.lines_at(row, 2), "".join(expected), row)
 
     def test_the_longest_answer(self) -> None:
-        """16,777,216 rows, of which the last is another one."""
+        """16,777,216 rows, of which the last is different."""
         reply = reply_of(b"A\n" + b"5\n" * (2**24 - 1) + b"-8\nrows 16777216\n")
         self.assertEqual(reply.lines_at(2**24 - 2, 3), "5\n-8\n")
         self.assertEqual(reply.lines_at(2**23, 1), "5\n")

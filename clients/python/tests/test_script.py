@@ -1,4 +1,4 @@
-"""How scripts are cut, values put in, and names written. The language's description says what is expected."""
+"""How scripts are split, values inserted, and names written. The language's description says what is expected."""
 
 import random
 import unittest
@@ -50,8 +50,8 @@ class Cutting(unittest.TestCase):
 
 class CuttingAsTheProgram(SessionTestCase):
     def test_random_scripts_get_a_reply_for_each_statement(self) -> None:
-        """The program answers each statement that isn't blank once, so where the client cuts otherwise than the program
-        a reply is missing, or one is left for the list of tables."""
+        """The program answers each statement that isn't blank once. So if the client splits differently than the
+        program, a reply is missing, or one is left over for the list of tables."""
         generator = random.Random(3)
         for _ in range(400):
             script = "".join(generator.choice("';;-- \n\t\r\vxé1") for _ in range(generator.randint(1, 40)))

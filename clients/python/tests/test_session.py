@@ -1,4 +1,4 @@
-"""Sessions over the program: what statements answer, as the language's description or a plain fold says."""
+"""Sessions with the program: the answers of statements, as the language's description or a simple fold gives them."""
 
 import array
 import random
@@ -197,7 +197,7 @@ class ManyRows(SessionTestCase):
             self.assertEqual(self.contents(), [(b, None, a) for a, b, _ in rows])
 
     def test_more_than_a_file(self) -> None:
-        """Then the rows go in parts, each of which is added whole or not at all."""
+        """Then the rows are added in parts, each completely or not at all."""
         with mock.patch("bitcol.insertion.CSV_BYTES", 100_000):
             count = self.session.executemany("INSERT INTO t VALUES (?, ?, ?)", self.rows)
             self.assertEqual((count, self.contents()), (len(self.rows), self.rows))
@@ -233,7 +233,7 @@ class ManyRows(SessionTestCase):
         self.assertEqual(self.contents(), [])
 
     def test_what_is_no_row(self) -> None:
-        """A text is one value and not many, and what has no order can't say which value is for which column."""
+        """A text is one value and not several, and without an order it isn't known which value is for which column."""
         for row in (1, None, "abc", b"abc", bytearray(b"abc"), {1, 2, 3}, {1: 2, 3: 4, 5: 6}):
             said = f"row 1: it is to be a list or a tuple of values, not a {type(row).__name__}"
             with self.assertRaisesRegex(bitcol.ProgrammingError, said):

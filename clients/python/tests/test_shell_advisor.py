@@ -1,4 +1,4 @@
-"""Advice on layouts: the SELECTs that it is for, the sizes by rule, the choice, and the command in the shell."""
+"""Advice on layouts: the SELECTs that it is based on, the sizes by rule, the choice, and the command in the shell."""
 
 from __future__ import annotations
 
@@ -144,7 +144,7 @@ class Advised(ShellTestCase):
         self.table = self.write("t.csv", "hour,level,site\n" + "".join(lines))
 
     def advice(self, typed: str) -> tuple[list[dict[str, object]], list[str]]:
-        """What is answered as JSON, and the lines on standard error."""
+        """Returns the answer, which is JSON, and the lines on standard error."""
         ended = self.run_shell(self.table, "--mode", "json", typed=typed)
         self.assertEqual(ended.returncode, 0, ended.stderr)
         return json.loads(ended.stdout), ended.stderr.splitlines()
@@ -168,7 +168,7 @@ class Advised(ShellTestCase):
         self.assertRegex(lines[4], r"\AREBUILD T.*: \d+ units, \d+ microseconds\Z")
 
     def test_apply_sends_what_is_advised(self) -> None:
-        """One column whose DICTIONARY is much smaller and no slower."""
+        """A column whose DICTIONARY is much smaller and no slower."""
         self.write("t.csv", "a\n" + "5\n2000000000\n" * 4_000)
         typed = "SELECT COUNT(*) FROM t WHERE a = 5;\n" * 2 + ".mode csv\n.advise t\n.export t before.table\n"
         ended = self.run_shell("t.csv", typed=typed + ".advise t apply\n.export t after.table\n.advise t apply\n")
@@ -214,7 +214,7 @@ class Advised(ShellTestCase):
 
 
 class Undisturbed(ShellTestCase):
-    """The table and the session after an advice that ended otherwise. The number in the file is that of the program
+    """The table and the session after an advice that ended differently. The number in the file is that of the program
     that was started last: the copy's."""
 
     def setUp(self) -> None:
@@ -226,7 +226,7 @@ class Undisturbed(ShellTestCase):
         self.first = self.number.read_text()
 
     def wait_for_copy(self) -> int:
-        """The process of the copy's program, once there is one."""
+        """Waits for the copy's program, and returns its process."""
         limit = time.monotonic() + 30
         while self.number.read_text() in (self.first, ""):
             self.assertLess(time.monotonic(), limit)
@@ -257,7 +257,7 @@ class Undisturbed(ShellTestCase):
             time.sleep(0.05)
 
     def test_the_end_of_the_program(self) -> None:
-        """It is no end of the copy, and another one is started."""
+        """It doesn't count as an end of the copy, and another program is started."""
         self.shell.press(".advise t\n")
         self.wait_for_copy()
         os.kill(int(self.first), signal.SIGKILL)

@@ -1,4 +1,4 @@
-"""Tables of files: the guessing of CSV, names that are none, SQLite's files, and files of tables."""
+"""Tables from files: detecting CSV formats, invalid names, SQLite files, and files written from tables."""
 
 import importlib.util
 import io
@@ -37,7 +37,7 @@ class ImportTestCase(ShellTestCase):
         return imports_of(self.store, str(self.folder / name), table)
 
     def imported(self, name: str, table: str | None = None) -> Imported:
-        """The one table that is made of a file."""
+        """Imports a file that makes one table, and returns that."""
         (job,) = self.jobs(name, table)
         return job.run(self.told.append)
 
@@ -45,7 +45,7 @@ class ImportTestCase(ShellTestCase):
         return self.store.call(lambda session: session.read_table(table).columns())
 
     def assert_fault(self, text: str, name: str, table: str | None = None) -> None:
-        """Making tables of a file is to fail with this text after the file's name, and to leave none."""
+        """Checks that making tables from a file fails with this text after the file's name, and leaves none."""
         before = self.store.call(lambda session: session.tables())
         with self.assertRaises(Fault) as caught:
             for job in self.jobs(name, table):
@@ -56,7 +56,7 @@ class ImportTestCase(ShellTestCase):
 
 class Csv(ImportTestCase):
     def check(self, content: str | bytes, columns: dict[str, list[int | None]], notes: tuple[str, ...] = ()) -> None:
-        """A file of this content becomes a table of these columns."""
+        """Checks that a file with this content becomes a table with these columns."""
         self.write("t.csv", content)
         found = self.imported("t.csv", "t")
         rows = len(next(iter(columns.values())))
@@ -183,7 +183,7 @@ class RandomCsv(ImportTestCase):
     PIECES += ["9223372036854775808"]
 
     def test_parts_are_read_as_the_whole(self) -> None:
-        """Random files, cut into short parts, against one LOAD of each."""
+        """Random files, cut into short parts, compared with one LOAD of each."""
         generator = random.Random(9)
         taken = 0
         for _ in range(200):
@@ -198,13 +198,13 @@ class RandomCsv(ImportTestCase):
         self.assertTrue(40 < taken < 150, taken)
 
     def loaded(self, path: Path) -> list[Any] | None:
-        """The rows of one LOAD, or None where it is refused."""
+        """Returns the rows of one LOAD, or None if it is refused."""
         script = f"CREATE TABLE t (a BIGINT, b BIGINT); LOAD t FROM '{path}' WITH HEADER; SELECT * FROM t; DROP TABLE t"
         _, load, rows, _ = self.store.call(lambda session: session.run(script))
         return None if load.refusal else rows.rows()
 
     def made(self, path: Path) -> list[Any] | None:
-        """The rows that the shell makes of the file, or None where it refuses it and names a line."""
+        """Returns the rows that the shell makes from the file, or None if it refuses the file and names a line."""
         try:
             self.imported(path.name)
         except Fault as fault:
@@ -235,7 +235,7 @@ class Parts(unittest.TestCase):
 
 
 class _Pieces(io.BytesIO):
-    """A file that gives so many bytes at a time."""
+    """A file that returns a fixed number of bytes at a time."""
 
     def __init__(self, content: bytes, size: int) -> None:
         super().__init__(content)
@@ -265,7 +265,7 @@ class Fields(ImportTestCase):
             self.store.call(lambda session: session.execute("DROP TABLE t"))
 
     def loaded(self, line: bytes) -> int | None | str:
-        """What the program makes of a line of CSV."""
+        """Returns what the program makes of a CSV line."""
         try:
             self.store.call(lambda session: session.load_bytes("t", [line]))
         except bitcol.DataRefused:
@@ -325,7 +325,7 @@ class TableFiles(ImportTestCase):
 @unittest.skipUnless(HAS_SQLITE, "Python's module sqlite3 is not installed")
 class Sqlite(ImportTestCase):
     def make(self, *statements: str) -> None:
-        """Carries out these statements in a file of SQLite."""
+        """Executes these statements in an SQLite file."""
         import sqlite3
 
         connection = sqlite3.connect(self.folder / "shop.db")
@@ -416,7 +416,7 @@ class WithoutSqlite(ShellTestCase):
 
 
 def _broken_off(fault: BaseException) -> Iterator[str]:
-    """The pieces of a text, up to a fault."""
+    """Yields the pieces of a text, and then raises a fault."""
     yield "A\n"
     raise fault
 

@@ -1,4 +1,4 @@
-"""Answers that memory doesn't hold, in the shell and before it."""
+"""Answers that don't fit into memory, in the shell and below it."""
 
 from __future__ import annotations
 

@@ -1,6 +1,6 @@
-"""The shell's page: each of its examples is run, in their order, in one folder.
+"""The shell's page: runs each of its examples, in order, in one folder.
 
-With the variable BITCOL_TAKE the page's outputs are written anew, as they are now.
+With the variable BITCOL_TAKE the page's outputs are rewritten as they are now.
 """
 
 from __future__ import annotations

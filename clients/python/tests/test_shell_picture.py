@@ -23,7 +23,7 @@ LINES = (
 
 
 def rows() -> list[str]:
-    """Rows with more visits on some days than on others, and two whose day is not known."""
+    """Returns rows with more visits on some days than on others, and two whose day is not known."""
     days = [1 + (row * row // 50) % 7 if row % 7 < 4 else 1 + row % 3 for row in range(ROWS)]
     return [f"{'' if row % 900 == 899 else day},{SITES[row % 3]},{row * 91 % 571}" for row, day in enumerate(days)]
 

@@ -1,4 +1,4 @@
-"""The shell behind pipes: -c, every mode, standard input, and how it ends."""
+"""The shell with pipes: -c, every mode, standard input, and how it ends."""
 
 import os
 import resource
@@ -42,7 +42,7 @@ class Commands(ShellTestCase):
         self.assertFalse((self.folder / "v.csv").exists())
 
     def test_a_file_that_is_not_there(self) -> None:
-        """Nothing is answered over tables that aren't all there."""
+        """If some tables are missing, nothing is answered."""
         words = ("visits.csv", "no.csv", "-c", "SELECT day FROM visits")
         self.assert_fails(words, "error: no.csv: No such file or directory\n")
         self.assert_fails(("no.csv",), "error: no.csv: No such file or directory\n", typed="TABLES;")
@@ -69,7 +69,7 @@ class Commands(ShellTestCase):
 
 
 class Modes(ShellTestCase):
-    """Each mode against a text that was written by hand."""
+    """Each mode, compared with a text that was written by hand."""
 
     def setUp(self) -> None:
         super().setUp()
@@ -273,7 +273,7 @@ class Ends(ShellTestCase):
         self.assertEqual((ended.stdout, ended.returncode), ("", 2))
 
     def test_a_program_that_dies_is_told_once(self) -> None:
-        """Also where a file of the command line or of .read, or a table of a file, is under way."""
+        """Also while a file of the command line or of .read, or a table of a file, is in progress."""
         program, _ = self.observed_program()
         program.write_text("#!/bin/sh\nexit 3\n")
         self.write("t.csv", "a\n1\n")
@@ -287,7 +287,7 @@ class Ends(ShellTestCase):
             self.assertEqual((ended.stdout, ended.returncode), ("", 2))
 
     def test_an_interrupt(self) -> None:
-        """The program takes the statement and never answers."""
+        """The program reads the statement and never answers."""
         marker = self.folder / "marker"
         program, _ = self.observed_program()
         program.write_text(f"#!/bin/sh\nread line\necho > '{marker}'\ncat > /dev/null\n")
@@ -297,7 +297,7 @@ class Ends(ShellTestCase):
             stderr=subprocess.PIPE,
             cwd=self.folder,
             env=environment(self.folder.parent, BITCOL=str(program)),
-            # A shell that starts these tests in the background has them ignore it.
+            # A shell that starts these tests in the background makes them ignore it.
             preexec_fn=lambda: signal.signal(signal.SIGINT, signal.default_int_handler),
         )
         while not marker.exists():
@@ -311,7 +311,7 @@ class Ends(ShellTestCase):
             self.read_a_line(environment(self.folder.parent, PYTHONUNBUFFERED=unbuffered))
 
     def read_a_line(self, variables: dict[str, str]) -> None:
-        """Reads a line of a long answer, and no more."""
+        """Reads only one line of a long answer."""
         shell = subprocess.Popen(
             [*SHELL, "t.csv", "-c", "SELECT a FROM t"],
             stdout=subprocess.PIPE,
@@ -327,7 +327,7 @@ class Ends(ShellTestCase):
         self.assertEqual(shell.wait(), 141)
 
     def test_output_that_can_be_written_in_part(self) -> None:
-        """No file may be longer than 20,000 bytes here, and the answer is."""
+        """Files are limited to 20,000 bytes here, and the answer is longer."""
         self.write("t.csv", "a\n" + "1\n" * 5_000)
         for unbuffered in ("", "1"):
             with open(self.folder / "answer", "w") as answer:

@@ -1,4 +1,4 @@
-"""The shell behind a terminal: prompts, statements over lines, completion, history, interrupts, and the row limit."""
+"""The shell in a terminal: prompts, statements over lines, completion, history, interrupts, and the row limit."""
 
 import importlib.util
 import os
@@ -121,7 +121,7 @@ class Completion(ShellTestCase):
         self.shell = self.terminal("visits.csv")
 
     def complete(self, keys: str, expected: str) -> None:
-        """Types keys and the tab key: the line is to become this. Then the line is dropped."""
+        """Types keys and the tab key, and checks that the line becomes this. Then the line is dropped."""
         self.shell.press(keys + "\t")
         self.shell.wait_for(expected)
         self.shell.interrupt()
@@ -186,7 +186,7 @@ class Interrupts(ShellTestCase):
         self.assertEqual(terminal.say("CREATE TABLE t (a INT);"), "ok\n")
 
     def test_while_a_statement_is_carried_out_it_loses_no_table(self) -> None:
-        """The program is held still while the shell waits for it."""
+        """The program is stopped while the shell waits for it."""
         program, number = self.observed_program()
         self.write("t.csv", "a\n1\n2\n")
         terminal = self.terminal("t.csv", BITCOL=str(program))
@@ -231,7 +231,7 @@ class Interrupts(ShellTestCase):
             terminal.wait_for(f"{ROWS}\n")
 
     def test_many_of_them(self) -> None:
-        """None comes between two others and ends the shell."""
+        """No interrupt comes between two others and ends the shell."""
         self.write("t.csv", "a\n" + "1\n" * 1_000)
         terminal = self.terminal("t.csv")
         for _ in range(20):
@@ -261,14 +261,14 @@ class Interrupts(ShellTestCase):
             self.assertIn("1 row\n", terminal.say(".tables"))
 
     def test_an_import_that_is_interrupted_after_a_part(self) -> None:
-        """The rest of the file doesn't come."""
+        """The rest of the file doesn't arrive."""
         os.mkfifo(self.folder / "pipe")
         terminal = self.terminal()
         terminal.press(".import pipe\n")
         with open(self.folder / "pipe", "w") as pipe:
             pipe.write("a\n")
             pipe.flush()
-            # So long that the progress line is shown.
+            # Long enough for the progress line to be shown.
             time.sleep(0.6)
             pipe.write("1234567\n" * (PART_BYTES // 8 + 1000))
             pipe.flush()
@@ -320,7 +320,7 @@ class Colours(ShellTestCase):
         self.assertEqual(self.written("-c", "SELEC", TERM="dumb"), "error 10: syntax error\n")
 
     def written(self, *words: str, **variables: str) -> str:
-        """All that a shell writes to a terminal, with its escapes."""
+        """Returns all that a shell writes to a terminal, with its escapes."""
         terminal = self.start_terminal(*words, **variables)
         terminal.keeps_escapes = True
         return terminal.rest()
@@ -328,7 +328,7 @@ class Colours(ShellTestCase):
 
 class ProgressLines(ShellTestCase):
     def test_a_long_load_tells_how_far_it_is(self) -> None:
-        """The program is held still, so that the load is long."""
+        """The program is stopped, so that the load takes long."""
         program, number = self.observed_program()
         self.write("t.csv", "a\n1\n2\n")
         terminal = self.terminal(BITCOL=str(program))

@@ -1,4 +1,4 @@
-"""Parts of the shell by themselves: statements of lines, rendering, completion, and charts."""
+"""Parts of the shell by themselves: splitting lines into statements, rendering, completion, and charts."""
 
 import io
 import json
@@ -57,7 +57,7 @@ class Statements(unittest.TestCase):
 
 
 def _without_comments_before(statement: bytes) -> bytes:
-    """A statement without the blanks and comments before it and the blanks after it."""
+    """Returns a statement without the blanks and comments before it and the blanks after it."""
     rest = statement.strip()
     while rest.startswith(b"--"):
         rest = rest.partition(b"\n")[2].strip()
@@ -186,7 +186,7 @@ class Completions(unittest.TestCase):
 class Charts(unittest.TestCase):
     def test_bars(self) -> None:
         text = "".join(bars(["1", "10", "NULL", "2"], [30, None, 60, 1], Canvas(24)))
-        # 24 characters without 4 for labels, 4 for values, and 3 beside the bars are 13 for 60.
+        # 24 characters minus 4 for labels, 4 for values, and 3 beside the bars leave 13 for 60.
         self.assertEqual(text, "   1 ██████▌ 30\n  10 NULL\nNULL █████████████ 60\n   2 ▎ 1\n")
 
     def test_bars_of_nothing(self) -> None:
@@ -195,7 +195,7 @@ class Charts(unittest.TestCase):
 
     def test_bars_to_the_left(self) -> None:
         text = "".join(bars(["a", "b", "c"], [-10, 10, 0], Canvas(26)))
-        # 26 without 1, 3 and 3 are 19: 10 left of 0 and 9 right of it.
+        # 26 minus 1, 3 and 3 leave 19: 10 left of 0 and 9 right of it.
         self.assertEqual(text, "a ██████████| -10\nb           |█████████ 10\nc           | 0\n")
         text = "".join(bars(["a"], [-10], Canvas(17)))
         self.assertEqual(text, "a ██████████| -10\n")

@@ -1,4 +1,4 @@
-"""Table files byte by byte, and whole tables in and out."""
+"""Table files byte by byte, and writing and reading whole tables."""
 
 import array
 import os
@@ -15,12 +15,12 @@ from bitcol.cells import cells_of
 from bitcol.table_file import HEADERS_BYTES, Column, ColumnHeader, decode, encode, headers_of, with_types
 from tests.support import GREATEST, GREATEST_BIGINT, LEAST, LEAST_BIGINT, SessionTestCase, random_column
 
-# The worked files of docs/TABLE_FILE.md, by each version: a column A, V and OFFSET, with the rows 3, NULL and -1.
+# The example files of docs/TABLE_FILE.md, in each version: a column A, V and OFFSET, with the rows 3, NULL and -1.
 WORKED = {
     1: bytes.fromhex("424954434f4c 0100 0100 03000000 01 41 01 00 05 03000000 00000000 ffffffff"),
     2: bytes.fromhex("424954434f4c 0200 0100 03000000 01 41 00 01 00 05 ffffffffffffffff 03 01 00 00"),
 }
-# Changes of them that are no table: bytes and their places.
+# Changes after which they aren't valid table files: bytes and their positions.
 NO_TABLE = {
     1: [{18: 0x0D}, {23: 0x01}, {16: 0x04}, {15: 0x61}, {17: 0x02}, {0: 0x62}, {6: 0x03}, {8: 0x00}, {10: 0x04}, {14: 0x00}],
     2: [
@@ -31,7 +31,7 @@ NO_TABLE = {
 
 
 def spelled(columns: dict[str, list[object]], version: int = 1) -> bytes:
-    """The table file of these columns, written bit by bit as its description says. By version 1 all are INTEGER."""
+    """Returns the table file of these columns, written bit by bit as described. In version 1 all are INTEGER."""
     rows = len(next(iter(columns.values())))
     data = b"BITCOL" + struct.pack("<HHI", version, len(columns), rows)
     for name, cells in columns.items():
@@ -44,7 +44,7 @@ def spelled(columns: dict[str, list[object]], version: int = 1) -> bytes:
 
 
 def planes_of(cells: list[object]) -> bytes:
-    """The part of a column of version 2 after its presence."""
+    """Returns the part of a column of version 2 after its presence."""
     values = [cell for cell in cells if cell is not None]
     base = min(values, default=0)
     width = max(1, (max(values, default=0) - base).bit_length())
@@ -54,7 +54,7 @@ def planes_of(cells: list[object]) -> bytes:
 
 
 def bits_of(bits: list[int]) -> bytes:
-    """A bit for each row, from the lowest bit of the first byte on."""
+    """Returns a bit for each row, from the lowest bit of the first byte on."""
     found = bytearray((len(bits) + 7) // 8)
     for row, bit in enumerate(bits):
         found[row // 8] |= bit << row % 8
@@ -62,7 +62,7 @@ def bits_of(bits: list[int]) -> bytes:
 
 
 def with_bytes(data: bytes, changes: dict[int, int]) -> bytes:
-    """The bytes with others in some places."""
+    """Returns the bytes with some of them replaced."""
     changed = bytearray(data)
     for place, byte in changes.items():
         changed[place] = byte
@@ -176,7 +176,7 @@ class Format(unittest.TestCase):
             Table.of([[1]])
 
     def test_a_file_that_is_too_large(self) -> None:
-        """Version 1 is left for version 2 where that file is smaller."""
+        """Version 2 is used instead of version 1 if its file is smaller."""
         columns = {"a": [3, None, -1] * 8}
         sizes = [len(b"".join(encode(Table.of(columns).stored, version))) for version in WORKED]
         self.assertEqual(sizes, [14 + 4 + 3 + 96, 14 + 5 + 9 + 12])

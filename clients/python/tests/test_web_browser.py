@@ -1,5 +1,5 @@
-"""The page in a real browser, where chromium, its driver and selenium are installed. What isn't is left out, and the
-run says so.
+"""The page in a real browser, if chromium, its driver and selenium are installed. Otherwise the tests are skipped, and
+the run says so.
 
 The variable BITCOL_PICTURE names a file for a picture of the page.
 """
@@ -75,7 +75,7 @@ class Page(BrowserTestCase):
         self.press_with(Keys.CONTROL, Keys.ENTER)
         self.wait(lambda: self.text("#answer-size") == "4 rows, 1 column")
         self.assertEqual(self.cells(), [["1"], ["1"], ["2"], ["3"]])
-        # The answer before is brought back from the replies, where it stands last but for the file's message.
+        # The previous answer is brought back from the replies, where it is the last but for the file's message.
         self.js("[...document.querySelectorAll('#replies button')].at(-1).click()")
         self.wait(lambda: self.text("#answer-title") == "Answer to SELECT COUNT(*) FROM visits")
         self.assertEqual(self.cells(), [["4"]])
@@ -116,7 +116,7 @@ class Page(BrowserTestCase):
         self.js(grid + "grid.dispatchEvent(new WheelEvent('wheel', {deltaY: 240, cancelable: true}))")
         self.wait(lambda: int(self.cells()[0][1]) == first + 10)
         self.assertLess(len(self.loaded("rows?")), 40)
-        # At the end the page scrolls on.
+        # At the end the page scrolls instead.
         wheel = "return grid.dispatchEvent(new WheelEvent('wheel', {deltaY: arguments[0], cancelable: true}))"
         self.assertFalse(self.js(grid + wheel, 100))
         self.press_with(Keys.CONTROL, Keys.END)
@@ -166,7 +166,7 @@ class Page(BrowserTestCase):
         self.press(Keys.ARROW_DOWN, Keys.ENTER, " ")
         self.press_with(Keys.CONTROL, " ")
         self.wait(lambda: not self.find("#completions").get_attribute("hidden"))
-        # Of all words the last is chosen from the first by a step back, and is seen.
+        # A step back from the first of all words selects the last, which is visible.
         self.press(Keys.ARROW_UP)
         chosen = self.js(
             "const list = document.getElementById('completions');"
@@ -179,7 +179,7 @@ class Page(BrowserTestCase):
         self.press_with(Keys.CONTROL, Keys.ENTER)
         self.wait(lambda: self.text("#answer-size").startswith("2 rows"))
         self.assertEqual(self.cells(), [["30"], ["45"]])
-        # Where no word is being completed, the tab key goes on.
+        # If no word is being completed, the tab key moves to the next control.
         self.press(Keys.TAB)
         self.assertEqual(self.js("return document.activeElement.id"), "run")
 
@@ -271,7 +271,7 @@ class Page(BrowserTestCase):
         self.wait_for("#replies", "the program was killed by SIGKILL; its tables are gone")
         self.wait_for("#replies", "another program was started, and it has no tables")
         self.wait(lambda: self.text("#tables") == "")
-        # The answer from before is there.
+        # The earlier answer is still there.
         self.assertEqual(len(self.cells()), 4)
 
     def test_a_server_that_ended(self) -> None:
@@ -283,11 +283,11 @@ class Page(BrowserTestCase):
         self.browser.get_log("browser")
 
     def test_other_pages_are_refused(self) -> None:
-        """A page of another server sends what this page sends, and even knows the word."""
+        """A page of another server sends the same requests as this page, and even knows the word."""
         visits = self.write("visits.csv", VISITS)
         server, other = self.start(visits), self.start()
         self.browser.get(other.address)
-        # The policy of a page that means no good lets it send this.
+        # The policy of a malicious page lets it send this.
         self.browser.execute_cdp_cmd("Page.setBypassCSP", {"enabled": True})
         self.addCleanup(self.browser.execute_cdp_cmd, "Page.setBypassCSP", {"enabled": False})
         self.browser.get(other.address)

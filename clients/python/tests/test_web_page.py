@@ -1,4 +1,4 @@
-"""The page's document: its examples are run, and its limits are those of the server."""
+"""The page's document: runs its examples, and checks that its limits are those of the server."""
 
 from __future__ import annotations
 
@@ -24,7 +24,7 @@ TAKEN = 8000
 
 class Page(ShellTestCase):
     def test_examples(self) -> None:
-        # Where somebody has it already, it is taken too.
+        # If somebody uses the port already, it is taken as well.
         with contextlib.suppress(OSError):
             self.addCleanup(socket.create_server(("127.0.0.1", TAKEN)).close)
         commands = 0
@@ -38,9 +38,9 @@ class Page(ShellTestCase):
         self.assertEqual(commands, 3)
 
     def output(self, command: str) -> str:
-        """What a command writes up to its end, or until it serves the page. Addresses are left out."""
+        """Returns what a command writes up to its end, or until it serves the page. Addresses are left out."""
         process = subprocess.Popen(
-            # What is the whole command takes the place of the system's shell, so that to end it is to end that.
+            # A single command replaces the system's shell, so that killing the shell's process kills the command.
             ["sh", "-c", ("" if ";" in command else "exec ") + command.replace("python3", shlex.quote(sys.executable))],
             stdout=subprocess.PIPE,
             stderr=subprocess.STDOUT,

@@ -22,7 +22,7 @@ from tests.test_door import ScriptedDoor
 PAGE = Path(bitcol.__file__).resolve().parent / "web/page"
 FULL = 16_777_216
 
-# What the page's modules compute, worked by hand.
+# What the page's modules compute, compared with results worked out by hand.
 MODULES = """
 import assert from "node:assert/strict";
 import { orderBy, range, scale, ticks } from "./chart.js";
@@ -78,7 +78,7 @@ assert.equal(address("state"), "state");
 
 
 def answer(rows: int, headings: str = "A") -> Reply:
-    """An answer of so many rows, with the same cell in all."""
+    """Returns an answer with this many rows, all with the same cell."""
     line = b",".join([b"5"] * (headings.count(",") + 1))
     return reply_of(headings.encode() + b"\n" + (line + b"\n") * rows + b"rows %d\n" % rows)
 
@@ -102,7 +102,7 @@ class Guarding(unittest.TestCase):
         guard = Guard("word", 1)
         self.assertEqual(guard.rest("/word/"), ("", ""))
         self.assertEqual(guard.rest("/word/rows?first=1&a=/x/"), ("rows", "first=1&a=/x/"))
-        # A word in the query is no word of the address.
+        # The word in the query doesn't count as the word of the address.
         self.assertIsNotNone(self.fault(guard, "/x?/word/", Host="127.0.0.1:1"))
         self.assertIsNotNone(self.fault(guard, "/w\u00f6rd/", Host="127.0.0.1:1"))
 
@@ -112,7 +112,7 @@ class Keeping(unittest.TestCase):
         answers = Answers(cells=10, answers=9)
         numbers = [answers.keep(answer(4)) for _ in range(2)]
         self.assertEqual(numbers, [1, 2])
-        # Whoever looks at the first keeps it.
+        # Looking at the first answer keeps it.
         answers.get(1)
         self.assertEqual(answers.keep(answer(1, "A,B")), 3)
         self.assertEqual(len(answers.get(1)), 4)
@@ -139,7 +139,8 @@ class Keeping(unittest.TestCase):
 
 class LongAnswers(unittest.TestCase):
     def workspace(self, *replies: bytes) -> Workspace:
-        """A workspace whose store answers this, on a machine with room for a full table's four columns as CSV."""
+        """Returns a workspace whose store answers this, on a machine with room for four columns of a full table as
+        CSV."""
         for module, cells in (("web.workspace", 2**40), ("shell.exporting", 2**26)):
             patch = mock.patch(f"bitcol.{module}.cells_that_fit", return_value=cells)
             patch.start()

@@ -30,7 +30,7 @@ class Guarded(WebTestCase):
         self.server = self.start(self.write("visits.csv", VISITS))
 
     def statuses(self, header: str, *values: str) -> list[int]:
-        """The statuses of requests with this header."""
+        """Returns the statuses of requests with this header."""
         target = self.server.target("page.css")
         return [self.server.send("GET", target, headers={header: value}).status for value in values]
 
@@ -112,12 +112,12 @@ class Guarded(WebTestCase):
             socket.create_connection(("127.0.0.2", port), SECONDS)
 
     def head(self, method: str, name: str, *headers: str) -> str:
-        """A request without its body."""
+        """Returns a request without its body."""
         first = f"{method} {self.server.target(name)} HTTP/1.1"
         return "\r\n".join([first, f"Host: {self.server.host}", *headers, "", ""])
 
     def raw(self, text: str) -> bytes:
-        """The status of what is answered to these bytes."""
+        """Sends these bytes, and returns the status of the response."""
         host, _, port = self.server.host.partition(":")
         with socket.create_connection((host, int(port)), SECONDS) as connection:
             connection.sendall(text.encode())
@@ -125,7 +125,7 @@ class Guarded(WebTestCase):
 
 
 class Statements(WebTestCase):
-    """What becomes of statements, and of their answers."""
+    """The outcomes of statements, and their answers."""
 
     def test_a_script(self) -> None:
         server = self.start()
@@ -282,11 +282,11 @@ class Statements(WebTestCase):
         self.assertEqual(server.post("complete", "SELECT SUM(D").json, {"word": "D", "words": words})
         files = {"word": "vis", "words": ["visits.csv"]}
         self.assertEqual(server.post("complete", "LOAD visits FROM 'vis").json, files)
-        # A point begins no command here.
+        # A dot doesn't begin a command here.
         self.assertEqual(server.post("complete", ".im").json, {"word": ".im", "words": []})
 
     def test_two_windows_take_turns(self) -> None:
-        """Were the statements of two scripts mixed, some count would be another."""
+        """If the statements of two scripts were interleaved, some count would differ."""
         server = self.start()
         server.run("CREATE TABLE t (a INT)")
         changes = "DELETE FROM t; INSERT INTO t VALUES (1), (2); INSERT INTO t VALUES (3);"
@@ -301,19 +301,19 @@ class Statements(WebTestCase):
         self.assertEqual(server.state()["tables"][0]["rows"], 3)
 
     def table(self, name: str, columns: dict[str, object]) -> Path:
-        """A table file of these columns."""
+        """Returns a table file with these columns."""
         return self.write(f"{name}.table", b"".join(map(bytes, Table.of(columns).file_pieces())))
 
 
 class Files(WebTestCase):
-    """What becomes of files that are dropped on the page."""
+    """The outcomes of files that are dropped on the page."""
 
     def setUp(self) -> None:
         super().setUp()
         self.server = self.start()
 
     def drop(self, name: str, content: str | bytes, **words: object) -> tuple[list[object], list[str]]:
-        """The tables that are made of a file, and the errors."""
+        """Returns the tables that are made from a file, and the errors."""
         found = self.server.post("import", content, name=name, **words).json
         return [(made["table"], made["rows"], made["notes"]) for made in found["imported"]], found["errors"]
 
@@ -390,7 +390,7 @@ class Files(WebTestCase):
 
 
 class Ends(WebTestCase):
-    """How the server and its program end, and begin."""
+    """How the server and its program end, and start."""
 
     def test_a_program_that_died(self) -> None:
         program, number = self.observed_program()
@@ -402,7 +402,7 @@ class Ends(WebTestCase):
         outcomes = server.run("SELECT COUNT(*) FROM visits; CREATE TABLE t (a INT)")
         self.assertEqual([outcome["statement"] for outcome in outcomes], ["SELECT COUNT(*) FROM visits"])
         self.assertEqual(outcomes[0]["error"], died)
-        # Both windows are told, and the answer from before is there.
+        # Both windows are told, and the earlier answer is still there.
         for _ in range(2):
             state = server.state(last)
             texts = [message["text"] for message in state["messages"]]
@@ -467,7 +467,7 @@ class Ends(WebTestCase):
             self.kill_program(number)
 
     def test_a_statement_does_not_keep_the_server(self) -> None:
-        """The program takes a statement and answers nothing for five seconds: the server waits for two."""
+        """The program reads a statement and answers nothing for five seconds: the server waits for two."""
         program = self.write("slow", "#!/bin/sh\nhead -c 1 > taken\nexec sleep 5\n")
         program.chmod(0o755)
         server = self.start(BITCOL=str(program))

@@ -1,4 +1,4 @@
-"""The page's server as people run it, and requests to it."""
+"""Runs the page's server as people do, and sends requests to it."""
 
 from __future__ import annotations
 
@@ -22,7 +22,7 @@ ADDRESS = "The page is at "
 
 @dataclass(frozen=True)
 class Reply:
-    """What the server answered."""
+    """A response of the server."""
 
     status: int
     headers: Message
@@ -38,7 +38,7 @@ class Reply:
 
 
 class Server:
-    """A server in a process of its own, and what it wrote."""
+    """A server in a separate process, and what it wrote."""
 
     def __init__(self, folder: Path, words: list[str], variables: dict[str, str]) -> None:
         self.process = subprocess.Popen(
@@ -58,7 +58,7 @@ class Server:
     def send(
         self, method: str, target: str, body: bytes | str | None = None, headers: dict[str, str] | None = None
     ) -> Reply:
-        """What is answered to a request with these headers beside those that each has. The target is a whole path."""
+        """Returns the response to a request with these headers besides the usual ones. The target is a whole path."""
         connection = HTTPConnection(self.host, timeout=SECONDS)
         try:
             sent = body.encode() if isinstance(body, str) else body
@@ -68,34 +68,34 @@ class Server:
             connection.close()
 
     def get(self, name: str, /, **words: object) -> Reply:
-        """What is answered to the page's GET of this name."""
+        """Returns the response to the page's GET of this name."""
         return self.send("GET", self.target(name, words))
 
     def post(self, name: str, body: bytes | str, /, **words: object) -> Reply:
-        """What is answered to the page's POST of this name."""
+        """Returns the response to the page's POST of this name."""
         return self.send("POST", self.target(name, words), body)
 
     def target(self, name: str, words: dict[str, object] | None = None) -> str:
-        """The path and the query of a request that has the word."""
+        """Returns the path and the query of a request that has the word."""
         query = f"?{urlencode(words)}" if words else ""
         return f"/{self.word}/{name}{query}"
 
     def run(self, script: str) -> Any:
-        """What became of the statements of a script."""
+        """Runs a script, and returns the outcomes of its statements."""
         return self.post("run", script).json
 
     def state(self, after: int = 0) -> Any:
-        """The tables, and the messages after this one."""
+        """Returns the tables, and the messages after this one."""
         return self.get("state", after=after).json
 
     def end(self, by: signal.Signals = signal.SIGINT) -> tuple[str, int]:
-        """Ends the server, and gives what it wrote to standard error, and its status."""
+        """Ends the server, and returns what it wrote to standard error, and its exit status."""
         self.process.send_signal(by)
         _, errors = self.process.communicate(timeout=SECONDS)
         return errors, self.process.returncode
 
     def kill(self) -> None:
-        """Ends the server where it hasn't ended."""
+        """Kills the server if it hasn't ended."""
         if self.process.poll() is None:
             self.process.kill()
             self.process.communicate()
@@ -122,17 +122,18 @@ class WebTestCase(ShellTestCase):
     """A test with a folder of its own, in which its servers run."""
 
     def start(self, *words: object, **variables: str) -> Server:
-        """A server of these words, which ends with the test."""
+        """Starts a server with these arguments, which ends with the test."""
         server = Server(self.folder, list(map(str, words)), environment(self.folder.parent, **variables))
         self.addCleanup(server.kill)
         return server
 
     def kill_program(self, number: Path) -> None:
-        """Kills the program whose process has the number in this file."""
+        """Kills the program whose process number is in this file."""
         os.kill(self.started_program(number), signal.SIGKILL)
 
     def started_program(self, number: Path) -> int:
-        """The number of the program's process. The program writes it into this file as it starts, so it may come late."""
+        """The number of the program's process. The program writes it into this file as it starts, so it may come
+        late."""
         end = time.monotonic() + SECONDS
         while not (number.exists() and number.read_text().strip()):
             self.assertLess(time.monotonic(), end, "the program doesn't start")

@@ -1,7 +1,8 @@
 //! The calls of the library, as `clients/c/bitcol.h` declares them: all unsafe code of this crate.
 //!
-//! What they owe the library holds here: a `Handle` is a store that was opened and is closed once, when it is dropped; `&mut` lets one
-//! call at a time use it; and the pointer of a slice isn't null, and has as many bytes as its length says.
+//! The library's requirements are met here: a `Handle` is a store that was opened, and that is closed once, when it is
+//! dropped; `&mut` lets only one call at a time use it; and the pointer of a slice isn't null, and points to as many
+//! bytes as the slice's length says.
 
 use std::ffi::c_void;
 use std::ptr;
@@ -45,10 +46,10 @@ pub(crate) struct Handle {
     opened: Opened,
 }
 
-// SAFETY: the library keeps nothing of a thread, and lets a store go to another between two calls.
+// SAFETY: the library keeps no thread-local state, and lets a store move to another thread between two calls.
 unsafe impl Send for Handle {}
 
-/// A store without tables, unless there is no memory.
+/// Opens a store without tables. `None` when out of memory.
 pub(crate) fn open(stops: bool) -> Option<Handle> {
     let mut opened = Opened {
         store: ptr::null_mut(),
@@ -86,7 +87,7 @@ pub(crate) fn put_file(handle: &mut Handle, name: &[u8], bytes: &[u8]) -> u32 {
     }
 }
 
-/// The status, and the length that was put.
+/// The status, and the length that the library wrote.
 pub(crate) fn file(handle: &mut Handle, name: &[u8], out: &mut [u8]) -> (u32, usize) {
     let mut length = 0;
     // SAFETY: the store is open, name and room are slices, and there is room for a length.

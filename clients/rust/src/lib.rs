@@ -1,4 +1,4 @@
-//! bitcol in a Rust program: a store in memory that answers scripts.
+//! bitcol inside a Rust program: an in-memory store that answers scripts.
 //!
 //! ```
 //! use bitcol::{End, OnError, Store};
@@ -23,31 +23,31 @@ use std::fmt;
 
 use calls::Handle;
 
-/// What comes after a reply that is an error.
+/// What to do after a reply that is an error.
 #[derive(Clone, Copy, Debug, PartialEq, Eq)]
 pub enum OnError {
-    /// The statements that follow it in the script.
+    /// Execute the statements that follow it in the script.
     Continue,
-    /// Nothing more of the script.
+    /// Execute nothing more of the script.
     Stop,
 }
 
 /// How a script ended.
 #[derive(Clone, Copy, Debug, PartialEq, Eq)]
 pub enum End {
-    /// Each statement was answered, refused ones too.
+    /// Each statement was answered, including refused ones.
     Done,
     /// A reply was an error, and the store was opened to stop there.
     Stopped,
-    /// There was no memory for a reply. Its statement was carried out, a front of the reply stands, and what follows was not
-    /// carried out.
+    /// There was no memory for a reply. Its statement was executed, a prefix of the reply is kept, and what follows was
+    /// not executed.
     CutOff,
 }
 
-/// What a script was answered.
+/// The answer to a script.
 #[derive(Clone, Debug, PartialEq, Eq)]
 pub struct Answer {
-    /// How it ended.
+    /// How the script ended.
     pub end: End,
     /// The replies, as the program writes them.
     pub replies: Vec<u8>,
@@ -70,14 +70,14 @@ impl fmt::Display for Error {
 
 impl error::Error for Error {}
 
-/// A store in memory, with files of its own. Statements reach no other files.
+/// An in-memory store with files of its own. Statements can reach no other files.
 #[derive(Debug)]
 pub struct Store {
     handle: Handle,
 }
 
 impl Store {
-    /// A store without tables and files.
+    /// Opens a store without tables and files.
     ///
     /// # Errors
     ///
@@ -87,8 +87,8 @@ impl Store {
         Ok(Store { handle })
     }
 
-    /// Answers the statements of a script over what the scripts before it left. Each statement needs its `;`. Statements are
-    /// refused in the replies, where memory runs out too.
+    /// Answers the statements of a script on the tables and files that earlier scripts left. Each statement needs its
+    /// `;`. A refused statement is reported in the replies, and so is one that runs out of memory.
     pub fn answer(&mut self, script: &str) -> Answer {
         let end = match calls::answer(&mut self.handle, script.as_bytes()) {
             calls::DONE => End::Done,
@@ -101,7 +101,7 @@ impl Store {
         Answer { end, replies }
     }
 
-    /// Makes a file of the store's own anew, for LOAD and OPEN.
+    /// Writes one of the store's own files, replacing one of that name, for LOAD and OPEN.
     ///
     /// # Errors
     ///
@@ -113,7 +113,7 @@ impl Store {
         }
     }
 
-    /// A file of the store's own, as SAVE or `put_file` made it; `None` where it isn't there.
+    /// Returns one of the store's own files, as SAVE or `put_file` wrote it; `None` if there is no such file.
     pub fn file(&mut self, name: &str) -> Option<Vec<u8>> {
         let mut bytes = Vec::new();
         loop {

@@ -1,4 +1,4 @@
-"""Tables that outgrow a core, a store or a machine: parts on shared storage, asked through dask.distributed.
+"""Tables that outgrow a core, a store or a machine: parts on shared storage, queried through dask.distributed.
 
     from dask.distributed import Client
     from bitcol import cluster
@@ -13,10 +13,10 @@
 
     visits = cluster.open(client, "/shared/visits")                 # later, or by somebody else
 
-A table is a folder that the client and all workers reach under one name. It holds table files, which are named by the
-SHA-256 of their bytes and never changed, and for each version a manifest, which names its parts in order. What a table
-answers is what one store with the rows of all parts, in this order, would reply, byte by byte. docs/CLUSTER.md tells
-what that costs, and when it pays. Workers need this package and the program.
+A table is a folder that the client and all workers reach by the same name. It holds table files, which are named by the
+SHA-256 of their bytes and never changed, and for each version a manifest, which lists its parts in order. A table
+answers exactly, byte by byte, what one store with the rows of all parts, in this order, would reply. docs/CLUSTER.md
+says what that costs, and when it pays off. Workers need this package and the program.
 """
 
 from .manifest import Column, Ends, Manifest, Part

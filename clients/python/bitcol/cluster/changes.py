@@ -1,4 +1,4 @@
-"""Changes: the parts of the next version. Nothing is changed where one of the tasks of a change fails."""
+"""Changes: makes the parts of the next version. If a task of a change fails, nothing is changed."""
 
 from __future__ import annotations
 
@@ -16,12 +16,12 @@ from .manifest import Manifest, Part
 from .merge import REFUSED
 from .programs import Place
 
-# An INSERT goes to the last part as long as that has no more rows than these.
+# An INSERT goes to the last part as long as that has at most this many rows.
 GATHERED_ROWS = 2**20
 
 
 class Changes:
-    """What makes the parts of the version after one."""
+    """Makes the parts of the version that follows a version."""
 
     def __init__(self, client: Any, place: Place, manifest: Manifest) -> None:
         self._client, self._place = client, place
@@ -29,13 +29,14 @@ class Changes:
         self._parts = manifest.parts
 
     def loaded(self, files: Iterable[PathLike], header: bool, most_bytes: int, most_rows: int) -> list[Part]:
-        """The parts of the rows of CSV files, a file's in order, or the error that names each file at fault."""
+        """Returns parts with the rows of CSV files, each file's in order. Raises an error that names the faulty
+        files."""
         paths = _paths(files)
         limits: dict[str, Any] = {"header": header, "most_bytes": most_bytes, "most_rows": most_rows}
         found: list[making.Loaded] = self._map(
             making.load_csv, paths, place=self._place, definition=self._definition, **limits
         )
-        # What a table can't hold as a whole is cut.
+        # A file that one table can't hold is cut.
         long = [number for number, each in enumerate(found) if _is_too_long(each)]
         cuts = self._map(making.cut_csv, [paths[number] for number in long], is_forced=True, **limits)
         for number, cut in zip(long, cuts):
@@ -44,7 +45,7 @@ class Changes:
         return [part for some in _without_faults(made) for part in some]
 
     def _with_pieces_loaded(self, found: Sequence[making.Loaded]) -> list[list[Part | Error]]:
-        """Of each file what it became: a part, what its pieces became, or an error."""
+        """Returns what became of each file: a part, what its pieces became, or an error."""
         pieces = [(number, piece) for number, some in enumerate(found) if isinstance(some, list) for piece in some]
         loaded = self._map(
             making.load_piece, [piece for _, piece in pieces], place=self._place, definition=self._definition
@@ -55,16 +56,16 @@ class Changes:
         return made
 
     def attached(self, files: Iterable[PathLike]) -> list[Part]:
-        """The parts of the rows of table files, or the error that names each file at fault."""
+        """Returns parts with the rows of table files. Raises an error that names the faulty files."""
         paths = _paths(files)
         found: list[Part | Error] = self._map(making.attach_file, paths, place=self._place, columns=self._columns)
         return _without_faults(found)
 
     def changed(self, statement: str, counts: Sequence[int] | None) -> tuple[bytes, list[Part]]:
-        """The reply to an UPDATE or DELETE, and the parts that it leaves. `counts` are the rows that it finds in each
-        part, where that is known: only those in which it finds one are changed."""
+        """Returns the reply to an UPDATE or DELETE, and the resulting parts. `counts` are the numbers of rows that it
+        finds in each part, if known: only parts in which it finds one are changed."""
         if counts is None or not any(counts):
-            # A table without rows refuses the statement as well, and is made at once.
+            # A table without rows refuses the statement as well, and is made quickly.
             ((reply, _),) = self._statement([None], statement)
             if counts is not None or reply.startswith(REFUSED):
                 return reply, list(self._parts)
@@ -80,14 +81,14 @@ class Changes:
         return b"ok %d\n" % count, parts
 
     def inserted(self, statement: str) -> tuple[bytes, list[Part]]:
-        """The reply to an INSERT, and the parts that it leaves: few rows are gathered in the last part."""
+        """Returns the reply to an INSERT, and the resulting parts: few rows are gathered in the last part."""
         last = self._parts[-1] if self._parts[-1].rows <= GATHERED_ROWS else None
         ((reply, part),) = self._statement([last], statement)
         front = self._parts if last is None else self._parts[:-1]
         return reply, [*front, part] if part is not None else list(self._parts)
 
     def put_together(self, most_rows: int) -> list[Part]:
-        """The parts, those that follow one another put together up to so many rows."""
+        """Returns the parts, with consecutive ones combined up to this many rows."""
         runs: list[list[Part]] = []
         for part in self._parts:
             if runs and sum(each.rows for each in runs[-1]) + part.rows <= most_rows:
@@ -104,7 +105,7 @@ class Changes:
         )
 
     def _made(self, call: Callable[..., Any], each: Sequence[Any], **rest: Any) -> list[Any]:
-        """What tasks make. The first error is raised."""
+        """Returns the results of tasks. The first error is raised."""
         found = self._map(call, each, **rest)
         for made in found:
             if isinstance(made, Error):
@@ -120,8 +121,8 @@ class Changes:
 
 
 def _paths(files: Iterable[PathLike]) -> list[str]:
-    """The paths of files as workers reach them. ProgrammingError where they are one path, whose letters would be taken
-    for files, or one of them is no path."""
+    """Returns the paths of files as workers reach them. Raises ProgrammingError if a single path is given, whose
+    letters would be taken for files, or if one of them isn't a path."""
     if isinstance(files, (str, bytes, os.PathLike)):
         raise ProgrammingError(f"the files are to be a list of paths, not one path: {files!r}")
     return [os.path.abspath(path_of(file)) for file in files]
@@ -132,7 +133,7 @@ def _is_too_long(made: making.Loaded) -> bool:
 
 
 def _file_made(made: Sequence[Part | Error], header: bool) -> list[Part] | Error:
-    """The parts of a file, or its first error, in which a record has its number in the file."""
+    """Returns the parts of a file, or its first error, in which a record has its number in the file."""
     parts: list[Part] = []
     for each in made:
         if isinstance(each, Error):
@@ -143,7 +144,7 @@ def _file_made(made: Sequence[Part | Error], header: bool) -> list[Part] | Error
 
 
 def _without_faults(found: Sequence[Any]) -> list[Any]:
-    """What was made of files. Where some are at fault, one error names them, and is of the kind of the first."""
+    """Returns what was made from files. If some are faulty, raises one error that names them, of the first's class."""
     faults = [made for made in found if isinstance(made, Error)]
     if faults:
         named = "; ".join(_text(fault) for fault in faults)

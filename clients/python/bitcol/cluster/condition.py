@@ -1,7 +1,7 @@
-"""Which parts a condition can't meet, by the least and the greatest value of each column.
+"""Finds the parts in which no row can meet a condition, by the least and the greatest value of each column.
 
-For each condition it is worked out which truths it may have at a row of a part. Where it can't be true, no row of the
-part is found, and the part needn't be asked. What can't be read is taken for what may have any truth.
+For each condition it is determined which truth values it may have for a row of a part. If it can't be true, no row of
+the part is found, and the part needn't be queried. What can't be parsed is assumed to have any truth value.
 """
 
 from __future__ import annotations
@@ -15,25 +15,25 @@ from typing import Optional
 from .manifest import Ends
 from .select import Tokens
 
-# Truths are numbers, so that AND is the least of them, OR the greatest, and NOT the negative.
+# Truth values are numbers, so that AND is the least of them, OR the greatest, and NOT the negative.
 FALSE, UNKNOWN, TRUE = -1, 0, 1
 Truths = frozenset[int]
 _TRUTH_WORDS = {"TRUE": TRUE, "FALSE": FALSE, "UNKNOWN": UNKNOWN}
 _COMPARISONS = ("=", "<>", "!=", "<", "<=", ">", ">=")
 _MIRRORED = {"<": ">", "<=": ">=", ">": "<", ">=": "<="}
 
-# An operand at a row: the ends of what it may be where it isn't NULL, or None where it always is; whether it may be
-# NULL.
+# An operand for a row: the least and the greatest value that it may have if it isn't NULL, or None if it is always
+# NULL; and whether it may be NULL.
 Operand = tuple[Optional[tuple[int, int]], bool]
 NULL: Operand = (None, True)
 
 
 class _Unread(Exception):
-    """A condition that this reader can't read."""
+    """A condition that this reader can't parse."""
 
 
 def may_be_met(condition: str | None, ends: Mapping[str, Ends]) -> bool:
-    """Whether a row of a part with these ends may be found. Without a condition each row is."""
+    """Returns whether a row of a part with these ends may be found. Without a condition each row is found."""
     if condition is None:
         return True
     try:
@@ -48,13 +48,13 @@ def _words(condition: str) -> Sequence[str]:
 
 
 class _Reader:
-    """Reads a condition by the language's grammar, and works out its truths meanwhile."""
+    """Parses a condition by the language's grammar, and at the same time determines its possible truth values."""
 
     def __init__(self, words: Sequence[str], ends: Mapping[str, Ends]) -> None:
         self._words, self._ends, self._at = words, ends, 0
 
     def whole(self) -> Truths:
-        """The truths of all words."""
+        """Returns the truth values of the whole condition."""
         truths = self._condition()
         if self._at < len(self._words):
             raise _Unread
@@ -150,7 +150,7 @@ class _Reader:
 
 
 def _compared(comparison: str, left: Operand, right: Operand) -> Truths:
-    """The truths of a comparison of two operands, which are taken to have nothing to do with one another."""
+    """Returns the truth values of a comparison of two operands, which are assumed to be independent of each other."""
     (span, is_nullable), (other, other_is_nullable) = left, right
     unknown: Truths = frozenset({UNKNOWN} if is_nullable or other_is_nullable else ())
     if span is None or other is None:
@@ -177,5 +177,5 @@ def _turned(truths: Truths) -> Truths:
 
 
 def _combined(choose: Callable[..., int], one: Truths, other: Truths) -> Truths:
-    """The truths of AND (the lesser) or OR (the greater) of two conditions."""
+    """Returns the truth values of AND (the lesser) or OR (the greater) of two conditions."""
     return frozenset(choose(*pair) for pair in product(one, other))

@@ -1,8 +1,8 @@
-"""Cutting CSV files at ends of records, so that a file beyond the limits of a table, or a large one, becomes several
+"""Cuts CSV files at ends of records, so that a file beyond the limits of a table, or a large one, becomes several
 parts.
 
-Records are those of the program: `,` between fields, `"` around them, and LF, CR LF or CR at the end of a line. A quote
-counts at the beginning of a field alone, and after a closing quote more may follow up to the next comma.
+Records are those of the program: `,` between fields, `"` around them, and LF, CR LF or CR at the end of a line. An
+opening quote counts only at the beginning of a field, and more may follow a closing quote up to the next comma.
 """
 
 from __future__ import annotations
@@ -17,8 +17,8 @@ _RECORD = re.compile(_FIELD + rb"(?:," + _FIELD + rb")*(?:\r\n|\r|\n|\Z)")
 
 
 def cut(data: bytes, most_bytes: int, most_rows: int = ROW_LIMIT) -> list[tuple[int, int]]:
-    """Where pieces of a CSV file begin and end: each is whole records, as many as these limits let it have, or it is
-    one record. DataError where the records can't be told apart, and what is left is longer than a piece may be."""
+    """Returns where pieces of a CSV file begin and end: each is as many whole records as these limits allow, or one
+    record. Raises DataError if records can't be told apart and the rest is longer than a piece may be."""
     find = _end_of_records if b'"' in data else _end_of_lines
     pieces, start = [], 0
     while start < len(data):
@@ -29,8 +29,8 @@ def cut(data: bytes, most_bytes: int, most_rows: int = ROW_LIMIT) -> list[tuple[
 
 
 def _end_of_lines(data: bytes, start: int, most_bytes: int, most_rows: int) -> int:
-    """The end of a piece of a file without quotes, whose records are its lines. A cut between CR and LF makes a line
-    without a byte, which is no record."""
+    """Returns the end of a piece of a file without quotes, whose records are its lines. A cut between CR and LF makes
+    an empty line, which isn't a record."""
     size = most_bytes
     while True:
         end = start + size
@@ -48,18 +48,18 @@ def _end_of_lines(data: bytes, start: int, most_bytes: int, most_rows: int) -> i
 
 
 def _end_of_line(data: bytes, at: int) -> int:
-    """The end of the line that this byte is in."""
+    """Returns the end of the line that contains this byte."""
     ends = [place + 1 for place in (data.find(b"\n", at), data.find(b"\r", at)) if place >= 0]
     return min(ends, default=len(data))
 
 
 def _end_of_records(data: bytes, start: int, most_bytes: int, most_rows: int) -> int:
-    """The end of a piece of a file with quotes."""
+    """Returns the end of a piece of a file with quotes."""
     end, rows = start, 0
     while end < len(data) and rows < most_rows:
         found = _RECORD.match(data, end)
         if found is None:
-            # A quote that nothing closes: what is left is one record, which the program judges.
+            # A quote that is never closed: the rest is one record, which the program judges.
             if len(data) - end > most_bytes:
                 raise DataError("a quote isn't closed, so that the file can't be cut at its records")
             return len(data) if end == start or len(data) - start <= most_bytes else end

@@ -1,8 +1,8 @@
-"""Questions that go straight to the workers which hold the parts, and not as tasks.
+"""Queries that are sent directly to the workers that hold the parts, instead of as tasks.
 
-What dask's scheduler, workers and clients tell one another of tasks goes in batches, up to 10 ms apart, so a question
-by tasks waits for some of them. One that is put to the workers by the client itself doesn't. Where that comes to
-nothing, for whatever reason, the question is asked by tasks, which make anew what isn't where it was.
+The messages about tasks between dask's scheduler, workers and clients are sent in batches, up to 10 ms apart, so a
+query by tasks waits for some of them. A query that the client itself sends to the workers doesn't. If that fails, for
+whatever reason, the query is sent by tasks, which restore whatever was lost.
 """
 
 from __future__ import annotations
@@ -18,19 +18,19 @@ from typing import Any
 from .groups import Group
 from .holding import Told, held
 
-# How many seconds a worker is given to take a connection. One that takes none isn't called again.
+# How many seconds a worker has to accept a connection. A worker that doesn't isn't called again.
 CONNECT_SECONDS = 2.0
 _unreached: weakref.WeakKeyDictionary[Any, set[str]] = weakref.WeakKeyDictionary()
 
-# What is asked of a worker: for each group its place among those that are asked, its key, and which of its parts.
+# What a worker is asked: for each group its place among the queried groups, its key, and which of its parts.
 Errand = list[tuple[int, str, Sequence[int]]]
-# Of some groups, by their places, what they answer.
+# The answers of some groups, with their places.
 Answers = list[tuple[int, Told]]
 
 
 class Calls:
-    """Calls of a client to the workers that hold the groups of a version. Where these lie is asked once. A worker says
-    itself where it holds one no more; then it is asked again."""
+    """Calls of a client to the workers that hold the groups of a version. The locations of these are looked up once. If
+    a worker doesn't hold one any more, it says so, and they are looked up again."""
 
     def __init__(self, client: Any) -> None:
         self._client = client
@@ -39,7 +39,7 @@ class Calls:
     def asked(
         self, groups: Sequence[tuple[Group, list[int]]], call: Callable[..., Told], asked: Any, **rest: Any
     ) -> list[Told] | None:
-        """What a call gives for each of some groups, or None where that is to be asked by tasks."""
+        """Returns the result of a call for each of some groups, or None if tasks have to be used instead."""
         if any(group.holding.status != "finished" for group, _ in groups):
             return None
         try:
@@ -48,7 +48,7 @@ class Calls:
                 return None
             found = self._client.sync(_called_all, self._client, errands, (call, asked, rest))
         except Exception:
-            # A worker is lost, or can't be reached. Tasks find out which, and tell it where it can't be mended.
+            # A worker is lost, or can't be reached. Tasks find out which, and report it if it can't be fixed.
             self._addresses.clear()
             return None
         told = {place: each for of_worker in found for place, each in of_worker}
@@ -58,7 +58,7 @@ class Calls:
         return [told[place] for place in range(len(groups))]
 
     def _errands(self, groups: Sequence[tuple[Group, list[int]]]) -> dict[str, Errand]:
-        """What is asked of each worker, by its address."""
+        """Returns what each worker is asked, by its address."""
         unknown = [group.holding for group, _ in groups if group.holding.key not in self._addresses]
         if unknown:
             self._addresses.update((key, where[0]) for key, where in self._client.who_has(unknown).items())
@@ -75,7 +75,7 @@ async def _called_all(client: Any, errands: Mapping[str, Errand], question: tupl
 
 
 async def _called(client: Any, address: str, arguments: tuple[Any, ...]) -> Answers:
-    """What a worker answers to a call of run_errand, as Client.run makes it, but over a connection that is kept."""
+    """Calls run_errand on a worker, as Client.run does, but over a connection that is kept. Returns its answer."""
     try:
         comm = await client.rpc.connect(address, timeout=CONNECT_SECONDS)
     except OSError:
@@ -93,7 +93,8 @@ async def _called(client: Any, address: str, arguments: tuple[Any, ...]) -> Answ
 async def run_errand(
     errand: Errand, call: Callable[..., Told], asked: Any, rest: Mapping[str, Any], dask_worker: Any
 ) -> Answers:
-    """On a worker, by its threads: what a call gives for each of some groups; nothing where one isn't held here."""
+    """Runs on a worker: returns the result of a call, run by its threads, for each group, or nothing if one isn't held
+    here."""
     mine = [(place, held(key), which) for place, key, which in errand]
     if any(holding is None for _, holding, _ in mine):
         return []

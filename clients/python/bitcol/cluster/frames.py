@@ -1,4 +1,4 @@
-"""Frames of pandas of parts' rows."""
+"""Pandas data frames with the rows of parts."""
 
 from __future__ import annotations
 
@@ -11,7 +11,7 @@ from .holding import Holding
 
 
 def ask_frame(holding: Holding, which: Sequence[int], statement: str, names: Sequence[str]) -> Any:
-    """A task: a frame of a part's rows of a SELECT of columns. Values of 64 bits are exact, and NULL is NA."""
+    """A task: returns a frame with a part's rows of a SELECT of columns. 64-bit values are exact, and NULL is NA."""
     ((data,),) = holding.answers(which, [statement], None)
     reply = reply_of(data)
     if reply.refusal is not None:
@@ -20,6 +20,6 @@ def ask_frame(holding: Holding, which: Sequence[int], statement: str, names: Seq
 
 
 def frame_like(names: Sequence[str]) -> Any:
-    """A frame without rows, of the same types."""
+    """Returns a frame of the same types without rows."""
     pandas = pandas_module()
     return pandas.DataFrame({name: pandas.array([], dtype="Int64") for name in names})

@@ -1,5 +1,5 @@
-"""How parts lie among dask's workers: some that follow one another are one object, so that a question costs dask as
-many tasks as there are threads, and not as there are parts."""
+"""Distributes parts over dask's workers: several consecutive parts are one object, so that a query costs dask as many
+tasks as there are threads, instead of as many as there are parts."""
 
 from __future__ import annotations
 
@@ -12,41 +12,41 @@ from .holding import hold, key_of
 from .manifest import Part
 from .programs import Place
 
-# How often dask tries a task again that raised: a process may have been ended from outside.
+# How often dask retries a task that raised an error: a process may have been killed from outside.
 RETRIES = 2
-# The share of the workers' memory up to which parts are put together. Beyond it dask will spill some, one by one.
+# The share of the workers' memory up to which parts are grouped. Beyond it dask will spill some, one by one.
 ROOMY = 0.4
 
 
 @dataclass(frozen=True)
 class Group:
-    """Parts that follow one another, and dask's future of what holds them."""
+    """Consecutive parts, and dask's future of the object that holds them."""
 
     parts: tuple[Part, ...]
     holding: Any
 
 
 def grouped(client: Any, place: Place, parts: Sequence[Part], together: int | None) -> list[Group]:
-    """Has workers open parts, so many to an object, or as many as suits the workers for None."""
+    """Has workers open parts, `together` in each object; None means as many as suits the workers."""
     workers = client.scheduler_info()["workers"]
     size = together or _together(parts, workers)
     slots = _slots(workers)
     groups = []
     for number, start in enumerate(range(0, len(parts), size)):
         some = tuple(parts[start : start + size])
-        # Where a group was before a change, the parts that stay are open.
+        # Where a group was before a change, the parts that remain are open.
         near: dict[str, Any] = {"workers": [slots[number % len(slots)]], "allow_other_workers": True} if slots else {}
         future = client.submit(hold, place, some, key=key_of(place, some), retries=RETRIES, **near)
         if future.status == "error":
-            # It is remembered as long as anybody holds it; the file may have been mended.
+            # The error is kept as long as anybody holds the future; the file may have been repaired.
             future.retry()
         groups.append(Group(some, future))
     return groups
 
 
 def _together(parts: Sequence[Part], workers: dict[str, Any]) -> int:
-    """How many parts suit: as many as leave each thread an object, and a power of two, so that a few parts more leave
-    the other objects as they are. One by one where memory is short."""
+    """Returns how many parts to group: as many as leave each thread an object, and a power of two, so that a few more
+    parts leave the other objects as they are. If memory is short, parts aren't grouped."""
     room = sum(worker.get("memory_limit") or 0 for worker in workers.values())
     if room and sum(part.size for part in parts) > ROOMY * room:
         return 1
@@ -55,6 +55,6 @@ def _together(parts: Sequence[Part], workers: dict[str, Any]) -> int:
 
 
 def _slots(workers: dict[str, Any]) -> list[str]:
-    """The workers' addresses, each once for each of its threads, those that follow one another apart."""
+    """Returns the workers' addresses, each once for each of its threads, interleaved."""
     rows = zip_longest(*([address] * worker["nthreads"] for address, worker in sorted(workers.items())))
     return [address for row in rows for address in row if address is not None]

@@ -1,4 +1,4 @@
-"""What dask keeps on a worker: parts, open in programs, and the questions that are put to them."""
+"""What dask keeps on a worker: parts, open in programs, and the queries that are sent to them."""
 
 from __future__ import annotations
 
@@ -15,14 +15,14 @@ from .merge import REFUSED, Folded, folded, groups_of, joined
 from .programs import Place, ask, open_parts
 from .select import Item
 
-# Refusals of a statement for its length and its depth, of which a question to parts may have more than what was asked.
+# The refusals of a statement that is too long or too deep. A query to parts may be longer and deeper than the original.
 _TOO_MUCH = (ErrorNumber.STATEMENT_TOO_LONG, ErrorNumber.NESTED_TOO_DEEPLY)
 
 
 class Holding:
-    """Parts that follow one another in a table, as dask keeps them among a worker's data: an object of the size of
-    their files. Pickled it is the names of the files alone. So what dask moves, makes anew after a loss, or spills
-    because memory is short is opened again where it is next asked, and what is open ends with the object."""
+    """Consecutive parts of a table, as dask keeps them among a worker's data: an object of the size of their files.
+    When pickled it consists only of the names of the files. So what dask moves, recomputes after a loss, or spills
+    because memory is short is opened again where it is queried next, and what is open is closed with the object."""
 
     def __init__(self, place: Place, parts: Sequence[Part]) -> None:
         self._place, self._parts = place, tuple(parts)
@@ -36,26 +36,26 @@ class Holding:
         return sum(part.size for part in self._parts)
 
     def answers(self, which: Sequence[int], statements: Sequence[str], deadline: float | None) -> list[list[bytes]]:
-        """The replies of some of the parts, in order."""
+        """Returns the replies of some of the parts, in order."""
         return ask([self._open[place] for place in which], statements, deadline)
 
 
-# What is held in this process, by its name in dask. Nothing is kept by it.
+# The holdings in this process, by their names in dask. It keeps none of them alive.
 _holdings: weakref.WeakValueDictionary[str, Holding] = weakref.WeakValueDictionary()
 
 
 def key_of(place: Place, parts: Sequence[Part]) -> str:
-    """The name in dask of what holds these parts: the same for all clients that ask for them."""
+    """Returns the name in dask of the holding of these parts: the same for all clients that ask for them."""
     said = "\n".join([place.storage.where(""), place.table, *(part.digest for part in parts)])
     return f"bitcol-hold-{hashlib.sha256(said.encode()).hexdigest()}"
 
 
 def held(key: str) -> Holding | None:
-    """What is held in this process under a name, or None."""
+    """Returns the holding in this process with this name, or None."""
     return _holdings.get(key)
 
 
-# What a question gives, or the error that asking again would not mend: dask asks again what raises.
+# The result of a query, or an error that a retry would not fix: dask retries what raises.
 Told = Any
 
 
@@ -67,12 +67,12 @@ def hold(place: Place, parts: Sequence[Part]) -> Holding:
 
 
 def ask_rows(holding: Holding, which: Sequence[int], statement: str, seconds: float | None = None) -> Told:
-    """A task: the bytes of the reply of some parts to a SELECT of columns, or of a refusal."""
+    """A task: returns the bytes of the reply of some parts to a SELECT of columns, or of a refusal."""
     return _told(lambda: _rows(holding, which, statement, _deadline(seconds)))
 
 
 def ask_each(holding: Holding, which: Sequence[int], statement: str, seconds: float | None = None) -> Told:
-    """A task: the bytes of the reply of each of some parts."""
+    """A task: returns the bytes of the reply of each of some parts."""
     return _told(lambda: [reply for (reply,) in holding.answers(which, [statement], _deadline(seconds))])
 
 
@@ -84,7 +84,7 @@ def ask_groups(
     is_grouped: bool,
     seconds: float | None = None,
 ) -> Told:
-    """A task: what some parts say together of set functions."""
+    """A task: returns the combined results of set functions over some parts."""
 
     def ask() -> Folded:
         replies = holding.answers(which, [statement], _deadline(seconds))
@@ -94,7 +94,7 @@ def ask_groups(
 
 
 def ask_lists(holding: Holding, which: Sequence[int], statements: Sequence[str], seconds: float | None = None) -> Told:
-    """A task: for each statement the bytes of the reply of some parts to a SELECT of columns, which is none of a
+    """A task: returns for each statement, a SELECT of columns, the bytes of the reply of some parts, which isn't a
     refusal."""
 
     def ask() -> list[bytes]:
@@ -107,7 +107,7 @@ def ask_lists(holding: Holding, which: Sequence[int], statements: Sequence[str],
 
 
 def ask_counts(holding: Holding, which: Sequence[int], statements: Sequence[str], seconds: float | None = None) -> Told:
-    """A task: the sums over some parts of the counts that statements ask for."""
+    """A task: returns the sums over some parts of the counts that statements ask for."""
 
     def ask() -> list[int]:
         replies = holding.answers(which, statements, _deadline(seconds))
@@ -117,7 +117,7 @@ def ask_counts(holding: Holding, which: Sequence[int], statements: Sequence[str]
 
 
 def merge_groups(found: Sequence[Told], items: Sequence[Item]) -> Told:
-    """A task: what answers to ask_groups say together."""
+    """A task: combines results of ask_groups."""
     for told in found:
         if isinstance(told, Error):
             return told
@@ -125,7 +125,7 @@ def merge_groups(found: Sequence[Told], items: Sequence[Item]) -> Told:
 
 
 def read(reply: bytes) -> Reply:
-    """The reply to a question about rows of which a question was answered before."""
+    """Parses the reply to a query about rows for which an earlier query was answered."""
     found = reply_of(reply)
     if found.refusal is None:
         return found
@@ -144,7 +144,7 @@ def _deadline(seconds: float | None) -> float | None:
 
 
 def _told(ask: Any) -> Told:
-    """What is answered, or the error that asking again would not mend."""
+    """Returns the answer, or an error that a retry would not fix."""
     try:
         return ask()
     except (OutOfTime, StoreRefused, NotSupportedError, InternalError) as error:

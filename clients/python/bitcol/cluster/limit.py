@@ -1,4 +1,4 @@
-"""A limit of time for a question, over all of its rounds, and the waiting for answers under it."""
+"""A time limit for a query, over all of its rounds, and waiting for answers within it."""
 
 from __future__ import annotations
 
@@ -8,18 +8,18 @@ from typing import Any
 
 from ..errors import Error, OutOfTime
 
-# How much longer than a worker the client waits: the worker tells which part it was.
+# How many seconds longer than a worker the client waits: the worker can say which part was slow.
 GRACE = 2.0
 
 
 class Limit:
-    """The time by which a question is to be answered, if there is one."""
+    """The time by which a query has to be answered, if there is one."""
 
     def __init__(self, seconds: float | None) -> None:
         self._end = None if seconds is None else time.monotonic() + seconds
 
     def left(self) -> float | None:
-        """How many seconds are left, and None where there is no limit. OutOfTime where there are none."""
+        """Returns the seconds left, or None if there is no limit. Raises OutOfTime if there are none left."""
         if self._end is None:
             return None
         left = self._end - time.monotonic()
@@ -28,7 +28,7 @@ class Limit:
         return left
 
     def gathered(self, client: Any, futures: Sequence[Any]) -> list[Any]:
-        """What tasks give. An error that one gives is raised. Where they take too long they are given up."""
+        """Returns the results of tasks. An error among them is raised. If they take too long, they are cancelled."""
         if self._end is not None:
             self._wait(client, futures, max(0.0, self._end - time.monotonic()) + GRACE)
         return without_errors(client.gather(list(futures)))
@@ -39,7 +39,7 @@ class Limit:
             for future in futures:
                 future.result(timeout=max(0.0, end - time.monotonic()))
         except Exception as fault:
-            # Its class has another home in each version of Python and of dask.
+            # Its class is defined in different modules, depending on the versions of Python and dask.
             if type(fault).__name__ != "TimeoutError":
                 raise
             client.cancel(list(futures))
@@ -47,7 +47,7 @@ class Limit:
 
 
 def without_errors(found: Sequence[Any]) -> list[Any]:
-    """What was given. An error among it is raised."""
+    """Returns the results. An error among them is raised."""
     for each in found:
         if isinstance(each, Error):
             raise each

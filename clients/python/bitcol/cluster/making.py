@@ -1,5 +1,6 @@
-"""How workers make parts: of CSV files and table files, and of other parts by a change. Each is a task that gives what
-a manifest tells of the part, or the error for which there is none. Done twice, it comes to the same."""
+"""How workers make parts: from CSV files and table files, and from other parts by a change. Each function is a task
+that returns what a manifest says about the part, or the error because of which there is none. The tasks are
+idempotent."""
 
 from __future__ import annotations
 
@@ -25,13 +26,13 @@ from .programs import Place, named, opened
 
 _Made = TypeVar("_Made")
 _RECORD_NUMBER = re.compile(r"record (\d+)")
-# What stands in the way of LOAD where the file is to be cut: too many rows, too many bytes.
+# The errors of LOAD after which the file is cut: too many rows, too many bytes.
 CUT_FOR = (ErrorNumber.TABLE_FULL, ErrorNumber.FILE_TOO_LARGE)
 
 
 @dataclass(frozen=True)
 class Piece:
-    """A piece of a CSV file from one byte to another, all of it where `end` is None; and whether its first record is a
+    """A piece of a CSV file from one byte to another, all of it if `end` is None; and whether its first record is a
     header."""
 
     path: str
@@ -40,12 +41,12 @@ class Piece:
     header: bool = False
 
 
-# What a CSV file becomes: a part, or the pieces that are to become parts.
+# What a CSV file becomes: a part, the pieces that are to become parts, or an error.
 Loaded = Union[Part, list[Piece], Error]
 
 
 def make_empty(place: Place, definition: str) -> tuple[Part, list[Column]] | Error:
-    """A task: a part without rows, and the columns of the table that CREATE TABLE makes with these words."""
+    """A task: makes a part without rows. Returns it and the columns that CREATE TABLE makes from this definition."""
 
     def make() -> tuple[Part, list[Column]]:
         with Session() as session:
@@ -56,8 +57,8 @@ def make_empty(place: Place, definition: str) -> tuple[Part, list[Column]] | Err
 
 
 def cut_csv(path: str, header: bool, most_bytes: int, most_rows: int, is_forced: bool) -> list[Piece] | Error:
-    """A task: the pieces of a CSV file that become parts. A file that isn't too long is one piece, and isn't read,
-    unless that is forced."""
+    """A task: returns the pieces of a CSV file that become parts. A file that isn't too long is one piece, and isn't
+    read, unless that is forced."""
 
     def make() -> list[Piece]:
         size = os.path.getsize(path)
@@ -71,7 +72,7 @@ def cut_csv(path: str, header: bool, most_bytes: int, most_rows: int, is_forced:
 
 
 def load_csv(path: str, place: Place, definition: str, header: bool, most_bytes: int, most_rows: int) -> Loaded:
-    """A task: the rows of a CSV file, or its pieces where it is to be cut."""
+    """A task: makes a part from a CSV file, or returns its pieces if it has to be cut."""
     pieces = cut_csv(path, header, most_bytes, most_rows, is_forced=False)
     if isinstance(pieces, Error) or len(pieces) > 1:
         return pieces
@@ -79,7 +80,7 @@ def load_csv(path: str, place: Place, definition: str, header: bool, most_bytes:
 
 
 def load_piece(piece: Piece, place: Place, definition: str) -> Part | Error:
-    """A task: the rows of a piece of a CSV file."""
+    """A task: makes a part from a piece of a CSV file."""
 
     def make() -> Part:
         with Session() as session:
@@ -90,7 +91,7 @@ def load_piece(piece: Piece, place: Place, definition: str) -> Part | Error:
                 with open(piece.path, "rb") as file:
                     file.seek(piece.start)
                     data = file.read(piece.end - piece.start)
-                # After a line without a byte nothing is taken for the mark that a file may begin with.
+                # After an empty line nothing is taken for the byte order mark with which a file may begin.
                 front = [b"\n"] if piece.start else []
                 session.load_bytes(place.table, [*front, data], piece.header)
             return kept(session, place, piece.path)
@@ -109,7 +110,7 @@ def _load_file(session: Session, table: str, piece: Piece) -> None:
 
 
 def attach_file(path: str, place: Place, columns: Sequence[Column]) -> Part | Error:
-    """A task: the rows of a table file, which is to have these columns."""
+    """A task: makes a part from a table file, which has to have these columns."""
 
     def make() -> Part:
         data = Path(path).read_bytes()
@@ -124,8 +125,8 @@ def attach_file(path: str, place: Place, columns: Sequence[Column]) -> Part | Er
 
 
 def change_part(part: Part | None, place: Place, definition: str, statement: str) -> tuple[bytes, Part | None] | Error:
-    """A task: the bytes of the reply to a statement that changes a part, or a part without rows for None, and the part
-    that is left: the same one where nothing is changed."""
+    """A task: executes a statement that changes a part, or a part without rows if it is None. Returns the bytes of the
+    reply and the resulting part: the same one if nothing is changed."""
 
     def make() -> tuple[bytes, Part | None]:
         with Session() if part is None else opened(place, part) as session:
@@ -140,7 +141,7 @@ def change_part(part: Part | None, place: Place, definition: str, statement: str
 
 
 def put_together(parts: Sequence[Part], place: Place, definition: str) -> Part | Error:
-    """A task: the rows of several parts, one after the other, as one part."""
+    """A task: makes one part with the rows of several parts, one after the other."""
 
     def make() -> Part:
         with Session() as session:
@@ -148,7 +149,7 @@ def put_together(parts: Sequence[Part], place: Place, definition: str) -> Part |
             for part in parts:
                 with opened(place, part) as other:
                     (reply,) = other.answers([f"SELECT * FROM {place.table}"])
-                # The rows of a reply are records of a CSV file.
+                # The rows of a reply are valid CSV records.
                 rows = memoryview(reply)[reply.index(b"\n") + 1 : reply.rindex(b"rows ")]
                 for start, end in cut(bytes(rows), FILE_BYTES):
                     session.load_bytes(place.table, [rows[start:end]])
@@ -158,12 +159,12 @@ def put_together(parts: Sequence[Part], place: Place, definition: str) -> Part |
 
 
 def kept(session: Session, place: Place, source: str) -> Part:
-    """Writes the table of a session as a part's file, and gives what a manifest tells of it."""
+    """Writes the table of a session as a part's file, and returns what a manifest says about it."""
     data = session.table_bytes(place.table)
     names = [column.name for column in _columns_of(data)]
     items = [f"COUNT({name}), MIN({name}), MAX({name})" for name in names]
     with ThreadPoolExecutor(1) as helper:
-        # The digest is worked out while the host writes.
+        # The digest is computed while the host writes.
         digest = helper.submit(digest_of, data)
         rows, *cells = session.execute(f"SELECT COUNT(*), {', '.join(items)} FROM {place.table}").rows()[0]
         place.storage.write(lambda: part_file(digest.result()), data)
@@ -184,7 +185,7 @@ def _told(columns: Sequence[Column]) -> str:
 
 
 def counted_from(error: Error, records: int) -> Error:
-    """The error of a piece of a file before which the file has so many records, with the file's number of a record."""
+    """Returns an error of a piece, before which its file has `records` records, with a record's number in the file."""
     if not isinstance(error, Refused) or not records:
         return error
     text = _RECORD_NUMBER.sub(lambda found: f"record {int(found[1]) + records}", error.text, count=1)
@@ -192,13 +193,13 @@ def counted_from(error: Error, records: int) -> Error:
 
 
 def with_text(error: Error, text: str) -> Error:
-    """An error of the same class, and number, with another text."""
+    """Returns an error of the same class and number with another text."""
     return type(error)(error.number, text) if isinstance(error, Refused) else type(error)(text)
 
 
 def _or_error(make: Callable[[], _Made], about: str | None = None) -> Union[_Made, Error]:
-    """What is made, or the error for which there is none, with what it is about. The end of a program is raised: then
-    dask tries again."""
+    """Returns what is made, or the error because of which there is none, with what it is about. The end of a program is
+    raised: then dask retries."""
     try:
         return make()
     except ProgramEnded:

@@ -1,5 +1,5 @@
-"""What a table is made of: parts, each a table file that is named by the digest of its bytes, and for each version a
-manifest, which names its parts in order."""
+"""What a table consists of: parts, each a table file that is named by the digest of its bytes, and for each version a
+manifest, which lists its parts in order."""
 
 from __future__ import annotations
 
@@ -21,7 +21,7 @@ _MANIFEST_NAME = re.compile(r"v(\d{8,})\.json")
 
 @dataclass(frozen=True)
 class Ends:
-    """The least and the greatest value of a column of a part, None where there is none, and how many are NULL."""
+    """The least and the greatest value of a column of a part, None if there is none, and the number of NULLs."""
 
     least: int | None
     greatest: int | None
@@ -30,8 +30,8 @@ class Ends:
 
 @dataclass(frozen=True)
 class Part:
-    """What a manifest tells of a part: the digest of its file, its rows and bytes, what it was made of, and the ends
-    of each column."""
+    """What a manifest says about a part: the digest of its file, its rows and bytes, what it was made from, and the
+    ends of each column."""
 
     digest: str
     rows: int
@@ -55,7 +55,7 @@ class Column:
 
 @dataclass(frozen=True)
 class Manifest:
-    """A version of a table: its name, its columns as CREATE TABLE has them and as they were made, and its parts in
+    """A version of a table: its name, its columns as given to CREATE TABLE and as they were made, and its parts in
     order."""
 
     version: int
@@ -70,29 +70,31 @@ class Manifest:
         return manifest_file(self.version)
 
     def following(self, parts: Iterable[Part]) -> Manifest:
-        """The next version, of these parts. Those without rows are left out, but for one where there is no other."""
+        """Returns the next version, with these parts. Those without rows are left out, unless there are no others: then
+        one is kept."""
         found = tuple(parts)
         return replace(self, version=self.version + 1, parts=tuple(part for part in found if part.rows) or found[:1])
 
 
 def manifest_file(version: int) -> str:
-    """The name of the file of a version."""
+    """Returns the name of the file of a version."""
     return f"v{version:08}.json"
 
 
 def part_file(digest: str) -> str:
-    """The name of the file of a part."""
+    """Returns the name of the file of a part."""
     return f"{digest}.table"
 
 
 def digest_of(data: Bytes) -> str:
-    """The name of a part of these bytes. A table has one spelling, so the same rows stored alike have one name."""
+    """Returns the name of a part with these bytes. A table has exactly one encoding, so equal rows stored alike have
+    one name."""
     return hashlib.sha256(data).hexdigest()
 
 
 def read_part(storage: Storage, part: Part) -> bytes:
-    """The bytes of a part. OperationalError where the file can't be read, DataError where it isn't what was written:
-    damage that leaves a table file is seen as well."""
+    """Returns the bytes of a part. Raises OperationalError if the file can't be read, and DataError if it isn't what
+    was written: damage is noticed even if the file is still a valid table file."""
     data = storage.read(part.file)
     if digest_of(data) != part.digest:
         raise DataError(f"part {storage.where(part.file)} is damaged: its bytes aren't those that were written")
@@ -100,13 +102,13 @@ def read_part(storage: Storage, part: Part) -> bytes:
 
 
 def versions(storage: Storage) -> list[int]:
-    """The numbers of the versions that are there, ascending."""
+    """Returns the numbers of the existing versions, ascending."""
     found = (_MANIFEST_NAME.fullmatch(name) for name in storage.names())
     return sorted(int(name[1]) for name in found if name)
 
 
 def write_manifest(storage: Storage, manifest: Manifest) -> None:
-    """The switch: from here on the version is there. OperationalError where another client has made it."""
+    """Makes a version visible, atomically. Raises OperationalError if another client has made it."""
     told = _told(manifest)
     data = json.dumps({"manifest": told, "sha256": _seal(told)}, indent=1).encode()
     try:
@@ -118,7 +120,8 @@ def write_manifest(storage: Storage, manifest: Manifest) -> None:
 
 
 def read_manifest(storage: Storage, version: int | None = None) -> Manifest:
-    """A version, the last one for None. OperationalError where it isn't there, DataError where it is damaged."""
+    """Returns a version, by default the last. Raises OperationalError if it doesn't exist, DataError if it is
+    damaged."""
     there = versions(storage)
     if not there:
         raise OperationalError(f"no table in {storage.where('')}")
@@ -137,7 +140,7 @@ def read_manifest(storage: Storage, version: int | None = None) -> Manifest:
 
 
 def _told(manifest: Manifest) -> dict[str, Any]:
-    """The manifest as JSON has it."""
+    """Returns the manifest in the form in which it is written as JSON."""
     parts = [
         {**asdict(part), "ends": {name: [ends.least, ends.greatest, ends.nulls] for name, ends in part.ends.items()}}
         for part in manifest.parts

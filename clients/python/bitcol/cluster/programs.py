@@ -1,8 +1,8 @@
-"""The programs in which a worker's parts are open, several in each, so that one script asks all of these.
+"""The programs in which a worker's parts are open, several in each, so that one script queries all of these.
 
-In its program a part is a table of a name of its own, which is as long as the name that statements have for the table.
-In what the part is asked the two names change places. So the program's answers stay the same, refusals too: a statement
-has as many bytes as it was written with, and no other name is one of a table.
+In its program a part is a table with a name of its own, which is as long as the name of the table in statements. In the
+statements that are sent to the part the two names are exchanged. So the program's answers stay the same, refusals
+included: a statement keeps its number of bytes, and no other name becomes that of a table.
 """
 
 from __future__ import annotations
@@ -25,10 +25,10 @@ from .manifest import Part, read_part
 from .select import around_table
 from .storage import Storage
 
-# The most parts of a program. There are 25 other names of one letter; and all parts of a program that was ended are
-# opened anew.
+# The most parts of a program. There are 25 other names of one letter; and all parts of a program that ended have to be
+# opened again.
 PARTS = 24
-# How many letters a script has before it is cut, between two parts.
+# The length from which a script is cut, between two parts.
 SCRIPT_LENGTH = 2**20
 _NO_MEMORY = b"error %d:" % ErrorNumber.OUT_OF_MEMORY
 
@@ -42,8 +42,8 @@ class Place:
 
 
 def opened(place: Place, part: Part) -> Session:
-    """A process of its own in which a part is open under the table's name, so that statements reach it as they were
-    written. It opens the bytes that were looked over."""
+    """Starts a separate process in which a part is open under the table's name, so that statements can be sent to it as
+    they were written. It opens the bytes that were checked."""
     data = read_part(place.storage, part)
     session = Session()
     try:
@@ -63,12 +63,12 @@ def _put(session: Session, table: str, data: bytes, where: str) -> None:
 
 
 def named(refusal: Refused, where: str) -> Refused:
-    """The refusal, with what it is about before its text."""
+    """Returns the refusal with what it is about before its text."""
     return type(refusal)(refusal.number, f"{where}: {refusal.text}")
 
 
 class OpenPart:
-    """A part that is open in a program, under a name there, as long as somebody has this object."""
+    """A part that is open in a program, under a name there, as long as this object is referenced."""
 
     def __init__(self, place: Place, part: Part, program: Program) -> None:
         self._place, self._part = place, part
@@ -77,23 +77,23 @@ class OpenPart:
 
     @property
     def where(self) -> str:
-        """How a person names its file."""
+        """The name of its file for people."""
         return self._place.storage.where(self._part.file)
 
     def read(self) -> bytes:
-        """The bytes of its file, looked over."""
+        """Returns the bytes of its file, checked."""
         return read_part(self._place.storage, self._part)
 
 
 class Program:
-    """A process with a table for each of its parts. It is started when it is first asked, and a part is opened when it
-    is. Where the process was ended from outside, it is made anew once for a question."""
+    """A process with a table for each of its parts. It is started when it is first queried, and each part is opened
+    when that part is. If the process was killed from outside, it is started again, once for each query."""
 
     def __init__(self, place: Place) -> None:
         self._table = place.table
         self._names = _names_like(place.table)
         self._free = list(reversed(self._names))
-        # The names of parts that nobody has any more. Their tables are dropped when the program is next asked.
+        # The names of parts that aren't referenced any more. Their tables are dropped at the program's next query.
         self._left: deque[str] = deque()
         self._session: Session | None = None
         self._tables: set[str] = set()
@@ -101,22 +101,23 @@ class Program:
 
     @property
     def has_room(self) -> bool:
-        """Whether one part more can be open in it."""
+        """Whether one more part can be open in it."""
         return bool(self._free)
 
     def take_name(self) -> str:
-        """A name for one part more."""
+        """Returns a name for one more part."""
         return self._free.pop()
 
     def leave_name(self, name: str) -> None:
-        """Nobody has the part of this name any more. That comes at any time, in the middle of other calls too."""
+        """Called when the part of this name isn't referenced any more, at any time, even in the middle of other
+        calls."""
         self._left.append(name)
 
     def answers(
         self, parts: Sequence[OpenPart], statements: Sequence[str], deadline: float | None
     ) -> list[list[bytes]]:
-        """The bytes of the replies of some of its parts to statements that change nothing. StoreRefused where there was
-        no memory, and OutOfTime, with the part's name."""
+        """Returns the bytes of the replies of some of its parts to statements that change nothing. Raises StoreRefused
+        if there was no memory, and OutOfTime, with the part's name."""
         renamed = [_renamed(statement, self._table, self._names) for statement in statements]
         found: list[list[bytes]] = []
         for some in _runs(parts, sum(map(len, statements)), deadline is not None):
@@ -128,7 +129,7 @@ class Program:
         return found
 
     def _replies(self, parts: Sequence[OpenPart], script: Sequence[str], deadline: float | None) -> list[bytes]:
-        """The replies to a script about some parts."""
+        """Returns the replies to a script about some parts."""
         try:
             with self._turn(deadline):
                 try:
@@ -142,7 +143,7 @@ class Program:
 
     @contextlib.contextmanager
     def _turn(self, deadline: float | None) -> Iterator[None]:
-        """The questions of several threads take turns."""
+        """Makes the queries of several threads take turns."""
         if not self._lock.acquire(timeout=-1 if deadline is None else _left(deadline)):
             raise OutOfTime("those before it took too long")
         try:
@@ -151,7 +152,7 @@ class Program:
             self._lock.release()
 
     def _asked(self, parts: Sequence[OpenPart], script: Sequence[str], deadline: float | None) -> list[bytes]:
-        """The replies to a script about some parts, which are opened where they aren't."""
+        """Returns the replies to a script about some parts, which are opened if they aren't open."""
         self._drop_left()
         for part in parts:
             if part.name not in self._tables:
@@ -163,7 +164,7 @@ class Program:
             return session.answers(script, None if deadline is None else _left(deadline))
 
     def _drop_left(self) -> None:
-        """Drops the tables of parts that nobody has any more."""
+        """Drops the tables of parts that aren't referenced any more."""
         left = [self._left.popleft() for _ in range(len(self._left))]
         there = self._tables.intersection(left)
         try:
@@ -178,7 +179,7 @@ class Program:
 
     @contextlib.contextmanager
     def _process(self) -> Iterator[Session]:
-        """The process, for a call of it. It is ended where the call gives no answer and is not refused."""
+        """Yields the process for a call. The process is ended if the call neither returns an answer nor is refused."""
         session = self._session = self._session or Session()
         try:
             yield session
@@ -192,13 +193,13 @@ class Program:
 
 
 def _left(deadline: float) -> float:
-    """How many seconds are left."""
+    """Returns the seconds that are left."""
     return max(0.001, deadline - time.monotonic())
 
 
 def _runs(parts: Sequence[OpenPart], length: int, is_limited: bool) -> Iterator[Sequence[OpenPart]]:
-    """Parts that are asked by one script, each by statements of so many letters. Where there is a limit of time each is
-    asked by itself, so that it can be told which part took longer."""
+    """Yields the parts to query by one script, with statements of `length` letters for each. If there is a time limit,
+    each part is queried by itself, so that it is known which part took longer."""
     size = 1 if is_limited else max(1, SCRIPT_LENGTH // (length or 1))
     for start in range(0, len(parts), size):
         yield parts[start : start + size]
@@ -206,15 +207,15 @@ def _runs(parts: Sequence[OpenPart], length: int, is_limited: bool) -> Iterator[
 
 @lru_cache(maxsize=64)
 def _names_like(name: str) -> tuple[str, ...]:
-    """Other names of the same length, as many as a program has parts."""
+    """Returns other names of the same length, as many as a program has parts."""
     fronts = map("".join, product(string.ascii_uppercase, repeat=min(2, len(name))))
     words = (front.ljust(len(name), "_") for front in fronts)
     return tuple(islice((word for word in words if word != name and word not in RESERVED), PARTS))
 
 
 def _renamed(statement: str, table: str, names: Sequence[str]) -> Callable[[str], str]:
-    """A statement about a table as a part is asked it that has one of these names. Where it names another of them, it
-    is asked of a table that isn't there."""
+    """Returns a function that rewrites a statement about a table for the part with one of these names. If its table is
+    another of them, it is sent to a table that doesn't exist."""
     front, name, back = around_table(statement)
     if name == table:
         return lambda part: f"{front}{part}{back}"
@@ -222,14 +223,14 @@ def _renamed(statement: str, table: str, names: Sequence[str]) -> Callable[[str]
     return lambda _: unnamed
 
 
-# The parts that are open in this process. A version that shares parts with another shares what they are open in;
-# nothing is kept open by it.
+# The parts that are open in this process. A version that shares parts with another shares the programs in which they
+# are open; this mapping keeps nothing open.
 _open_parts: weakref.WeakValueDictionary[tuple[Place, str], OpenPart] = weakref.WeakValueDictionary()
 _opening = threading.Lock()
 
 
 def open_parts(place: Place, parts: Sequence[Part]) -> list[OpenPart]:
-    """Parts to be open in as few programs as hold them, those that are open already where they are."""
+    """Opens parts in as few programs as possible. Parts that are open already stay where they are."""
     with _opening:
         found = {part.digest: _open_parts.get((place, part.digest)) for part in parts}
         programs = list(dict.fromkeys(each.program for each in found.values() if each is not None))
@@ -243,7 +244,7 @@ def open_parts(place: Place, parts: Sequence[Part]) -> list[OpenPart]:
 
 
 def ask(parts: Sequence[OpenPart], statements: Sequence[str], deadline: float | None) -> list[list[bytes]]:
-    """The replies of each of some parts, one program after the other."""
+    """Returns the replies of each of some parts, one program after the other."""
     programs: dict[Program, list[int]] = {}
     for number, part in enumerate(parts):
         programs.setdefault(part.program, []).append(number)

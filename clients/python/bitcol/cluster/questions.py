@@ -1,4 +1,4 @@
-"""Questions to the parts of a version: what is asked of them, and the one answer that theirs make together."""
+"""Queries to the parts of a version: what the parts are asked, and the one answer that theirs are combined into."""
 
 from __future__ import annotations
 
@@ -17,16 +17,16 @@ from .median import FEW_VALUES, GROUP_LIMIT, Search
 from .merge import REFUSED, Groups, folded, in_order, joined, reply_to
 from .select import Item, Select
 
-# A longer statement is refused, whatever it says, and blanks count.
+# A longer statement is refused, whatever it says. Blanks count.
 STATEMENT_BYTES = 65_536
 # How many answers are merged in one task.
 FAN_IN = 32
-# Of so many conditions it is remembered which parts they are asked of.
+# For how many conditions it is remembered which parts they are sent to.
 CONDITIONS_REMEMBERED = 64
 
 
 class Questions:
-    """The parts of a version on dask's workers, as something that answers a SELECT."""
+    """Answers SELECTs by the parts of a version on dask's workers."""
 
     def __init__(self, client: Any, groups: list[Group]) -> None:
         self._client = client
@@ -35,7 +35,7 @@ class Questions:
         self._asked_of: dict[str, list[tuple[Group, list[int]]]] = {}
 
     def answer(self, text: str, limit: Limit) -> bytes:
-        """The bytes of the reply to a SELECT, as one store with the rows of all parts would write them."""
+        """Returns the bytes of the reply to a SELECT, as one store with the rows of all parts would write them."""
         select = Select(text)
         if select.folds and len(text.encode()) <= STATEMENT_BYTES:
             return self._folded(select, text, limit)
@@ -43,15 +43,16 @@ class Questions:
         return replies[0] if replies[0].startswith(REFUSED) else _shown(select, joined(replies))
 
     def units(self, text: str, limit: Limit) -> bytes:
-        """The bytes of the reply to a STATS: the units that the parts of which its SELECT is asked read, added up."""
+        """Returns the bytes of the reply to a STATS: the sum of the units read by the parts that its SELECT is sent
+        to."""
         told = self._asked(Select(text).condition, limit, ask_each, text)
         replies = [reply_of(reply) for replies in told for reply in replies]
         refused = replies[0].refusal is not None
         return bytes(told[0][0]) if refused else b"units %d\n" % sum(reply.count or 0 for reply in replies)
 
     def counts(self, statement: str, condition: str | None) -> list[int] | None:
-        """The count that a statement asks of each part, 0 where the condition can't be met, or None where it is
-        refused."""
+        """Returns the count that a statement has for each part, 0 if the condition can't be met there, or None if the
+        statement is refused."""
         asked = self._asked_groups(condition)
         told = iter(self._asked(condition, Limit(None), ask_each, statement))
         counts = []
@@ -66,7 +67,7 @@ class Questions:
         return counts
 
     def rows(self, text: str, ahead: int) -> Iterator[tuple[Any, ...]]:
-        """The rows of a SELECT of columns. The rows of so many parts at most are here, or on their way."""
+        """Yields the rows of a SELECT of columns. The rows of at most `ahead` parts are here, or on their way."""
         select = Select(text)
         parts = iter(self.asked_parts(select))
         waiting: collections.deque[Any] = collections.deque()
@@ -83,16 +84,16 @@ class Questions:
                 yield from batch
 
     def asked_parts(self, select: Select) -> list[tuple[Group, list[int]]]:
-        """The parts that a SELECT is asked of, each by itself: its group, and its place there."""
+        """Returns the parts that a SELECT is sent to, each by itself: its group, and its place there."""
         return [(group, [place]) for group, which in self._asked_groups(select.condition) for place in which]
 
     def submit(self, call: Callable[..., Any], *arguments: Any) -> Any:
-        """A task whose answer is made anew, whether or not there is one."""
+        """Submits a task whose result is computed again, even if there is one already."""
         return self._client.submit(call, *arguments, pure=False, retries=RETRIES)
 
     def _folded(self, select: Select, text: str, limit: Limit) -> bytes:
-        """The reply to a SELECT of set functions or groups. Parts are asked the same, with the grouping column before
-        it, by which groups are merged, and after it the count of the values of each median."""
+        """Returns the reply to a SELECT of set functions or groups. Parts are sent the same SELECT, with the grouping
+        column, by which groups are merged, before its items, and the count of the values of each median after them."""
         asked = select.items or []
         front = [Item(None, select.key)] if select.key else []
         counts = [Item("COUNT", item.column) for item in asked if item.function == "MEDIAN"]
@@ -107,8 +108,8 @@ class Questions:
         return reply_to((item.heading for item in asked), (groups[value][shown] for value in in_order(groups)))
 
     def _folds(self, select: Select, limit: Limit, question: str, items: Sequence[Item]) -> list[Any]:
-        """What all parts say of set functions or groups, some of them together. Workers merge what many say of groups.
-        """
+        """Returns the results of all parts for set functions or groups, partly combined. Workers merge many results of
+        groups."""
         rest = {"items": items, "is_grouped": select.key is not None}
         if select.key is None or len(self.groups) <= FAN_IN:
             return self._asked(select.condition, limit, ask_groups, question, **rest)
@@ -119,7 +120,7 @@ class Questions:
         return limit.gathered(self._client, futures)
 
     def _refusal(self, text: str) -> bytes:
-        """The refusal of a statement as it was written, not as parts were asked."""
+        """Returns the refusal of a statement as it was written, not as it was sent to parts."""
         asked = [self.submit(ask_each, self.groups[0].holding, [0], text)]
         ((reply,),) = Limit(None).gathered(self._client, asked)
         if not reply.startswith(REFUSED):
@@ -127,7 +128,7 @@ class Questions:
         return bytes(reply)
 
     def _find_medians(self, select: Select, items: Sequence[Item], groups: Groups, limit: Limit) -> None:
-        """Puts medians in the place of their ends. Behind the cells of the items are the counts of their values."""
+        """Replaces the ends of medians by the medians. After the cells of the items are the counts of their values."""
         searches = []
         for value, cells in groups.items():
             terms = [] if select.key is None else [_is_value(select.key, value)]
@@ -145,7 +146,7 @@ class Questions:
             searches = [search for search in searches if search.is_open]
 
     def _narrow(self, select: Select, searches: Sequence[Search], limit: Limit) -> None:
-        """A round: the counts that all searches ask for, and then the values of those that have few left."""
+        """One round: gets the counts that all searches need, and then the values of those that have few left."""
         probes = [probe for search in searches for probe in search.probes()]
         counts = iter([sum(column) for column in zip(*self._asked(select.condition, limit, ask_counts, probes))])
         for search in searches:
@@ -156,9 +157,9 @@ class Questions:
                 search.pick([value for reply in replies for (value,) in read(reply).rows()])
 
     def _asked_groups(self, condition: str | None) -> list[tuple[Group, list[int]]]:
-        """The groups that are asked, and which parts of each: those in which a row may be found. The others change no
-        answer (law unfound_rows_change_nothing). Where there is none, one part is asked, since the program is to judge
-        the statement."""
+        """Returns the groups to query, and which parts of each: those in which a row may be found. The others don't
+        change the answer (law unfound_rows_change_nothing). If there are none, one part is queried, since the program
+        has to judge the statement."""
         words = condition or ""
         if words not in self._asked_of:
             if len(self._asked_of) >= CONDITIONS_REMEMBERED:
@@ -174,7 +175,7 @@ class Questions:
     def _asked(
         self, condition: str | None, limit: Limit, call: Callable[..., Any], asked: Any, **rest: Any
     ) -> list[Any]:
-        """What is asked of all parts in which a row may be found, a group's together."""
+        """Returns the results of a call for all parts in which a row may be found, those of a group together."""
         groups = self._asked_groups(condition)
         if limit.left() is None:
             found = self._calls.asked(groups, call, asked, **rest)
@@ -190,7 +191,7 @@ class Questions:
         asked: Any,
         **rest: Any,
     ) -> list[Any]:
-        """Tasks that ask something of groups."""
+        """Submits tasks that query groups."""
         holdings, which = [group.holding for group, _ in groups], [places for _, places in groups]
         found: list[Any] = self._client.map(
             call, holdings, which, [asked] * len(groups), pure=False, retries=RETRIES, seconds=limit.left(), **rest
@@ -199,7 +200,7 @@ class Questions:
 
 
 def _batches(searches: Sequence[Search]) -> Iterator[list[Search]]:
-    """Searches whose values are fetched together: no more than are few, or those of one."""
+    """Yields searches whose values are fetched together: few values in total, or one search."""
     batch: list[Search] = []
     for search in searches:
         if batch and sum(each.inside for each in batch) + search.inside > FEW_VALUES:
@@ -211,13 +212,13 @@ def _batches(searches: Sequence[Search]) -> Iterator[list[Search]]:
 
 
 def _is_value(column: str, value: int | None) -> str:
-    """The condition that finds the rows of a group."""
+    """Returns the condition that finds the rows of a group."""
     return f"{column} IS NULL" if value is None else f"{column} = {value}"
 
 
 def _shown(select: Select, reply: bytes) -> bytes:
-    """The reply to a SELECT of columns. InternalError where it is one of set functions, which can't just follow one
-    another."""
+    """Returns the reply to a SELECT of columns. Raises InternalError if it is one of set functions, whose answers can't
+    just be concatenated."""
     if select.is_grouped or b"(" in reply[: reply.index(b"\n")]:
         raise InternalError("the program takes a SELECT that this module can't read")
     return reply

@@ -1,7 +1,7 @@
-"""What has to be known of a statement so that it can be asked of parts: its pieces, each as it was written.
+"""What has to be known about a statement so that it can be sent to parts: its pieces, each as it was written.
 
-The program alone judges statements, and refuses them. A SELECT that it takes and this reader can't read is an error,
-never another answer.
+Only the program judges statements, and refuses them. A SELECT that it accepts and this reader can't parse is an error,
+never a wrong answer.
 """
 
 from __future__ import annotations
@@ -17,19 +17,20 @@ FUNCTIONS = ("COUNT", "SUM", "MIN", "MAX", "MEDIAN")
 
 @dataclass(frozen=True)
 class Item:
-    """An item of a select list: a set function of a column, or `*` for COUNT; or a column, whose function is None."""
+    """An item of a select list: a set function of a column, or of `*` for COUNT; or a column, whose function is
+    None."""
 
     function: str | None
     column: str
 
     @property
     def heading(self) -> str:
-        """What the program writes above it, and a statement may have for it."""
+        """The heading that the program writes for it, which is also valid in a statement."""
         return self.column if self.function is None else f"{self.function}({self.column})"
 
 
 class Tokens:
-    """The tokens of a statement, blanks and comments left out: `words` in upper case, and slices of the text."""
+    """The tokens of a statement without blanks and comments: `words` in upper case, and slices of the text."""
 
     def __init__(self, statement: str) -> None:
         self._statement = statement
@@ -37,13 +38,13 @@ class Tokens:
         self.words = [_upper(found[0]) for found in self._found]
 
     def between(self, first: int, end: int) -> str:
-        """The text from one token up to another, and not the blanks before that."""
+        """Returns the text from one token up to another, without the blanks before the latter."""
         inside = self._found[first:end]
         return self._statement[inside[0].start() : inside[-1].end()] if inside else ""
 
 
 class Select:
-    """The pieces of a SELECT, also after STATS. `items` is None where the list is `*` or can't be read."""
+    """The pieces of a SELECT, also after STATS. `items` is None if the list is `*` or can't be parsed."""
 
     def __init__(self, statement: str) -> None:
         tokens = Tokens(statement)
@@ -68,11 +69,11 @@ class Select:
 
     @property
     def folds(self) -> bool:
-        """Whether it asks for set functions or groups, so that the answers of parts don't just follow one another."""
+        """Whether it has set functions or groups, so that the answers of parts can't just be concatenated."""
         return self.items is not None and (self.key is not None or any(item.function for item in self.items))
 
     def narrowed(self, item: str, *terms: str) -> str:
-        """A question of the found rows that meet some terms more."""
+        """Returns a query of the found rows that also meet some further terms."""
         front = [f"({self.condition})"] if self.condition else []
         return f"SELECT {item} {self.table} WHERE {' AND '.join([*front, *terms])}"
 
@@ -87,7 +88,7 @@ class Change:
 
 
 def change_of(statement: str) -> Change | None:
-    """The pieces of an UPDATE or a DELETE, or None where it isn't one that can be read."""
+    """Returns the pieces of an UPDATE or a DELETE, or None if it isn't one that can be parsed."""
     tokens = Tokens(statement)
     words = tokens.words
     place = {"UPDATE": 1, "DELETE": 2}.get(words[0] if words else "")
@@ -99,8 +100,8 @@ def change_of(statement: str) -> Change | None:
 
 
 def around_table(statement: str) -> tuple[str, str, str]:
-    """A SELECT, also after STATS, in three: what stands before the name of its table; the name, in upper case; and what
-    follows. A text without a table is all before."""
+    """Splits a SELECT, also after STATS, into three: the text before the name of its table; the name, in upper case;
+    and the text after it. If there is no table, all of the text is in the first."""
     is_next = False
     for found in _TOKEN.finditer(statement):
         if found[1] is None:
@@ -111,13 +112,13 @@ def around_table(statement: str) -> tuple[str, str, str]:
 
 
 def verb_of(statement: str) -> str:
-    """The first word of a statement, in upper case."""
+    """Returns the first word of a statement, in upper case."""
     words = Tokens(statement).words
     return words[0] if words else ""
 
 
 def _upper(token: str) -> str:
-    # Of other letters than ASCII's some have one of these in upper case.
+    # Some letters outside ASCII have an ASCII letter as their upper case.
     return token.upper() if token.isascii() else token
 
 

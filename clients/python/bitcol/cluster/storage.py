@@ -1,7 +1,7 @@
-"""Where a table's files lie: a folder that the client and all workers reach under one name.
+"""The storage of a table's files: a folder that the client and all workers reach by the same name.
 
-A storage writes a file whole or not at all, and can put one in place only where there is none. That is all that a
-table needs: its parts are named by their content, and each version has a number that is taken once.
+A storage writes a file completely or not at all, and can create one only if there is none of that name. That is all
+that a table needs: its parts are named by their content, and each version has a number that is taken once.
 """
 
 from __future__ import annotations
@@ -19,7 +19,7 @@ from typing import Any, Protocol
 from ..errors import NotSupportedError, OperationalError
 from ..script import PathLike, path_of
 
-# The end of a name of a file that isn't in place yet.
+# The suffix of the name of a file that isn't in place yet.
 UNFINISHED = ".new"
 
 
@@ -27,34 +27,35 @@ class Storage(Protocol):
     """A folder of files. It can be pickled, and is the same folder in another process."""
 
     def where(self, name: str) -> str:
-        """How a person names a file of the folder."""
+        """Returns the name of a file of the folder for people."""
 
     def prepare(self) -> None:
-        """Makes the folder, if it isn't there. OperationalError where it can't be made."""
+        """Makes the folder, if it doesn't exist. Raises OperationalError if it can't be made."""
 
     def names(self) -> list[str]:
-        """The names of the files that are there."""
+        """Returns the names of the existing files."""
 
     def read(self, name: str) -> bytes:
-        """All that a file holds. OperationalError where it can't be read."""
+        """Returns the whole content of a file. Raises OperationalError if it can't be read."""
 
     def write(self, name: Callable[[], str], data: bytes) -> None:
-        """Puts a file in place, whole or not at all, over one that is there. Its name is asked for when all bytes are
-        written, and may be found out meanwhile. OperationalError where the host can't."""
+        """Puts a file in place, completely or not at all, replacing an existing one. Its name is asked for when all
+        bytes are written, so it may be computed meanwhile. Raises OperationalError if the host can't."""
 
     def write_new(self, name: str, data: bytes) -> None:
-        """Puts a file in place, whole or not at all. FileExistsError where one of this name is there: of two that come
-        at once, one is put in place. OperationalError where the host can't."""
+        """Puts a file in place, completely or not at all. Raises FileExistsError if one of this name exists: if two are
+        written at once, one of them is put in place. Raises OperationalError if the host can't."""
 
     def age(self, name: str) -> float:
-        """For how many seconds a file has been as it is."""
+        """Returns the seconds since a file was last changed."""
 
     def remove(self, name: str) -> None:
-        """Takes a file away."""
+        """Removes a file."""
 
 
 def storage_of(folder: PathLike) -> Storage:
-    """The folder of this path, or of this address, which has a `://` in it. ProgrammingError where it is neither."""
+    """Returns the folder with this path, or this address, which contains `://`. Raises ProgrammingError if it is
+    neither."""
     name = path_of(folder)
     if "://" in name:
         return RemoteFolder(name)
@@ -95,11 +96,11 @@ class HostFolder:
             return (self._path / name).read_bytes()
 
     def write(self, name: Callable[[], str], data: bytes) -> None:
-        """See Storage. It outlives a loss of power."""
+        """See Storage. The file survives a power failure."""
         self._place(name, data, os.replace)
 
     def write_new(self, name: str, data: bytes) -> None:
-        """See Storage. A hard link takes no other file's place, as a rename would."""
+        """See Storage. A hard link never replaces another file, as a rename would."""
         self._place(lambda: name, data, os.link)
 
     def _place(self, name: Callable[[], str], data: bytes, put: Callable[[Path, Path], None]) -> None:
@@ -121,8 +122,8 @@ class HostFolder:
 
     @contextlib.contextmanager
     def _telling(self, name: Callable[[], str]) -> Iterator[None]:
-        """Raises OperationalError, with the name of a file, where the host can't do what is done with it. Where a file
-        of a new name is there already, it is told as it is."""
+        """Raises OperationalError, with the name of a file, if the host can't do what is done with it. FileExistsError
+        for a new name is raised as it is."""
         try:
             yield
         except FileExistsError:
@@ -135,7 +136,7 @@ class HostFolder:
         try:
             return time.time() - (self._path / name).stat().st_mtime
         except FileNotFoundError:
-            # Another client took it away meanwhile.
+            # Another client has removed it meanwhile.
             return 0.0
 
     def remove(self, name: str) -> None:
@@ -145,8 +146,8 @@ class HostFolder:
 
 
 class RemoteFolder:
-    """A folder of a storage that fsspec knows, such as `s3://bucket/visits`. It has to put a file only where there is
-    none (the mode "create" of fsspec's `pipe_file`): NotSupportedError where its fsspec can't."""
+    """A folder of a storage that fsspec supports, such as `s3://bucket/visits`. It has to be able to create a file only
+    if there is none (the mode "create" of fsspec's `pipe_file`); else NotSupportedError is raised."""
 
     def __init__(self, address: str) -> None:
         self._address = address.rstrip("/")
@@ -162,7 +163,7 @@ class RemoteFolder:
         return hash(self._address)
 
     def _system(self) -> tuple[Any, str]:
-        """The file system, and the folder's path in it."""
+        """Returns the file system, and the folder's path in it."""
         if self._opened is None:
             try:
                 fsspec = import_module("fsspec")

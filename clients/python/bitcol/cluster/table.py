@@ -1,4 +1,4 @@
-"""A table of parts: what a user calls."""
+"""A table of parts: the interface for users."""
 
 from __future__ import annotations
 
@@ -21,14 +21,14 @@ from .questions import Questions
 from .select import Select, change_of, verb_of
 from .storage import UNFINISHED, storage_of
 
-# Parts are put together up to so many rows.
+# Parts are combined up to this many rows.
 COMPACT_ROWS = 2**22
 DAY = 86_400
 
 
 def create(client: Any, folder: PathLike, table: str, definition: str, together: int | None = None) -> Table:
-    """A new table without rows, in a folder that has none. `definition` is what CREATE TABLE has between its
-    parentheses; a refusal of that is raised."""
+    """Makes a new table without rows, in a folder that has none. `definition` is what CREATE TABLE has between its
+    parentheses; if it is refused, the refusal is raised."""
     place = Place(storage_of(folder), checked_name(table))
     statement_of(f"CREATE TABLE {place.table} ({definition})")
     place.storage.prepare()
@@ -42,32 +42,32 @@ def create(client: Any, folder: PathLike, table: str, definition: str, together:
 
 
 def open_table(client: Any, folder: PathLike, version: int | None = None, together: int | None = None) -> Table:
-    """The table of a folder, as it is or as it was in an older version. Workers open its parts meanwhile."""
+    """Opens the table of a folder, as it is or as it was in an older version. Workers open its parts meanwhile."""
     storage = storage_of(folder)
     manifest = read_manifest(storage, version)
     return Table(client, Place(storage, manifest.table), manifest, together)
 
 
 class Table:
-    """A version of a table, its parts open on workers. A change of its own takes it to the next version; a change of
-    another client is seen after `refresh`."""
+    """A version of a table, with its parts open on workers. A change through this object moves it to the next version;
+    a change by another client is visible after `refresh`."""
 
     def __init__(self, client: Any, place: Place, manifest: Manifest, together: int | None = None) -> None:
-        """See create and open. `together` is how many parts are one object of dask's: by default as many as leave each
-        thread of the workers one."""
+        """See create and open. `together` is the number of parts in one object of dask's: by default as many as leave
+        each thread of the workers one object."""
         self._client, self._place, self._together = client, place, together
         self.manifest = manifest
         self._questions = Questions(client, grouped(client, place, manifest.parts, together))
         self._before: Questions | None = None
 
     def _show(self, manifest: Manifest) -> None:
-        # What was shown is held until the next answer, so that parts that stay aren't opened again.
+        # The version before is held until the next answer, so that parts that remain aren't opened again.
         self._before, self.manifest = self._questions, manifest
         self._questions = Questions(self._client, grouped(self._client, self._place, manifest.parts, self._together))
 
     @property
     def version(self) -> int:
-        """The number of the version that is shown."""
+        """The number of this version."""
         return self.manifest.version
 
     def __len__(self) -> int:
@@ -82,16 +82,17 @@ class Table:
         return f"<{told}: {len(self)} rows in {len(self.manifest.parts)} parts>"
 
     def sql(self, statement: str, values: Sequence[Any] = (), seconds: float | None = None) -> Reply:
-        """The reply to a SELECT, STATS, INSERT, UPDATE or DELETE, with these values in place of its `?`. A refusal is
-        raised. A SELECT that takes longer than these seconds raises OutOfTime."""
+        """Executes a SELECT, STATS, INSERT, UPDATE or DELETE, with these values in place of its `?`, and returns the
+        reply. A refusal is raised. A SELECT that takes longer than `seconds` raises OutOfTime."""
         reply = reply_of(self.answer(_bound(statement, values), seconds))
         if reply.refusal is not None:
             raise reply.refusal
         return reply
 
     def answer(self, statement: str, seconds: float | None = None) -> bytes:
-        """The bytes of the reply, as one store with the rows of all parts would write them; those of a refusal too.
-        But the number that a STATS is answered is the sum of what the parts that its SELECT is asked of read."""
+        """Executes a statement, and returns the bytes of the reply, also of a refusal, as one store with the rows of
+        all parts would write them. But the answer to a STATS is the sum of what is read by the parts that its SELECT is
+        sent to."""
         text = _one(statement)
         verb = verb_of(text)
         if verb in ("SELECT", "STATS"):
@@ -108,14 +109,14 @@ class Table:
         raise NotSupportedError(f"{verb} of a table of parts: it takes SELECT, STATS, INSERT, UPDATE and DELETE")
 
     def _found(self, text: str) -> list[int] | None:
-        """How many rows of each part an UPDATE or DELETE finds, where that can be asked."""
+        """Returns how many rows of each part an UPDATE or DELETE finds, if that can be queried."""
         change = change_of(text)
         if change is None or change.condition is None:
             return None
         return self._questions.counts(f"SELECT COUNT(*) FROM {change.table} WHERE {change.condition}", change.condition)
 
     def rows(self, statement: str, values: Sequence[Any] = (), ahead: int = 4) -> Iterator[tuple[Any, ...]]:
-        """The rows of a SELECT of columns, one by one. The rows of so many parts at most are here, or on their way."""
+        """Yields the rows of a SELECT of columns. The rows of at most `ahead` parts are here, or on their way."""
         text = _one(_bound(statement, values))
         select = Select(text)
         if select.verb != "SELECT" or select.folds:
@@ -123,8 +124,8 @@ class Table:
         return self._questions.rows(text, ahead)
 
     def to_delayed(self, statement: str) -> list[Any]:
-        """For each part in which a row may be found a frame of pandas of its rows of a SELECT of columns, as
-        dask.delayed has it."""
+        """Returns for each part in which a row may be found a dask.delayed pandas data frame of its rows of a SELECT of
+        columns."""
         text = _one(statement)
         names = self._names(text)
         ask = import_module("dask").delayed(ask_frame, pure=True)
@@ -132,8 +133,8 @@ class Table:
         return [ask(group.holding, which, text, names) for group, which in parts]
 
     def to_dask_dataframe(self, statement: str) -> Any:
-        """A frame of dask's with a partition for each part: bitcol meets the condition, and pandas does what bitcol
-        doesn't."""
+        """Returns a dask data frame with a partition for each part: bitcol evaluates the condition, and pandas does
+        what bitcol doesn't."""
         meta = frame_like(self._names(_one(statement)))
         return import_module("dask.dataframe").from_delayed(self.to_delayed(statement), meta=meta)
 
@@ -153,31 +154,31 @@ class Table:
         most_bytes: int = FILE_BYTES,
         most_rows: int = ROW_LIMIT,
     ) -> Table:
-        """Adds the rows of CSV files, a part for each: all of them, or none, and then the error names each file at
-        fault. A file of more bytes or rows than these is cut at its records into several parts."""
+        """Adds the rows of CSV files, a part for each file: all of them or none, and then the error names each faulty
+        file. A file with more than `most_bytes` bytes or `most_rows` rows is cut between records into several parts."""
         return self._add(self._changes.loaded(files, header, most_bytes, most_rows))
 
     def attach(self, files: Iterable[PathLike]) -> Table:
-        """Adds the rows of table files of the same columns, as `load` does: what SAVE of a single store left."""
+        """Adds the rows of table files with the same columns, as `load` does: the files that SAVE of a store wrote."""
         return self._add(self._changes.attached(files))
 
     def compact(self, most_rows: int = COMPACT_ROWS) -> Table:
-        """Puts parts that follow one another together, as long as they have no more rows than these. No answer
-        but that of a STATS changes."""
+        """Combines consecutive parts, as long as they have at most `most_rows` rows. No answer but that of a STATS
+        changes."""
         parts = self._changes.put_together(most_rows)
         if len(parts) < len(self.manifest.parts):
             self._go_to(parts)
         return self
 
     def refresh(self) -> Table:
-        """Goes to the last version, whoever made it."""
+        """Moves to the last version, whoever made it."""
         self._show(read_manifest(self._place.storage))
         return self
 
     def vacuum(self, older_than: float = DAY) -> int:
-        """Takes away the versions before this one and the last, the files that neither names, and what broken changes
-        left: those that have been there for so many seconds, since a younger one may be about to be named. Gives their
-        number."""
+        """Removes all versions except this one and the newest, the files that neither of these names, and what failed
+        changes left: only files older than `older_than` seconds, since a newer one may be about to be named. Returns
+        the number of files removed."""
         storage = self._place.storage
         kept = set()
         for manifest in (self.manifest, read_manifest(storage)):
@@ -199,7 +200,7 @@ class Table:
         return self
 
     def _commit(self, reply: bytes, parts: Sequence[Part]) -> bytes:
-        """Makes the next version of these parts where they aren't those that are shown, and gives the reply."""
+        """Makes the next version from these parts, unless they are those of this version. Returns the reply."""
         if tuple(parts) != self.manifest.parts:
             self._go_to(parts)
         return reply
@@ -216,5 +217,5 @@ def _bound(statement: str, values: Sequence[Any]) -> str:
 
 
 def _one(statement: str) -> str:
-    """The one statement of a text, without its `;`."""
+    """Returns the only statement of a text, without its `;`."""
     return statement_of(checked_text(statement)).decode()[:-1]

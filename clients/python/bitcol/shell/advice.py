@@ -1,7 +1,7 @@
-"""Which layouts and kinds of a table's columns suit the SELECTs that are run on it, by trying them.
+"""Finds the layouts and kinds of a table's columns that suit the SELECTs that are run on it, by trying them.
 
-They are tried on a copy of the table in a program of its own, so neither the table nor its store is touched, whatever
-becomes of the copy.
+They are tried on a copy of the table in a separate program, so neither the table nor its store is affected, whatever
+happens to the copy.
 """
 
 from __future__ import annotations
@@ -22,16 +22,16 @@ from .sizes import Values, values_of
 from .store import Store
 from .workload import Work
 
-# A call of a store: what a job with its session gives.
+# A call of a store: runs a job with its session, and returns the result.
 Call = Callable[[Callable[[Session], Any]], Any]
 
 LAYOUTS = (Layout.V, Layout.H, Layout.S, Layout.P)
 KINDS = (Kind.OFFSET, Kind.DICTIONARY)
-# Each choice is tried in turns with the others, so that no choice alone meets each time when the machine is slow: as
-# often as these seconds hold, within these bounds. In a turn each SELECT is run so often, by the same rule.
+# Each choice is tried in turns with the others, so that no choice alone meets all the times when the machine is slow:
+# as many turns as fit into this many seconds, within these bounds. In a turn each SELECT is repeated by the same rule.
 TURNS_SECONDS, FEWEST_TURNS, MOST_TURNS = 2.0, 3, 12
 RUNS_SECONDS, FEWEST_RUNS, MOST_RUNS = 0.01, 3, 20
-# What takes up to so many times as long as the quickest counts as being as quick.
+# A choice that takes up to this many times as long as the quickest counts as equally quick.
 AS_QUICK = 1.25
 
 
@@ -44,26 +44,26 @@ class Choice:
 
     @property
     def words(self) -> str:
-        """How a REBUILD spells it."""
+        """The choice as a REBUILD spells it."""
         return f"USING {self.layout.name} {self.kind.name}"
 
 
 @dataclass(frozen=True)
 class Figures:
-    """What SELECTs took, each as often as it is run: units, and the seconds of the quickest of several runs."""
+    """What SELECTs took, each counted as often as it is run: units, and the seconds of the quickest of several runs."""
 
     units: int
     seconds: float
 
     def or_quicker(self, before: Figures | None) -> Figures:
-        """These, with the seconds of those before where these were fewer."""
+        """Returns these figures, with the seconds of the ones before if those were fewer."""
         return self if before is None else Figures(self.units, min(self.seconds, before.seconds))
 
 
 @dataclass(frozen=True)
 class Trial:
     """A choice for a column, what the SELECTs that read the column took with it, the width of the codes in bits, and
-    the bytes that these take by the published rule."""
+    the bytes that the codes take according to docs/LAYOUTS.md."""
 
     column: str
     choice: Choice
@@ -74,7 +74,7 @@ class Trial:
 
 @dataclass(frozen=True)
 class Columns:
-    """The trials of a column, what stands, and what is advised."""
+    """The trials of a column, its current choice, and the advised one."""
 
     trials: list[Trial]
     standing: Choice
@@ -83,8 +83,7 @@ class Columns:
 
 @dataclass(frozen=True)
 class Advice:
-    """What was measured of a table: with its columns as they stand, with one of them otherwise, and after this
-    REBUILD."""
+    """What was measured for a table: with its columns as they are, with one of them changed, and after this REBUILD."""
 
     columns: list[Columns]
     standing: Figures
@@ -93,22 +92,22 @@ class Advice:
 
     @property
     def is_worthwhile(self) -> bool:
-        """Whether the REBUILD is advised: if it changes no layout and no kind, where fewer units are read after it, else
-        unless it is slower."""
+        """Whether the REBUILD is advised. One that changes no layout and no kind is, if fewer units are read after it;
+        any other is, unless the SELECTs take more than `AS_QUICK` times as long after it."""
         if any(tried.best != tried.standing for tried in self.columns):
             return self.rebuilt.seconds <= AS_QUICK * self.standing.seconds
         return self.rebuilt.units < self.standing.units
 
 
 class Advisor:
-    """Measures SELECTs on a table. `tell` is told how far it is."""
+    """Measures SELECTs on a table. `tell` is called with the progress."""
 
     def __init__(self, store: Store, table: str, works: Sequence[Work], tell: Callable[[str], None]) -> None:
         self._store, self._table, self._works, self._tell = store, table, works, tell
 
     def advice(self) -> Advice:
-        """Measures all. Refused where a SELECT is, or the table can't be saved; a Fault where there is no room for a
-        copy, or anything becomes of it."""
+        """Measures everything. Raises Refused if a SELECT is refused, or the table can't be saved; and a Fault if there
+        is no room for a copy, or something happens to it."""
         for work in self._works:
             self._store.call(partial(check_length, statement=work.statement, most=cells_that_fit()))
         data = self._store.call(self._bytes)
@@ -124,7 +123,7 @@ class Advisor:
         return Advice(columns, standing, rebuild, rebuilt)
 
     def _compared(self, copy: Call) -> tuple[Figures, Figures]:
-        """All SELECTs on the table as it stands, and on its copy as it is now, in turns."""
+        """Measures all SELECTs on the table as it is, and on its copy as it is now, in turns."""
         self._tell("all together")
         standing = rebuilt = None
         for _ in _turns():
@@ -134,18 +133,18 @@ class Advisor:
         return standing, rebuilt
 
     def _bytes(self, session: Session) -> bytes:
-        """The table as a file, where there is room for its copy."""
+        """Returns the table as a file. Raises a Fault if there may be no room for a copy."""
         size = next(table for table in session.tables() if table.name == self._table)
         if size.rows * size.columns > cells_that_fit():
             raise Fault(f"there may be no room for a copy of {self._table}, and layouts are tried on a copy")
         return session.table_bytes(self._table)
 
     def _works_on(self, column: str) -> list[Work]:
-        """The SELECTs that read a column."""
+        """Returns the SELECTs that read a column."""
         return [work for work in self._works if column in work.words]
 
     def _tried(self, copy: Call, header: ColumnHeader, headers: Sequence[ColumnHeader]) -> Columns:
-        """Tries each layout and kind of a column, and leaves it as it stands."""
+        """Tries each layout and kind of a column, and restores the current choice."""
         column, works = header.name, self._works_on(header.name)
         self._tell(f"column {headers.index(header) + 1} of {len(headers)}")
         values = copy(partial(values_of, table=self._table, column=column))
@@ -162,7 +161,7 @@ class Advisor:
 
 
 def choices_for(header: ColumnHeader) -> list[Choice]:
-    """The layouts and kinds that a column of this type may have."""
+    """Returns the layouts and kinds that a column of this type may have."""
     choices = [Choice(layout, kind) for layout in LAYOUTS for kind in KINDS]
     return [
         choice
@@ -172,8 +171,8 @@ def choices_for(header: ColumnHeader) -> list[Choice]:
 
 
 def best_of(trials: Sequence[Trial], standing: Choice) -> Choice:
-    """Of the choices that are as quick as the quickest the one of the fewest bytes; of these the one that stands, or
-    the quickest."""
+    """Returns, of the choices that count as being as quick as the quickest, the one with the fewest bytes; among equals
+    the current one, else the quickest."""
     limit = AS_QUICK * min(trial.figures.seconds for trial in trials)
     quick = [trial for trial in trials if trial.figures.seconds <= limit]
     return min(quick, key=lambda each: (each.size, each.choice != standing, each.figures.seconds)).choice
@@ -185,8 +184,8 @@ def _trial(column: str, choice: Choice, figures: Figures, values: Values) -> Tri
 
 @contextlib.contextmanager
 def _copy(store: Store, table: str, data: bytes) -> Iterator[Call]:
-    """The calls of a store of its own with this table alone, which is gone when the context ends. They raise a Fault
-    where a statement is refused there, or its program ends, which is no end of the other."""
+    """Makes a separate store with only this table, which is closed when the context ends, and yields its `call`. It
+    raises a Fault if a statement is refused there, or if that store's program ends, which leaves the other running."""
     copy = store.another()
     copy.on_wait = store.on_wait
 
@@ -200,7 +199,7 @@ def _copy(store: Store, table: str, data: bytes) -> Iterator[Call]:
         call(lambda session: session.put_table(table, data))
         yield call
     finally:
-        # What is still carried out there is waited for by nobody.
+        # Nobody waits for what is still being executed there.
         copy.close(0)
 
 
@@ -209,7 +208,7 @@ def _execute(call: Call, statement: str) -> None:
 
 
 def _measured(call: Call, works: Sequence[Work]) -> Figures:
-    """What these SELECTs take in a store as it is."""
+    """Measures what these SELECTs take in a store as it is."""
     units, seconds = 0, 0.0
     for work in works:
         units += work.times * call(partial(_units, work.statement))
@@ -222,7 +221,7 @@ def _units(statement: str, session: Session) -> int:
 
 
 def _quickest(call: Call, statement: str) -> float:
-    """The seconds of the quickest of several runs."""
+    """Returns the seconds of the quickest of several runs."""
     runs: list[float] = []
     while len(runs) < FEWEST_RUNS or (sum(runs) < RUNS_SECONDS and len(runs) < MOST_RUNS):
         runs.append(call(partial(_seconds, statement)))
@@ -230,7 +229,7 @@ def _quickest(call: Call, statement: str) -> float:
 
 
 def _turns() -> Iterator[int]:
-    """The numbers of turns."""
+    """Yields the numbers of the turns."""
     start = time.monotonic()
     for turn in range(MOST_TURNS):
         if turn >= FEWEST_TURNS and time.monotonic() - start > TURNS_SECONDS:
@@ -239,7 +238,7 @@ def _turns() -> Iterator[int]:
 
 
 def _seconds(statement: str, session: Session) -> float:
-    """From the moment when a statement is sent to the last byte of its answer."""
+    """Returns the seconds from when a statement is sent to the last byte of its answer."""
     start = time.perf_counter()
     session.execute(statement)
     return time.perf_counter() - start

@@ -21,13 +21,13 @@ if TYPE_CHECKING:
 
 APPLY = "apply"
 HEADINGS = ("COLUMN", "LAYOUT", "KIND", "UNITS", "MICROSECONDS", "WIDTH", "BYTES", "NOTE")
-# No statement is shown with more letters.
+# The longest text of a statement that is shown.
 LONGEST_SHOWN = 100
 
 
 def advise(shell: Shell, table: str, word: str | None = None) -> None:
-    """Measures the SELECTs of this session on a table, or those of a file, and says what it found, or sends the REBUILD
-    that it advised before. A Fault where there is nothing to measure, or nothing was advised."""
+    """Measures the SELECTs of this session on a table, or those of a file, and shows the result; or sends the REBUILD
+    that it advised before. Raises a Fault if there is nothing to measure, or nothing was advised."""
     name = checked_name(table)
     if word == APPLY:
         _apply(shell, name)
@@ -58,7 +58,7 @@ def _history_in(path: str) -> History:
 
 
 def _accepted(shell: Shell, works: Sequence[Work]) -> list[Work]:
-    """The SELECTs that aren't refused. Of each other one it is said why it is left out."""
+    """Returns the SELECTs that aren't refused. For each of the others it says why it is left out."""
     found = []
     for work in works:
         try:
@@ -71,7 +71,7 @@ def _accepted(shell: Shell, works: Sequence[Work]) -> list[Work]:
 
 
 def _say(shell: Shell, table: str, works: Sequence[Work], advice: Advice) -> None:
-    """Shows all that was measured, and keeps what is advised."""
+    """Shows everything that was measured, and remembers what is advised."""
     console = shell.console
     for work in works:
         console.note(f"{work.times} x {_shortened(work.statement)}")
@@ -90,7 +90,7 @@ def _say(shell: Shell, table: str, works: Sequence[Work], advice: Advice) -> Non
 
 
 def _rows(tried: Columns) -> list[Row]:
-    """A row of the answer for each trial of a column."""
+    """Returns a row of the answer for each trial of a column."""
     rows: list[Row] = []
     for trial in tried.trials:
         notes = [

@@ -1,4 +1,4 @@
-"""The commands of the shell, which begin with a point: their words, what they say in `.help`, and what they do."""
+"""The commands of the shell, which begin with a dot: their arguments, their texts in `.help`, and what they do."""
 
 from __future__ import annotations
 
@@ -20,7 +20,7 @@ if TYPE_CHECKING:
 
 
 class Argument(Enum):
-    """What a word after a command is, by how `.help` calls it."""
+    """The kind of an argument of a command, as `.help` calls it."""
 
     FILE = "FILE"
     TABLE = "TABLE"
@@ -34,7 +34,7 @@ class Argument(Enum):
 
 @dataclass(frozen=True)
 class Command:
-    """A command: its words after the name, of which so many are needed, and what it does with them."""
+    """A command: its arguments, how many of them are required, and what it does with them."""
 
     name: str
     arguments: tuple[Argument, ...]
@@ -44,13 +44,13 @@ class Command:
 
     @property
     def usage(self) -> str:
-        """The command as it is typed, with what may be left out in brackets."""
+        """The command as it is typed, with optional arguments in brackets."""
         words = [argument.value for argument in self.arguments]
         return " ".join([self.name, *words[: self.needed], *(f"[{word}]" for word in words[self.needed :])])
 
 
 def words_of(line: str) -> list[str]:
-    """The words of a line, each in quotes where it has a blank. A last quote that isn't closed runs to the end."""
+    """Splits a line into words; one with a blank is quoted. A last quote that isn't closed extends to the end."""
     try:
         return shlex.split(line)
     except ValueError:
@@ -58,23 +58,23 @@ def words_of(line: str) -> list[str]:
 
 
 def command_of(word: str) -> Command | None:
-    """The command of this name, or the one that begins so, or None."""
+    """Returns the command of this name, else the only one that begins like this, else None."""
     found = [command for name, command in COMMANDS.items() if name.startswith(word)]
     return COMMANDS.get(word) or (found[0] if len(found) == 1 and len(word) > 1 else None)
 
 
 def command_words() -> list[str]:
-    """The names of all commands."""
+    """Returns the names of all commands."""
     return list(COMMANDS)
 
 
 def chosen_words(argument: Argument) -> list[str]:
-    """The words that this argument is one of, or none where it may be any. Those in capitals stand for others."""
+    """Returns the words that this argument may be, or none if it may be any. Words in capitals are placeholders."""
     return [word for word in argument.value.split("|") if word.islower()] if "|" in argument.value else []
 
 
 def perform(shell: Shell, line: str) -> None:
-    """Carries out the command of a line. A Fault where there is no such command, or its words are wrong."""
+    """Executes the command of a line. Raises a Fault if there is no such command, or its arguments are wrong."""
     try:
         words = shlex.split(line.strip().removesuffix(";"))
     except ValueError as fault:
@@ -89,7 +89,7 @@ def perform(shell: Shell, line: str) -> None:
 
 
 def _choice(argument: Argument, word: str) -> str:
-    """The word, where it is one that the argument may be."""
+    """Returns the word if it is one that the argument may be."""
     if word not in chosen_words(argument):
         raise Fault(f"{word!r} is none of {', '.join(chosen_words(argument))}")
     return word

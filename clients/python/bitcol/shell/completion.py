@@ -1,4 +1,4 @@
-"""What a word that is being typed may become: a word of the language, a table, a column, a command, or a file."""
+"""Completion of a word that is being typed: to a word of the language, a table, a column, a command, or a file."""
 
 from __future__ import annotations
 
@@ -14,10 +14,10 @@ from .commands import Argument, Command, chosen_words, command_of, command_words
 
 # Reserved words, and words of statements that aren't reserved.
 WORDS = sorted(RESERVED | {"DICTIONARY", "HEADER", "LOAD", "OFFSET", "REBUILD", "SAVE", "STATS", "TABLES"})
-# After these a table's name stands.
+# These words are followed by the name of a table.
 _BEFORE_TABLES = {"FROM", "INTO", "LOAD", "REBUILD", "SAVE", "TABLE", "UPDATE"}
 _WORD = re.compile(r"[A-Za-z]\w*")
-# Between two words: what stands around words in statements. A point and a slash are parts of commands and files.
+# The characters that delimit words in statements. A dot and a slash are parts of commands and files.
 DELIMITERS = " \t\n,;()=<>!+*'\""
 _COMMENT = re.compile(r"--[^\n]*")
 _TEXT = re.compile(r"'[^']*'")
@@ -25,13 +25,13 @@ _TEXT = re.compile(r"'[^']*'")
 
 @dataclass(frozen=True)
 class Catalog:
-    """The tables that are there, and the columns of each, all in upper case."""
+    """The existing tables, and the columns of each, all in upper case."""
 
     columns: Mapping[str, Sequence[str]] = field(default_factory=dict)
 
 
 def completions(before: str, word: str, catalog: Catalog) -> list[str]:
-    """What the word may become that stands after `before`, the lines of the statement so far and this line's start."""
+    """Returns the completions of a word after `before`, the statement's lines so far and the start of this line."""
     if before.lstrip().startswith("."):
         return _of_command(before, word, catalog)
     if not before.strip() and word.startswith("."):
@@ -46,7 +46,7 @@ def _of_command(before: str, word: str, catalog: Catalog) -> list[str]:
 
 
 def _of_argument(command: Command, place: int, word: str, catalog: Catalog) -> list[str]:
-    """What an argument of a command may be, by its place."""
+    """Returns the completions of an argument of a command, by its position."""
     if place >= len(command.arguments):
         return []
     argument = command.arguments[place]
@@ -62,7 +62,7 @@ def _of_argument(command: Command, place: int, word: str, catalog: Catalog) -> l
 
 
 def statement_completions(before: str, word: str, catalog: Catalog) -> list[str]:
-    """What the word may become that stands after `before`, the start of a statement."""
+    """Returns the completions of a word after `before`, the start of a statement."""
     code = _TEXT.sub(" ", _COMMENT.sub(" ", before))
     if "'" in code:
         return files(word)
@@ -75,12 +75,12 @@ def statement_completions(before: str, word: str, catalog: Catalog) -> list[str]
 
 
 def _matching(word: str, candidates: Iterable[str]) -> list[str]:
-    """The candidates that begin with the word, each once, in small letters where the word has some."""
+    """Returns the candidates that begin with the word, each once, in lower case if the word has lower-case letters."""
     found = sorted({candidate for candidate in candidates if candidate.startswith(word.upper())})
     return [candidate.lower() for candidate in found] if word != word.upper() else found
 
 
 def files(word: str) -> list[str]:
-    """The files and folders whose path begins with the word, a folder's with a slash after it."""
+    """Returns the paths of files and folders that begin with the word, a folder's with a slash appended."""
     pattern = glob.escape(os.path.expanduser(word)) + "*"
     return sorted(path + "/" if os.path.isdir(path) else path for path in glob.glob(pattern))

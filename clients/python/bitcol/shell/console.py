@@ -1,7 +1,7 @@
 """Where the shell writes: answers to standard output, and errors to standard error.
 
-In a terminal remarks come among the answers, the headings are bold, and long loads tell how far they are. What goes to
-a pipe or a file is plain: answers and nothing else.
+In a terminal remarks are written among the answers, headings are bold, and long loads show their progress. Output to a
+pipe or a file is plain: answers and nothing else.
 """
 
 from __future__ import annotations
@@ -14,17 +14,17 @@ from collections.abc import Iterable
 from dataclasses import dataclass
 from typing import TextIO
 
-# A load that is shorter tells nothing.
+# A shorter load shows no progress.
 QUIET_SECONDS = 0.5
 BETWEEN_SECONDS = 0.1
 LONGEST_LABEL = 40
-# Back to the start of the line, and nothing to the right of there.
+# Moves to the start of the line, and erases the line.
 _ERASE = "\r\x1b[K"
 
 
 @dataclass(frozen=True)
 class Style:
-    """The bytes that begin a heading, a NULL and an error in a terminal, and end them. Plain where all are empty."""
+    """The escape sequences that begin a heading, a NULL and an error, and end them. Plain if all are empty."""
 
     heading: str = ""
     null: str = ""
@@ -37,13 +37,13 @@ COLOURED = Style(heading="\x1b[1m", null="\x1b[2m", fault="\x1b[31m", end="\x1b[
 
 
 def style_of(stream: TextIO) -> Style:
-    """The style for a stream: plain unless it is a terminal that knows colours, and the variable NO_COLOR is empty."""
+    """Returns the style for a stream: plain unless it is a terminal with colours and the variable NO_COLOR is empty."""
     coloured = stream.isatty() and os.environ.get("TERM", "dumb") != "dumb" and not os.environ.get("NO_COLOR")
     return COLOURED if coloured else PLAIN
 
 
 class Console:
-    """Two streams, and what is known of them."""
+    """The two output streams, and what is known about them."""
 
     def __init__(self, out: TextIO, errors: TextIO) -> None:
         self.out = out
@@ -54,7 +54,7 @@ class Console:
 
     @property
     def width(self) -> int:
-        """How many characters a line of the terminal has, or 80 where that isn't known."""
+        """The number of characters of a line of the terminal, or 80 if that isn't known."""
         return shutil.get_terminal_size().columns
 
     @property
@@ -75,12 +75,12 @@ class Console:
         self.out.write(text + "\n")
 
     def remark(self, text: str) -> None:
-        """Says what somebody at a terminal wants to see, and what a program behind a pipe doesn't."""
+        """Writes what is of interest to a user at a terminal, but not to a program that reads the output."""
         if self.is_terminal:
             self.line(text)
 
     def note(self, text: str) -> None:
-        """Says what is to be known in any case: among the answers in a terminal, else on standard error."""
+        """Writes what has to be shown in any case: among the answers in a terminal, else to standard error."""
         if self.is_terminal:
             self.line(text)
         else:
@@ -92,23 +92,23 @@ class Console:
         self._say(f"{self._error_style.fault}{text}{self._error_style.end}")
 
     def progress(self, label: str) -> Progress:
-        """A line that tells how far something is."""
+        """Returns a line that shows the progress of something."""
         return Progress(self.errors, label)
 
     def _say(self, text: str) -> None:
-        """Writes a line to standard error. Where nobody reads that, nobody wants to know."""
+        """Writes a line to standard error. If nobody reads that, the line is dropped."""
         with contextlib.suppress(OSError):
             self.errors.write(text + "\n")
             self.errors.flush()
 
 
 class Progress:
-    """A line on standard error that tells how far a long load is, and is erased at its end. There is none where
-    standard error is no terminal."""
+    """A line on standard error that shows the progress of a long load, and is erased at its end. Nothing is shown if
+    standard error isn't a terminal."""
 
     def __init__(self, stream: TextIO, label: str) -> None:
         self._stream = stream
-        # A line that is wrapped couldn't be erased.
+        # A wrapped line couldn't be erased.
         self._label = label if len(label) <= LONGEST_LABEL else f"..{label[2 - LONGEST_LABEL :]}"
         self._is_shown = stream.isatty()
         self._start = time.monotonic()
@@ -117,7 +117,7 @@ class Progress:
         self._is_there = False
 
     def tell(self, text: str = "") -> None:
-        """How far it is. Without a text it is as far as before, and the seconds go on."""
+        """Shows the progress. Without a text, only the seconds are updated."""
         is_news = text not in ("", self._text)
         self._text = text or self._text
         now = time.monotonic()

@@ -1,8 +1,8 @@
-"""Tables of CSV files with a header.
+"""Makes tables from CSV files with a header.
 
-The file is read in parts, and the program LOADs each: that is quick, and tells how far it is. A column is INTEGER until
-a part has a value of more than 32 bits: then it becomes BIGINT, and the part is LOADed again. Where a part is refused
-for another reason the line and the column are looked for here, and the table is dropped.
+The file is read in parts, and the program LOADs each: that is quick, and shows the progress. A column is INTEGER until
+a part has a value of more than 32 bits: then it becomes BIGINT, and the part is LOADed again. If a part is refused for
+another reason, the line and the column are searched for here, and the table is dropped.
 """
 
 from __future__ import annotations
@@ -25,17 +25,18 @@ from .render import counted
 from .store import Store
 from .types import NUMBER, value_of
 
-# A part: long enough that the statement for it costs nothing, short enough for the memory and for a progress line.
+# The size of a part: large enough to make the cost of its statement negligible, small enough for memory and for showing
+# the progress.
 PART_BYTES = 2**23
-# A header may go on over lines, and lines without a byte may stand before it: no more bytes than these are looked at.
+# A header may span lines, and empty lines may come before it: at most this many bytes are searched for it.
 HEADER_BYTES = 2**20
 
-# Fewer digits are an integer of 32 bits.
+# An integer with fewer digits has at most 32 bits.
 SHORTEST_WIDE = 10
 
 _BYTE_ORDER_MARK = b"\xef\xbb\xbf"
 _DELIMITERS = ",;\t|"
-# LOAD leaves out the first record of each part, which is this one, so a mark in the middle of a file is a fault.
+# LOAD skips the first record of each part, which is this one, so a byte order mark in the middle of a file is a fault.
 _LEFT_OUT = b"0\n"
 
 Tell = Callable[[str], None]
@@ -43,7 +44,7 @@ Tell = Callable[[str], None]
 
 @dataclass(frozen=True)
 class Header:
-    """The first record of a file: its fields, what stands between them, and how many lines and bytes it has."""
+    """The first record of a file: its fields, their delimiter, and the number of its lines and bytes."""
 
     fields: list[str]
     delimiter: str
@@ -53,7 +54,7 @@ class Header:
 
 @dataclass(frozen=True)
 class Part:
-    """Whole lines of a file, and the number of the first, from 1."""
+    """Whole lines of a file, and the number of the first, counted from 1."""
 
     data: bytes
     line: int
@@ -61,15 +62,15 @@ class Part:
 
 @dataclass(frozen=True)
 class CsvTable:
-    """A table that is to be made of a CSV file."""
+    """A table that is to be made from a CSV file."""
 
     store: Store
     table: str
 
     def fill(self, file: BinaryIO, size: int, tell: Tell) -> tuple[int, list[str]]:
-        """Makes the table of a file of so many bytes, or of 0 where that isn't known. Gives the number of rows, and a
-        line for each column that is called otherwise than in the file. A Fault, without the file's name, where the file
-        is no such CSV; then the table isn't there."""
+        """Makes the table from a file of `size` bytes, 0 if that isn't known. Returns the number of rows, and a note
+        for each column whose name differs from that in the file. Raises a Fault, without the file's name, if the file
+        isn't such a CSV file; then the table isn't made."""
         block = file.read(PART_BYTES)
         header = header_of(block)
         names, notes = column_names(header.fields)
@@ -89,7 +90,7 @@ class CsvTable:
     def _load_part(self, part: Part, names: Sequence[str], header: Header) -> int:
         data = part.data
         if header.delimiter != ",":
-            # To exchange the two keeps a comma inside of a field from becoming a delimiter.
+            # Exchanging the two keeps a comma inside a field from becoming a delimiter.
             data = data.translate(bytes.maketrans(f"{header.delimiter},".encode(), f",{header.delimiter}".encode()))
         load = partial(_loaded, self.table, [_LEFT_OUT, data])
         try:
@@ -108,8 +109,8 @@ def _loaded(table: str, pieces: list[bytes], session: Session) -> int:
 
 
 def _retyped(table: str, types: dict[str, ColumnType], session: Session) -> int:
-    """Makes a table anew with other types for some of its columns, which hold its values. No statement does that, but
-    the file of a table has the same cells for both types."""
+    """Makes a table again with other types for some of its columns, which can hold its values. No statement does that,
+    but the file of a table has the same cells for both types."""
     with session.scratch() as file:
         session.save(table, file.name)
         file.write([with_types(file.read(), types)])
@@ -118,7 +119,7 @@ def _retyped(table: str, types: dict[str, ColumnType], session: Session) -> int:
 
 
 def header_of(block: bytes) -> Header:
-    """The header of a file that begins with these bytes. A Fault where it has none."""
+    """Returns the header of a file that begins with these bytes. Raises a Fault if it has none."""
     if not block:
         raise Fault("the file is empty, and a CSV file begins with a header")
     if b"\0" in block:
@@ -140,7 +141,7 @@ def header_of(block: bytes) -> Header:
 
 
 def parts_of(file: BinaryIO, block: bytes, header: Header) -> Iterator[Part]:
-    """What follows the header in the file, of which this block was read, in parts that end with a line."""
+    """Yields what follows the header in the file, in parts that end with a line. `block` has already been read."""
     line = header.lines + 1
     pieces: list[bytes] = []
     for block in chain([block[header.size :]], iter(partial(file.read, PART_BYTES), b"")):
@@ -156,7 +157,7 @@ def parts_of(file: BinaryIO, block: bytes, header: Header) -> Iterator[Part]:
 
 
 def first_fault(part: Part, header: Header) -> str | None:
-    """The first line of a part that is no row of the table, and why, or None where each is one."""
+    """Describes the first line of a part that isn't a row of the table, and why. Returns None if each is one."""
     text = part.data.decode("utf-8", "backslashreplace")
     reader = csv.reader(io.StringIO(text, newline=""), delimiter=header.delimiter)
     for line, record in _records(reader, part.line):
@@ -167,14 +168,14 @@ def first_fault(part: Part, header: Header) -> str | None:
 
 
 def wide_columns(part: Part, header: Header) -> set[int]:
-    """The places of the columns that have a value of more than 32 bits in this part, of which each line is a row."""
+    """Returns the positions of the columns with a value of more than 32 bits in this part, whose lines are all rows."""
     text = part.data.decode("utf-8", "backslashreplace")
     reader = csv.reader(io.StringIO(text, newline=""), delimiter=header.delimiter)
     return {place for _, fields in _records(reader, part.line) for place, field in enumerate(fields) if _is_wide(field)}
 
 
 def _is_wide(field: str) -> bool:
-    """Whether a field spells an integer of more than 32 bits, and not NULL. It spells one of the two."""
+    """Returns whether a field, which is an integer or NULL, is an integer of more than 32 bits."""
     if len(field) < SHORTEST_WIDE:
         return False
     try:
@@ -189,15 +190,15 @@ class _Reader(Protocol):
 
     @property
     def line_num(self) -> int:
-        """How many lines it has read."""
+        """The number of lines that it has read."""
 
     def __iter__(self) -> Iterator[list[str]]:
         """The records."""
 
 
 def _records(reader: _Reader, first: int) -> Iterator[tuple[int, list[str]]]:
-    """The records of a reader, each with the line that it begins on. The reader's first line has this number. A line
-    without a byte is no record."""
+    """Yields the records of a reader, each with the line on which it begins. `first` is the number of the reader's
+    first line. An empty line isn't a record."""
     line = first
     try:
         for record in reader:
@@ -209,7 +210,7 @@ def _records(reader: _Reader, first: int) -> Iterator[tuple[int, list[str]]]:
 
 
 def _fault_of(record: Sequence[str], columns: Sequence[str]) -> str | None:
-    """Why a record is no row, as the program would see it: first its number of fields, then field by field."""
+    """Returns why a record isn't a row, checked like the program does: first the number of fields, then each field."""
     if len(record) != len(columns):
         return f" has {counted(len(record), 'field')}, and the header has {len(columns)}"
     for field, column in zip(record, columns):
@@ -221,5 +222,5 @@ def _fault_of(record: Sequence[str], columns: Sequence[str]) -> str | None:
 
 
 def _delimiter(line: str) -> str:
-    """What stands between the fields of this line: a comma where it has one, else what it has most of."""
+    """Returns the delimiter of this line: a comma if it has one, else the candidate that occurs most often."""
     return "," if "," in line else max(_DELIMITERS, key=line.count)

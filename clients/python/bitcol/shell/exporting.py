@@ -1,6 +1,6 @@
-"""Files of tables: CSV or a table file, by the suffix of the file's name.
+"""Writes tables to files: CSV or a table file, by the suffix of the file's name.
 
-A file is written beside the one that it replaces, so a failure leaves that one as it was.
+A file is first written beside the one that it replaces, so a failure leaves that one as it was.
 """
 
 from __future__ import annotations
@@ -21,14 +21,14 @@ from .store import Store
 
 
 def export_table(store: Store, table: str, path: str) -> int:
-    """Writes a table to a file, over one that is there, and gives the number of rows. A Fault where the suffix is none
-    of these, the file can't be written, or CSV is wanted and there is no memory for the rows; and what the session
+    """Writes a table to a file, replacing an existing one, and returns the number of rows. Raises a Fault if the suffix
+    is none of these, the file can't be written, or there is no memory for the rows of a CSV file; and what the session
     raises."""
     name = checked_name(table)
     write = _WRITERS.get(Path(path).suffix.lower())
     if write is None:
         raise Fault(f"{path}: the suffix says what is written, {' or '.join(_WRITERS)}")
-    # The file that a link leads to is replaced, not the link.
+    # The target of a symbolic link is replaced, not the link.
     target = Path(os.path.realpath(path) if os.path.islink(path) else path)
     if target.exists() and not target.is_file():
         raise Fault(f"{path}: this is no file")
@@ -41,7 +41,7 @@ def export_table(store: Store, table: str, path: str) -> int:
     except OSError as fault:
         raise Fault(f"{path}: {reason_of(fault)}") from None
     finally:
-        # After an interrupt a SAVE may still be carried out: this comes after it, and nobody waits.
+        # After an interrupt a SAVE may still be running: this is executed after it, and nobody waits for it.
         store.post(lambda _: _remove(draft))
     return rows
 

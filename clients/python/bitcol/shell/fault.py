@@ -1,4 +1,4 @@
-"""What the shell itself refuses."""
+"""Errors of the shell itself."""
 
 from __future__ import annotations
 
@@ -6,9 +6,9 @@ from ..errors import Error
 
 
 class Fault(Error):
-    """What was asked of the shell can't be done. The text says what and why."""
+    """Something that the shell was asked for can't be done. The text says what and why."""
 
 
 def reason_of(fault: OSError) -> str:
-    """What the host says of a file, without the file's name."""
+    """Returns the host's error message for a file, without the file's name."""
     return fault.strerror or str(fault)

@@ -1,4 +1,4 @@
-"""Tables of files: CSV, table files, and SQLite's. A file's first bytes tell which it is, whatever its name."""
+"""Makes tables from CSV files, table files and SQLite files. A file's first bytes tell its kind, whatever its name."""
 
 from __future__ import annotations
 
@@ -20,7 +20,7 @@ from .store import Store
 
 @dataclass(frozen=True)
 class Source:
-    """A file: where it is, and what it is called, in what is said of it and by its table."""
+    """A file: its path, and the name that messages and its table use for it."""
 
     path: str
     label: str
@@ -28,7 +28,7 @@ class Source:
 
 @dataclass(frozen=True)
 class Imported:
-    """A table that was made of a file, and lines on what is called otherwise than there."""
+    """A table that was made from a file, and notes on names that differ from those in the file."""
 
     table: str
     rows: int
@@ -37,14 +37,14 @@ class Imported:
 
 @dataclass(frozen=True)
 class Import:
-    """One table that is to be made of a file. `run` makes it, or raises and makes none."""
+    """One table that is to be made from a file. `run` makes it, or raises and makes none."""
 
     label: str
     run: Callable[[Tell], Imported]
 
 
 def split_word(word: str) -> tuple[str, str | None]:
-    """A word of the command line as a file and a table's name: `FILE`, or `FILE:TABLE` where no file has this name."""
+    """Splits an argument into a file and a table's name: `FILE`, or `FILE:TABLE` if no file has this name."""
     path, colon, table = word.rpartition(":")
     if colon and table and not os.path.exists(word) and os.path.exists(path):
         return path, table
@@ -52,10 +52,11 @@ def split_word(word: str) -> tuple[str, str | None]:
 
 
 def imports_of(store: Store, path: str, table: str | None, label: str | None = None) -> list[Import]:
-    """What is to be made of a file: a table of this name, or of the file's. Of an SQLite file, the table of this name,
-    or all. A label is what the file is called in place of its path. A Fault where the file can't be read."""
+    """Returns the imports for a file: a table of this name, or named after the file; for an SQLite file the table of
+    this name, or all. If `label` is given, it names the file instead of its path. Raises a Fault if the file can't be
+    read."""
     source = Source(path, path if label is None else label)
-    # What isn't kept can't be looked at twice.
+    # A pipe or a device can't be read twice.
     first = b"" if is_special(path) else _first_bytes(source)
     if first.startswith(sqlite_import.MARK):
         return [_sqlite(store, source, name) for name in _chosen(source, table)]
@@ -65,7 +66,7 @@ def imports_of(store: Store, path: str, table: str | None, label: str | None = N
 
 
 def is_special(path: str) -> bool:
-    """Whether the path is a pipe or a device."""
+    """Returns whether the path is a pipe or a device."""
     try:
         mode = os.stat(path).st_mode
     except (OSError, ValueError):
@@ -84,7 +85,7 @@ def _first_bytes(source: Source) -> bytes:
 
 
 def _table_name(label: str, table: str | None) -> tuple[str, list[str]]:
-    """The name for a table: this one, or the file's, and a line where it can't be that."""
+    """Returns the name for a table: this one, or the file's, and a note if that had to be changed."""
     word = Path(label).stem if table is None else table
     name = name_of(word, "T")
     return name, [] if name == word.upper() else [f"table {word!r} is called {name}"]
@@ -116,7 +117,7 @@ def _of_table_file(store: Store, source: Source, table: str | None) -> Imported:
 
 
 def _chosen(source: Source, table: str | None) -> list[str]:
-    """The tables of an SQLite file that are wanted: all, or the one of this name, as SQLite compares names."""
+    """Returns the tables of an SQLite file to import: all, or the one of this name, compared as SQLite does."""
     try:
         names = sqlite_import.table_names(source.path)
     except Fault as fault:
@@ -130,7 +131,7 @@ def _chosen(source: Source, table: str | None) -> list[str]:
 
 
 def _sqlite(store: Store, source: Source, table: str) -> Import:
-    """One table of an SQLite file."""
+    """Returns the import of one table of an SQLite file."""
     label = f"{source.label}, table {table}"
 
     def run(tell: Tell) -> Imported:
@@ -150,7 +151,7 @@ def _sqlite(store: Store, source: Source, table: str) -> Import:
 
 
 def _named(refusal: Refused, label: str, table: str) -> Fault:
-    """A refusal with the file that it is about, and what to do where the table is there."""
+    """Returns a refusal with the name of its file, and advice if the table exists already."""
     if refusal.number == ErrorNumber.TABLE_EXISTS:
         return Fault(f"{label}: there is a table {table} already: DROP it, or give this one another name")
     return Fault(f"{label}: {refusal}")

@@ -1,7 +1,7 @@
-"""How long an answer will be, before it is asked for.
+"""Determines how long an answer will be, before its statement is sent.
 
-An answer is in memory as a whole. One that the memory doesn't hold would end the program in the middle of its answer,
-and its tables with it. So the rows of a long one are counted first.
+An answer is in memory as a whole. One that doesn't fit into memory would end the program in the middle of the answer,
+and its tables with it. So the rows of a long answer are counted first.
 """
 
 from __future__ import annotations
@@ -16,7 +16,7 @@ from ..errors import Refused
 from ..session import Session
 from .fault import Fault
 
-# What a cell takes at most while its answer is made: 8 bytes in the program, 12 as text here, and 12 as it is shown.
+# The most bytes that a cell takes while its answer is made: 8 in the program, 12 as text here, and 12 when shown.
 CELL_BYTES = 32
 _AVAILABLE = re.compile(r"^MemAvailable:\s*(\d+) kB$", re.MULTILINE)
 _PIECE = re.compile(r"'[^']*'|--[^\n]*|;|[A-Za-z]\w*")
@@ -24,7 +24,7 @@ _PIECE = re.compile(r"'[^']*'|--[^\n]*|;|[A-Za-z]\w*")
 
 @dataclass(frozen=True)
 class Selection:
-    """A SELECT in four parts: `SELECT ..`, `FROM table`, and what may be empty, the condition and `GROUP BY column`."""
+    """A SELECT in four parts: `SELECT ..`, `FROM table`, condition, `GROUP BY column`. The last two may be empty."""
 
     items: str
     source: str
@@ -33,13 +33,13 @@ class Selection:
 
     @property
     def without_rows(self) -> str:
-        """A SELECT with the same headings and no row, or one of set functions. What stands before may end with a
-        comment."""
+        """A SELECT with the same headings and no row, or one row of set functions. A line feed comes before its WHERE,
+        since the part before may end with a comment."""
         return f"{self.items}{self.source}\nWHERE 1 = 0{self.grouping and ' '}{self.grouping}"
 
     @property
     def counting(self) -> str:
-        """A SELECT of the number of the rows that it finds."""
+        """A SELECT of the number of rows that it finds."""
         return f"SELECT COUNT(*) {self.source}{self.condition}"
 
     @property
@@ -49,7 +49,7 @@ class Selection:
 
     @property
     def has_functions(self) -> bool:
-        """Whether it asks for set functions."""
+        """Whether it has set functions."""
         return "(" in _PIECE.sub("", self.items)
 
     @property
@@ -59,7 +59,7 @@ class Selection:
 
 
 def selection_of(statement: str) -> Selection | None:
-    """The parts of a SELECT, without its `;`, or None where the statement is none."""
+    """Returns the parts of a SELECT, without its `;`, or None if the statement isn't one."""
     cut = next((found.start() for found in _PIECE.finditer(statement) if found[0] == ";"), len(statement))
     statement = statement[:cut]
     words = [(found[0].upper(), found.start()) for found in _PIECE.finditer(statement) if found[0][0].isalpha()]
@@ -75,12 +75,12 @@ def selection_of(statement: str) -> Selection | None:
 
 
 def cells_that_fit() -> int:
-    """How many cells an answer may have now: those for which there is memory."""
+    """Returns how many cells an answer may have now: those for which there is memory."""
     return available_bytes() // CELL_BYTES
 
 
 def check_length(session: Session, statement: str, most: int) -> None:
-    """A Fault where the answer would have more cells than this. A statement that is to be refused has none here."""
+    """Raises a Fault if the answer would have more than `most` cells. A statement that the store refuses passes."""
     selection = selection_of(statement)
     if selection is None:
         return
@@ -100,8 +100,8 @@ def check_length(session: Session, statement: str, most: int) -> None:
 
 
 def _rows_of(session: Session, selection: Selection, width: int, most: int) -> int:
-    """The number of rows of an answer. Its groups are counted where they may be too many for these cells, unless there
-    may be no room for one cell of each: then it is that of the rows that are found, which are no fewer."""
+    """Returns the number of rows of an answer. Groups are counted if they may be too many for these cells, unless there
+    may be no room for one cell of each: then the result is the number of rows found, which is at least as large."""
     found: int = session.execute(selection.counting).scalar()
     if selection.grouping and found <= most < found * width:
         return len(session.execute(selection.by_group))
@@ -109,7 +109,7 @@ def _rows_of(session: Session, selection: Selection, width: int, most: int) -> i
 
 
 def available_bytes() -> int:
-    """The memory that a process can have now: what the system says, and no more than a limit on processes."""
+    """Returns the memory that a process can get now: what the system says, and at most the limit for this process."""
     try:
         found = _AVAILABLE.search(Path("/proc/meminfo").read_text(encoding="ascii"))
     except OSError:
@@ -117,7 +117,7 @@ def available_bytes() -> int:
     if found:
         available = int(found[1]) * 1024
     else:
-        # Half of all of it, where the system doesn't say how much of it is taken.
+        # Half of all memory, if the system doesn't say how much is in use.
         available = os.sysconf("SC_PHYS_PAGES") * os.sysconf("SC_PAGE_SIZE") // 2
     limit = resource.getrlimit(resource.RLIMIT_AS)[0]
     return available if limit == resource.RLIM_INFINITY else min(available, limit)

@@ -1,4 +1,4 @@
-"""The words of the command line, and the statuses of the shell."""
+"""The command line arguments and the exit statuses of the shell."""
 
 from __future__ import annotations
 
@@ -21,12 +21,12 @@ from .shell import Settings, Shell
 from .store import Store
 from .terminal import interact
 
-# How long an interrupt waits for a call to end.
+# The seconds that an interrupt waits for a call to end.
 SECONDS_TO_LEAVE = 2
 
 
 class Status(IntEnum):
-    """How the shell ends. Wrong words are FAILED too. The last two are those of a program that such a signal ends."""
+    """The exit statuses. Wrong arguments are FAILED too. The last two are those of a program ended by such a signal."""
 
     DONE = 0
     REFUSED = 1
@@ -36,19 +36,19 @@ class Status(IntEnum):
 
 
 def main(words: Sequence[str] | None = None) -> int:
-    """Runs the shell with these words, or those of the command line, and gives its status."""
+    """Runs the shell with these arguments, or those of the command line, and returns its exit status."""
     options = _parser().parse_intermixed_args(words)
     if isinstance(sys.stdin, io.TextIOWrapper):
-        # What is typed and isn't UTF-8 is refused where it is used. A line ends where the language says so.
+        # Input that isn't UTF-8 is refused where it is used. Lines end as in the language.
         sys.stdin.reconfigure(errors="surrogateescape", newline="\n")
     return run_on_store(partial(_run, options))
 
 
 def run_on_store(run: Callable[[Store, Console], Status]) -> Status:
-    """Runs this over a store, on a console of the standard streams, and gives its status, or that of what ended it: a
-    store that can't be started, which the console tells, an interrupt, or output that can't be written."""
+    """Runs `run` with a store and a console of the standard streams, and returns its status, or that of what ended it:
+    a store that can't be started, which the console reports, an interrupt, or output that can't be written."""
     if sys.stdout is None or sys.stderr is None:
-        # Whoever closes one of them doesn't want to hear of it.
+        # Whoever closes one of them doesn't want to be told.
         return Status.FAILED
     console = Console(_buffered(sys.stdout), _buffered(sys.stderr))
     try:
@@ -67,7 +67,7 @@ def run_on_store(run: Callable[[Store, Console], Status]) -> Status:
 
 
 def _opened(run: Callable[[Store, Console], Status], console: Console) -> Status:
-    """Runs this over a store, which it closes, and gives its status, or FAILED where there can be no store."""
+    """Runs `run` with a store, closes the store, and returns the status, or FAILED if there can be no store."""
     try:
         store = Store()
     except OperationalError as fault:
@@ -77,8 +77,8 @@ def _opened(run: Callable[[Store, Console], Status], console: Console) -> Status
 
 
 def _buffered(stream: TextIO) -> TextIO:
-    """Another stream to where this one goes. It has a buffer even where Python was told to have none: without one, the
-    rest of a write that was carried out in part is dropped, and nobody hears of it."""
+    """Returns another stream to the same file. It is buffered even if Python was told not to buffer: without a buffer,
+    the rest of a partial write is dropped silently."""
     return open(
         stream.fileno(), "w", encoding=stream.encoding, errors="backslashreplace", newline="\n", closefd=False
     )
@@ -114,7 +114,7 @@ def _run(options: argparse.Namespace, store: Store, console: Console) -> Status:
         if is_typed:
             interact(shell)
         elif not shell.failures:
-            # An answer over tables that aren't all there would be wrong.
+            # If some tables are missing, an answer would be wrong.
             _carry_out(options, shell)
         store.close()
     except ProgramEnded:
@@ -128,14 +128,14 @@ def _run(options: argparse.Namespace, store: Store, console: Console) -> Status:
 
 
 def leave(store: Store) -> None:
-    """Ends a store that may be in the middle of a call. A call that takes longer is left with the whole process, whose
-    end is the end of the program too: the interpreter can't end in an orderly way beside it."""
+    """Ends a store that may be in the middle of a call. If the call takes longer, the whole process exits, which ends
+    the program too: the interpreter can't shut down in an orderly way during the call."""
     if not store.close(SECONDS_TO_LEAVE):
         os._exit(Status.INTERRUPTED)
 
 
 def _mode(options: argparse.Namespace, console: Console) -> Mode:
-    """The mode that is asked for. Without one, a person gets tables, and a program CSV."""
+    """Returns the mode that was asked for. By default a user at a terminal gets tables, and a program CSV."""
     if options.mode:
         return Mode(options.mode)
     return Mode.TABLE if console.is_terminal and options.command is None else Mode.CSV
@@ -147,7 +147,7 @@ def _import_word(shell: Shell, word: str) -> None:
 
 
 def _carry_out(options: argparse.Namespace, shell: Shell) -> None:
-    """Carries out the statement of -c, or the lines of standard input."""
+    """Executes the statement of -c, or the lines of standard input."""
     if options.command is not None:
         shell.attempt(partial(_answer, shell, options.command))
     elif sys.stdin is not None:
@@ -155,13 +155,13 @@ def _carry_out(options: argparse.Namespace, shell: Shell) -> None:
 
 
 def _answer(shell: Shell, statement: str) -> None:
-    """Carries out the statement of -c. A Fault where it is a command, which may not stand there."""
+    """Executes the statement of -c. Raises a Fault if it is a command, which isn't allowed there."""
     if statement.lstrip().startswith("."):
         raise Fault(f"{statement.split()[0]} is no statement, and -c takes one: commands come by standard input")
     shell.run(statement)
 
 
 def _drop_output() -> None:
-    """Sends what isn't written yet nowhere, so that the interpreter doesn't try to write it at its end."""
+    """Discards the output that isn't written yet, so that the interpreter doesn't try to write it when it exits."""
     with contextlib.suppress(OSError, ValueError):
         os.dup2(os.open(os.devnull, os.O_WRONLY), sys.stdout.fileno())

@@ -1,4 +1,4 @@
-"""Names of tables and columns, made of whatever a file calls them."""
+"""Makes names of tables and columns from the names in a file."""
 
 from __future__ import annotations
 
@@ -13,15 +13,15 @@ _NO_NAME = re.compile(r"[^A-Z0-9_]+")
 
 
 def is_name(word: str) -> bool:
-    """Whether the word is a name of the language as it stands."""
+    """Returns whether the word is a valid name as it is."""
     return NAME.fullmatch(word) is not None and word.upper() not in RESERVED
 
 
 def name_of(word: str, prefix: str, taken: Collection[str] = ()) -> str:
-    """A name like this word, in upper case, that isn't taken. A word that is a name and not taken is its own.
+    """Returns a name like this word, in upper case, that isn't taken: the word itself if it is a valid name.
 
-    Else accents go, what no name has becomes `_`, and `PREFIX_` is put before what begins with no letter or is a
-    reserved word.
+    Otherwise accents are removed, characters that a name can't have become `_`, and `PREFIX_` is put before a word that
+    doesn't begin with a letter or is reserved.
     """
     name = word.upper() if is_name(word) else _likeness(word, prefix)
     base, number = name, 1
@@ -33,7 +33,7 @@ def name_of(word: str, prefix: str, taken: Collection[str] = ()) -> str:
 
 
 def column_names(words: Sequence[str]) -> tuple[list[str], list[str]]:
-    """A name for each of these words, no two the same, and a line for each that had to become another."""
+    """Returns a name for each of these words, all different, and a line for each word that had to be changed."""
     names: list[str] = []
     notes = []
     for place, word in enumerate(words, 1):
@@ -45,7 +45,7 @@ def column_names(words: Sequence[str]) -> tuple[list[str], list[str]]:
 
 
 def _likeness(word: str, prefix: str) -> str:
-    """A name like a word that is none."""
+    """Returns a name like a word that isn't a valid name."""
     without_accents = "".join(
         letter for letter in unicodedata.normalize("NFKD", word) if not unicodedata.combining(letter)
     )

@@ -14,7 +14,7 @@ from .render import counted, shown
 
 LINE_HEIGHT = 8
 LEAST_WIDTH = 10
-# Parts of a block that tell apart how far a value goes, to the right and up.
+# The steps within a block, to the right and upwards, with which values are drawn.
 EIGHTHS = 8
 _TO_THE_RIGHT = " ▏▎▍▌▋▊▉█"
 _UP = " ▁▂▃▄▅▆▇█"
@@ -24,7 +24,7 @@ Value = Optional[int]
 
 
 class Chart(Enum):
-    """The form of a chart, by the word for it."""
+    """The form of a chart. The value is its word in commands."""
 
     BARS = "bars"
     LINE = "line"
@@ -32,23 +32,23 @@ class Chart(Enum):
 
 @dataclass(frozen=True)
 class Canvas:
-    """How many characters a line has, and whether there are block characters. Where there are none, `#` stands for a
-    block that is half full or more."""
+    """The number of characters of a line, and whether there are block characters. If there are none, `#` is drawn for a
+    block that is at least half full."""
 
     width: int
     has_blocks: bool = True
 
     def block(self, blocks: str, eighths: int) -> str:
-        """A block that is full by so many eighths."""
+        """Returns the block that is filled by this many eighths."""
         if self.has_blocks:
             return blocks[eighths]
         return _PLAIN_BLOCK if eighths >= EIGHTHS // 2 else " "
 
 
 def drawn(reply: Reply, chart: Chart | None, column: str | None, limit: int, canvas: Canvas) -> Iterator[str]:
-    """A chart of a column of an answer: this one, else the second, or the only one. Bars are drawn of no more rows than
-    the limit, and the first column labels them unless it is drawn itself. Without a chart it is bars up to the limit,
-    and a line beyond. A Fault where there is no such column, or it has no numbers."""
+    """Draws a column of an answer: this one, else the second, or the only one. Bars are drawn for at most `limit` rows,
+    with labels from the first column unless that is drawn itself. If no chart is given, it is bars up to the limit, and
+    a line beyond. Raises a Fault if there is no such column, or it has no numbers."""
     headings = reply.headings
     if column is not None and column.upper() not in headings:
         raise Fault(f"the last answer has no column {column!r}; it has {', '.join(headings)}")
@@ -68,13 +68,13 @@ def drawn(reply: Reply, chart: Chart | None, column: str | None, limit: int, can
 
 
 def bars(labels: Sequence[str], values: Sequence[Value], canvas: Canvas) -> Iterator[str]:
-    """A line for each value: its label, a bar from 0 to the value, and the value. Bars of values below 0 go to the
-    left, in whole blocks."""
+    """Yields a line for each value: its label, a bar from 0 to the value, and the value. Bars of negative values extend
+    to the left, in whole blocks."""
     texts = list(map(shown, values))
     label_width = max(map(len, labels), default=0)
     known = [value for value in values if value is not None]
     least, greatest = min(known, default=0), max(known, default=0)
-    # Two blanks and the sign stand beside the bars.
+    # Two blanks and the sign are beside the bars.
     room = max(LEAST_WIDTH, canvas.width - label_width - max(map(len, texts), default=0) - 3)
     scale = _Scale.of(min(least, 0), max(greatest, 0), room)
     for label, value, text in zip(labels, values, texts):
@@ -84,7 +84,7 @@ def bars(labels: Sequence[str], values: Sequence[Value], canvas: Canvas) -> Iter
 
 @dataclass(frozen=True)
 class _Scale:
-    """Where bars lie: so many blocks are left of 0 and right of it, for values from `least` to `greatest`."""
+    """The placement of bars: the blocks to the left and to the right of 0, for values from `least` to `greatest`."""
 
     least: int
     greatest: int
@@ -93,29 +93,29 @@ class _Scale:
 
     @classmethod
     def of(cls, least: int, greatest: int, room: int) -> _Scale:
-        """The bars in a room of so many blocks. `least` isn't above 0, and `greatest` not below."""
+        """Fits bars into `room` blocks. `least` is at most 0, and `greatest` at least 0."""
         span = (greatest - least) or 1
-        # Rounded up, so that there is room for a bar to the left where there is a value below 0.
+        # Rounded up, so that there is room for a bar to the left if there is a negative value.
         left = -(least * room // span)
         return cls(least, greatest, min(left, room), max(room - left, 0))
 
     def right_bar(self, value: int, canvas: Canvas) -> str:
-        """The bar of a value that isn't below 0. One that isn't 0 is seen."""
+        """Returns the bar of a value that isn't negative. It is visible unless the value is 0."""
         eighths = max(round(value * self.right * EIGHTHS / self.greatest), 1) if value > 0 else 0
         full, rest = divmod(eighths, EIGHTHS)
         bar = canvas.block(_TO_THE_RIGHT, EIGHTHS) * full + (canvas.block(_TO_THE_RIGHT, rest) if rest else "")
         return bar.rstrip()
 
     def bar(self, value: int, canvas: Canvas) -> str:
-        """The bar of a value with the blanks left of it, where some values are below 0."""
+        """Returns the bar of a value with the blanks left of it, for the case that some values are negative."""
         blocks = max(round(value * self.left / self.least), 1) if value < 0 else 0
         to_the_left = " " * (self.left - blocks) + canvas.block(_TO_THE_RIGHT, EIGHTHS) * blocks
         return f"{to_the_left}|{self.right_bar(value, canvas)}"
 
 
 def line(values: Sequence[Value], canvas: Canvas) -> Iterator[str]:
-    """A line over all values from left to right, as high as they are between the least and the greatest, and a line
-    that says how many values stand in a column. A column is the mean of its values, and empty where all are NULL."""
+    """Yields a line chart of all values from left to right, scaled between the least and the greatest, and a line that
+    says how many values are in a column. A column shows the mean of its values, and is empty if all are NULL."""
     known = [value for value in values if value is not None]
     if not known:
         yield f"{counted(len(values), 'row')}, and no value but NULL\n"
@@ -134,7 +134,8 @@ def line(values: Sequence[Value], canvas: Canvas) -> Iterator[str]:
 
 
 def means(values: Sequence[Value], columns: int) -> list[float | None]:
-    """The values in so many groups of neighbours, and of each the mean of what isn't NULL, or None."""
+    """Splits the values into this many groups of neighbours. Returns for each the mean of its values, None if all are
+    NULL."""
     found: list[float | None] = []
     for column in range(columns):
         start, end = column * len(values) // columns, (column + 1) * len(values) // columns
@@ -144,7 +145,7 @@ def means(values: Sequence[Value], columns: int) -> list[float | None]:
 
 
 def _level(mean: float | None, least: int, greatest: int, steps: int) -> int:
-    """How many steps high a mean stands: at least 1, so that it is seen, and 0 where there is none."""
+    """Returns the height of a mean in steps: at least 1, so that it is visible, and 0 if there is none."""
     if mean is None:
         return 0
     if least == greatest:

@@ -16,7 +16,7 @@ _BLANKS = re.compile(r" +$", re.MULTILINE)
 
 
 class Mode(Enum):
-    """How answers are written, by the word for it."""
+    """How answers are written. The value is the mode's word in commands."""
 
     TABLE = "table"
     CSV = "csv"
@@ -26,7 +26,7 @@ class Mode(Enum):
 
 
 class _Rows:
-    """The rows of an answer up to a limit, some at a time, as often as they are asked for."""
+    """The rows of an answer up to a limit, in batches. They can be iterated over repeatedly."""
 
     def __init__(self, reply: Reply, limit: int | None) -> None:
         self._reply = reply
@@ -36,20 +36,20 @@ class _Rows:
         return self._reply.batches() if self._limit is None else iter([self._reply.first_rows(self._limit)])
 
     def lines(self, null: str) -> Iterator[str]:
-        """The rows as lines of CSV, with this text for NULL."""
+        """Yields the rows as CSV lines, with `null` for NULL."""
         if self._limit is None:
             return self._reply.lines(null)
         template = ",".join(["%s"] * len(self._reply.headings)) + "\n"
         return (_formatted(template, rows, null) for rows in self)
 
     def texts(self) -> list[bool]:
-        """Of each column whether it has texts, which are the names of tables."""
+        """Returns for each column whether it has texts, which are the names of tables."""
         first = self._reply.first_rows(1)
         return [isinstance(cell, str) for cell in first[0]] if first else [False] * len(self._reply.headings)
 
 
 def rendered(reply: Reply, mode: Mode, limit: int | None = None, style: Style = PLAIN) -> Iterator[str]:
-    """The pieces of the text of an answer with rows: all of them, or the first up to the limit. Each line is ended."""
+    """Yields the text of an answer with rows in pieces: all rows, or the first up to the limit. Each line is ended."""
     return _RENDERERS[mode](reply.headings, _Rows(reply, limit), style)
 
 
@@ -59,12 +59,12 @@ def counted(number: int, what: str) -> str:
 
 
 def shown(cell: Any) -> str:
-    """A cell as people read it."""
+    """Returns a cell as it is shown to people."""
     return NULL if cell is None else str(cell)
 
 
 def _table(headings: Sequence[str], batches: _Rows, style: Style) -> Iterator[str]:
-    """Columns under their headings, as wide as their widest cell: numbers to the right, names to the left."""
+    """Writes columns under their headings, as wide as their widest cell: numbers to the right, names to the left."""
     widths = list(map(len, headings))
     for rows in batches:
         widths = list(map(max, widths, map(_width, zip(*rows)))) if rows else widths
@@ -74,18 +74,18 @@ def _table(headings: Sequence[str], batches: _Rows, style: Style) -> Iterator[st
     yield "  ".join("-" * width for width in widths) + "\n"
     for rows in batches:
         lines = _formatted(template + "\n", rows, f"{style.null}{NULL}{style.end}")
-        # Texts that stand last leave blanks behind them.
+        # If the last column has texts, there are blanks after them.
         yield _BLANKS.sub("", lines) if texts[-1] else lines
 
 
 def _csv(headings: Sequence[str], batches: _Rows, _: Style) -> Iterator[str]:
-    """A line of headings and one for each row; NULL is an empty field, which is quoted where it stands alone."""
+    """Writes a line of headings and one for each row. NULL is an empty field, which is quoted if it is the only one."""
     yield ",".join(headings) + "\n"
     yield from batches.lines("" if len(headings) > 1 else '""')
 
 
 def _json(headings: Sequence[str], batches: _Rows, _: Style) -> Iterator[str]:
-    """A list with an object for each row, one on a line."""
+    """Writes a list with an object for each row, one on each line."""
     cells = ['"%s"' if is_text else "%s" for is_text in batches.texts()]
     row = ", ".join(f'"{key}": {cell}' for key, cell in zip(_distinct(headings), cells))
     pieces = _after_the_first((_formatted(",\n{" + row + "}", rows, "null") for rows in batches), ",\n")
@@ -95,7 +95,7 @@ def _json(headings: Sequence[str], batches: _Rows, _: Style) -> Iterator[str]:
 
 
 def _markdown(headings: Sequence[str], batches: _Rows, _: Style) -> Iterator[str]:
-    """A table of Markdown, its columns to the right."""
+    """Writes a Markdown table with right-aligned columns."""
     yield f"| {' | '.join(headings)} |\n"
     yield f"|{'|'.join(['---:'] * len(headings))}|\n"
     template = f"| {' | '.join(['%s'] * len(headings))} |\n"
@@ -104,29 +104,29 @@ def _markdown(headings: Sequence[str], batches: _Rows, _: Style) -> Iterator[str
 
 
 def _lines(headings: Sequence[str], batches: _Rows, style: Style) -> Iterator[str]:
-    """`NAME = value`, a line for each cell, and an empty one between rows."""
+    """Writes a line `NAME = value` for each cell, and an empty line between rows."""
     width = max(map(len, headings))
     row = "".join(f"{style.heading}{heading.rjust(width)}{style.end} = %s\n" for heading in headings)
     return _after_the_first((_formatted("\n" + row, rows, NULL) for rows in batches), "\n")
 
 
 def _formatted(template: str, rows: Sequence[Row], null: str) -> str:
-    """All rows in one step of formatting, which takes a fraction of the time of one step for each cell.
+    """Formats all rows in one step, which takes a fraction of the time of one step for each cell.
 
-    Python writes None for NULL, as wide as that, and no name has small letters.
+    Python writes None for NULL, which has the same width, and no name has lower-case letters.
     """
     return (template * len(rows) % tuple(chain.from_iterable(rows))).replace("None", null)
 
 
 def _after_the_first(pieces: Iterable[str], before: str) -> Iterator[str]:
-    """The pieces, without what stands before each row before the first."""
+    """Yields the pieces, without the text before each row before the first."""
     remaining = iter(pieces)
     yield next(remaining, "").removeprefix(before)
     yield from remaining
 
 
 def _width(column: Sequence[Any]) -> int:
-    """How wide the widest cell is. Of integers that is the least or the greatest."""
+    """Returns the width of the widest cell. Among integers that is the least or the greatest."""
     known = [cell for cell in column if cell is not None]
     if known and isinstance(known[0], str):
         return max(map(len, known))
@@ -135,7 +135,7 @@ def _width(column: Sequence[Any]) -> int:
 
 
 def _distinct(headings: Sequence[str]) -> list[str]:
-    """The headings, with `_2` and so on after one that stands again: an object has each key once."""
+    """Returns the headings, with `_2` and so on appended to repeated ones: an object has each key once."""
     found: list[str] = []
     for heading in headings:
         numbered = (heading if number == 1 else f"{heading}_{number}" for number in count(1))

@@ -1,4 +1,4 @@
-"""What a line of input does: a statement or a command is carried out, and its answer or its error is shown."""
+"""Handles a line of input: a statement or a command is executed, and its answer or its error is shown."""
 
 from __future__ import annotations
 
@@ -25,18 +25,18 @@ from .statements import Pending, StatementBuffer
 from .store import Store
 from .workload import History
 
-# Rows that a terminal shows if nothing else is said.
+# The rows that a terminal shows by default.
 ROW_LIMIT = 40
-# Files that read files.
+# How deep files may read other files.
 DEEPEST_READ = 16
-# What is typed to get out or to get help, as in other shells. No statement begins with these.
+# What users of other shells type to quit or to get help. No statement begins with these words.
 _WITHOUT_POINT = {"help": ".help", "quit": ".quit", "exit": ".quit"}
 
 
 @dataclass
 class Settings:
-    """What the commands set: how answers are written, whether the time is told, and how many rows a terminal shows, or
-    None for all."""
+    """What the commands set: how answers are written, whether the time is shown, and how many rows a terminal shows
+    (None for all)."""
 
     mode: Mode = Mode.TABLE
     timer: bool = False
@@ -44,10 +44,10 @@ class Settings:
 
 
 class Shell:
-    """Carries out lines over a store. What is refused is reported, and the next line is carried out."""
+    """Executes lines on a store. A line that is refused is reported, and the next line is executed."""
 
     def __init__(self, store: Store, console: Console, settings: Settings, is_interactive: bool = False) -> None:
-        """Where somebody types, a program that ended is started anew. Else ProgramEnded is raised by all calls."""
+        """If the shell is interactive, a program that ended is restarted. Otherwise all calls raise ProgramEnded."""
         self.store = store
         self.console = console
         self.settings = settings
@@ -55,7 +55,7 @@ class Shell:
         self.is_ended = False
         self.has_store = True
         self.history = History()
-        # The REBUILD that is advised for a table.
+        # The REBUILD that is advised for each table.
         self.advised: dict[str, str] = {}
         self._is_interactive = is_interactive
         self._answer: Reply | None = None
@@ -64,7 +64,7 @@ class Shell:
         self._depth = 0
 
     def feed(self, buffer: StatementBuffer, text: str) -> None:
-        """Takes a line, and carries out its command, or the statements that it closes."""
+        """Takes a line, and executes its command, or the statements that it ends."""
         word = text.strip().removesuffix(";").lower()
         if buffer.pending is Pending.NOTHING and (word.startswith(".") or word in _WITHOUT_POINT):
             buffer.skip()
@@ -75,8 +75,8 @@ class Shell:
                 self._attempt_at(statement.line, partial(self.run, statement.text))
 
     def read_lines(self, lines: Iterable[str], name: str = "") -> None:
-        """Carries out the lines of a file of this name, or of standard input, to its end. A last statement needs no
-        `;`. An error names the line."""
+        """Executes all lines of a file of this name, or of standard input. The last statement needs no `;`. An error
+        names the line."""
         before, self._place = self._place, f"{name}, line " if name else "line "
         try:
             buffer = StatementBuffer()
@@ -90,11 +90,11 @@ class Shell:
             self._place = before
 
     def read_file(self, path: str) -> None:
-        """Carries out the lines of a file. A Fault where it can't be read."""
+        """Executes the lines of a file. Raises a Fault if it can't be read."""
         if self._depth == DEEPEST_READ:
             raise Fault(f"{path}: files read files that read files, {DEEPEST_READ} deep")
         try:
-            # A line ends where the language says so, and nowhere else.
+            # Lines end as in the language, and in no other way.
             file = open(path, encoding="utf-8-sig", errors="surrogateescape", newline="\n")
         except (OSError, ValueError) as fault:
             raise Fault(f"{path}: {reason_of(fault) if isinstance(fault, OSError) else fault}") from None
@@ -106,8 +106,8 @@ class Shell:
                 self._depth -= 1
 
     def run(self, statement: str) -> None:
-        """Carries out a statement, and shows its answer. A Fault where there is no memory for the answer."""
-        # Also one that is left may be carried out.
+        """Executes a statement, and shows its answer. Raises a Fault if there is no memory for the answer."""
+        # Even a statement whose wait is interrupted may be executed.
         self._catalog = None
         with self.waiting("waiting"):
             reply, seconds = self.store.call(partial(_timed, statement))
@@ -117,13 +117,13 @@ class Shell:
             self.console.note(f"{seconds:.3f} s")
 
     def import_file(self, path: str, table: str | None = None) -> None:
-        """Makes tables of a file. A table that can't be made is reported, and the others are made. A Fault where the
-        file can't be read."""
+        """Makes tables from a file. A table that can't be made is reported, and the others are made. Raises a Fault if
+        the file can't be read."""
         for job in imports_of(self.store, path, table):
             self.attempt(partial(self._import, job))
 
     def show_schema(self, table: str | None = None) -> None:
-        """Shows the statement that makes a table like this one, or one for each."""
+        """Shows the statement that makes a table like this one, or one for each table."""
         name = None if table is None else checked_name(table)
         for made, types in self.store.call(lambda session: types_by_table(session, name)).items():
             typed = ", ".join(f"{column} {column_type.name}" for column, column_type in types.items())
@@ -137,13 +137,13 @@ class Shell:
         self.console.write(drawn(self._answer, chart, column, self.settings.limit or ROW_LIMIT, canvas))
 
     def catalog(self) -> Catalog:
-        """The tables and their columns, or, while a call that was left is still carried out, as they were before."""
+        """Returns the tables and their columns, or, while an abandoned call is still running, those that are known."""
         if self._catalog is None and not self.store.is_busy:
             self._catalog = Catalog(self.store.call(columns_by_table))
         return self._catalog or Catalog()
 
     def attempt(self, action: Callable[[], None]) -> None:
-        """Does something, and reports why it can't be done where it can't."""
+        """Performs an action, and reports the reason if it fails."""
         try:
             action()
         except ProgramEnded as fault:
@@ -160,13 +160,13 @@ class Shell:
             # The output can't be written.
             raise
         except Exception as fault:
-            # No fault of the shell's own is worth the tables of somebody who types.
+            # An internal error of the shell must not cost a user at the prompt the tables.
             if not self._is_interactive:
                 raise
             self._report(f"a fault of the shell: {type(fault).__name__}: {fault}")
 
     def _attempt_at(self, number: int, action: Callable[[], None]) -> None:
-        """Does something that a line of this number asks for."""
+        """Performs an action that the line of this number asks for."""
         before = self._place
         self._place = f"{before}{number}: " if before else ""
         try:
@@ -175,13 +175,13 @@ class Shell:
             self._place = before
 
     def _report(self, text: str, is_numbered: bool = False) -> None:
-        """Writes an error. A refusal has its number, and the word `error` with it."""
+        """Writes an error. A refusal has its number already, and the word `error` before it."""
         self.failures += 1
         self.console.fault(f"{self._place}{'' if is_numbered else 'error: '}{text}")
 
     def _take_end(self, text: str) -> None:
-        """Tells the end of the program, and starts another where somebody types. Where nobody does, all that was under
-        way hears of the end, and it is told once."""
+        """Reports the end of the program, and starts another one if the shell is interactive. Otherwise the end reaches
+        everything that was in progress, but is reported only once."""
         if not self.has_store:
             return
         self._report(text)
@@ -211,7 +211,7 @@ class Shell:
             self.console.remark(f"{imported.table}: {counted(imported.rows, 'row')}")
 
     def show(self, reply: Reply, limit: int | None) -> None:
-        """Shows an answer: all of it to a pipe, and in a terminal no more rows than the limit, if there is one."""
+        """Shows an answer: all of it in a pipe, and in a terminal at most `limit` rows, if there is a limit."""
         if reply.is_units:
             reply = Reply.of_rows(("UNITS",), [(reply.count,)])
         if not reply.headings:
@@ -227,7 +227,7 @@ class Shell:
 
     @contextlib.contextmanager
     def waiting(self, label: str) -> Iterator[Progress]:
-        """A progress line that goes on while the store is waited for."""
+        """Shows a progress line, which is updated while waiting for the store."""
         with self.console.progress(label) as progress:
             self.store.on_wait = progress.tell
             try:
@@ -237,7 +237,7 @@ class Shell:
 
 
 def _timed(statement: str, session: Session) -> tuple[Reply, float]:
-    """The reply to a statement, and the seconds that it took."""
+    """Returns the reply to a statement, and the seconds that it took."""
     check_length(session, statement, cells_that_fit())
     start = time.perf_counter()
     reply = session.execute(statement)
@@ -245,12 +245,12 @@ def _timed(statement: str, session: Session) -> tuple[Reply, float]:
 
 
 def columns_by_table(session: Session, table: str | None = None) -> dict[str, tuple[str, ...]]:
-    """The names of the columns of a table, or of each. Refused where there is no such table."""
+    """Returns the names of the columns of a table, or of each. Raises Refused if there is no such table."""
     names = [made.name for made in session.tables()] if table is None else [table]
     return {name: session.execute(f"SELECT * FROM {name} WHERE 1 = 0").headings for name in names}
 
 
 def types_by_table(session: Session, table: str | None = None) -> dict[str, dict[str, ColumnType]]:
-    """The types of the columns of a table, or of each, by their names. Refused where there is no such table."""
+    """Returns the column types of a table, or of each, by column name. Raises Refused if there is no such table."""
     names = [made.name for made in session.tables()] if table is None else [table]
     return {name: session.column_types(name) for name in names}

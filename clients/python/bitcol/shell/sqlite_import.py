@@ -1,4 +1,4 @@
-"""Tables of SQLite's files, by Python's module sqlite3, which may not be there."""
+"""Reads tables of SQLite files by Python's module sqlite3, which may not be installed."""
 
 from __future__ import annotations
 
@@ -19,15 +19,15 @@ ROWS_AT_ONCE = 10_000
 
 
 def table_names(path: str) -> list[str]:
-    """The names of the file's tables, as they are spelled there. A Fault where it can't be read."""
+    """Returns the names of the file's tables, as they are spelled there. Raises a Fault if it can't be read."""
     with _connected(path) as connection:
         found = connection.execute("SELECT name FROM sqlite_master WHERE type = 'table' ORDER BY name")
         return [name for (name,) in found if not name.startswith("sqlite_")]
 
 
 def read_table(path: str, table: str, tell: Tell) -> tuple[list[str], list[list[int | None]]]:
-    """The names of a table's columns, as they are spelled there, and the columns. A Fault, without the file's name,
-    where it has a value that is no integer, or can't be read."""
+    """Returns the names of a table's columns, as they are spelled there, and the columns. Raises a Fault, without the
+    file's name, if a value isn't an integer, or the file can't be read."""
     with _connected(path) as connection:
         quoted = '"' + table.replace('"', '""') + '"'
         (rows,) = connection.execute(f"SELECT COUNT(*) FROM {quoted}").fetchone()
@@ -45,15 +45,15 @@ def read_table(path: str, table: str, tell: Tell) -> tuple[list[str], list[list[
 
 
 def _values(cells: Sequence[Any], column: str, before: int) -> Sequence[int | None]:
-    """The cells of a column as integers and None. So many rows came before them."""
+    """Returns the cells of a column as integers and None. `before` rows came before them."""
     if set(map(type, cells)) <= {int, type(None)}:
-        # An integer of SQLite has at most 64 bits.
+        # An SQLite integer has at most 64 bits.
         return cells
     return [_value(cell, column, row) for row, cell in enumerate(cells, before + 1)]
 
 
 def _value(cell: Any, column: str, row: int) -> int | None:
-    """A cell as an integer or None. A text is read as a field of CSV, since many files keep their integers so."""
+    """Returns a cell as an integer or None. A text is read like a CSV field, since many files store integers so."""
     try:
         if cell is None or isinstance(cell, str):
             return value_of(cell or "", ColumnType.BIGINT)
@@ -66,14 +66,14 @@ def _value(cell: Any, column: str, row: int) -> int | None:
 
 @contextlib.contextmanager
 def _connected(path: str) -> Iterator[Any]:
-    """The file, to be read alone. What SQLite says against it is a Fault."""
+    """Opens the file for reading only. An error of SQLite is raised as a Fault."""
     try:
         sqlite3 = importlib.import_module("sqlite3")
     except ImportError:
         raise Fault("Python's module sqlite3 is not installed") from None
     try:
         with contextlib.closing(sqlite3.connect(f"{Path(path).resolve().as_uri()}?mode=ro", uri=True)) as connection:
-            # A text that isn't UTF-8 is no integer either, and is told as one.
+            # A text that isn't UTF-8 isn't an integer either, and is reported as such.
             connection.text_factory = lambda data: data.decode(errors="replace")
             yield connection
     except sqlite3.Error as fault:

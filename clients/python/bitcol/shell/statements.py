@@ -1,4 +1,4 @@
-"""Lines of input, cut into statements as the program cuts a script: at each `;` outside texts and comments."""
+"""Splits lines of input into statements as the program splits a script: at each `;` outside texts and comments."""
 
 from __future__ import annotations
 
@@ -6,21 +6,21 @@ import re
 from dataclasses import dataclass
 from enum import Enum, auto
 
-# The pieces of a line: a text up to its end or the line's, a comment, a `;`, a blank, and anything else.
+# The pieces of a line: a quoted text up to its end or the line's, a comment, a `;`, blanks, and anything else.
 _PIECE = re.compile(r"'[^']*'?|--.*|;|[\t\r\n ]+|[^';\-\t\r\n ]+|-", re.DOTALL)
 _BLANKS = "\t\r\n "
 
 
 @dataclass(frozen=True)
 class Statement:
-    """A statement without its `;`, and the number of the line that it begins on, from 1."""
+    """A statement without its `;`, and the number of the line on which it begins, counted from 1."""
 
     text: str
     line: int
 
 
 class Pending(Enum):
-    """What of a statement is there before its `;`."""
+    """What has been read of a statement before its `;`."""
 
     NOTHING = auto()
     STATEMENT = auto()
@@ -28,7 +28,7 @@ class Pending(Enum):
 
 
 class StatementBuffer:
-    """Takes lines, and gives statements as soon as they are closed. The time is linear in the lines."""
+    """Takes lines, and returns statements as soon as they are complete. The time is linear in the lines."""
 
     def __init__(self) -> None:
         self._lines = 0
@@ -36,33 +36,33 @@ class StatementBuffer:
 
     @property
     def lines(self) -> int:
-        """How many lines there were."""
+        """The number of lines so far."""
         return self._lines
 
     def clear(self) -> None:
-        """Drops what isn't closed."""
+        """Drops the incomplete statement."""
         self._pieces: list[str] = []
         self._first_line = 0
         self._in_text = False
 
     @property
     def pending(self) -> Pending:
-        """What isn't closed."""
+        """What has been read of the incomplete statement."""
         if not self._pieces:
             return Pending.NOTHING
         return Pending.TEXT if self._in_text else Pending.STATEMENT
 
     @property
     def text(self) -> str:
-        """What isn't closed, as it was given. Blanks and comments before a statement are left out."""
+        """The incomplete statement, as it was given. Blanks and comments before it are left out."""
         return "".join(self._pieces)
 
     def skip(self) -> None:
-        """Counts a line that is no part of a statement."""
+        """Counts a line that isn't part of a statement."""
         self._lines += 1
 
     def add(self, line: str) -> list[Statement]:
-        """The statements that this line closes. The line is given without its end."""
+        """Adds a line, given without its line feed, and returns the statements that it completes."""
         self._lines += 1
         closed: list[Statement] = []
         at = self._end_of_text(line)
@@ -79,13 +79,13 @@ class StatementBuffer:
         return closed
 
     def finish(self) -> Statement | None:
-        """The statement that no `;` closed, if there is one. It is taken out."""
+        """Removes and returns the last statement if it has no `;`, else returns None."""
         last = Statement(self.text, self._first_line) if self._pieces else None
         self.clear()
         return last
 
     def _end_of_text(self, line: str) -> int:
-        """Where a text of an earlier line ends in this one: the offset after it, or 0 where none goes on."""
+        """Returns the offset after a quoted text that was begun on an earlier line, or 0 if there is none."""
         if not self._in_text:
             return 0
         end = line.find("'") + 1
@@ -95,7 +95,7 @@ class StatementBuffer:
         return end
 
     def _add_piece(self, piece: str) -> None:
-        """Adds a piece that is no `;`. A statement begins with the first that is neither a blank nor a comment."""
+        """Adds a piece that isn't a `;`. A statement begins with the first that is neither blank nor a comment."""
         if not self._pieces:
             if piece[0] in _BLANKS or piece.startswith("--"):
                 return

@@ -1,8 +1,8 @@
-"""A session whose calls can be left.
+"""A session whose calls can be abandoned.
 
-A call is carried out by a thread of its own, and the main thread waits for it. An interrupt ends the wait alone: the
-call goes on, its answer is dropped, and calls after it wait for its end. So an interrupt never comes into the middle of
-a transfer, which would end the program.
+A call is executed by a separate thread, and the main thread waits for it. An interrupt ends only the wait: the call
+continues, its answer is dropped, and later calls wait for it to end. So an interrupt never comes in the middle of a
+transfer, where it would end the program.
 """
 
 from __future__ import annotations
@@ -18,38 +18,38 @@ from ..session import Session
 
 Result = TypeVar("Result")
 
-# How often a wait looks up, for a progress line: often enough to be alive, and seldom enough to cost nothing.
+# How often a wait updates a progress line: often enough to look alive, and rarely enough to cost nothing.
 TICK_SECONDS = 0.1
 
 
 class Store:
-    """A session that is started anew where its program ended."""
+    """A session that can be started again if its program ended."""
 
     def __init__(self, open_session: Callable[[], Session] = Session) -> None:
-        """Starts the session. Raises OperationalError where it can't be started."""
+        """Starts the session. Raises OperationalError if it can't be started."""
         self._open_session = open_session
         self._session = open_session()
         # None ends the thread.
         self._jobs: SimpleQueue[tuple[futures.Future[Any], Callable[[Session], Any]] | None] = SimpleQueue()
         self._posted = self._done = 0
         self._closing: futures.Future[None] | None = None
-        # The session ends with this process, and a call that hangs is not to keep the process.
+        # The session ends with this process, and a call that hangs must not keep the process alive.
         threading.Thread(target=self._carry_out, name="bitcol store", daemon=True).start()
         self.on_wait: Callable[[], None] = _do_nothing
 
     @property
     def is_busy(self) -> bool:
-        """Whether a call that was left is still being carried out."""
+        """Whether an abandoned call is still being executed."""
         return self._done < self._posted
 
     def call(self, job: Callable[[Session], Result]) -> Result:
-        """What the job gives, or raises. KeyboardInterrupt leaves it: then it is still carried out."""
+        """Returns or raises what the job does. KeyboardInterrupt abandons the job, which is still executed then."""
         return self._result(self.post(job))
 
     @contextlib.contextmanager
     def making(self, table: str, make: Callable[[Session], Result]) -> Iterator[Result]:
-        """What a job gives that makes a table. The table is dropped again where the wait for it is interrupted, or what
-        stands in the context fails."""
+        """Yields the result of a job that makes a table. The table is dropped again if the wait for it is interrupted,
+        or the body of the context fails."""
         future = self.post(make)
         try:
             yield self._result(future)
@@ -58,23 +58,23 @@ class Store:
             raise
 
     def post(self, job: Callable[[Session], Result]) -> futures.Future[Result]:
-        """Has a job carried out after those before it. Nobody needs to wait for it."""
+        """Queues a job, to be executed after those before it. Nobody needs to wait for it."""
         future: futures.Future[Result] = futures.Future()
         self._posted += 1
         self._jobs.put((future, job))
         return future
 
     def another(self) -> Store:
-        """Another store beside this one, with no tables. Raises what the constructor does."""
+        """Returns another store beside this one, without tables. Raises what the constructor raises."""
         return Store(self._open_session)
 
     def restart(self) -> None:
-        """Another session, with no tables, where the program of this one ended. Raises what the constructor does."""
+        """Starts another session, without tables, if this one's program ended. Raises what the constructor raises."""
         self._session = self._open_session()
 
     def close(self, seconds: float | None = None) -> bool:
-        """Ends the session, after all calls before, and gives whether it ended in so many seconds. Calls after it are
-        not carried out, but it may be closed again."""
+        """Ends the session after all earlier calls, and returns whether it ended within `seconds`. Later calls aren't
+        executed, except that it may be closed again."""
         if self._closing is None:
             self._closing = self.post(lambda session: session.close())
             self._jobs.put(None)
@@ -86,7 +86,7 @@ class Store:
         return future.result()
 
     def _carry_out(self) -> None:
-        """Carries out jobs, one after the other."""
+        """Executes jobs, one after the other."""
         while (posted := self._jobs.get()) is not None:
             future, job = posted
             try:
@@ -98,7 +98,7 @@ class Store:
                 self._done += 1
                 future.set_result(result)
                 del result
-            # A large answer that nobody waits for any more isn't kept until the next call.
+            # Don't keep a large answer that nobody waits for any more until the next call.
             del posted, future, job
 
 

@@ -1,4 +1,4 @@
-"""Lines that somebody types: prompts, history, completion, and interrupts."""
+"""Interactive input: prompts, history, completion, and interrupts."""
 
 from __future__ import annotations
 
@@ -21,7 +21,7 @@ HISTORY_LINES = 10_000
 
 
 def interact(shell: Shell) -> None:
-    """Carries out lines until somebody ends the shell. An interrupt drops the line, or leaves what is under way."""
+    """Executes lines until the user ends the shell. An interrupt drops the line, or abandons what is in progress."""
     shell.console.line("Statements end with ; and .help lists the commands.")
     typed = _Typed(shell)
     guard = _InterruptGuard()
@@ -33,7 +33,7 @@ def interact(shell: Shell) -> None:
 
 
 class _Typed:
-    """What was typed so far."""
+    """What has been typed so far."""
 
     def __init__(self, shell: Shell) -> None:
         self._shell = shell
@@ -42,7 +42,7 @@ class _Typed:
         self._editing = _line_editing(shell, self._buffer)
 
     def step(self) -> None:
-        """Takes a line, and carries it out."""
+        """Reads a line, and executes it."""
         self._is_at_prompt = True
         self._shell.console.out.flush()
         try:
@@ -51,17 +51,17 @@ class _Typed:
             self._end()
             return
         except SystemError as fault:
-            # Where two interrupts come at once, Python's input takes the second, which isn't let in, for a mistake.
+            # If two interrupts come at once, Python's input mistakes the second, which is held back, for an error.
             raise KeyboardInterrupt from fault
         self._is_at_prompt = False
         if self._editing is not None:
             self._editing.remember()
-        # What is pasted may have several lines.
+        # Pasted text may have several lines.
         for part in line.split("\n"):
             self._shell.feed(self._buffer, part)
 
     def drop(self) -> None:
-        """What an interrupt does."""
+        """Handles an interrupt."""
         self._buffer.clear()
         console = self._shell.console
         console.line("" if self._is_at_prompt else "\ninterrupted: what was under way may yet be carried out")
@@ -74,15 +74,15 @@ class _Typed:
 
 
 class _InterruptGuard:
-    """Lets an interrupt from the keyboard into what it runs, once, and nowhere else: so none comes in between and ends
-    the shell."""
+    """Lets one interrupt from the keyboard into an action that it runs, and none anywhere else, so that none comes in
+    between and ends the shell."""
 
     def __init__(self) -> None:
         self._lets_in = False
         self._before = signal.signal(signal.SIGINT, self._interrupt)
 
     def run(self, action: Callable[[], None], when_interrupted: Callable[[], None]) -> None:
-        """Does the action, and the other one where an interrupt ended it."""
+        """Performs the action, and then the other one if an interrupt ended it."""
         try:
             try:
                 self._lets_in = True
@@ -93,7 +93,7 @@ class _InterruptGuard:
             when_interrupted()
 
     def close(self) -> None:
-        """Lets interrupts in everywhere, as before."""
+        """Lets interrupts in everywhere again, as before."""
         signal.signal(signal.SIGINT, self._before)
 
     def _interrupt(self, _: int, __: FrameType | None) -> None:
@@ -123,7 +123,7 @@ class _LineEditing:
         self._remembered = readline.get_current_history_length()
 
     def remember(self) -> None:
-        """Puts the line that was typed last into the file, at once, so that sessions side by side keep each other's."""
+        """Appends the last line typed to the file, at once, so that concurrent sessions keep each other's lines."""
         length = self._readline.get_current_history_length()
         if length > self._remembered:
             with self._kept_history() as path:
@@ -132,12 +132,12 @@ class _LineEditing:
 
     @contextlib.contextmanager
     def _kept_history(self) -> Iterator[Path]:
-        """The file of the history. One that can't be read or kept is no reason to keep anybody from working."""
+        """Yields the history file. One that can't be read or written must not keep anybody from working."""
         with contextlib.suppress(OSError):
             yield self._history
 
     def _complete(self, word: str, state: int) -> str | None:
-        """The completion of this number, as readline asks for them one after the other."""
+        """Returns the completion of this number: readline asks for them one after the other."""
         if state == 0:
             line = self._readline.get_line_buffer()[: self._readline.get_begidx()]
             try:
@@ -148,7 +148,7 @@ class _LineEditing:
 
 
 def history_path() -> Path:
-    """Where the history is: in the folder that XDG_STATE_HOME names, or ~/.local/state."""
+    """Returns the path of the history: in the folder that XDG_STATE_HOME names, or in ~/.local/state."""
     named = os.environ.get("XDG_STATE_HOME", "")
     return Path(named if os.path.isabs(named) else os.path.expanduser("~/.local/state"), "bitcol", "history")
 

@@ -1,4 +1,4 @@
-"""How much the condition of a SELECT reads, as STATS tells it."""
+"""How much the condition of a SELECT reads, as reported by STATS."""
 
 from __future__ import annotations
 
@@ -8,12 +8,12 @@ from .lengths import selection_of
 
 
 def units_of(session: Session, statement: str) -> int | None:
-    """The units that the condition of a SELECT reads. None where the statement is no SELECT, or the program refuses to
-    tell."""
+    """Returns the units that the condition of a SELECT reads, or None if the statement isn't a SELECT, or the program
+    refuses the STATS."""
     if selection_of(statement) is None:
         return None
     try:
-        # What stands before the statement's first word is no part of it.
+        # What comes before the statement's first word isn't part of it.
         return session.execute(f"STATS {statement}").count
     except Refused:
         return None

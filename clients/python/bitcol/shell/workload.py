@@ -1,4 +1,4 @@
-"""The SELECTs that somebody runs on a table: those of this session, or those of a file."""
+"""The SELECTs that are run on a table: those of this session, or those of a file."""
 
 from __future__ import annotations
 
@@ -10,7 +10,7 @@ from ..script import RESERVED
 from .lengths import Selection, selection_of
 from .statements import Pending, StatementBuffer
 
-# SELECTs of a session that are remembered: those that came first go first.
+# How many SELECTs of a session are remembered: the oldest are dropped first.
 MOST_REMEMBERED = 1_000
 _COMMENT = re.compile(r"--[^\n]*")
 _OPERAND = re.compile(r"\(\s*([A-Z]\w*)\s*\)")
@@ -19,8 +19,8 @@ _WORD = re.compile(r"[A-Z]\w*")
 
 @dataclass(frozen=True)
 class Work:
-    """A SELECT in one line, how often it is run, and the words that may be columns which it reads to find rows, to
-    compute set functions and to make groups. Columns that it shows alone are none of them."""
+    """A SELECT in one line, how often it is run, and the words that may be columns that it reads to find rows, to
+    compute set functions and to make groups. Columns that it only shows aren't among them."""
 
     statement: str
     times: int
@@ -43,12 +43,12 @@ class History:
             del self._times[next(iter(self._times))]
 
     def of(self, table: str) -> list[Work]:
-        """Those on the table of this name that read columns."""
+        """Returns those on the table of this name that read columns."""
         return works_of(self._times, table)
 
 
 def history_of(lines: Iterable[str]) -> History:
-    """The SELECTs of a file's lines. Commands and other statements are left out."""
+    """Returns the SELECTs in the lines of a file. Commands and other statements are left out."""
     history = History()
     for statement in _statements(lines):
         history.add(statement)
@@ -56,7 +56,7 @@ def history_of(lines: Iterable[str]) -> History:
 
 
 def works_of(times: dict[str, int], table: str) -> list[Work]:
-    """The SELECTs on this table that read columns, of SELECTs in one line each and how often they are run."""
+    """Returns the SELECTs on this table that read columns. `times` says how often each one-line SELECT is run."""
     works = []
     for statement, count in times.items():
         selection = selection_of(statement)
@@ -80,7 +80,7 @@ def _statements(lines: Iterable[str]) -> Iterator[str]:
 
 
 def _in_one_line(statement: str) -> str:
-    """The SELECT without comments and with one blank between words: it has no texts."""
+    """Returns the SELECT without comments and with one blank between words. It has no quoted texts."""
     return " ".join(_COMMENT.sub(" ", statement).split())
 
 

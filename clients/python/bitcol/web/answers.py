@@ -7,18 +7,18 @@ import threading
 from ..reply import Reply
 from ..shell.fault import Fault
 
-# The longest answer that is taken: a full table's four columns. A cell has at most twelve bytes.
+# The longest answer that is accepted: four columns of a full table. A cell has at most twelve bytes.
 ANSWER_CELLS = 2**26
-# All answers together. The last one is kept whatever its length.
+# The limit for all answers together. The last one is kept whatever its length.
 KEPT_CELLS = 2**26
 KEPT_ANSWERS = 200
 
 
 class Answers:
-    """Answers with rows by number, from 1. Those that nobody looked at for longest go first."""
+    """Answers with rows, numbered from 1. Those that haven't been looked at for longest are dropped first."""
 
     def __init__(self, cells: int = KEPT_CELLS, answers: int = KEPT_ANSWERS) -> None:
-        """Room for so many cells, and so many answers."""
+        """Keeps at most this many cells, and this many answers."""
         self._room, self._most = cells, answers
         # In the order in which they were last looked at.
         self._kept: dict[int, Reply] = {}
@@ -26,7 +26,7 @@ class Answers:
         self._lock = threading.Lock()
 
     def keep(self, reply: Reply) -> int:
-        """Keeps an answer, and gives its number."""
+        """Keeps an answer, and returns its number."""
         with self._lock:
             self._last += 1
             self._kept[self._last] = reply
@@ -35,7 +35,7 @@ class Answers:
             return self._last
 
     def get(self, number: int) -> Reply:
-        """The answer of this number. A Fault where it isn't kept."""
+        """Returns the answer with this number. Raises a Fault if it isn't kept."""
         with self._lock:
             reply = self._kept.pop(number, None)
             if reply is None:
@@ -48,5 +48,5 @@ class Answers:
 
 
 def cells_of(reply: Reply) -> int:
-    """How many cells an answer has."""
+    """Returns the number of cells of an answer."""
     return len(reply) * len(reply.headings)

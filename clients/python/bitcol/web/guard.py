@@ -1,8 +1,8 @@
-"""Which requests are answered: those of the page itself, and of nobody else.
+"""Decides which requests are answered: only those of the page itself.
 
-Other programs and other people's pages can reach the loopback address too. They don't know the word in the address; a
-page elsewhere that a browser was led to by a name of its own is told by the header Host, and a page that makes a
-browser send requests here by Origin and Sec-Fetch-Site.
+Other programs and other people's pages can reach the loopback address too. They don't know the word in the address.
+A request through another host name, which leads a browser here, is recognized by the header Host; one that another page
+makes a browser send, by Origin and Sec-Fetch-Site.
 """
 
 from __future__ import annotations
@@ -15,10 +15,10 @@ from urllib.parse import urlsplit
 
 LOOPBACK = "127.0.0.1"
 HTTP_PORT = 80
-# What a browser says of a request that the page itself makes, or that somebody typed.
+# What a browser says about a request that the page itself makes, or whose address the user typed.
 _OWN_SITES = ("same-origin", "none")
 
-# With each response. The page's own parts are all that the page may load, and nothing keeps its address or its parts.
+# Sent with each response. The page may load only its own parts, and nothing may store its address or its parts.
 HEADERS: Mapping[str, str] = {
     "Content-Security-Policy": (
         "default-src 'none'; script-src 'self'; style-src 'self'; img-src 'self'; connect-src 'self'; "
@@ -35,18 +35,18 @@ HEADERS: Mapping[str, str] = {
 
 @dataclass(frozen=True)
 class Guard:
-    """Knows the word of the address, and the port."""
+    """Checks requests, by the word in the address and the port."""
 
     word: str
     port: int
 
     @property
     def address(self) -> str:
-        """Where the page is."""
+        """The address of the page."""
         return f"http://{self._hosts()[0]}/{self.word}/"
 
     def fault(self, target: str, headers: Message) -> str | None:
-        """Why a request isn't answered, or None where it is. `target` is the path and the query."""
+        """Returns why a request isn't answered, or None if it is. `target` is the path and the query."""
         hosts: list[str] = headers.get_all("Host", [])
         if len(hosts) != 1 or hosts[0].lower() not in self._hosts():
             return "the header Host names another server"
@@ -60,11 +60,11 @@ class Guard:
         return None
 
     def rest(self, target: str) -> tuple[str, str]:
-        """What follows the word in the path of a request without fault, and the query."""
+        """Returns what follows the word in the path of a valid request, and the query."""
         split = urlsplit(target)
         return split.path[len(self.word) + 2 :], split.query
 
     def _hosts(self) -> tuple[str, ...]:
-        """What the header Host may say. A browser leaves the port out where it is that of HTTP."""
+        """Returns the allowed values of the header Host. A browser omits the port if it is that of HTTP."""
         port = "" if self.port == HTTP_PORT else f":{self.port}"
         return f"{LOOPBACK}{port}", f"localhost{port}"

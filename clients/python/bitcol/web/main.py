@@ -1,4 +1,4 @@
-"""The words of the command line, and the statuses of the page's server."""
+"""The command line arguments and the exit statuses of the page's server."""
 
 from __future__ import annotations
 
@@ -23,7 +23,7 @@ GREATEST_PORT = 65_535
 
 
 def main(words: Sequence[str]) -> int:
-    """Serves the page as these words say, until an interrupt, and gives the status."""
+    """Serves the page with these arguments until an interrupt, and returns the exit status."""
     return run_on_store(partial(_run, _parser().parse_intermixed_args(words)))
 
 
@@ -44,7 +44,7 @@ def _parser() -> argparse.ArgumentParser:
 
 
 def _port(word: str) -> int:
-    """The port of a word. ArgumentTypeError where it is none."""
+    """Parses a port. Raises ArgumentTypeError if it isn't one."""
     if not word.isascii() or not word.isdigit() or len(word) > 5 or int(word) > GREATEST_PORT:
         raise argparse.ArgumentTypeError(f"{word!r} is no port: a port is a number up to {GREATEST_PORT}")
     return int(word)
@@ -58,13 +58,13 @@ def _run(options: argparse.Namespace, store: Store, console: Console) -> Status:
         console.fault(f"error: {fault}")
         return Status.FAILED
     finally:
-        # Whoever presses Ctrl-C again waits for no more than the end of the store.
+        # Ctrl-C is ignored from here on: only the end of the store is still waited for.
         signal.signal(signal.SIGINT, signal.SIG_IGN)
         leave(store)
 
 
 def _serve(workspace: Workspace, options: argparse.Namespace, console: Console) -> None:
-    """Serves until an interrupt. A Fault where the port can't be had."""
+    """Serves until an interrupt. Raises a Fault if the port can't be used."""
     try:
         server = PageServer(workspace, options.port)
     except OSError as fault:
@@ -81,7 +81,7 @@ def _serve(workspace: Workspace, options: argparse.Namespace, console: Console) 
 
 
 def _import(workspace: Workspace, word: str, console: Console) -> None:
-    """Makes tables of a file that the command line names. The page tells what is told here."""
+    """Makes tables from a file that the command line names. What is reported here is shown on the page too."""
     path, table = split_word(word)
     with console.progress(path) as progress:
         outcome = workspace.import_file(path, path, table, progress.tell)

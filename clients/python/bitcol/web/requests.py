@@ -1,4 +1,4 @@
-"""The parts of a request that routes look at: words after the `?`, and the body."""
+"""The parts of a request that routes use: the parameters after the `?`, and the body."""
 
 from __future__ import annotations
 
@@ -8,43 +8,43 @@ from urllib.parse import parse_qs
 
 from ..shell.fault import Fault
 
-# Bytes of a body that are moved at a time.
+# The bytes of a body that are read at a time.
 PIECE_BYTES = 2**20
-# The longest number that means something: rows and answers have fewer digits.
+# The most digits of a meaningful number: the numbers of rows and answers have fewer.
 NUMBER_DIGITS = 15
 
 
 class BadRequest(Fault):
-    """A request that the page doesn't send."""
+    """A request that the page never sends."""
 
 
 class CutOff(Exception):
-    """Who sent a request went away in the middle of it."""
+    """The sender of a request closed the connection in the middle of it."""
 
 
 @dataclass(frozen=True)
 class Query:
-    """The words after the `?` of an address."""
+    """The parameters after the `?` of an address."""
 
     words: dict[str, list[str]]
 
     @classmethod
     def of(cls, text: str) -> Query:
-        """The words of a text. BadRequest where it has no such form."""
+        """Parses parameters. Raises BadRequest if the text isn't in this form."""
         try:
             return cls(parse_qs(text, keep_blank_values=True, strict_parsing=bool(text), errors="replace"))
         except ValueError as fault:
             raise BadRequest(f"the words after the ?: {fault}") from None
 
     def text(self, name: str) -> str:
-        """The word of this name. BadRequest where it isn't there once."""
+        """Returns the parameter of this name. Raises BadRequest unless it is given exactly once."""
         found = self.words.get(name, [])
         if len(found) != 1:
             raise BadRequest(f"{name} is to be given once")
         return found[0]
 
     def number(self, name: str, greatest: int | None = None) -> int:
-        """The number of this name. BadRequest where it is none, or a greater one."""
+        """Returns the parameter as a number. Raises BadRequest if it isn't one, or is greater than `greatest`."""
         text = self.text(name)
         if not text.isascii() or not text.isdigit() or len(text) > NUMBER_DIGITS:
             raise BadRequest(f"{name} is to be a number")
@@ -53,7 +53,7 @@ class Query:
         return int(text)
 
     def numbers(self, name: str) -> list[int] | None:
-        """The numbers of this name with commas between them, or None where there are none."""
+        """Returns the parameter as numbers separated by commas, or None if it isn't given."""
         if name not in self.words:
             return None
         texts = self.text(name).split(",")
@@ -62,13 +62,13 @@ class Query:
 
 @dataclass
 class Body:
-    """The bytes that follow the headers of a request: so many, and no more."""
+    """The bytes that follow the headers of a request, of a known number."""
 
     stream: BinaryIO
     left: int
 
     def read(self) -> bytes:
-        """The next bytes, or none at the end. CutOff where they don't come."""
+        """Returns the next bytes, empty at the end. Raises CutOff if they don't arrive."""
         data = self.stream.read(min(self.left, PIECE_BYTES))
         if not data and self.left:
             raise CutOff
@@ -76,14 +76,14 @@ class Body:
         return data
 
     def text(self) -> str:
-        """All of it as text. BadRequest where it isn't UTF-8."""
+        """Returns the whole body as text. Raises BadRequest if it isn't UTF-8."""
         try:
             return b"".join(iter(self.read, b"")).decode()
         except UnicodeDecodeError:
             raise BadRequest("the text of a request is to be UTF-8") from None
 
     def copy_to(self, path: str) -> None:
-        """Makes a file of it. OSError where the host can't keep it."""
+        """Writes the body to a file. Raises OSError if the host can't."""
         with open(path, "wb") as file:
             for piece in iter(self.read, b""):
                 file.write(piece)

@@ -1,4 +1,4 @@
-"""What each address of the page answers, after its word: the page's parts, and what is asked of the workspace."""
+"""What each address of the page, after its word, returns: the page's parts, and results of the workspace."""
 
 from __future__ import annotations
 
@@ -15,11 +15,11 @@ from ..shell.render import Mode, rendered
 from .requests import BadRequest, Body, Query
 from .workspace import FileOutcome, Outcome, TableShape, Workspace
 
-# The longest text of the editor: that of some statements of the greatest length.
+# The longest text of the editor: enough for several statements of the greatest length.
 TEXT_BYTES = 2**20
-# The longest file that becomes a table here: more than the CSV of most tables, and less than most disks have left.
+# The longest file that can be imported here: more than the CSV of most tables, and less than most disks have free.
 FILE_BYTES = 2**32
-# Rows that are answered at once.
+# The most rows that are returned at once.
 WINDOW_ROWS = 2**16
 NAME_LETTERS = 255
 JSON = "application/json"
@@ -37,7 +37,7 @@ _TABLE_FORMS = {"csv": "text/csv; charset=utf-8", "table": "application/octet-st
 
 @dataclass(frozen=True)
 class Response:
-    """A body of this kind: bytes, or pieces that are made while they are sent. One to be saved has a file's name."""
+    """A body of this kind: bytes, or pieces that are made while they are sent. A download has a file name."""
 
     kind: str
     body: bytes = b""
@@ -48,24 +48,24 @@ class Response:
 
 @dataclass(frozen=True)
 class Route:
-    """What answers an address: requests have bodies of at most so many bytes."""
+    """The handler of an address, and the most bytes that the body of a request may have."""
 
     answer: Callable[[Workspace, Query, Body], Response]
     limit: int = 0
 
 
 def as_json(value: Any, status: HTTPStatus = HTTPStatus.OK) -> Response:
-    """A response of JSON."""
+    """Returns a JSON response."""
     return Response(JSON, json.dumps(value).encode(), status=status)
 
 
 def as_error(text: str, status: HTTPStatus) -> Response:
-    """A response that says why there is no other."""
+    """Returns a response that reports an error."""
     return as_json({"error": text}, status)
 
 
 def _page_parts() -> dict[str, Route]:
-    """The files of the page, by their names. The address itself is the page's HTML."""
+    """Returns the routes of the page's files, by their names. The address itself is the page's HTML."""
     parts = {}
     for file in resources.files(__package__).joinpath("page").iterdir():
         kind = _KINDS.get(file.name.rpartition(".")[2])
@@ -80,11 +80,11 @@ def _part(response: Response) -> Route:
 
 
 def _state(workspace: Workspace, query: Query, _: Body) -> Response:
-    """The tables, the messages after the number that the window knows, and the limits of files and of the editor."""
+    """Returns the tables, the messages that the window doesn't know yet, and the limits of files and of the editor."""
     try:
         tables = list(map(_table, workspace.tables()))
     except ProgramEnded:
-        # The messages tell so, and another program has no tables.
+        # The messages say so, and the next program has no tables.
         tables = []
     messages = [
         {"number": message.number, "text": message.text, "isError": message.is_error}
@@ -99,13 +99,13 @@ def _table(shape: TableShape) -> dict[str, Any]:
 
 
 def _layouts(workspace: Workspace, query: Query, _: Body) -> Response:
-    """The layout and the kind of each column of a table."""
+    """Returns the layout and the kind of each column of a table."""
     headers = workspace.headers(query.text("table"))
     return as_json([{"layout": header.layout.name, "kind": header.kind.name} for header in headers])
 
 
 def _run(workspace: Workspace, _: Query, body: Body) -> Response:
-    """What became of each statement of a script, which is the body."""
+    """Executes the script in the body, and returns the outcome of each statement."""
     return as_json(list(map(_outcome, workspace.run(body.text()))))
 
 
@@ -124,13 +124,13 @@ def _outcome(outcome: Outcome) -> dict[str, Any]:
 
 
 def _complete(workspace: Workspace, _: Query, body: Body) -> Response:
-    """What the word at the end of the body may become."""
+    """Returns the completions of the word at the end of the body."""
     word, words = workspace.completions(body.text())
     return as_json({"word": word, "words": words})
 
 
 def _import(workspace: Workspace, query: Query, body: Body) -> Response:
-    """Makes tables of a file, which is the body."""
+    """Makes tables from the file in the body."""
     name = query.text("name").replace("\\", "/").rpartition("/")[2][:NAME_LETTERS] or "file"
     table = query.text("table") if "table" in query.words else None
     with workspace.folder() as folder:
@@ -148,7 +148,7 @@ def _file_outcome(outcome: FileOutcome) -> dict[str, Any]:
 
 
 def _rows(workspace: Workspace, query: Query, _: Body) -> Response:
-    """Some rows of an answer, as the program wrote them, or chosen columns of these."""
+    """Returns some rows of an answer, as the program wrote them, or only the given columns of these."""
     reply = workspace.answers.get(query.number("answer"))
     lines = reply.lines_at(query.number("first"), query.number("count", WINDOW_ROWS))
     places = query.numbers("columns")
@@ -161,21 +161,21 @@ def _rows(workspace: Workspace, query: Query, _: Body) -> Response:
 
 
 def _answer_file(workspace: Workspace, query: Query, _: Body) -> Response:
-    """An answer as CSV, to be saved."""
+    """Returns an answer as a CSV download."""
     number = query.number("answer")
     pieces = (piece.encode() for piece in rendered(workspace.answers.get(number), Mode.CSV))
     return Response(_TABLE_FORMS["csv"], pieces=pieces, file_name=f"answer-{number}.csv")
 
 
 def _table_file(workspace: Workspace, query: Query, _: Body) -> Response:
-    """A table as a table file or as CSV, to be saved."""
+    """Returns a table as a download: a table file or CSV."""
     table, form = query.text("table"), query.text("form")
     if form not in _TABLE_FORMS:
         raise BadRequest(f"form is one of {', '.join(_TABLE_FORMS)}")
     with workspace.folder() as folder:
         path = folder / f"file.{form}"
         workspace.export(table, path)
-        # The file's name is gone with its folder, and its bytes are there until it is closed.
+        # The file's name is removed with its folder, but its bytes exist until it is closed.
         pieces = _pieces_of(path.open("rb"))
     return Response(_TABLE_FORMS[form], pieces=pieces, file_name=f"{table.upper()}.{form}")
 

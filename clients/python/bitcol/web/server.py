@@ -1,4 +1,4 @@
-"""The server of the page: it takes requests on the loopback address, and answers those that the guard lets through."""
+"""The page's server: accepts requests on the loopback address, and answers those that the guard lets through."""
 
 from __future__ import annotations
 
@@ -17,29 +17,29 @@ from .requests import BadRequest, Body, CutOff, Query
 from .routes import GETS, POSTS, Response, Route, as_error
 from .workspace import TOO_LONG, Workspace
 
-# How long a request, and each part of it, may be on its way.
+# The seconds within which a request, and each part of it, has to arrive.
 SECONDS = 60
 WORD_BYTES = 24
 
 
 class PageServer(ThreadingHTTPServer):
-    """Serves a workspace. Each connection has a thread, and no thread keeps the process from its end."""
+    """Serves a workspace. Each connection has a thread, and no thread keeps the process from exiting."""
 
     daemon_threads = True
 
     def __init__(self, workspace: Workspace, port: int = 0) -> None:
-        """Takes this port, or a free one for 0. OSError where it can't be had."""
+        """Uses this port, or a free one if it is 0. Raises OSError if the port can't be used."""
         self.workspace = workspace
         super().__init__((LOOPBACK, port), Handler)
         self.guard = Guard(secrets.token_urlsafe(WORD_BYTES), self.server_address[1])
 
     def server_bind(self) -> None:
-        """Takes the port, and asks nobody for the name of the address."""
+        """Binds the port, without looking up the host name of the address."""
         TCPServer.server_bind(self)
         self.server_name, self.server_port = LOOPBACK, self.server_address[1]
 
     def handle_error(self, request: Any, client_address: Any) -> None:
-        """Tells of an error that a request made, unless it is that its connection is gone."""
+        """Reports an error of a request, unless its connection was lost."""
         if not isinstance(sys.exc_info()[1], (OSError, CutOff)):
             traceback.print_exc()
 
@@ -60,8 +60,8 @@ class Handler(BaseHTTPRequestHandler):
         self._answer_by(POSTS)
 
     def send_error(self, code: int, message: str | None = None, explain: str | None = None) -> None:
-        """Answers a request that is none, or has a method that no address has. The latter learns so where it would be
-        answered with another method, and else why it wouldn't."""
+        """Answers a malformed request, or one with a method that no address supports. The latter is told so if it would
+        be answered with another method, and else why it wouldn't."""
         status = HTTPStatus(code)
         fault = self.server.guard.fault(self.path, self.headers) if status is HTTPStatus.NOT_IMPLEMENTED else None
         if fault is not None:
@@ -70,11 +70,11 @@ class Handler(BaseHTTPRequestHandler):
         self._send(as_error(message or status.phrase, status))
 
     def version_string(self) -> str:
-        """What the header Server says."""
+        """Returns the value of the header Server."""
         return "bitcol"
 
     def log_message(self, *_: Any) -> None:
-        """Writes nothing: the address has the word in it."""
+        """Writes nothing: the address contains the word."""
 
     def _answer_by(self, routes: dict[str, Route]) -> None:
         fault = self.server.guard.fault(self.path, self.headers)
@@ -89,12 +89,12 @@ class Handler(BaseHTTPRequestHandler):
         body = self._body(route.limit)
         if body is not None:
             response = self._response(route, words, body)
-            # What a refused request has left would be taken for the next one.
+            # What is left of a refused request would be taken for the next request.
             self.close_connection = self.close_connection or body.left > 0
             self._send(response)
 
     def _body(self, limit: int) -> Body | None:
-        """The body of a request, or None where it was refused for its form or its length."""
+        """Returns the body of a request, or None if the request was refused for its form or its length."""
         lengths = self.headers.get_all("Content-Length", ["0"])
         is_number = len(lengths) == 1 and lengths[0].isascii() and lengths[0].isdigit()
         if "Transfer-Encoding" in self.headers or not is_number:
@@ -106,7 +106,7 @@ class Handler(BaseHTTPRequestHandler):
         return Body(self.rfile, int(lengths[0]))
 
     def _response(self, route: Route, words: str, body: Body) -> Response:
-        """What a route answers, or why it doesn't."""
+        """Returns the response of a route, or an error."""
         try:
             return route.answer(self.server.workspace, Query.of(words), body)
         except BadRequest as fault:
@@ -122,12 +122,13 @@ class Handler(BaseHTTPRequestHandler):
         except (ConnectionError, TimeoutError, CutOff):
             raise
         except Exception as fault:
-            # No fault of the server's own is worth the tables of those who use it.
+            # An internal error of the server must not cost its users their tables.
             traceback.print_exc()
             return as_error(f"a fault of the server: {type(fault).__name__}: {fault}", HTTPStatus.INTERNAL_SERVER_ERROR)
 
     def _send(self, response: Response) -> None:
-        """Writes a response. A body in pieces is cut off where one can't be made, so that nobody takes it for whole."""
+        """Writes a response. If a piece of a body can't be made, the body is cut off, so that it isn't taken for
+        complete."""
         self.send_response(response.status)
         for name, value in HEADERS.items():
             self.send_header(name, value)
@@ -146,7 +147,7 @@ class Handler(BaseHTTPRequestHandler):
 
 
 def _chunks(pieces: Iterable[bytes]) -> Iterator[bytes]:
-    """The pieces as HTTP sends a body whose length isn't known before."""
+    """Yields the pieces in chunked encoding, in which HTTP sends a body of unknown length."""
     for piece in pieces:
         if piece:
             yield b"%x\r\n%b\r\n" % (len(piece), piece)

@@ -1,7 +1,7 @@
 """What all windows of a page share: a store with its tables, and the answers that are kept.
 
-What is asked of the store is carried out in turns, so neither the statements of two windows nor a statement and a file
-that is being imported come between each other.
+Requests to the store take turns, so the scripts of two windows, or a script and the import of a file, are never
+interleaved.
 """
 
 from __future__ import annotations
@@ -34,14 +34,14 @@ from ..table_file import HEADERS_BYTES, ColumnHeader, headers_of
 from .answers import ANSWER_CELLS, Answers
 
 TOO_LONG = "the answer is too long for the memory of this process"
-# What begins a statement that changes no table.
+# The first words of statements that change no table.
 _READING = ("SELECT", "STATS", "TABLES", "SAVE")
 
 
 @dataclass(frozen=True)
 class Outcome:
-    """What became of a statement: the reply, with the number under which it is kept if it has rows, the seconds that it
-    took, and of a SELECT or a STATS the units that the condition reads; or an error."""
+    """The outcome of a statement: the reply, with the number under which it is kept if it has rows, the seconds that it
+    took, and for a SELECT or a STATS the units that the condition reads; or an error."""
 
     statement: Statement
     reply: Reply | None = None
@@ -53,7 +53,7 @@ class Outcome:
 
 @dataclass(frozen=True)
 class TableShape:
-    """A table as it stands: its name, its columns with their types, and its number of rows."""
+    """A table as it is: its name, its columns with their types, and its number of rows."""
 
     name: str
     columns: dict[str, ColumnType]
@@ -62,7 +62,7 @@ class TableShape:
 
 @dataclass(frozen=True)
 class Message:
-    """What all windows are to know, by its number from 1."""
+    """A message to all windows, numbered from 1."""
 
     number: int
     text: str
@@ -71,14 +71,14 @@ class Message:
 
 @dataclass
 class FileOutcome:
-    """What became of a file: the tables that were made of it, and why others weren't."""
+    """The outcome of an import: the tables that were made from a file, and why others weren't."""
 
     imported: list[Imported] = field(default_factory=list)
     errors: list[str] = field(default_factory=list)
 
     @contextlib.contextmanager
     def taking_errors(self) -> Iterator[None]:
-        """Puts an error that ends the context among the others. ProgramEnded is none of the file."""
+        """Adds an error that ends the context to the errors, except ProgramEnded, which isn't about the file."""
         try:
             yield
         except ProgramEnded:
@@ -100,8 +100,9 @@ class Workspace:
         self._messages: list[Message] = []
 
     def run(self, script: str) -> list[Outcome]:
-        """Carries out the statements of a script, one after the other, and gives what became of each. Those after a
-        refused one are carried out too, and none after the end of the program. OperationalError where there is none."""
+        """Executes the statements of a script, one after the other, and returns the outcome of each. Those after a
+        refused one are executed too, but none after the end of the program. Raises OperationalError if there is no
+        program."""
         outcomes: list[Outcome] = []
         with contextlib.suppress(ProgramEnded), self._taking_turns() as store:
             for statement in statements_in(script):
@@ -120,8 +121,9 @@ class Workspace:
     def import_file(
         self, path: str, label: str, table: str | None = None, tell: Tell = lambda _: None
     ) -> FileOutcome:
-        """Makes tables of a file that is called so: a CSV file, a table file, or an SQLite file. What can't be made is
-        told, and `tell` is told how far it is. ProgramEnded, and OperationalError as of run."""
+        """Makes tables from a file that messages call `label`: a CSV file, a table file, or an SQLite file. What can't
+        be made is reported, and `tell` is called with the progress. Raises ProgramEnded, and OperationalError as run
+        does."""
         outcome = FileOutcome()
         with self._taking_turns() as store, outcome.taking_errors():
             self._headers.clear()
@@ -133,15 +135,15 @@ class Workspace:
         return outcome
 
     def tables(self) -> list[TableShape]:
-        """The tables, in the order in which they were made. ProgramEnded, and OperationalError as of run."""
+        """Returns the tables in the order of creation. Raises ProgramEnded, and OperationalError as run does."""
         with self._taking_turns() as store:
             shapes = store.call(_shapes)
         self._catalog = Catalog({shape.name: list(shape.columns) for shape in shapes})
         return shapes
 
     def headers(self, table: str) -> list[ColumnHeader]:
-        """The names, layouts and kinds of a table's columns. No statement tells the latter two: a table file does, so
-        one is written. A Fault where that is refused."""
+        """Returns the names, layouts and kinds of a table's columns. No statement returns the latter two, but a table
+        file has them, so one is written. Raises a Fault if that is refused."""
         name = checked_name(table)
         with self._taking_turns() as store:
             if name not in self._headers:
@@ -155,33 +157,33 @@ class Workspace:
             return self._headers[name]
 
     def export(self, table: str, path: Path) -> int:
-        """Writes a table to a file, by the suffix of its name, and gives the number of rows. See export_table."""
+        """Writes a table to a file, in the format of its suffix, and returns the number of rows. See export_table."""
         name = checked_name(table)
         with self._taking_turns() as store:
             return export_table(store, name, os.fspath(path))
 
     def completions(self, before: str) -> tuple[str, list[str]]:
-        """The word at the end of a script's start, and what it may become, by the tables that were there when they were
-        last listed. It waits for no statement."""
+        """Returns the word at the end of a script's start, and its completions, by the tables as they were last listed.
+        It doesn't wait for statements."""
         start = max(before.rfind(delimiter) for delimiter in DELIMITERS) + 1
         buffer = StatementBuffer()
         for line in before[:start].split("\n"):
             buffer.add(line)
-        # The buffer ends each line, and the last one goes on.
+        # The buffer ends each line with a line feed, but the last one isn't complete.
         statement = buffer.text.removesuffix("\n")
         return before[start:], statement_completions(statement, before[start:], self._catalog)
 
     def tell(self, text: str, is_error: bool = False) -> None:
-        """Tells all windows something."""
+        """Sends a message to all windows."""
         self._messages.append(Message(len(self._messages) + 1, text, is_error))
 
     def messages(self, after: int) -> list[Message]:
-        """What is to be told to a window that knows the messages up to this number."""
+        """Returns the messages for a window that knows those up to this number."""
         return self._messages[after:]
 
     @contextlib.contextmanager
     def folder(self) -> Iterator[Path]:
-        """A folder for files, which is gone when the context ends. OperationalError where there can be none."""
+        """A folder for files, which is removed when the context ends. Raises OperationalError if it can't be made."""
         try:
             room = tempfile.TemporaryDirectory(prefix="bitcol-", ignore_cleanup_errors=True)
         except OSError as fault:
@@ -190,7 +192,7 @@ class Workspace:
             yield Path(name).resolve()
 
     def _carried_out(self, store: Store, statement: Statement) -> Outcome:
-        """What becomes of a statement that isn't refused."""
+        """Executes a statement, and returns the outcome unless it is refused."""
 
         def carry_out(session: Session) -> tuple[Reply, float, int | None]:
             check_length(session, statement.text, min(ANSWER_CELLS, cells_that_fit()))
@@ -204,8 +206,8 @@ class Workspace:
 
     @contextlib.contextmanager
     def _taking_turns(self) -> Iterator[Store]:
-        """The store, while nobody else uses it. Where its program ends, ProgramEnded is raised, and the next turn
-        begins with another program. OperationalError where none can be started."""
+        """Yields the store, while nobody else uses it. If its program ends, ProgramEnded is raised, and the next turn
+        begins with another program. Raises OperationalError if none can be started."""
         with self._turn:
             if not self._has_program:
                 self._start()
@@ -219,7 +221,7 @@ class Workspace:
                 raise
 
     def _start(self) -> None:
-        """Starts another program. OperationalError where it can't be started."""
+        """Starts another program. Raises OperationalError if it can't be started."""
         try:
             self._store.restart()
         except OperationalError as fault:
@@ -230,7 +232,7 @@ class Workspace:
 
 
 def statements_in(script: str) -> list[Statement]:
-    """The statements of a script, the last of which needs no `;`."""
+    """Returns the statements of a script, the last of which needs no `;`."""
     buffer = StatementBuffer()
     statements = [statement for line in script.split("\n") for statement in buffer.add(line)]
     last = buffer.finish()

@@ -1,19 +1,19 @@
 // Charts on a canvas: scales, axes, and bars, lines and points.
 
-/** Round numbers from the least to the greatest, about so many. */
+/** About this many round numbers from the least to the greatest. */
 export function ticks(least, greatest, count) {
   const rough = (greatest - least || 1) / Math.max(count, 1);
   const power = 10 ** Math.floor(Math.log10(rough));
   const step = [1, 2, 5, 10].map((factor) => factor * power).find((candidate) => candidate >= rough);
-  // Values are integers, so no line stands between two of them.
+  // Values are integers, so there is no line between two of them.
   const whole = Math.max(step, 1);
   const found = [];
-  // What is added makes 0 of -0.
+  // The addition turns -0 into 0.
   for (let tick = Math.ceil(least / whole) * whole + 0; tick <= greatest; tick += whole) found.push(tick);
   return found;
 }
 
-/** The least and the greatest of all numbers in arrays, or null where there is none. NaN is none. */
+/** The least and the greatest of all numbers in arrays, or null if there is none. NaN doesn't count. */
 export function range(arrays) {
   let least = Infinity;
   let greatest = -Infinity;
@@ -26,13 +26,13 @@ export function range(arrays) {
   return least <= greatest ? { least, greatest } : null;
 }
 
-/** A number of the range as a place between two others. Where the range is one number, it is in their middle. */
+/** Maps a number of the range to a position between two others, or to their middle if the range is one number. */
 export function scale({ least, greatest }, from, to) {
   if (least === greatest) return () => (from + to) / 2;
   return (number) => from + ((number - least) / (greatest - least)) * (to - from);
 }
 
-/** The order of rows by their number in a column; of equal ones the earlier row is first, and NaN is left out. */
+/** The order of rows by their number in a column. Of equal ones the earlier row is first, and NaN is left out. */
 export function orderBy(column) {
   const order = [];
   column.forEach((number, row) => { if (!Number.isNaN(number)) order.push(row); });
@@ -55,7 +55,7 @@ export function draw(canvas, { form, across, acrossName, series, colours }) {
   pen.font = "12px system-ui, sans-serif";
   const found = range(series.map(({ numbers }) => numbers));
   if (!found) return false;
-  // Bars begin at 0.
+  // Bars start at 0.
   const heights = form === "bars" ? { least: Math.min(found.least, 0), greatest: Math.max(found.greatest, 0) } : found;
   const area = { left: MARGIN.left, right: width - MARGIN.right, top: MARGIN.top, bottom: height - MARGIN.bottom };
   const up = scale(heights, area.bottom, area.top);
@@ -118,7 +118,7 @@ function drawBars(pen, area, across, series, up, colours) {
     numbers.forEach((number, row) => {
       if (Number.isNaN(number)) return;
       const top = Math.min(up(number), up(0));
-      // A bar that isn't 0 is seen.
+      // A bar that isn't 0 is always visible.
       const tall = number === 0 ? 0 : Math.max(Math.abs(up(number) - up(0)), 1);
       pen.fillRect(area.left + row * room + room * 0.1 + place * wide, top, wide, tall);
     });
@@ -133,8 +133,8 @@ function drawBars(pen, area, across, series, up, colours) {
   }
 }
 
-/** A line from value to value, which a NULL breaks. Of values above one another in one pixel the least and the greatest
- * are enough: it looks the same. */
+/** A line from value to value, which a NULL interrupts. Of the values in one pixel column the least and the greatest
+ * are enough: the line looks the same. */
 function drawLine(pen, numbers, placeOf, up, order) {
   const rows = order ? order.length : numbers.length;
   pen.lineWidth = 1.5;
@@ -164,7 +164,7 @@ function drawLine(pen, numbers, placeOf, up, order) {
     flush();
     if (isBroken) {
       pen.moveTo(x, y);
-      // A value between two NULLs is seen too.
+      // A value between two NULLs is visible too.
       pen.rect(x - 0.5, y - 0.5, 1, 1);
       pen.moveTo(x, y);
     }

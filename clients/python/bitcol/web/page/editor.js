@@ -5,10 +5,10 @@ import { postJson } from "./server.js";
 
 const QUIET_MILLISECONDS = 150;
 const MOST_SHOWN = 500;
-// What the window keeps of the text when it is loaded again.
+// Where the window keeps the text when the page is reloaded.
 const KEPT = "script";
 
-/** The text and the place after it, where this word before the place is exchanged for another. */
+/** The text and the caret position after replacing this word before the caret by another. */
 export function exchanged(text, place, word, other) {
   const start = place - word.length;
   return { text: text.slice(0, start) + other + text.slice(place), place: start + other.length };
@@ -26,7 +26,7 @@ export class Editor {
     this.area.addEventListener("input", (event) => this.#typed(event));
     this.area.addEventListener("keydown", (event) => this.#pressed(event));
     this.area.addEventListener("blur", () => this.#close());
-    // A click is to take a word before the editor loses the focus.
+    // A click has to take a word before the editor loses the focus.
     this.list.addEventListener("mousedown", (event) => {
       event.preventDefault();
       const place = [...this.list.children].indexOf(event.target.closest("li"));
@@ -35,7 +35,7 @@ export class Editor {
     find("run").addEventListener("click", () => this.#run());
   }
 
-  /** Puts a word where the caret is. */
+  /** Inserts a word at the caret. */
   insert(word) {
     this.area.focus();
     this.#write(this.area.selectionStart, this.area.selectionEnd, word);
@@ -90,7 +90,7 @@ export class Editor {
     }
   }
 
-  /** Asks what the word before the caret may become. Where that was asked for, a single word is taken at once. */
+  /** Requests the completions of the word before the caret. If the user asked for them, a single one is taken. */
   async #complete(isAsked) {
     const place = this.area.selectionStart;
     const before = this.area.value.slice(0, place);
@@ -99,10 +99,10 @@ export class Editor {
     try {
       found = await postJson("complete", {}, before);
     } catch {
-      // Without completions a word is typed to its end.
+      // Without completions the user types the whole word.
       return;
     }
-    // What was done meanwhile may have made the question an old one.
+    // The question may be out of date by now.
     if (this.asked !== before || this.area.selectionStart !== place) return;
     const words = found.words.filter((word) => word !== found.word);
     if (!words.length || document.activeElement !== this.area) return;
@@ -141,7 +141,7 @@ export class Editor {
     this.area.removeAttribute("aria-activedescendant");
   }
 
-  /** Puts a text in place of a part, so that it can be undone where the browser knows how. */
+  /** Replaces a part by a text, in a way that can be undone if the browser supports that. */
   #write(start, end, text) {
     this.area.setSelectionRange(start, end);
     if (!document.execCommand?.("insertText", false, text)) {

@@ -1,4 +1,4 @@
-// Elements of the page: found, and made.
+// Elements of the page: finding and creating them.
 
 /** The element with this id. */
 export function find(id) {

@@ -3,8 +3,8 @@
 import { counted, find } from "./elements.js";
 import { postJson } from "./server.js";
 
-/** Takes files. `limit` gives the bytes that a file may have, `tell` tells what became of it, `attempt` does something
- * that takes its time, and `done` comes after the last file. */
+/** Accepts files. `limit` returns the bytes that a file may have, `tell` reports the outcome, `attempt` performs an
+ * action that takes some time, and `done` is called after the last file. */
 export class Files {
   constructor(limit, tell, attempt, done) {
     Object.assign(this, { limit, tell, attempt, done });
@@ -16,7 +16,7 @@ export class Files {
     find("import").addEventListener("submit", (event) => event.preventDefault());
   }
 
-  /** Makes tables of files, one after the other, the first under this name if there is one. */
+  /** Makes tables from files, one after the other, the first under this name if one is given. */
   async take(files, table) {
     for (const file of files) {
       await this.attempt(() => this.#takeOne(file, table));
@@ -32,7 +32,7 @@ export class Files {
       return;
     }
     try {
-      // A folder, and what is gone, can't be read.
+      // A folder, or a file that is gone, can't be read.
       await file.slice(0, 1).arrayBuffer();
     } catch {
       this.tell(`${file.name}: this is no file that can be read`, true);

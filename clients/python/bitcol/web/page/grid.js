@@ -1,25 +1,25 @@
-// A grid that shows any part of an answer, however long: it holds the rows that are seen, and no others.
+// A grid that shows any part of an answer, however long: it holds only the rows that are visible.
 
 import { find, make } from "./elements.js";
 import { Rows } from "./rows.js";
 
-// Browsers have no elements of any height. Above this one a step of the scroll bar is more than a row.
+// Browsers limit the height of elements. Above this height a step of the scroll bar is more than a row.
 const MOST_PIXELS = 5_000_000;
 const WHEEL_LINE = 3;
 
-/** The first row that is seen where the scroll bar stands so far down, of so many rows of which so many are seen. */
+/** The first visible row for a position of the scroll bar, given the number of rows and of visible rows. */
 export function rowAt(top, greatestTop, rows, seen) {
   const last = Math.max(rows - seen, 0);
   return greatestTop > 0 ? Math.round(Math.min(top / greatestTop, 1) * last) : 0;
 }
 
-/** Where the scroll bar stands if this row is the first that is seen. */
+/** The position of the scroll bar if this row is the first visible one. */
 export function topOf(row, greatestTop, rows, seen) {
   const last = Math.max(rows - seen, 0);
   return last > 0 ? (Math.min(row, last) / last) * greatestTop : 0;
 }
 
-/** How many characters a column is wide: those of its heading, and of any integer. */
+/** The width of a column in characters: that of its heading, and of any integer. */
 export function widthOf(heading, isText) {
   return Math.min(Math.max(heading.length, isText ? 24 : 11), 40) + 2;
 }
@@ -28,7 +28,7 @@ export function widthOf(heading, isText) {
 export class Grid {
   constructor() {
     this.box = find("grid");
-    // The first row that is seen, and the part of a row by which the wheel was turned beyond it.
+    // The first visible row, and the fraction of a row by which the wheel was turned beyond it.
     this.first = 0;
     this.turned = 0;
     this.current = { row: 0, column: 0 };
@@ -45,7 +45,7 @@ export class Grid {
     this.headings = outcome.headings;
     this.rows = new Rows(outcome.answer, outcome.rows, () => this.#draw());
     this.current = { row: 0, column: 0 };
-    // A list of tables has their names first.
+    // In a list of tables the first column has their names.
     const isText = (place) => place === 0 && this.headings[0] === "TABLE";
     const widths = this.headings.map((heading, place) => `${widthOf(heading, isText(place))}ch`);
     const count = `${Math.max(String(outcome.rows).length, 3) + 2}ch`;
@@ -75,7 +75,7 @@ export class Grid {
     return this.head.offsetHeight || 24;
   }
 
-  /** How many rows are seen as a whole. */
+  /** The number of rows that are completely visible. */
   get #seen() {
     return Math.max(Math.floor((this.box.clientHeight - this.#rowHeight) / this.#rowHeight), 1);
   }
@@ -84,7 +84,7 @@ export class Grid {
     return Math.max(this.space.offsetHeight - this.box.clientHeight, 0);
   }
 
-  /** Shows the rows from this one on, and puts the scroll bar there. */
+  /** Shows the rows from this one on, and moves the scroll bar there. */
   #place(first) {
     const height = Math.min((this.rows.count + 1) * this.#rowHeight, MOST_PIXELS);
     this.space.style.height = `${Math.max(height, this.#rowHeight)}px`;
@@ -96,7 +96,7 @@ export class Grid {
   }
 
   #scrolled() {
-    // What this grid did itself, or a move to the side.
+    // Caused by this grid itself, or a horizontal move.
     if (!this.rows || Math.abs(this.box.scrollTop - this.placedTop) <= 1) return;
     this.placedTop = this.box.scrollTop;
     this.first = rowAt(this.box.scrollTop, this.#greatestTop, this.rows.count, this.#seen);
@@ -107,7 +107,7 @@ export class Grid {
     if (!this.rows || event.ctrlKey || event.shiftKey || Math.abs(event.deltaX) > Math.abs(event.deltaY)) return;
     const isAtEnd = event.deltaY < 0 ? this.first === 0 : this.first >= this.rows.count - this.#seen;
     if (isAtEnd) {
-      // The page scrolls on.
+      // The page scrolls instead.
       this.turned = 0;
       return;
     }
@@ -158,7 +158,7 @@ export class Grid {
     this.#reveal(find("current-cell"));
   }
 
-  /** Scrolls to the side as far as it takes to see a cell, which the numbers of the rows cover otherwise. */
+  /** Scrolls horizontally as far as needed to show a cell, which the row numbers may cover otherwise. */
   #reveal(cell) {
     if (!cell) return;
     const least = cell.offsetLeft + cell.offsetWidth - this.box.clientWidth;
@@ -166,7 +166,7 @@ export class Grid {
     this.box.scrollLeft = Math.min(Math.max(this.box.scrollLeft, least), greatest);
   }
 
-  /** Draws the rows that are seen, and asks for those that aren't here. */
+  /** Draws the visible rows, and requests those that aren't loaded yet. */
   #draw() {
     const last = Math.min(this.first + this.#seen + 1, this.rows.count);
     this.rows.want(this.first, last);

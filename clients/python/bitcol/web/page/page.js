@@ -22,7 +22,7 @@ let known = 0;
 let shown = null;
 let awaited = 0;
 
-/** Does something, and tells why it can't be done where it can't. While it takes long, the page says so. */
+/** Performs an action, and reports the reason if it fails. If it takes long, the page says so. */
 async function attempt(action) {
   awaited += 1;
   const timer = setTimeout(() => { find("status").textContent = "waiting for the store .."; }, QUIET_MILLISECONDS);
@@ -37,7 +37,7 @@ async function attempt(action) {
   }
 }
 
-/** Carries out a script, and shows the last answer with rows. */
+/** Executes a script, and shows the last answer with rows. */
 async function run(script) {
   if (editor.isBusy) return;
   const bytes = new Blob([script]).size;
@@ -57,7 +57,7 @@ async function run(script) {
   await refresh();
 }
 
-/** Shows an answer with rows, and goes there if that is asked for. */
+/** Shows an answer with rows, and moves there if requested. */
 function show(outcome, goesThere = false) {
   shown = outcome;
   find("answer").hidden = false;
@@ -70,7 +70,7 @@ function show(outcome, goesThere = false) {
   if (goesThere) find("grid").focus();
 }
 
-/** Lists the tables as they are now, and what all windows are to know. Another window may have changed them. */
+/** Lists the tables as they are now, and the messages to all windows. Another window may have changed the tables. */
 async function refresh() {
   await attempt(async () => {
     const state = await getJson("state", { after: known });

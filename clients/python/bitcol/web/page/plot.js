@@ -23,14 +23,14 @@ export class Plot {
     matchMedia("(prefers-color-scheme: dark)").addEventListener("change", () => this.#redraw());
   }
 
-  /** Takes another answer. It is drawn where the plot is open. */
+  /** Takes another answer. It is drawn if the plot is open. */
   show(outcome) {
     const before = this.outcome;
     this.reading?.abort();
     this.outcome = outcome;
     this.drawn = null;
     const { headings, rows } = outcome;
-    // An answer like the last one is drawn as that one was.
+    // An answer like the last one is drawn with the same settings.
     if (before && rows > BARS === before.rows > BARS && String(headings) === String(before.headings)) {
       this.#update();
       return;
@@ -56,7 +56,7 @@ export class Plot {
     this.#update();
   }
 
-  /** Reads the columns that are chosen, and draws them. */
+  /** Reads the chosen columns, and draws them. */
   async #update() {
     this.reading?.abort();
     if (this.form.hidden || !this.outcome) return;
@@ -101,7 +101,7 @@ export class Plot {
     this.caption.textContent = text;
   }
 
-  /** What is drawn, in words: the names with their colours, and the rows that aren't drawn. */
+  /** The caption: the names with their colours, and the rows that aren't drawn. */
   *#caption(rows, chosen) {
     if (!this.drawn) {
       yield "There is no value but NULL.";

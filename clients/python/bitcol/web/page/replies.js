@@ -11,14 +11,14 @@ export class Replies {
     this.show = show;
   }
 
-  /** Adds what became of the statements of a run. */
+  /** Adds the outcomes of the statements of a run. */
   addOutcomes(outcomes) {
     this.#add(outcomes.map((outcome) => this.#outcome(outcome)));
   }
 
-  /** Adds a line that belongs to no statement. */
+  /** Adds a line that doesn't belong to a statement. */
   addMessage(text, isError = false) {
-    // What doesn't change isn't said again.
+    // A message equal to the newest entry isn't added again.
     if (this.list.firstChild?.textContent === text) return;
     this.#add([make("li", {}, make("p", { className: isError ? "error" : "said" }, text))]);
   }

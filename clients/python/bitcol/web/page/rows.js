@@ -1,4 +1,4 @@
-// The rows of an answer, which the server keeps: some at a time, when they are looked at.
+// The rows of an answer that the server keeps, loaded some at a time, when they are shown.
 
 import { getText } from "./server.js";
 
@@ -6,12 +6,12 @@ const PAGE_ROWS = 256;
 const MOST_PAGES = 64;
 const READ_ROWS = 65_536;
 
-/** The cells of lines, as the program wrote them: no number is made of them, so none can lose a digit. */
+/** The cells of lines, as the program wrote them: they aren't converted to numbers, so none can lose a digit. */
 export function cellsOf(lines) {
   return lines.split("\n").slice(0, -1).map((line) => line.split(","));
 }
 
-/** The rows of the answer of this number. `changed` is called when rows came that were asked for. */
+/** The rows of the answer with this number. `changed` is called when requested rows have arrived. */
 export class Rows {
   constructor(answer, count, changed) {
     Object.assign(this, { answer, count, changed });
@@ -21,12 +21,12 @@ export class Rows {
     this.missing = new Set();
   }
 
-  /** The cells of a row, or undefined while they aren't here. */
+  /** The cells of a row, or undefined while they aren't loaded. */
   row(place) {
     return this.pages.get(Math.floor(place / PAGE_ROWS))?.[place % PAGE_ROWS];
   }
 
-  /** Sees to it that these rows come, and gives up waiting for others. */
+  /** Requests these rows, and stops waiting for others. */
   want(first, last) {
     const from = Math.floor(first / PAGE_ROWS);
     const to = Math.floor(Math.max(last - 1, first) / PAGE_ROWS);
@@ -40,20 +40,20 @@ export class Rows {
     for (let page = from; page <= to; page++) this.#wantPage(page);
   }
 
-  /** Gives up waiting. */
+  /** Stops waiting. */
   close() {
     for (const controller of this.awaited.values()) controller.abort();
   }
 
   async #wantPage(page) {
     if (this.pages.has(page)) {
-      // The pages that were looked at last are kept.
+      // The pages that were used last are kept.
       const cells = this.pages.get(page);
       this.pages.delete(page);
       this.pages.set(page, cells);
       return;
     }
-    // What couldn't be had once isn't asked for again and again.
+    // What couldn't be loaded once isn't requested again and again.
     if (this.awaited.has(page) || this.missing.has(page)) return;
     const controller = new AbortController();
     this.awaited.set(page, controller);
@@ -74,7 +74,7 @@ export class Rows {
 }
 
 /** The numbers in these columns of an answer's first rows, NaN for NULL: an array for each column. `tell` is called
- * with the number of rows that came, and a signal ends it. */
+ * with the number of rows that have arrived, and a signal ends it. */
 export async function readColumns(answer, columns, rows, tell, signal) {
   const found = columns.map(() => new Float64Array(rows));
   for (let first = 0; first < rows; first += READ_ROWS) {

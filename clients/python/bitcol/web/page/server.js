@@ -1,9 +1,9 @@
-// What the page asks its server. Addresses are relative, so each has the random word of the page's own.
+// The page's requests to its server. Addresses are relative, so each contains the random word of the page's address.
 
-/** Why the server didn't do what was asked, as it says itself. */
+/** Why the server refused a request, in its own words. */
 export class Refusal extends Error {}
 
-/** An address with words after the `?`. Words that are undefined are left out. */
+/** An address with parameters after the `?`. Undefined ones are left out. */
 export function address(name, words = {}) {
   const given = Object.entries(words).filter(([, word]) => word !== undefined);
   return given.length ? `${name}?${new URLSearchParams(given)}` : name;
@@ -23,7 +23,7 @@ async function answered(target, options) {
     try {
       reason = JSON.parse(text).error;
     } catch {
-      // A text that is no JSON is shown as it is.
+      // A text that isn't JSON is shown as it is.
     }
     throw new Refusal(reason || response.statusText);
   }
@@ -40,12 +40,12 @@ export async function getText(name, words, signal) {
   return (await answered(address(name, words), { signal })).text();
 }
 
-/** The JSON that is answered to a body: a text, or a file. */
+/** The JSON answer to a request with a body: a text, or a file. */
 export async function postJson(name, words, body) {
   return (await answered(address(name, words), { method: "POST", body })).json();
 }
 
-/** Saves what is at an address as a file, under the name that the server gives it. */
+/** Saves the content of an address as a file, under the name that the server gives it. */
 export async function save(name, words) {
   const response = await answered(address(name, words));
   const named = /filename="([^"]*)"/.exec(response.headers.get("Content-Disposition") ?? "");
@@ -53,6 +53,6 @@ export async function save(name, words) {
   link.href = URL.createObjectURL(await response.blob());
   link.download = named ? named[1] : name;
   link.click();
-  // The browser reads the file in its own time.
+  // The browser reads the file at a later time.
   setTimeout(() => URL.revokeObjectURL(link.href), 60_000);
 }

@@ -1,10 +1,10 @@
-// The list of tables: their rows and columns, and, where one is opened, the layouts and kinds of these.
+// The list of tables: their rows and columns, and, when one is opened, its columns' layouts and kinds.
 
 import { counted, find, make } from "./elements.js";
 import { getJson, save } from "./server.js";
 
-/** The list of tables. `insert` puts a word into the editor, `run` carries out a statement, and `attempt` does
- * something and tells why it can't be done where it can't. */
+/** The list of tables. `insert` puts a word into the editor, `run` executes a statement, and `attempt` performs an
+ * action and reports the reason if it fails. */
 export class Tables {
   constructor(insert, run, attempt) {
     Object.assign(this, { insert, run, attempt });
@@ -18,7 +18,7 @@ export class Tables {
     find("no-tables").hidden = tables.length > 0;
     const text = JSON.stringify(tables);
     if (text === this.shown) {
-      // What has the focus keeps it.
+      // The element that has the focus keeps it.
       this.list.querySelectorAll("details[open]").forEach((details) => this.#tellLayouts(details));
       return;
     }
@@ -73,7 +73,7 @@ export class Tables {
     );
   }
 
-  /** The store writes a table file for these, so they are asked for where somebody looks. */
+  /** The store writes a table file for these, so they are requested only when somebody looks. */
   async #tellLayouts(details) {
     await this.attempt(async () => {
       const found = await getJson("layouts", { table: details.dataset.table });
