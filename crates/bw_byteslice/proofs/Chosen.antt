@@ -75,7 +75,7 @@ module _ (k n at rows m : ℕ) (f : ℕ → ℕ) (before after : List (List ℕ)
         | inr e ↦ code_left j e ∙ sym (made_at n (code_of k before) j 0 low) ∙ sym (put_left old at rows at_row j e)
       ])
 
--- no row behind the run's is chosen, where none is behind the last
+-- no row after the run's is chosen, where none is after the last
 pub none_behind : (n at rows m : ℕ) → rows < 2 ^ 64 → (at + m < n → 64 ≤ m) → ((r : ℕ) → bit_of rows r ≡ true → at + r < n) → (r : ℕ) → m ≤ r → bit_of rows r ≡ false
 none_behind n at rows m fits end there r h =
     elim (cases_Bool (bit_of rows r)) [

@@ -116,7 +116,7 @@ module _
         clean = each_number (λ j x. more ≤ j → x ≡ 0) (λ r h up. absurd (omega (arith, h, up, within))) (λ j _ up. stored.clean j (omega (arith, up, longer)));
       }
 
--- codes behind the others
+-- codes appended to the others
 pub codes_more : (k n : ℕ) (codes : List ℕ) (before after : List (List ℕ)) → ((r : ℕ) → r < length codes → code_of k after (n + r) ≡ get_or codes r 0) → ((j : ℕ) → j < n → code_of k after j ≡ code_of k before j)
     → made (n + length codes) (code_of k after) ≡ made n (code_of k before) ++ codes
 codes_more k n codes before after new old = made_more n (code_of k before) (code_of k after) codes 0 old new

@@ -96,7 +96,7 @@ halves_found word low high w wanted low_is high_is low_found high_found r h =
           ap (bit_of word) (sym back) ∙ high_is e short ∙ high_found e short ∙ ap wanted place
     ]
 
--- n rows of a word are put behind those before
+-- n rows of a word are appended to those before
 pub word_put : (old new : MaskRows) (wanted : ℕ → Bool) (w n word : ℕ) → n ≤ 64 → len new ≡ len old
     → ((j : ℕ) → len old ≤ j → wanted j ≡ false)
     → ((j : ℕ) → j < 64 * w → row_at old j ≡ wanted j)

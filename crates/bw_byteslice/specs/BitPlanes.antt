@@ -1,4 +1,5 @@
--- Planes of bits off slices. A segment of planes is 256 rows. Of codes of k bits, unit q * k + i is plane i of segment q: bit k - 1 - i of each code, which lies in slice i / 8 at bit 7 - i % 8.
+-- Bit planes extracted from slices. A segment of planes is 256 rows. With codes of k bits, unit q * k + i is plane i of segment
+-- q: bit k - 1 - i of each code, which lies in slice i / 8 at bit 7 - i % 8.
 use Rattle.std.specs.Prelude.{Bool, List, slice_index, ℕ, ◌%◌, ◌*◌, ◌+◌, ◌-◌, ◌/◌, ◌≡◌}
 use Rattle.std.specs.Simd.Lanes.{mask_l}
 use Rattle.bw_mask.specs.Masks.{bit_of}
@@ -6,7 +7,7 @@ use Rattle.bw_code.specs.Lists.{made}
 use Rattle.bw_code.specs.Units.{segments_of}
 use Rattle.bw_byteslice.specs.Storing.{AreSlices, byte_of}
 
--- a word of n rows, by what a test says of each
+-- a word of n rows, by the result of a test for each
 unfoldable pub word_of : ℕ → (ℕ → Bool) → ℕ
 word_of n test = mask_l (made n test)
 
@@ -14,7 +15,7 @@ word_of n test = mask_l (made n test)
 unfoldable pub words_of : ℕ → (ℕ → Bool) → List ℕ
 words_of n test = made n (λ w. word_of 64 (λ r. test (64 * w + r)))
 
--- bit i of the bytes of segment q of a slice; of rows past its end nothing is set
+-- bit i of the bytes of segment q of a slice; rows past its end are not set
 abbrev pub plane_in : List ℕ → ℕ → ℕ → List ℕ
 plane_in slice q i = words_of 4 (λ r. bit_of (slice_index slice (256 * q + r)) i)
 

@@ -1,4 +1,5 @@
--- Codes of k bits as slices of bytes. Each code is shifted up until its highest bit is a byte's, and slice i holds byte i of it, the highest byte first. A segment is 32 rows. With m slices, unit q * m + i is slice i of segment q.
+-- Codes of k bits as slices of bytes. Each code is shifted left until its highest bit is the highest of a byte, and slice i holds
+-- byte i of it, the highest byte first. A segment is 32 rows. With m slices, unit q * m + i is slice i of segment q.
 use Rattle.std.specs.Prelude.{Bool, List, [], min, slice_index, slice_index_or, suc, zero, ℕ, ⊤, ◌%◌, ◌*◌, ◌+◌, ◌-◌, ◌/◌, ◌<◌, ◌^◌, ◌≡◌}
 use Rattle.bw_code.specs.Units.{Segmentation, agreement, cost_of}
 use Rattle.bw_code.specs.declared.compare.CodeTest.{CodeTest}
@@ -8,7 +9,7 @@ use Rattle.bw_code.specs.declared.compare.CodeTest.TheVariants.{None, All, Cmp, 
 abbrev pub slices_of : ℕ → ℕ
 slices_of k = (k + 7) / 8
 
--- by how many bits a code is shifted up
+-- by how many bits a code is shifted left
 abbrev pub shift_of : ℕ → ℕ
 shift_of k = 8 * slices_of k - k
 
@@ -21,7 +22,7 @@ number_of (suc n) byte = number_of n byte * 256 + byte n
 abbrev pub byte_in : ℕ → List (List ℕ) → ℕ → ℕ → ℕ
 byte_in m units j i = slice_index (slice_index_or units (j / 32 * m + i) []) (j % 32)
 
--- the number of row j: its code, shifted up
+-- the number of row j: its code, shifted left
 abbrev pub number_in : ℕ → List (List ℕ) → ℕ → ℕ
 number_in m units j = number_of m (byte_in m units j)
 
@@ -41,11 +42,11 @@ pub record AreStored (k : ℕ) (units : List (List ℕ)) : Type 0 where
 abbrev pub by_bytes : ℕ → Segmentation
 by_bytes m = record { rows = 32; agree = agreement 256 m; cost = λ p. min m (p + 1) }
 
--- the slices that a segment costs of one of two columns of numbers of m bytes, by its own rows
+-- the slices that a segment costs in one of two columns of numbers of m bytes, by its own rows
 abbrev pub side_cost : ℕ → (ℕ → Bool) → (ℕ → ℕ) → (ℕ → ℕ) → ℕ
 side_cost m needed number other = cost_of (by_bytes m) needed (λ r. agreement 256 m (number r) (other r))
 
--- a test of codes as one of codes shifted up
+-- a test of codes as one of shifted codes
 abbrev pub raised : ℕ → CodeTest → CodeTest
 raised s None = None
 raised s All = All

@@ -18,7 +18,7 @@ use bw_mask::Mask;
 use std::alloc::{AllocError, Global};
 use std::marker::Model;
 
-/// A column of codes of at most 64 bits as slices of bytes. Each code is shifted up until its highest bit is the
+/// A column of codes of at most 64 bits as slices of bytes. Each code is shifted left until its highest bit is the
 /// highest of a byte; slice j holds byte j of each code, the highest byte first (ByteSlice: Feng and others, SIGMOD
 /// 2015).
 #[derive(Drop)]
@@ -40,7 +40,7 @@ impl Model for SliceColumn {
     ghost invariant = { λ c. AreSlices c.width c.len (bytes_of c.slices.items) };
 }
 
-/// As many bytes as whole segments of 32 rows take.
+/// How many bytes the segments of 32 rows take that hold these rows.
 fn whole_segments(rows: usize) -> usize
     requires { rows ≤ 2 ^ 24 }
     ensures { result ≡ 32 * segments_of 32 rows }
@@ -49,8 +49,8 @@ fn whole_segments(rows: usize) -> usize
 }
 
 impl SliceColumn {
-    /// Slice j, of as many slices as a code has bytes: byte j of each row's code, shifted up, where byte 0 is the
-    /// highest. Behind the last row come zeros, up to a multiple of 32.
+    /// Slice j, one for each byte of a code: byte j of each row's code, shifted left, where byte 0 is the highest.
+    /// After the last row come zeros, up to a multiple of 32.
     pub fn slice(&self, j: usize) -> &[u8]
         requires { j < slices_of self.now.width }
         ensures len { length result.now ≡ 32 * segments_of 32 (count self.now) }
@@ -64,8 +64,9 @@ impl SliceColumn {
         &slices[j]
     }
 
-    /// The planes of the codes, straight off the slices and none of them read yet. With k bits, unit q * k + i is plane i of
-    /// segment q, which is rows 256 q to 256 q + 255: bit k - 1 - i of each code. Rows past the last are not set.
+    /// The planes of the codes, read directly from the slices, none of them read yet. With codes of k bits, unit q * k
+    /// + i is plane i of segment q, which is rows 256 q to 256 q + 255: bit k - 1 - i of each code. Rows past the last
+    /// are not set.
     pub fn planes(&self) -> SlicePlanes<'_>
         ensures units { length result.units ≡ segments_of 256 (count self.now) * self.now.width }
         ensures rows { (q i r : ℕ) → q < segments_of 256 (count self.now) → i < self.now.width → r < 256

@@ -1,5 +1,5 @@
-//! Scans of two columns of slices side by side, from the highest bytes down, as far as a needed row is left (ByteSlice:
-//! Feng and others, SIGMOD 2015).
+//! Scans of two columns of slices side by side, from the highest bytes down, as long as a needed row is undecided
+//! (ByteSlice: Feng and others, SIGMOD 2015).
 
 ghost use Rattle.std.specs.Prelude.{length, nat_lt, true, ℕ, ◌&&◌, ◌*◌, ◌+◌, ◌<◌, ◌==◌, ◌^◌, ◌≡◌, ◌≤◌};
 ghost use Rattle.bw_mask.specs.Masks.{SameShape, bit_of, len, row_at};
@@ -49,8 +49,9 @@ fn compare<A: Source<[u8; 32]>, B: Source<[u8; 32]>>(
     (lt, eq)
 }
 
-/// The needed rows of segment q whose numbers of m bytes compare so. There may be no segment q where no row is needed.
-// As with scans of one column, it stands in its caller, once for each half of a word.
+/// The needed rows of segment q whose numbers of m bytes satisfy the comparison. Segment q need not exist if no row of
+/// it is needed.
+// As for scans of one column, it is inlined into its caller, once for each half of a word.
 #[inline(always)]
 fn segment<A: Source<[u8; 32]>, B: Source<[u8; 32]>>(
     a: &mut A,
@@ -83,7 +84,7 @@ fn segment<A: Source<[u8; 32]>, B: Source<[u8; 32]>>(
     chosen(op, need, lt, eq)
 }
 
-/// `out` becomes the needed rows whose numbers of m bytes compare so.
+/// `out` becomes the needed rows whose numbers of m bytes satisfy the comparison.
 fn pair_numbers<A: Source<[u8; 32]>, B: Source<[u8; 32]>>(
     a: &mut A,
     b: &mut B,
@@ -116,10 +117,10 @@ fn pair_numbers<A: Source<[u8; 32]>, B: Source<[u8; 32]>>(
     }
 }
 
-/// Scans slices of two columns of codes of `width` bits side by side: `out` becomes the needed rows whose codes compare so,
-/// that of `a` on the left, and of the units of each so many are read as `side_units` says: none of a segment of 32 rows in
-/// which no row is needed, and of each other one as many slices as it takes until no needed row is left whose codes might be
-/// equal. With m slices, unit q * m + i is slice i of segment q.
+/// Scans slices of two columns of codes of `width` bits side by side: `out` becomes the needed rows whose codes satisfy
+/// the comparison, that of `a` on the left. The number of units read of each is `side_units`: none of a segment of 32
+/// rows in which no row is needed, and of each other segment as many slices as it takes until no needed row is left
+/// whose codes might be equal. With m slices, unit q * m + i is slice i of segment q.
 pub fn pair_from<A: Source<[u8; 32]>, B: Source<[u8; 32]>>(
     a: &mut A,
     b: &mut B,

@@ -1,4 +1,4 @@
-//! Planes of bits off slices.
+//! Bit planes extracted from slices.
 
 ghost use Rattle.std.specs.Prelude.{length, slice_index, ℕ, ◌%◌, ◌*◌, ◌+◌, ◌<◌, ◌^◌, ◌≡◌, ◌≤◌};
 ghost use Rattle.bw_mask.specs.Masks.{SameShape, bit_of, len, row_at};
@@ -9,7 +9,7 @@ use crate::source::bytes_at;
 use bw_mask::Mask;
 use std::simd::prelude::*;
 
-/// Bit r says whether byte r has bit i.
+/// Bit r says whether byte r has bit i set.
 fn rows_with_bit(bytes: &[u8; 32], i: u32) -> u64
     requires { i < 8 }
     ensures { (r : ℕ) → r < 32 → bit_of result r ≡ bit_of (slice_index bytes.now r) i }
@@ -19,7 +19,7 @@ fn rows_with_bit(bytes: &[u8; 32], i: u32) -> u64
         .to_bitmask()
 }
 
-/// Bit r says whether byte 64 w + r has bit i.
+/// Bit r says whether byte 64 w + r has bit i set.
 fn word_with_bit(slice: &[u8], w: usize, i: u32) -> u64
     requires bit { i < 8 }
     requires there { 64 * w + 64 ≤ length slice.now }
@@ -30,7 +30,7 @@ fn word_with_bit(slice: &[u8], w: usize, i: u32) -> u64
     joined(low_half(low), low_half(high))
 }
 
-/// The same, where there may be no such bytes.
+/// The same, where the slice may end before.
 pub(crate) fn word_up_to_end(slice: &[u8], w: usize, i: u32) -> u64
     requires bit { i < 8 }
     requires small { w < 2 ^ 35 }
@@ -47,7 +47,7 @@ pub(crate) fn word_up_to_end(slice: &[u8], w: usize, i: u32) -> u64
     }
 }
 
-/// `out` becomes the rows whose byte has bit i.
+/// `out` becomes the rows whose byte has bit i set.
 pub(crate) fn put_rows(slice: &[u8], i: u32, out: &mut Mask)
     requires bit { i < 8 }
     requires few { len out.old ≤ 2 ^ 24 }
@@ -60,7 +60,7 @@ pub(crate) fn put_rows(slice: &[u8], i: u32, out: &mut Mask)
     for w in 0..words {
         out.put_word(w, word_with_bit(slice, w, i));
     }
-    // An odd segment is half a word, and there are no rows behind it.
+    // An odd last segment is half a word, and no rows come after it.
     if slice.len() % 64 > 0 {
         let found = rows_with_bit(&bytes_at(slice, 2 * words), i);
         out.put_word(words, found);

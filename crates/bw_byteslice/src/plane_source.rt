@@ -1,4 +1,4 @@
-//! Planes of bits straight off slices as a source of units.
+//! Bit planes read directly from slices as a source of units.
 
 ghost use Rattle.std.specs.Prelude.{length, ◌%◌, ◌<◌, ◌^◌, ◌≡◌};
 ghost use Rattle.bw_byteslice.specs.BitPlanes.{plane_in, planes_of};
@@ -49,7 +49,7 @@ impl<'a> Model for SlicePlanes<'a> {
 }
 
 impl<'a> SlicePlanes<'a> {
-    /// The planes of so many codes, none of them read yet.
+    /// The planes of `len` codes, none of them read yet.
     pub(crate) fn new(slices: &'a [Vec<u8>], width: u32, len: usize) -> SlicePlanes<'a>
         requires { AreSlices width len (bytes_of slices.now) }
         ensures units { result.units ≡ planes_of width len (bytes_of slices.now) }

@@ -1,4 +1,4 @@
-//! Codes read off slices in memory.
+//! Reading codes from slices in memory.
 
 ghost use Rattle.std.specs.Prelude.{[], length, slice_index, slice_index_or, ℕ, ◌*◌, ◌+◌, ◌/◌, ◌<◌, ◌^◌, ◌≡◌, ◌≤◌};
 ghost use Rattle.bw_byteslice.specs.Slices.{slices_of};
@@ -25,7 +25,7 @@ pub(crate) fn code_at(slices: &[Vec<u8>], width: u32, j: usize) -> u64
     number >> shift_of(width)
 }
 
-/// Fills `out` with the bytes of a slice from row `at` on, without their lowest bits.
+/// Fills `out` with the bytes of a slice from row `at` on, shifted right by `spare` bits.
 fn read_one(first: &[u8], at: usize, spare: u32, out: &mut [u32])
     requires spare { spare < 8 }
     requires first { at + length out.old ≤ length first.now }
@@ -38,7 +38,7 @@ fn read_one(first: &[u8], at: usize, spare: u32, out: &mut [u32])
     }
 }
 
-/// Fills `out` with the numbers that the bytes of two slices make from row `at` on, without their lowest bits.
+/// Fills `out` with the numbers that the bytes of two slices make from row `at` on, shifted right by `spare` bits.
 fn read_two(first: &[u8], second: &[u8], at: usize, spare: u32, out: &mut [u32])
     requires spare { spare < 8 }
     requires first { at + length out.old ≤ length first.now }
@@ -53,7 +53,7 @@ fn read_two(first: &[u8], second: &[u8], at: usize, spare: u32, out: &mut [u32])
     }
 }
 
-/// Fills `out` with the numbers that the bytes of three slices make from row `at` on, without their lowest bits.
+/// Fills `out` with the numbers that the bytes of three slices make from row `at` on, shifted right by `spare` bits.
 fn read_three(first: &[u8], second: &[u8], third: &[u8], at: usize, spare: u32, out: &mut [u32])
     requires spare { spare < 8 }
     requires first { at + length out.old ≤ length first.now }
@@ -70,7 +70,7 @@ fn read_three(first: &[u8], second: &[u8], third: &[u8], at: usize, spare: u32, 
     }
 }
 
-/// Fills `out` with the numbers that the bytes of four slices make from row `at` on, without their lowest bits.
+/// Fills `out` with the numbers that the bytes of four slices make from row `at` on, shifted right by `spare` bits.
 fn read_four(
     first: &[u8],
     second: &[u8],
@@ -97,8 +97,8 @@ fn read_four(
     }
 }
 
-/// Fills `out` with the numbers that the bytes of at most four slices make from row `at` on, without their lowest bits. A
-/// register takes twice as many numbers of 32 bits as of 64.
+/// Fills `out` with the numbers that the bytes of at most four slices make from row `at` on, shifted right by `spare`
+/// bits. A register holds twice as many 32-bit numbers as 64-bit ones.
 fn read_numbers(slices: &[Vec<u8>], spare: u32, at: usize, out: &mut [u32])
     requires few { length slices.now ≤ 4 }
     requires spare { spare < 8 }
@@ -116,7 +116,7 @@ fn read_numbers(slices: &[Vec<u8>], spare: u32, at: usize, out: &mut [u32])
     }
 }
 
-/// Fills `out` with the numbers of 64 bits that have these halves, without their lowest bits.
+/// Fills `out` with the 64-bit numbers that have these halves, shifted right by `spare` bits.
 fn join(high: &[u32], low: &[u32], spare: u32, out: &mut [u64])
     requires high { length out.old ≡ length high.now }
     requires low { length out.old ≡ length low.now }
@@ -130,8 +130,8 @@ fn join(high: &[u32], low: &[u32], spare: u32, out: &mut [u64])
     }
 }
 
-/// Fills `out` with the numbers of more than 32 bits that the bytes of some slices and of four slices below them make from row
-/// `at` on, without their lowest bits.
+/// Fills `out` with the numbers of more than 32 bits that the bytes of some slices and of four slices below them make
+/// from row `at` on, shifted right by `spare` bits.
 fn read_halves(upper: &[Vec<u8>], lower: &[Vec<u8>], spare: u32, at: usize, out: &mut [u64])
     requires few { length out.old ≤ 64 }
     requires upper { length upper.now ≤ 4 }
@@ -151,7 +151,7 @@ fn read_halves(upper: &[Vec<u8>], lower: &[Vec<u8>], spare: u32, at: usize, out:
     join(&high[..n], &low[..n], spare, out);
 }
 
-/// Fills `out` with the codes of more than 32 bits from row `at` on, of which there are few.
+/// Fills `out` with codes of more than 32 bits from row `at` on, at most `RUN` of them.
 fn read_wide(slices: &[Vec<u8>], width: u32, at: usize, out: &mut [u64])
     requires wide { 32 < width }
     requires narrow { width ≤ 64 }
@@ -176,7 +176,7 @@ fn widen(numbers: &[u32], out: &mut [u64])
     }
 }
 
-/// Fills `out` with the codes from row `at` on, of which there are few.
+/// Fills `out` with codes from row `at` on, at most `RUN` of them.
 fn read_run(slices: &[Vec<u8>], width: u32, at: usize, out: &mut [u64])
     requires narrow { width ≤ 64 }
     requires count { length slices.now ≡ slices_of width }

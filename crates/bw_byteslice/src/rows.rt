@@ -49,7 +49,7 @@ pub(crate) fn without(a: u32, b: u32) -> u32
     a ^ (a & b)
 }
 
-/// The needed rows that compare so, by those that are below and those that are equal.
+/// The needed rows that satisfy the comparison, by those that are below and those that are equal.
 pub(crate) fn chosen(op: CmpOp, need: u32, lt: u32, eq: u32) -> u32
     ensures { (r : ℕ) → bit_of result r ≡ by_masks op (bit_of need r) (bit_of lt r) (bit_of eq r) }
 {

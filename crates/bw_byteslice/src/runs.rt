@@ -1,4 +1,4 @@
-//! Codes put at some of 64 rows: in each slice those bytes alone become others.
+//! Writing codes to some of 64 rows: in each slice only their bytes change.
 
 ghost use Rattle.std.specs.Prelude.{[], false, length, slice_index, slice_index_or, true, vec_capacity, vec_len, ℕ, ◌*◌, ◌+◌, ◌-◌, ◌<◌, ◌^◌, ◌≡◌, ◌≤◌};
 ghost use Rattle.bw_mask.specs.Masks.{bit_of};
@@ -11,7 +11,7 @@ use crate::shift::{byte_at, raise};
 use crate::storage::{put_bytes, raise_codes, raise_parts};
 use bw_mask::has_bit;
 
-/// How many rows a run has at most.
+/// The greatest number of rows in a run.
 const RUN: usize = 64;
 
 /// Whether each row is chosen: row i where bit i is set.
@@ -25,8 +25,8 @@ fn choose(rows: u64, chosen: &mut [bool])
     }
 }
 
-/// Puts bytes, each where its row is chosen. The others stay. A call of its own: taken into its callers, the loop is not
-/// made of vectors.
+/// Writes bytes, each where its row is chosen. The others stay. Not inlined: inlined into its callers, the loop is not
+/// vectorized.
 #[inline(never)]
 fn put_chosen(kept: &mut [u8], chosen: &[bool], bytes: &[u8])
     requires chosen { length chosen.now ≡ length kept.old }
@@ -35,15 +35,15 @@ fn put_chosen(kept: &mut [u8], chosen: &[bool], bytes: &[u8])
     ensures put { (r : ℕ) → r < length kept.old → slice_index_or chosen.now r false ≡ true → slice_index kept.new r ≡ slice_index bytes.now r }
     ensures kept { (r : ℕ) → slice_index_or chosen.now r false ≡ false → slice_index kept.new r ≡ slice_index kept.old r }
 {
-    // A choice between two bytes in memory is made a branch for each row. Bits that are kept and put are not, and so bytes are
-    // taken side by side.
+    // A choice between two bytes in memory is compiled to a branch per row. Masking bits is not, so the loop is
+    // vectorized.
     for r in 0..kept.len() {
         let ones = 0_u8.wrapping_sub(u8::from(chosen[r]));
         kept[r] = (kept[r] & !ones) | (bytes[r] & ones);
     }
 }
 
-/// The chosen rows from `at` on get these bytes of a slice.
+/// The chosen rows from `at` on get these bytes in a slice.
 fn put_in_slice(slice: &mut Vec<u8>, at: usize, chosen: &[bool], bytes: &[u8])
     requires there { at + length chosen.now ≤ length slice.old.items }
     requires long { length chosen.now ≤ length bytes.now }
@@ -86,8 +86,8 @@ fn put_numbers(
     }
 }
 
-/// Row at + i gets code i where bit i of the word is set. The codes are shifted up once for all slices, or, of more than 32 bits,
-/// once for the upper slices and once for the last four.
+/// Row at + i takes code i where bit i of `rows` is set. The codes are shifted left once for all slices, or, where they
+/// have more than 32 bits, once for the upper slices and once for the last four.
 pub(crate) fn put_run(slices: &mut Vec<Vec<u8>>, width: u32, at: usize, rows: u64, codes: &[u64])
     requires narrow { width ≤ 64 }
     requires count { vec_len slices.old ≡ slices_of width }
@@ -118,7 +118,7 @@ pub(crate) fn put_run(slices: &mut Vec<Vec<u8>>, width: u32, at: usize, rows: u6
     }
 }
 
-/// Row at + i gets the code where bit i of the word is set, of so many rows.
+/// Of the `count` rows from row `at` on, row at + i takes the code where bit i of `rows` is set.
 pub(crate) fn fill_run(
     slices: &mut Vec<Vec<u8>>,
     width: u32,

@@ -1,4 +1,5 @@
-//! Scans of slices from the highest bytes down, as far as a needed row is left (ByteSlice: Feng and others, SIGMOD 2015).
+//! Scans of slices from the highest bytes down, as long as a needed row is undecided (ByteSlice: Feng and others,
+//! SIGMOD 2015).
 
 ghost use Rattle.std.specs.Prelude.{length, max, nat_le, nat_lt, not, true, ℕ, ◌&&◌, ◌*◌, ◌+◌, ◌<◌, ◌==◌, ◌^◌, ◌||◌, ◌≡◌, ◌≤◌};
 ghost use Rattle.bw_mask.specs.Masks.{SameShape, bit_of, len, row_at};
@@ -43,14 +44,14 @@ fn compare<S: Source<[u8; 32]>>(
     (lt, eq)
 }
 
-/// The rows that are not below the low end, and below the high end or equal to it.
+/// The rows that are not below the low end, and are below or equal to the high end.
 fn inside(below: u32, lt: u32, eq: u32) -> u32
     ensures { (r : ℕ) → bit_of result r ≡ ((bit_of lt r || bit_of eq r) && not (bit_of below r)) }
 {
     without(either(lt, eq), below)
 }
 
-/// The needed rows of segment q whose number of m bytes is within the two constants, both in.
+/// The needed rows of segment q whose number of m bytes lies between the two constants, both inclusive.
 fn between<S: Source<[u8; 32]>>(
     source: &mut S,
     m: usize,
@@ -86,8 +87,9 @@ fn between<S: Source<[u8; 32]>>(
     inside(lt_lo, lt_hi, eq_hi)
 }
 
-/// The needed rows of segment q whose number of m bytes meets the test. There may be no segment q where no row is needed.
-// It is called for each half of a word, and a call left in place costs a quarter of the scan's time.
+/// The needed rows of segment q whose number of m bytes meets the test. Segment q need not exist if no row of it is
+/// needed.
+// It is called for each half of a word; not inlined, the call would cost a quarter of the scan's time.
 #[inline(always)]
 fn segment<S: Source<[u8; 32]>>(
     source: &mut S,
@@ -149,10 +151,10 @@ fn scan_numbers<S: Source<[u8; 32]>>(
     }
 }
 
-/// Scans slices of codes of `width` bits: `out` becomes the needed rows whose code meets the test, and of the units so
-/// many are read as `scan_units` says: none of a segment of 32 rows in which no row is needed, and of each other one as
-/// many slices as it takes until no needed row is left that might equal the constant. With m slices, unit q * m + i is
-/// slice i of segment q.
+/// Scans slices of codes of `width` bits: `out` becomes the needed rows whose code meets the test. The number of units
+/// read is `scan_units`: none of a segment of 32 rows in which no row is needed, and of each other segment as many
+/// slices as it takes until no needed row is left that might equal the constant. With m slices, unit q * m + i is slice
+/// i of segment q.
 pub fn scan_from<S: Source<[u8; 32]>>(
     source: &mut S,
     width: u32,

@@ -1,4 +1,4 @@
-//! Codes shifted up until their highest bit is the highest of a byte, and their bytes.
+//! Codes shifted left until their highest bit is the highest of a byte, and their bytes.
 
 ghost use Rattle.std.specs.Prelude.{◌*◌, ◌<◌, ◌^◌, ◌≡◌, ◌≤◌, ◌/◌, ◌%◌};
 ghost use Rattle.bw_code.specs.Tests.{TestFits};
@@ -15,7 +15,7 @@ pub(crate) fn slices_of(width: u32) -> usize
     width.div_ceil(8) as usize
 }
 
-/// By how many bits codes of `width` bits are shifted up.
+/// By how many bits codes of `width` bits are shifted left.
 pub(crate) fn shift_of(width: u32) -> u32
     requires { width ≤ 64 }
     ensures { result ≡ shift_of width }
@@ -23,7 +23,7 @@ pub(crate) fn shift_of(width: u32) -> u32
     8 * width.div_ceil(8) - width
 }
 
-/// A code of `width` bits shifted up.
+/// A code of `width` bits shifted left.
 pub(crate) fn raise(code: u64, width: u32) -> u64
     requires narrow { width ≤ 64 }
     requires fits { code < 2 ^ width }
@@ -33,7 +33,7 @@ pub(crate) fn raise(code: u64, width: u32) -> u64
     code << shift_of(width)
 }
 
-/// A code of `width` bits shifted up, as a number of 32 bits.
+/// A code of `width` bits shifted left, as a 32-bit number.
 pub(crate) fn raise_narrow(code: u64, width: u32) -> u32
     requires narrow { width ≤ 32 }
     requires fits { code < 2 ^ width }
@@ -42,7 +42,7 @@ pub(crate) fn raise_narrow(code: u64, width: u32) -> u32
     (code as u32) << shift_of(width)
 }
 
-/// 32 bits of a code of `width` bits shifted up, from bit `down` on.
+/// The 32 bits of a shifted code of `width` bits from bit `down` on.
 pub(crate) fn raise_part(code: u64, width: u32, down: u32) -> u32
     requires narrow { width ≤ 64 }
     requires down { down < 64 }
@@ -52,7 +52,7 @@ pub(crate) fn raise_part(code: u64, width: u32, down: u32) -> u32
     ((raise(code, width) >> down) % 0x1_0000_0000) as u32
 }
 
-/// The same test of the shifted codes.
+/// The same test for the shifted codes.
 pub(crate) fn raise_test(test: CodeTest, width: u32) -> CodeTest
     requires narrow { width ≤ 64 }
     requires fits { TestFits width test }
@@ -76,7 +76,7 @@ pub(crate) fn byte_at(number: u64, m: usize, i: usize) -> u8
     (number >> (8 * (m - 1 - i)) & 0xff) as u8
 }
 
-/// Byte i, from the highest, of a number of m bytes, which has 32 bits.
+/// Byte i, from the highest, of a number of m bytes, given as a 32-bit number.
 pub(crate) fn narrow_byte_at(number: u32, m: usize, i: usize) -> u8
     requires narrow { m ≤ 4 }
     requires below { i < m }

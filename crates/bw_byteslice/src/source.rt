@@ -1,4 +1,4 @@
-//! The units of slices in memory, and the count of their reads.
+//! The units of slices in memory, with their reads counted.
 
 ghost use Rattle.std.specs.Prelude.{drop, length, take, ◌*◌, ◌/◌, ◌<◌, ◌≡◌};
 ghost use Rattle.bw_byteslice.specs.Storing.{AreEven, bytes_of, units_of};
@@ -7,8 +7,8 @@ use bw_code::Source;
 use std::marker::Model;
 use std::simd::prelude::*;
 
-/// The segment of unit i and its first unit, by those of the unit that was read before: without a division if the unit
-/// is of the same segment or of the next.
+/// The segment of unit i and the first unit of that segment, given those of the unit that was read before: without a
+/// division if the unit is in the same segment or the next.
 pub(crate) fn place(q: usize, start: usize, m: usize, i: usize) -> (usize, usize)
     requires some { 0 < m }
     requires start { start ≡ q * m }

@@ -1,4 +1,4 @@
-//! Slices in memory: byte j of each slice is of row j.
+//! Slices in memory: byte j of each slice belongs to row j.
 
 ghost use Rattle.std.specs.Prelude.{[], IfOk, OnOk, length, slice_index, slice_index_or, vec_capacity, vec_len, ℕ, ◌*◌, ◌+◌, ◌<◌, ◌^◌, ◌≡◌, ◌≤◌, ◌/◌, ◌%◌};
 ghost use Rattle.bw_code.specs.Columns.{Fit};
@@ -10,10 +10,10 @@ use crate::shift::{narrow_byte_at, raise_narrow, raise_part};
 use std::alloc::{AllocError, Global};
 use std::simd::prelude::*;
 
-/// How many codes are written at a time, so that their numbers stay in the cache for all slices.
+/// How many codes are written at a time: so many that their numbers stay in the cache for all slices.
 const BLOCK: usize = 64;
 
-/// So many slices without bytes.
+/// `count` empty slices.
 pub(crate) fn no_bytes(alloc: Global, count: usize) -> Result<Vec<Vec<u8>>, AllocError>
     ensures count { IfOk result (λ slices. vec_len slices ≡ count) }
     ensures none { IfOk result (λ slices. (i : ℕ) → slice_index_or (bytes_of slices.items) i [] ≡ []) }
@@ -25,7 +25,7 @@ pub(crate) fn no_bytes(alloc: Global, count: usize) -> Result<Vec<Vec<u8>>, Allo
     Ok(slices)
 }
 
-/// Makes room for `len` bytes in each slice. The bytes stay as they are, also where memory is wanting.
+/// Makes room for `len` bytes in each slice. The bytes stay as they are, also where it runs out of memory.
 pub(crate) fn reserve(slices: &mut Vec<Vec<u8>>, len: usize) -> Result<(), AllocError>
     requires { (i : ℕ) → length (slice_index_or (bytes_of slices.old.items) i []) ≤ len }
     ensures bytes { bytes_of slices.new.items ≡ bytes_of slices.old.items }
@@ -40,7 +40,7 @@ pub(crate) fn reserve(slices: &mut Vec<Vec<u8>>, len: usize) -> Result<(), Alloc
     Ok(())
 }
 
-/// Zeros behind the bytes of a slice, up to `len` bytes.
+/// Appends zeros to a slice, up to `len` bytes.
 fn grow_slice(slice: &mut Vec<u8>, len: usize)
     requires longer { length slice.old.items ≤ len }
     requires room { len ≤ vec_capacity slice.old }
@@ -53,7 +53,7 @@ fn grow_slice(slice: &mut Vec<u8>, len: usize)
     };
 }
 
-/// Zeros behind the bytes of each slice, up to `len` bytes.
+/// Appends zeros to each slice, up to `len` bytes.
 pub(crate) fn grow(slices: &mut Vec<Vec<u8>>, len: usize)
     requires longer { (i : ℕ) → length (slice_index_or (bytes_of slices.old.items) i []) ≤ len }
     requires room { (i : ℕ) → i < vec_len slices.old → len ≤ slice_index (capacities_of slices.old.items) i }
@@ -68,7 +68,7 @@ pub(crate) fn grow(slices: &mut Vec<Vec<u8>>, len: usize)
     }
 }
 
-/// Each code shifted up, as a number of 32 bits: a register takes twice as many of them as of 64.
+/// Each code shifted left, as a 32-bit number: a register holds twice as many of them as 64-bit ones.
 pub(crate) fn raise_codes(codes: &[u64], width: u32, numbers: &mut [u32])
     requires narrow { width ≤ 32 }
     requires fit { Fit width codes.now }
@@ -94,7 +94,7 @@ fn put_few_bytes(bytes: &mut [u8], m: usize, i: usize, numbers: &[u32])
     }
 }
 
-/// Byte i of each of 64 numbers of m bytes, sixteen of which a register takes.
+/// Byte i of each of 64 numbers of m bytes, sixteen of which fit a register.
 fn put_64_bytes(bytes: &mut [u8], m: usize, i: usize, numbers: &[u32])
     requires narrow { m ≤ 4 }
     requires slice { i < m }
@@ -118,7 +118,7 @@ pub(crate) fn put_bytes(bytes: &mut [u8], m: usize, i: usize, numbers: &[u32])
     ensures len { length bytes.new ≡ length bytes.old }
     ensures bytes { (r : ℕ) → r < length numbers.now → slice_index bytes.new r ≡ digit 256 m (slice_index numbers.now r) i }
 {
-    // Most come by whole blocks, and quicker where the length is known.
+    // Most calls have a whole block, and are faster where the length is known.
     if numbers.len() == BLOCK {
         put_64_bytes(bytes, m, i, numbers);
     } else {
@@ -126,7 +126,7 @@ pub(crate) fn put_bytes(bytes: &mut [u8], m: usize, i: usize, numbers: &[u32])
     }
 }
 
-/// Byte i of each number of m bytes goes to the row of the number. The first number is that of row `at`.
+/// Byte i of each number of m bytes is written to the number's row. The first number is that of row `at`.
 fn put_in_slice(slice: &mut Vec<u8>, m: usize, i: usize, at: usize, numbers: &[u32])
     requires narrow { m ≤ 4 }
     requires slice { i < m }
@@ -158,7 +158,7 @@ fn put_numbers(slices: &mut Vec<Vec<u8>>, first: usize, m: usize, at: usize, num
     }
 }
 
-/// 32 bits of each code shifted up, from bit `down` on.
+/// The 32 bits of each shifted code from bit `down` on.
 pub(crate) fn raise_parts(codes: &[u64], width: u32, down: u32, numbers: &mut [u32])
     requires narrow { width ≤ 64 }
     requires down { down < 64 }
@@ -172,8 +172,8 @@ pub(crate) fn raise_parts(codes: &[u64], width: u32, down: u32, numbers: &mut [u
     }
 }
 
-/// The rows from `at` on get these codes, of which there are few. They are shifted up once for all slices, or, of more than 32
-/// bits, once for the upper slices and once for the last four.
+/// The rows from `at` on get these codes, at most `BLOCK` of them. They are shifted left once for all slices, or, where
+/// they have more than 32 bits, once for the upper slices and once for the last four.
 fn put_block(slices: &mut Vec<Vec<u8>>, width: u32, at: usize, codes: &[u64])
     requires narrow { width ≤ 64 }
     requires count { vec_len slices.old ≡ slices_of width }

@@ -1,4 +1,4 @@
--- How far cells lie above a base, and which of them are integers.
+-- Distances of cells from a base, and which cells are integers.
 use Rattle.std.specs.Prelude.{None, Option, Some, ℕ, ℤ, ◌%◌, ◌+◌, ◌-◌, ◌^◌}
 use Rattle.std.specs.Int.{cast_unsigned, w64}
 

@@ -10,33 +10,34 @@ use crate::distances::distances_in_run;
 use crate::ends::ends_in_runs;
 use bw_code::Ends;
 
-/// A list of cells, each an integer or NULL. A reader asks for runs of it, so that it need not lie in memory as such a
-/// list: cells may be decoded, widened or gathered as they are read.
+/// A list of cells, each an integer or NULL. It is read in blocks, so that it need not be stored as such a list: cells
+/// may be decoded, widened or gathered as they are read.
 pub trait Cells {
     ghost cells: { Self → List (Option ℤ) };
 
-    /// How many cells there are.
+    /// The number of cells.
     fn len(&self) -> usize
         ensures { result ≡ length (cells self.now) };
 
-    /// Fills `out` with the cells from number `at` on. Takes no memory.
+    /// Fills `out` with the cells from index `at` on. Takes no memory.
     fn read(&self, at: usize, out: &mut [Option<i64>])
         requires { at + length out.old ≤ length (cells self.now) }
         ensures { out.new ≡ take (length out.old) (drop at (cells self.now)) };
 }
 
-/// Cells that are measured: their ends, and how far each lies above a base.
+/// Cells whose least and greatest value and distances from a base can be computed.
 pub trait Measured: Cells {
-    /// The least and the greatest of the integers, if there are any. Takes no memory. It reads all cells in runs, unless a
-    /// type has them in a form in which their ends are found quicker.
+    /// The least and the greatest of the integers, if there are any. Takes no memory. It reads all cells in blocks,
+    /// unless a type stores them in a form in which their ends are found faster.
     fn ends(&self) -> Option<Ends>
         ensures { AreEnds (known (Self.cells self.now)) result }
     {
         ends_in_runs(self)
     }
 
-    /// Fills `out` with how far each of at most 64 cells from number `at` on lies above the base, modulo 2^64, and 0 for
-    /// a NULL. Bit i of the answer says whether cell `at + i` is an integer; past the last it isn't set. Takes no memory.
+    /// Fills `out` with the distance from the base of each of at most 64 cells from index `at` on, modulo 2^64, and
+    /// with 0 for a NULL. Bit i of the result says whether cell `at + i` is an integer; past the last cell bits are 0.
+    /// Takes no memory.
     fn distances(&self, at: usize, base: i64, out: &mut [u64]) -> u64
         requires few { length out.old ≤ 64 }
         requires inside { at + length out.old ≤ length (Self.cells self.now) }
@@ -46,10 +47,11 @@ pub trait Measured: Cells {
         distances_in_run(self, at, base, out)
     }
 
-    /// The planes of at most 64 cells from number `at` on, of k bits, where the cells lie as such planes: bit r of word b becomes
-    /// bit b of how far cell `at + r` lies above the base, modulo 2^64, and is not set for a NULL, nor past the last cell. What
-    /// the words from k on hold is of no account. Bit i of the answer says whether cell `at + i` is an integer; past the last
-    /// it isn't set. `None` where only measuring tells them. Takes no memory.
+    /// The planes of k bits of at most 64 cells from index `at` on, where the cells are stored as such planes: bit r of
+    /// word b becomes bit b of the distance of cell `at + r` from the base, modulo 2^64, and is 0 for a NULL and past
+    /// the last cell. The words from k on are unspecified. Bit i of the result says whether cell `at + i` is an
+    /// integer; past the last cell bits are 0. Returns `None` where the cells are not stored as such planes. Takes no
+    /// memory.
     fn planes(
         &self,
         at: usize,

@@ -1,4 +1,4 @@
-//! How far cells lie above a base.
+//! Distances of cells from a base.
 
 ghost use Rattle.std.specs.Prelude.{None, drop, is_some, length, map, nat_lt, slice_index, slice_index_or, take, ℕ, ◌+◌, ◌<◌, ◌≡◌, ◌≤◌};
 ghost use Rattle.bw_mask.specs.Masks.{bit_of};
@@ -28,19 +28,20 @@ pub fn set_bytes(bytes: &[u8; 64]) -> u64
         .to_bitmask()
 }
 
-/// Fills `out` with the distance of each cell from the base, modulo 2^64, and 0 for a NULL.
+/// Fills `out` with the distance of each cell from the base, modulo 2^64, and with 0 for a NULL.
 fn distances_of(cells: &[Option<i64>], base: i64, out: &mut [u64])
     requires { length cells.now ≡ length out.old }
     ensures { out.new ≡ map (distance_from base) cells.now }
 {
-    // No branch a cell, so that cells are taken side by side. A NULL is taken as the base.
+    // No branch per cell, so that the loop can be vectorized. A NULL is treated as the base.
     for i in 0..cells.len() {
         let number = cells[i].unwrap_or(base);
         out[i] = number.cast_unsigned().wrapping_sub(base.cast_unsigned());
     }
 }
 
-/// Fills `out` with the distance of each of at most 64 cells from number `at` on, and answers which of them are integers.
+/// Fills `out` with the distance of each of at most 64 cells from index `at` on, and returns which of them are
+/// integers.
 pub fn distances_in_run<C: Cells>(cells: &C, at: usize, base: i64, out: &mut [u64]) -> u64
     requires few { length out.old ≤ 64 }
     requires inside { at + length out.old ≤ length (C.cells cells.now) }

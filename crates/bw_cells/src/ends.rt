@@ -7,14 +7,14 @@ ghost use Rattle.bw_cells.specs.Known.{known};
 use crate::cells::Cells;
 use bw_code::Ends;
 
-/// The ends of those of the cells that are integers, if there are any.
+/// The least and the greatest of the cells that are integers, if there are any.
 fn known_ends(values: &[Option<i64>]) -> Option<Ends>
     ensures { AreEnds (known values.now) result }
 {
     let mut least = i64::MAX;
     let mut greatest = i64::MIN;
     let mut any = false;
-    // No branch a value, so that values are taken side by side. A null is taken as what changes neither end.
+    // No branch per value, so that the loop can be vectorized. A null is treated as a value that changes neither end.
     for i in 0..values.len() {
         least = least.min(values[i].unwrap_or(i64::MAX));
         greatest = greatest.max(values[i].unwrap_or(i64::MIN));
@@ -27,7 +27,7 @@ fn known_ends(values: &[Option<i64>]) -> Option<Ends>
     }
 }
 
-/// The ends of some values and of others after them.
+/// The least and the greatest of two lists of values, given the ends of each.
 pub fn ends_of_both(first: Option<Ends>, second: Option<Ends>) -> Option<Ends>
     ensures { (xs ys : List ℤ) → AreEnds xs first → AreEnds ys second → AreEnds (xs ++ ys) result }
 {
@@ -43,7 +43,7 @@ pub fn ends_of_both(first: Option<Ends>, second: Option<Ends>) -> Option<Ends>
     })
 }
 
-/// The ends of those of the cells that are integers, if there are any, run by run.
+/// The least and the greatest of the cells that are integers, if there are any, found block by block.
 pub(crate) fn ends_in_runs<C: Cells>(cells: &C) -> Option<Ends>
     ensures { AreEnds (known (C.cells cells.now)) result }
 {

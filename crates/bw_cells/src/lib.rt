@@ -1,4 +1,4 @@
-//! Cells: integers and nulls that are read in runs, wherever they lie and in whatever form.
+//! Cells: integers and nulls that are read in blocks, wherever and in whatever form they are stored.
 #![tactic(auto)]
 
 mod cells;

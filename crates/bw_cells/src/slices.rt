@@ -1,4 +1,4 @@
-//! Cells that lie in memory as they are.
+//! Cells stored in memory as a slice.
 
 use crate::cells::{Cells, Measured};
 

@@ -15,7 +15,7 @@ made_at n f i d h = get_or-map-range_with_len f 0 n i i d h (omega arith)
 pub made_is : {X : Type 0} (n : ℕ) (f : ℕ → X) (xs : List X) (d : X) → length xs ≡ n → ((i : ℕ) → i < n → get_or xs i d ≡ f i) → xs ≡ made n f
 made_is n f xs d len each = fill_by_all f xs n d len each
 
--- n places as they were, and a list behind them
+-- n entries unchanged, and a list after them
 pub made_more : {X : Type 0} (n : ℕ) (f g : ℕ → X) (xs : List X) (d : X) → ((i : ℕ) → i < n → g i ≡ f i) → ((i : ℕ) → i < length xs → g (n + i) ≡ get_or xs i d) → made (n + length xs) g ≡ made n f ++ xs
 made_more n f g xs d old new =
     sym (made_is (n + length xs) g (made n f ++ xs) d (length-append (made n f) xs ∙ ap (λ k. k + length xs) (made_len n f)) (λ i h.
@@ -53,7 +53,7 @@ front_is buffer out xs at n fits inside is =
     let long : length out ≡ n = ap length same ∙ omega (arith, length-take n (drop at xs), length-drop at xs) in
     ap (λ k. take k (out ++ drop n buffer)) (sym long) ∙ take-append_seam out (drop n buffer) ∙ same
 
--- a list behind others goes over to them part by part
+-- a list after others is appended to them part by part
 pub part_over : {X : Type 0} (whole done xs : List X) (at n : ℕ) → done ++ drop at xs ≡ whole → (done ++ take n (drop at xs)) ++ drop (at + n) xs ≡ whole
 part_over whole done xs at n is =
     append_assoc done (take n (drop at xs)) (drop (at + n) xs)

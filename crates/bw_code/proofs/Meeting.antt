@@ -87,7 +87,7 @@ entry_meets op xs x y entry =
     (λ l. let f = upto-le-below xs y x l in by_rank 2 (inr (inr (f, refl))) ∙ sym (same_order op x y 2 1 (λ h. absurd (omega (arith, ints))) (λ e. absurd (omega (arith, ints))) (λ _. omega arith)))
     (λ h. let e : x ≡ y = omega (arith, ints) in subst (λ (z : ℤ). meets (rank_test op (below xs z) (upto xs z) (length xs)) (below xs x) ≡ int_compares op x z) e (meets_itself op xs x entry)))
 
--- a code meets the test exactly where its value compares so
+-- a code meets the test exactly where its value satisfies the comparison
 pub meets_test : (e : Encoding) → IsEncoding e → (op : CmpOp) (y x : ℤ) (code : ℕ) → code_of e x ≡ Some code → meets (test_of e op y) code ≡ int_compares op x y
 meets_test (by.Offset o) ok op y x code h = offset_meets o op x y code (offset_code_is o x code h)
 meets_test (by.Dictionary entries) ok op y x code h =

@@ -1,4 +1,4 @@
--- A part of a list, written anew: each place of the list.
+-- A part of a list, overwritten: each index of the list.
 use Rattle.std.proofs.Common.{List, arith, drop, get_or, length, length-append, length-drop, length-take, take, ap, ℕ, ◌++◌, ◌+◌, ◌-◌, ◌<◌, ◌≡◌, ◌≤◌, ◌∙◌}
 use Rattle.std.proofs.lemmas.List.{get_or-append_right, get_or-drop, get_or-take, get_or_append_left}
 use borrow.Rule.Slice.PartMut.{put_mid}

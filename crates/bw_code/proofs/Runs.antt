@@ -43,7 +43,7 @@ module _ (old : List ℕ) (at rows : ℕ) (f : ℕ → ℕ) where
   pub run_is : (new : List ℕ) → length new ≡ length old → ((j : ℕ) → j < length old → get_or new j 0 ≡ put_to j) → new ≡ made (length old) put_to
   run_is new len each = made_is (length old) put_to new 0 len each
 
-  -- a part of the codes is put anew, and no row behind it is chosen
+  -- a part of the codes is overwritten, and no row after it is chosen
   module _ (n : ℕ) (part : List ℕ) (fits : at + n ≤ length old) (long : length part ≡ n)
       (each : (i : ℕ) → i < n → get_or part i 0 ≡ (if bit_of rows i then f (at + i) else get_or (take n (drop at old)) i 0))
       (none : (i : ℕ) → n ≤ i → at + i < length old → bit_of rows i ≡ false) where

@@ -1,4 +1,5 @@
--- The needed rows that compare so with a constant or with another column, by those that are below it and those that are equal to it.
+-- The needed rows that satisfy a comparison with a constant or with another column, by the rows that are below and the rows that
+-- are equal.
 use Rattle.std.specs.Prelude.{Bool, not, ◌&&◌, ◌||◌}
 use Rattle.bw_code.specs.declared.compare.CmpOp.{CmpOp}
 use Rattle.bw_code.specs.declared.compare.CmpOp.TheVariants.{Eq, Ne, Lt, Le, Gt, Ge}

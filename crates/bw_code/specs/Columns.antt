@@ -1,4 +1,4 @@
--- A column of codes: how many bits a code has, the codes, and for how many there is room.
+-- A column of codes: the width of a code in bits, the codes, and the capacity in codes.
 use Rattle.std.specs.Prelude.{Bool, List, if◌then◌else◌, length, nat_le, slice_index, ℕ, ◌&&◌, ◌-◌, ◌<◌, ◌^◌, ◌≡◌, ◌≤◌}
 use Rattle.std.specs.List.{All}
 use Rattle.bw_mask.specs.Masks.{bit_of}
@@ -17,7 +17,7 @@ count column = length column.codes
 abbrev pub code_at : CodeList → ℕ → ℕ
 code_at column i = slice_index column.codes i
 
--- codes of so many bits
+-- the codes fit the width
 abbrev pub Fit : ℕ → List ℕ → Type 0
 Fit width codes = All (λ code. code < 2 ^ width) codes
 
@@ -40,14 +40,14 @@ pub record AreWide (width : ℕ) (codes : List ℕ) : Type 0 where
   pub few : length codes ≤ 2 ^ 24
   pub fit : Fit width codes
 
--- whether row j is one of the rows from `at` on whose bit is set in a word: row at + i has bit i
+-- whether row j is among the rows from `at` on whose bit is set in a word: row at + i has bit i
 abbrev pub is_chosen : ℕ → ℕ → ℕ → Bool
 is_chosen at rows j = nat_le at j && bit_of rows (j - at)
 
--- the codes, of which those of the chosen rows become the ones that stand at their bits' places, and the others stay
+-- the codes after those of the chosen rows were replaced, each by the code at the index of its bit; the others stay
 abbrev pub put_codes : List ℕ → ℕ → ℕ → List ℕ → List ℕ
 put_codes old at rows codes = made (length old) (λ j. if is_chosen at rows j then slice_index codes (j - at) else slice_index old j)
 
--- the codes, of which those of the chosen rows become this one, and the others stay
+-- the codes after those of the chosen rows were replaced by this one; the others stay
 abbrev pub filled_codes : List ℕ → ℕ → ℕ → ℕ → List ℕ
 filled_codes old at rows code = made (length old) (λ j. if is_chosen at rows j then code else slice_index old j)

@@ -1,6 +1,6 @@
--- How integers become codes that keep their order: as distances from a base (frame of reference: Goldstein, Ramakrishnan
--- and Shaft, ICDE 1998), or as places among the sorted distinct values (order-preserving dictionaries: Antoshenkov, Lomet
--- and Murray, ICDE 1996).
+-- How integers become codes that keep their order: as distances from a base (frame of reference: Goldstein, Ramakrishnan and
+-- Shaft, ICDE 1998), or as indices among the sorted distinct values (order-preserving dictionaries: Antoshenkov, Lomet and
+-- Murray, ICDE 1996).
 use Rattle.std.specs.Prelude.{Bool, false, Contains, FitsSigned, List, Option, [], count_by, if◌then◌else◌, int_le, int_lt, length, max, nat_le, pos, slice_index_or, unsigned_abs, ℕ, ℤ, ◌&&◌, ◌+ℤ◌, ◌-ℤ◌, ◌-◌, ◌<◌, ◌==◌, ◌^◌, ◌↔◌, ◌∷◌, ◌≡◌, ◌≤ℤ◌}
 use Rattle.std.specs.Prelude.{All as Each, Some, None as no_code}
 use Rattle.std.specs.Cmp.Lexicographic.{pointwise}
@@ -22,23 +22,23 @@ abbrev pub kind_of : Encoding → Kind
 kind_of (by.Offset o) = kind.Offset
 kind_of (by.Dictionary entries) = kind.Dictionary
 
--- whether two encodings are one
+-- whether two encodings are the same
 abbrev pub same_encoding : Encoding → Encoding → Bool
 same_encoding (by.Offset o) (by.Offset p) = int_eq o.base p.base && o.width == p.width
 same_encoding (by.Dictionary a) (by.Dictionary b) = pointwise int_eq a b
 same_encoding (by.Offset o) (by.Dictionary b) = false
 same_encoding (by.Dictionary a) (by.Offset p) = false
 
--- how many bits a number below 2^64 has, at least one
+-- how many bits a number below 2^64 needs, at least one
 unfoldable pub bits_of : ℕ → ℕ
 bits_of n = max (64 - leading_zeros w64 n) 1
 
--- how many bits a code has: a dictionary's codes go up to the number of its entries less one
+-- the width of a code in bits: the codes of a dictionary go up to the number of its entries minus one
 abbrev pub width : Encoding → ℕ
 width (by.Offset o) = o.width
 width (by.Dictionary entries) = bits_of (length entries - 1)
 
--- how far two integers are apart
+-- the absolute difference of two integers
 abbrev pub distance : ℤ → ℤ → ℕ
 distance a b = unsigned_abs (a -ℤ b)
 
@@ -55,7 +55,7 @@ abbrev pub HasCode : Encoding → ℤ → Type 0
 HasCode (by.Offset o) x = IsWithin o x
 HasCode (by.Dictionary entries) x = Contains entries x
 
--- the code is the distance from the base, or the place of the entry
+-- the code is the distance from the base, or the index of the entry
 abbrev pub offset_code : Offset → ℤ → Option ℕ
 offset_code o x = if int_le o.base x && int_le x (top o) then Some (distance x o.base) else no_code
 
@@ -90,18 +90,18 @@ test_above Gt = All
 test_above Ge = All
 test_above _ = None
 
--- a constant below the base, above the top, or between them
+-- by whether the constant is below the base, above the top, or between them
 abbrev pub offset_test : Offset → CmpOp → ℤ → CodeTest
 offset_test o op c = if int_lt c o.base then test_above op else (if int_lt (top o) c then test_below op else Cmp op (distance c o.base))
 
--- how many entries are below an integer, and how many are not above it
+-- how many entries are below an integer, and how many are below or equal to it
 abbrev pub below : List ℤ → ℤ → ℕ
 below entries x = count_by (λ entry. int_lt entry x) entries
 
 abbrev pub upto : List ℤ → ℤ → ℕ
 upto entries x = count_by (λ entry. int_le entry x) entries
 
--- against so many entries, r of them below the constant and q of them not above it
+-- among `count` entries, r of them below the constant and q of them below or equal to it
 abbrev pub rank_test : CmpOp → ℕ → ℕ → ℕ → CodeTest
 rank_test Eq r q count = if r == q then None else Cmp Eq r
 rank_test Ne r q count = if r == q then All else Cmp Ne r
@@ -122,7 +122,7 @@ clipped_range o first last = if int_lt last first then None else (if int_eq firs
 abbrev pub offset_range : Offset → ℤ → ℤ → CodeTest
 offset_range o low high = clipped_range o (int_max low o.base) (int_min high (top o))
 
--- of so many entries, r are below the low end and q not above the high end
+-- among `count` entries, r of them below the low end and q below or equal to the high end
 abbrev pub rank_range : ℕ → ℕ → ℕ → CodeTest
 rank_range r q count = if nat_le q r then None else (if r == 0 && q == count then All else Range r (q - 1))
 
@@ -146,17 +146,17 @@ pub record SpansValues (o : Offset) (values : List ℤ) : Type 0 where
   pub ends : IsGreatest values greatest
   pub wide : o.width ≡ bits_of (distance greatest o.base)
 
--- the offset of no values has base 0 and width 1
+-- for no values the offset has base 0 and width 1
 abbrev pub IsOffsetFit : List ℤ → Offset → Type 0
 IsOffsetFit [] o = (o.base ≡ pos 0) × (o.width ≡ 1)
 IsOffsetFit (x ∷ xs) o = SpansValues o (x ∷ xs)
 
--- the entries are the values, each once, ascending
+-- the entries are the distinct values, ascending
 pub record AreDistinct (values entries : List ℤ) : Type 0 where
   pub ascending : IsAscending entries
   pub same : (x : ℤ) → (Contains entries x ↔ Contains values x)
 
--- what a list of values is encoded by
+-- which encoding a list of values gets
 abbrev pub IsFit : List ℤ → Encoding → Type 0
 IsFit values (by.Offset o) = IsOffsetFit values o
 IsFit values (by.Dictionary entries) = AreDistinct values entries
@@ -166,7 +166,7 @@ pub record AreCodes (code_for : ℤ → Option ℕ) (values : List ℤ) (codes :
   pub count : length codes ≡ length values
   pub each : (i : ℕ) → i < length values → code_for (slice_index_or values i (pos 0)) ≡ Some (slice_index_or codes i 0)
 
--- entries ascend, and their places fit 64 bits
+-- entries ascend, and their indices fit 64 bits
 pub record AreEntries (entries : List ℤ) : Type 0 where
   pub ascending : IsAscending entries
   pub few : length entries < 2 ^ 64

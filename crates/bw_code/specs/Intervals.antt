@@ -1,4 +1,4 @@
--- The codes between two codes, both of them in, or all others.
+-- The codes between two codes, both inclusive, or all others.
 use Rattle.std.specs.Prelude.{Bool, if◌then◌else◌, nat_le, not, ℕ, ◌&&◌, ◌+◌}
 use Rattle.bw_code.specs.declared.lanes.Interval.{Interval}
 use Rattle.bw_code.specs.declared.wide_lanes.WideInterval.{WideInterval}

@@ -1,4 +1,4 @@
--- A list that is made from a function of the place.
+-- A list that is made from a function of the index.
 use Rattle.std.specs.Prelude.{List, map, ℕ}
 use Rattle.std.specs.List.{range_with_len}
 

@@ -8,7 +8,7 @@ abbrev pub plain_list : PlainCodes → CodeList
 plain_list (Narrow codes) = codes
 plain_list (Wide codes) = codes
 
--- no more bytes than a code needs
+-- codes take the smaller size that holds them
 abbrev pub ArePlainCodes : PlainCodes → Type 0
 ArePlainCodes (Narrow codes) = codes.width ≤ 32
 ArePlainCodes (Wide codes) = 32 < codes.width

@@ -1,4 +1,5 @@
--- The test of two encodings is true exactly where they are one, so it is an equivalence. The laws of `PartialEq` and `Eq` cite these.
+-- Equality of two encodings is true exactly where they are the same, so it is an equivalence. The laws of `PartialEq` and `Eq`
+-- cite these.
 use Rattle.std.proofs.Common.{◌≡◌, ap, sym, ◌∙◌, refl, ◌≤◌, Bool, true, false, ◌&&◌, eqb, arith}
 use Rattle.std.proofs.Math.Bridge.{le_prop}
 use mathlib.Core.HLevel.{is_prop→PathP}
@@ -23,7 +24,7 @@ and_both true true e = (refl, refl)
 and_both true false e = absurd cc
 and_both false b e = absurd cc
 
--- the widths' bounds have one proof each
+-- any two proofs of the widths' bounds are equal
 pub same_offset : (o p : Offset) → o.base ≡ p.base → o.width ≡ p.width → o ≡ p
 same_offset o p e f = λ i. record {
   base = e i;

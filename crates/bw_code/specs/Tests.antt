@@ -6,7 +6,7 @@ use Rattle.bw_code.specs.declared.compare.CmpOp.TheVariants.{Eq, Ne, Lt, Le, Gt,
 use Rattle.bw_code.specs.declared.compare.CodeTest.{CodeTest}
 use Rattle.bw_code.specs.declared.compare.CodeTest.TheVariants.{None, All, Cmp, Range}
 
--- whether two codes compare so
+-- whether two codes satisfy a comparison
 abbrev pub code_compares : CmpOp → ℕ → ℕ → Bool
 code_compares Eq x y = x == y
 code_compares Ne x y = not (x == y)
@@ -15,7 +15,7 @@ code_compares Le x y = nat_le x y
 code_compares Gt x y = nat_lt y x
 code_compares Ge x y = nat_le y x
 
--- whether two integers compare so
+-- whether two integers satisfy a comparison
 abbrev pub int_compares : CmpOp → ℤ → ℤ → Bool
 int_compares Eq x y = int_eq x y
 int_compares Ne x y = not (int_eq x y)
@@ -31,7 +31,7 @@ meets All code = true
 meets (Cmp op constant) code = code_compares op code constant
 meets (Range low high) code = nat_le low code && nat_le code high
 
--- the codes in a test have so many bits
+-- the codes in a test fit the width
 abbrev pub TestFits : ℕ → CodeTest → Type 0
 TestFits bits None = ⊤
 TestFits bits All = ⊤

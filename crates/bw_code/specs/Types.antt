@@ -8,7 +8,7 @@ use Rattle.bw_code.specs.declared.header.Header.{Header}
 use Rattle.bw_code.specs.declared.kind.Layout.{Layout}
 use Rattle.bw_code.specs.declared.kind.Layout.TheVariants.{H, P, S, V}
 
--- the greatest; the least is one more below 0
+-- the greatest integer of the type; the least is -(greatest + 1)
 abbrev pub greatest_of : ColumnType → ℕ
 greatest_of Integer = 2147483647
 greatest_of BigInt = 9223372036854775807
@@ -21,7 +21,7 @@ abbrev pub IsNullOrOfType : ColumnType → Option ℤ → Type 0
 IsNullOrOfType t None = ⊤
 IsNullOrOfType t (Some x) = IsOfType t x
 
--- the same, as a test
+-- the same, as a Boolean
 abbrev pub is_of_type : ColumnType → ℤ → Bool
 is_of_type t x = int_le (negsuc (greatest_of t)) x && int_le x (pos (greatest_of t))
 
@@ -33,13 +33,13 @@ is_null_or_of_type t (Some x) = is_of_type t x
 abbrev pub IsRowOf : List ColumnType → List (Option ℤ) → Type 0
 IsRowOf types row = AllZip IsNullOrOfType types row
 
--- whether each value of a row is of its column's type, as far as both go
+-- whether each value of a row is of its column's type, up to the end of the shorter list
 abbrev pub are_of_types : List ColumnType → List (Option ℤ) → Bool
 are_of_types [] row = true
 are_of_types (t ∷ types) [] = true
 are_of_types (t ∷ types) (value ∷ row) = is_null_or_of_type t value && are_of_types types row
 
--- whether a column of a type may lie in a layout: in BitWeaving/H none of BIGINT
+-- whether a column of a type may have a layout: BitWeaving/H holds no BIGINT column
 abbrev pub holds : Layout → ColumnType → Bool
 holds H Integer = true
 holds H BigInt = false
@@ -47,13 +47,13 @@ holds P t = true
 holds V t = true
 holds S t = true
 
--- whether the layout that a header says holds the type that it says
+-- whether the layout of a header holds the header's type
 abbrev pub holds_its_type : {N : Type 0} → Header N → Bool
 holds_its_type header = holds header.layout header.column_type
 
 abbrev pub types_of : {N : Type 0} → List (Header N) → List ColumnType
 types_of headers = map (λ header. header.column_type) headers
 
--- the cells of a column are of the type that its header says
+-- the cells of a column are of its header's type
 abbrev pub IsTyped : {N : Type 0} → Header N → List (Option ℤ) → Type 0
 IsTyped header cells = All (IsNullOrOfType header.column_type) cells

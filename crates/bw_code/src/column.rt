@@ -24,21 +24,21 @@ pub trait CodeColumn: Sized {
     /// The greatest width of the layout.
     const WIDEST: u32;
 
-    /// A column without codes.
+    /// An empty column.
     fn with_width(alloc: Global, width: u32) -> Result<Self, AllocError>
         requires some { 1 ≤ width }
         requires narrow { width ≤ WIDEST }
         ensures width { IfOk result (λ column. (seen column).width ≡ width) }
         ensures codes { IfOk result (λ column. (seen column).codes ≡ []) };
 
-    /// Makes room for so many codes more. The codes stay as they are, also where memory is wanting.
+    /// Makes room for `more` further codes. The codes stay as they are, also where it runs out of memory.
     fn reserve(&mut self, more: usize) -> Result<(), AllocError>
         requires { count (seen self.old) + more ≤ 2 ^ 24 }
         ensures room { OnOk result (count (seen self.old) + more ≤ (seen self.new).room) }
         ensures shape { KeepsShape (seen self.new) (seen self.old) }
         ensures codes { (seen self.new).codes ≡ (seen self.old).codes };
 
-    /// Adds a code at the end, within the room.
+    /// Appends a code, within the room.
     fn push(&mut self, code: u64)
         requires fits { code < 2 ^ (seen self.old).width }
         requires room { count (seen self.old) < (seen self.old).room }
@@ -46,7 +46,7 @@ pub trait CodeColumn: Sized {
         ensures shape { KeepsShape (seen self.new) (seen self.old) }
         ensures codes { (seen self.new).codes ≡ (seen self.old).codes ++ code ∷ [] };
 
-    /// Adds codes at the end, within the room.
+    /// Appends codes, within the room.
     fn extend(&mut self, codes: &[u64])
         requires fit { Fit (seen self.old).width codes.now }
         requires room { count (seen self.old) + length codes.now ≤ (seen self.old).room }
@@ -54,12 +54,12 @@ pub trait CodeColumn: Sized {
         ensures shape { KeepsShape (seen self.new) (seen self.old) }
         ensures codes { (seen self.new).codes ≡ (seen self.old).codes ++ codes.now };
 
-    /// How many codes there are.
+    /// The number of codes.
     fn len(&self) -> usize
         ensures count { result ≡ count (seen self.now) }
         ensures few { result ≤ 2 ^ 24 };
 
-    /// How many bits a code has. All codes fit them.
+    /// The width of a code in bits. All codes fit it.
     fn width(&self) -> u32
         ensures width { result ≡ (seen self.now).width }
         ensures fit { Fit (seen self.now).width (seen self.now).codes }
@@ -72,15 +72,15 @@ pub trait CodeColumn: Sized {
         ensures code { result ≡ code_at (seen self.now) i }
         ensures fits { result < 2 ^ (seen self.now).width };
 
-    /// Puts a code in place i.
+    /// Replaces code i.
     fn set(&mut self, i: usize, code: u64)
         requires there { i < count (seen self.old) }
         requires fits { code < 2 ^ (seen self.old).width }
         ensures shape { KeepsShape (seen self.new) (seen self.old) }
         ensures codes { (seen self.new).codes ≡ slice_set (seen self.old).codes i code };
 
-    /// Puts codes at some of at most 64 rows from row `at` on, which is the first of a word's: row at + i takes code i where
-    /// bit i of the word is set. Every other row keeps its code.
+    /// Writes codes to some of at most 64 rows from row `at` on, the first row of a word: row at + i takes code i where
+    /// bit i of `rows` is set. Every other row keeps its code.
     fn put_run(&mut self, at: usize, rows: u64, codes: &[u64])
         requires word { at % 64 ≡ 0 }
         requires few { length codes.now ≤ 64 }
@@ -97,8 +97,8 @@ pub trait CodeColumn: Sized {
         }
     }
 
-    /// Puts one code at some of 64 rows from row `at` on, which is the first of a word's: at row at + i where bit i of the
-    /// word is set. Every other row keeps its code.
+    /// Writes one code to some of 64 rows from row `at` on, the first row of a word: to row at + i where bit i of
+    /// `rows` is set. Every other row keeps its code.
     fn fill_run(&mut self, at: usize, rows: u64, code: u64)
         requires word { at % 64 ≡ 0 }
         requires inside { at ≤ count (seen self.old) }
@@ -120,7 +120,7 @@ pub trait CodeColumn: Sized {
         ensures codes { out.new ≡ take (length out.old) (drop at (seen self.now).codes) }
         ensures fit { Fit (seen self.now).width out.new };
 
-    /// `out` becomes the rows whose code has bit i. Bit 0 is the lowest.
+    /// `out` becomes the rows whose code has bit i set. Bit 0 is the lowest.
     fn plane(&self, i: u32, out: &mut Mask)
         requires bit { i < (seen self.now).width }
         requires out { len out.old ≡ count (seen self.now) }
@@ -137,8 +137,8 @@ pub trait CodeColumn: Sized {
         ensures rows { (r : ℕ) → row_at out.new r ≡ (row_at need.now r && meets test (code_at (seen self.now) r)) }
         ensures units { meter.new ≡ raised meter.old (units_of_scan layout (seen self.now).width test (row_at need.now) (seen self.now).codes) };
 
-    /// `out` becomes the needed rows whose codes in both columns compare so, this column's on the left. The units that
-    /// this reads of both in their layout are added to the meter.
+    /// `out` becomes the needed rows whose codes in both columns satisfy the comparison, this column's on the left. The
+    /// units that this reads of both in their layout are added to the meter.
     fn scan_pair(&self, other: &Self, op: CmpOp, need: &Mask, out: &mut Mask, meter: &mut Meter)
         requires width { (seen other.now).width ≡ (seen self.now).width }
         requires other { count (seen other.now) ≡ count (seen self.now) }

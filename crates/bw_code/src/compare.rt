@@ -3,7 +3,7 @@
 ghost use Rattle.std.specs.Prelude.{◌≡◌};
 ghost use Rattle.bw_code.specs.Tests.{code_compares, int_compares, meets};
 
-/// How two numbers compare.
+/// A comparison of two numbers.
 #[derive(Clone, Copy, Debug, PartialEq, Eq)]
 pub enum CmpOp {
     /// They are equal.
@@ -12,16 +12,16 @@ pub enum CmpOp {
     Ne,
     /// The first is below the second.
     Lt,
-    /// The first is not above the second.
+    /// The first is below or equal to the second.
     Le,
     /// The first is above the second.
     Gt,
-    /// The first is not below the second.
+    /// The first is above or equal to the second.
     Ge,
 }
 
 impl CmpOp {
-    /// Whether two codes compare so.
+    /// Whether two codes satisfy the comparison.
     pub fn compares(self, x: u64, y: u64) -> bool
         ensures { result ≡ code_compares self x y }
     {
@@ -35,7 +35,7 @@ impl CmpOp {
         }
     }
 
-    /// Whether two integers compare so.
+    /// Whether two integers satisfy the comparison.
     pub fn compares_integers(self, left: i64, right: i64) -> bool
         ensures { result ≡ int_compares self left right }
     {
@@ -57,9 +57,9 @@ pub enum CodeTest {
     None,
     /// Every code meets it.
     All,
-    /// The codes that compare so with this one.
+    /// The codes that satisfy the comparison with this one.
     Cmp(CmpOp, u64),
-    /// The codes from the first to the second, both of them in.
+    /// The codes from the first to the second, both inclusive.
     Range(u64, u64),
 }
 

@@ -1,5 +1,5 @@
-//! Encoding by the place among sorted distinct values: order-preserving dictionaries (Antoshenkov, Lomet and Murray,
-//! ICDE 1996).
+//! Encoding by the index among the sorted distinct values: order-preserving dictionaries (Antoshenkov, Lomet and
+//! Murray, ICDE 1996).
 
 ghost use Rattle.std.specs.Bool.{OnTrue};
 ghost use Rattle.std.specs.Prelude.{◌≡◌, ◌<◌, ◌≤◌, ◌-◌, IfOk, List, ℤ, length, pos, slice_index_or, All, Contains, IsSome, IsTrue, ◌↔◌};
@@ -11,7 +11,7 @@ use crate::width::width_of;
 use std::alloc::{AllocError, Global};
 use std::marker::Model;
 
-/// An encoding by the place among sorted distinct values.
+/// An encoding by the index among the sorted distinct values.
 #[derive(Debug, Drop)]
 pub struct Dictionary {
     entries: Vec<i64>,
@@ -49,7 +49,7 @@ impl Eq for Dictionary {
 impl Dictionary {
     ghost use Rattle.bw_code.specs.Encodings.{below, bits_of, entry_code, rank_range, rank_test, upto, AreCodes, AreDistinct, AreEntries};
 
-    /// The distinct values among these.
+    /// The dictionary of the distinct values among these.
     pub(crate) fn of_values(alloc: Global, values: &[i64]) -> Result<Dictionary, AllocError>
         ensures { IfOk result (AreDistinct values.now) }
     {
@@ -60,7 +60,7 @@ impl Dictionary {
         Ok(Dictionary { entries })
     }
 
-    /// The values that have a code, ascending. The place of each is its code.
+    /// The values that have a code, ascending. The index of each is its code.
     pub fn entries(&self) -> &[i64]
         ensures is { result.now ≡ self.now }
         ensures ascending { IsAscending self.now }
@@ -68,7 +68,7 @@ impl Dictionary {
         &self.entries
     }
 
-    /// How many bits a code has: as many as the last place needs, at least one.
+    /// The width of a code in bits: the least, at least one, that holds the last index.
     pub(crate) fn width(&self) -> u32
         ensures is { result ≡ bits_of (length self.now - 1) }
         ensures entries { AreEntries self.now }
@@ -85,7 +85,7 @@ impl Dictionary {
         self.entries.as_slice().partition_point(|entry| *entry < x) as u64
     }
 
-    /// How many entries are not above an integer.
+    /// How many entries are below or equal to an integer.
     fn upto(&self, x: i64) -> u64
         ensures { result ≡ upto self.now x }
     {
@@ -104,8 +104,8 @@ impl Dictionary {
         }
     }
 
-    /// Writes each value's code to its place up to the first value that has none, and answers whether every value has
-    /// one.
+    /// Writes the code of each value to `codes` at the same index, up to the first value that has none, and returns
+    /// whether every value has one.
     pub(crate) fn encode_all(&self, values: &[i64], codes: &mut [u64]) -> bool
         requires { length codes.old ≡ length values.now }
         ensures all { IsTrue result ↔ All (Contains self.now) values.now }
@@ -129,7 +129,7 @@ impl Dictionary {
         self.entries[code as usize]
     }
 
-    /// The test that the codes of those values meet which compare so with the constant.
+    /// The test met by exactly the codes of those values that satisfy the comparison with the constant.
     pub(crate) fn test(&self, op: CmpOp, constant: i64) -> CodeTest
         ensures is { result ≡ rank_test op (below self.now constant) (upto self.now constant) (length self.now) }
         ensures entries { AreEntries self.now }
@@ -138,7 +138,7 @@ impl Dictionary {
         rank_test(op, self.below(constant), self.upto(constant), count)
     }
 
-    /// The test that the codes of the values from `low` to `high` meet.
+    /// The test met by exactly the codes of the values from `low` to `high`.
     pub(crate) fn range(&self, low: i64, high: i64) -> CodeTest
         ensures is { result ≡ rank_range (below self.now low) (upto self.now high) (length self.now) }
         ensures entries { AreEntries self.now }

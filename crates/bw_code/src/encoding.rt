@@ -16,7 +16,7 @@ use std::alloc::{AllocError, Global};
 pub enum Encoding {
     /// As distances from a base.
     Offset(Offset),
-    /// As places among sorted distinct values.
+    /// As indices among the sorted distinct values.
     Dictionary(Dictionary),
 }
 
@@ -43,7 +43,7 @@ impl Eq for Encoding {
 }
 
 impl Encoding {
-    /// The kind.
+    /// The kind of the encoding.
     pub fn kind(&self) -> Kind
         ensures { result ≡ kind_of self.now }
     {
@@ -53,7 +53,7 @@ impl Encoding {
         }
     }
 
-    /// How many bits a code has.
+    /// The width of a code in bits.
     pub fn width(&self) -> u32
         ensures is { result ≡ width self.now }
         ensures sound { IsEncoding self.now }
@@ -79,8 +79,8 @@ impl Encoding {
         }
     }
 
-    /// Writes each value's code to its place in `codes`, and answers whether every value has one. Where one has none,
-    /// nothing is said of what `codes` holds.
+    /// Writes the code of each value to `codes` at the same index, and returns whether every value has one. If not, the
+    /// content of `codes` is unspecified.
     pub fn encode_all(&self, values: &[i64], codes: &mut [u64]) -> bool
         requires { length codes.old ≡ length values.now }
         ensures all { IsTrue result ↔ All (HasCode self.now) values.now }
@@ -104,7 +104,7 @@ impl Encoding {
         }
     }
 
-    /// The test that the codes of those values meet which compare so with the constant.
+    /// The test met by exactly the codes of those values that satisfy the comparison with the constant.
     pub fn test(&self, op: CmpOp, constant: i64) -> CodeTest
         ensures is { result ≡ test_of self.now op constant }
         ensures fits { TestFits (width self.now) result }
@@ -116,7 +116,7 @@ impl Encoding {
         }
     }
 
-    /// The test that the codes of the values from `low` to `high` meet, both ends in.
+    /// The test met by exactly the codes of the values from `low` to `high`, both inclusive.
     pub fn range(&self, low: i64, high: i64) -> CodeTest
         ensures is { result ≡ range_of self.now low high }
         ensures fits { TestFits (width self.now) result }

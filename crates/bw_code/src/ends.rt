@@ -11,7 +11,7 @@ pub struct Ends {
     pub greatest: i64,
 }
 
-/// The least and the greatest of some values.
+/// The least and the greatest of a non-empty list of values.
 fn ends_of_some(values: &[i64]) -> Ends
     requires { 0 < length values.now }
     ensures least { IsLeast values.now result.least }
@@ -26,7 +26,7 @@ fn ends_of_some(values: &[i64]) -> Ends
     Ends { least, greatest }
 }
 
-/// The ends of the values, if there are any.
+/// The least and the greatest of the values, if there are any.
 pub(crate) fn ends_of(values: &[i64]) -> Option<Ends>
     ensures { AreEnds values.now result }
 {

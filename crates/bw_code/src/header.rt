@@ -1,9 +1,9 @@
-//! What a column of a table is called, and how it is kept.
+//! The name of a column, and how it is kept.
 
 use crate::kind::{ColumnType, Kind, Layout};
 
-/// A column of a table: its name, which integers it holds, how its codes lie in memory, and how its values become codes. A
-/// name is whatever the layer above takes for one.
+/// A column of a table: its name, which integers it holds, how its codes lie in memory, and how its values become
+/// codes. What a name is, is left to the layer above.
 #[derive(Debug, Drop)]
 pub struct Header<N> {
     pub name: N,

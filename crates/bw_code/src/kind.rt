@@ -8,21 +8,21 @@ ghost use Rattle.bw_code.specs.Types.{holds, is_of_type};
 pub enum Kind {
     /// A value's distance from the least one.
     Offset,
-    /// A value's place among the distinct values in ascending order.
+    /// A value's index among the distinct values in ascending order.
     Dictionary,
 }
 
-/// Which integers a column holds, beside NULL.
+/// Which integers a column holds, besides NULL.
 #[derive(Clone, Copy, Debug, PartialEq, Eq)]
 pub enum ColumnType {
-    /// Those of 32 bits.
+    /// 32-bit signed integers.
     Integer,
-    /// Those of 64 bits.
+    /// 64-bit signed integers.
     BigInt,
 }
 
 impl ColumnType {
-    /// Whether the integer is one of the type.
+    /// Whether the type contains the integer.
     pub fn contains(self, value: i64) -> bool
         ensures { result ≡ is_of_type self value }
     {
@@ -47,7 +47,8 @@ pub enum Layout {
 }
 
 impl Layout {
-    /// Whether a column of the type may lie in this layout: H has codes of at most 32 bits, and so holds no BIGINT.
+    /// Whether a column of the type may have this layout: H has codes of at most 32 bits, so it cannot hold a BIGINT
+    /// column.
     pub fn holds(self, column_type: ColumnType) -> bool
         ensures { result ≡ holds self column_type }
     {

@@ -40,7 +40,7 @@ impl Interval {
         }
     }
 
-    /// The codes of 32 bits that meet a test.
+    /// The 32-bit codes that meet a test.
     pub(crate) fn of(test: CodeTest) -> Interval
         requires { TestFits 32 test }
         ensures { (code : ℕ) → code < 2 ^ 32 → is_in result code ≡ meets test code }
@@ -70,7 +70,7 @@ impl Interval {
         }
     }
 
-    /// Bit i says whether the i-th of the first 64 codes is in.
+    /// Bit i says whether the i-th of the first 64 codes is in the interval.
     pub(crate) fn rows(self, codes: &[u32]) -> u64
         requires { 64 ≤ length codes.now }
         ensures { (i : ℕ) → i < 64 → bit_of result i ≡ is_in self (slice_index codes.now i) }
@@ -86,13 +86,13 @@ fn between(codes: &[u32], low: u32, span: u32) -> u64
     requires ends { low + span < 2 ^ 32 }
     ensures { (i : ℕ) → i < 64 → bit_of result i ≡ (nat_le low (slice_index codes.now i) && nat_le (slice_index codes.now i) (low + span)) }
 {
-    // A code below `low` is by now above each span.
+    // A code below `low` wraps around to more than any span.
     (u32x64::from_slice(codes) - u32x64::splat(low))
         .simd_le(u32x64::splat(span))
         .to_bitmask()
 }
 
-/// Bit i says whether the i-th of the first 64 codes and that of the others compare so.
+/// Bit i says whether the i-th of the first 64 codes and of the first 64 others satisfy the comparison.
 pub(crate) fn compared(op: CmpOp, codes: &[u32], others: &[u32]) -> u64
     requires long { 64 ≤ length codes.now }
     requires other { 64 ≤ length others.now }
@@ -109,7 +109,7 @@ pub(crate) fn compared(op: CmpOp, codes: &[u32], others: &[u32]) -> u64
     }
 }
 
-/// Bit r says whether the r-th of the first 64 codes has bit i.
+/// Bit r says whether the r-th of the first 64 codes has bit i set.
 pub(crate) fn rows_with_bit(codes: &[u32], i: u32) -> u64
     requires long { 64 ≤ length codes.now }
     requires bit { i < 32 }
@@ -120,7 +120,7 @@ pub(crate) fn rows_with_bit(codes: &[u32], i: u32) -> u64
         .to_bitmask()
 }
 
-/// The codes, and zeros behind them.
+/// The codes, padded with zeros.
 pub(crate) fn filled_up(codes: &[u32]) -> [u32; 64]
     requires { length codes.now ≤ 64 }
     ensures { (i : ℕ) → slice_index result i ≡ slice_index codes.now i }
@@ -132,7 +132,7 @@ pub(crate) fn filled_up(codes: &[u32]) -> [u32; 64]
     block
 }
 
-/// The codes as numbers of 32 bits.
+/// The codes as 32-bit numbers.
 pub(crate) fn narrow(codes: &[u64], out: &mut [u32])
     requires long { length out.old ≡ length codes.now }
     requires fit { All (λ code. code < 2 ^ 32) codes.now }
@@ -143,7 +143,7 @@ pub(crate) fn narrow(codes: &[u64], out: &mut [u32])
     }
 }
 
-/// Fills `out` with the first codes, as numbers of 64 bits.
+/// Fills `out` with the first codes, as 64-bit numbers.
 pub(crate) fn widen(codes: &[u32], out: &mut [u64])
     requires { length out.old ≤ length codes.now }
     ensures { out.new ≡ take (length out.old) codes.now }

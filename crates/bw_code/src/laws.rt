@@ -5,7 +5,7 @@ ghost use Rattle.std.specs.Int.{w64};
 ghost use Rattle.bw_code.specs.Encodings.{HasCode, IsEncoding, IsFit, bits_of, code_of, kind_of, same_encoding, value_of, width};
 ghost use Rattle.bw_code.specs.declared.encoding.Encoding.{Encoding};
 
-/// A code of so many bits gives its value back, and stands for no other one.
+/// A code of the encoding's width decodes to a value whose code it is, and is the code of no other value.
 pub fn codes_of_values()
     ensures coded { (e : Encoding) → IsEncoding e → (x : ℤ) → (IsSome (code_of e x) ↔ HasCode e x) }
     ensures low { (e : Encoding) → IsEncoding e → (x : ℤ) (code : ℕ) → code_of e x ≡ Some code → code < 2 ^ width e }
@@ -24,12 +24,12 @@ pub fn fits_of_values()
     ensures one_fit { (values : List ℤ) (d e : Encoding) → IsFit values d → IsFit values e → kind_of d ≡ kind_of e → d ≡ e }
 {}
 
-/// `==` of two encodings is true exactly where they are one.
+/// `==` of two encodings is true exactly where they are the same.
 pub fn equal_encodings()
     ensures { (d e : Encoding) → IsTrue (same_encoding d e) ↔ (d ≡ e) }
 {}
 
-/// The number of bits of a number is the least, from one on, that holds it.
+/// The number of bits of a number is the least, at least one, that holds it.
 pub fn bits_of_numbers()
     ensures some { (n : ℕ) → n < 2 ^ 64 → 1 ≤ bits_of n }
     ensures holds { (n : ℕ) → n < 2 ^ 64 → n < 2 ^ bits_of n }

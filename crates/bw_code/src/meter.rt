@@ -1,4 +1,4 @@
-//! A meter of units.
+//! A meter of units read.
 
 ghost use Rattle.std.specs.Prelude.{◌≡◌};
 ghost use Rattle.bw_code.specs.Meters.{raised};
@@ -20,21 +20,21 @@ impl Model for Meter {
 }
 
 impl Meter {
-    /// A meter of no units.
+    /// A meter at 0.
     pub fn new() -> Meter
         ensures { result ≡ 0 }
     {
         Meter { units: 0 }
     }
 
-    /// How many units there are.
+    /// The number of units.
     pub fn units(&self) -> u64
         ensures { result ≡ self.now }
     {
         self.units
     }
 
-    /// Adds units. Where the sum is more than a u64 holds, the meter stands at the greatest u64.
+    /// Adds units. Saturates at the greatest u64.
     pub fn add(&mut self, units: u64)
         ensures { self.new ≡ raised self.old units }
     {

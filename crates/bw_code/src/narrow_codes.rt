@@ -132,7 +132,8 @@ impl NarrowCodes {
     ghost use Rattle.bw_code.specs.Columns.{code_at, count};
     ghost use Rattle.bw_code.specs.Shifts.{shifted, StaysBelow};
 
-    /// Counts the code of each of the rows from another base, and makes all codes ones of so many bits. Takes no memory.
+    /// Changes the base of the code of each row in `rows` from `from` to `to`, and the width of all codes to `width`.
+    /// Takes no memory.
     pub(crate) fn shift(&mut self, rows: &Mask, from: i64, to: i64, width: u32)
         requires some { 1 ≤ width }
         requires narrow { width ≤ 32 }
@@ -147,7 +148,7 @@ impl NarrowCodes {
     }
 }
 
-/// Puts codes last, within the capacity.
+/// Appends codes, within the capacity.
 fn append(kept: &mut Vec<u32>, codes: &[u64])
     requires fit { All (λ code. code < 2 ^ 32) codes.now }
     requires room { vec_len kept.old + length codes.now ≤ vec_capacity kept.old }
@@ -161,7 +162,7 @@ fn append(kept: &mut Vec<u32>, codes: &[u64])
     lanes::narrow(codes, &mut kept[len..]);
 }
 
-/// The units of a scan: one for each needed row, where codes are looked at.
+/// The units of a scan: one for each needed row, if the test has to read codes.
 pub(crate) fn units(test: CodeTest, need: &Mask) -> u64
     ensures { (width : ℕ) (codes : List ℕ) → length codes ≡ len need.now → result ≡ units_of_scan layouts.P width test (row_at need.now) codes }
 {
@@ -171,7 +172,7 @@ pub(crate) fn units(test: CodeTest, need: &Mask) -> u64
     }
 }
 
-/// The needed ones of 64 rows whose codes are in the interval.
+/// Which of 64 rows are needed and have codes in the interval.
 fn chosen(codes: &[u32], interval: Interval, needed: u64) -> u64
     requires { 64 ≤ length codes.now }
     ensures { (i : ℕ) → i < 64 → bit_of result i ≡ (bit_of needed i && is_in interval (slice_index codes.now i)) }
@@ -201,7 +202,7 @@ fn rows_in(codes: &[u32], interval: Interval, need: &Mask, out: &mut Mask)
     out.put_word(blocks, found);
 }
 
-/// `out` becomes the rows whose code has bit i.
+/// `out` becomes the rows whose code has bit i set.
 fn rows_with_bit(codes: &[u32], i: u32, out: &mut Mask)
     requires few { length codes.now ≤ 2 ^ 24 }
     requires bit { i < 32 }

@@ -8,13 +8,13 @@ use crate::compare::{CmpOp, CodeTest};
 use crate::ends::{Ends, ends_of};
 use crate::width::width_of;
 
-/// An encoding by the distance from a base. A value has a code from the base on up to base + 2^width - 1, which may
-/// lie above every i64.
+/// An encoding by the distance from a base. The values from the base to base + 2^width - 1 have a code; this greatest
+/// value may be above every i64.
 #[derive(Clone, Copy, Debug, PartialEq, Eq)]
 pub struct Offset {
     /// The value whose code is 0.
     pub base: i64,
-    /// How many bits a code has: 1 to 64.
+    /// The width of a code in bits: 1 to 64.
     pub width: u32,
     ghost some: { 1 ≤ width },
     ghost few: { width ≤ 64 },
@@ -44,7 +44,7 @@ impl Offset {
         }
     }
 
-    /// The offset that spans the values which have these ends.
+    /// The offset encoding that spans values between these ends.
     pub fn spanning(ends: Option<Ends>) -> Offset
         ensures fits { (values : List ℤ) → AreEnds values ends → IsOffsetFit values result }
         ensures coded { (values : List ℤ) → AreEnds values ends → All (IsWithin result) values }
@@ -58,7 +58,7 @@ impl Offset {
         }
     }
 
-    /// The offset that spans the values.
+    /// The offset encoding that spans the values.
     pub(crate) fn of_values(values: &[i64]) -> Offset
         ensures fits { IsOffsetFit values.now result }
         ensures coded { All (IsWithin result) values.now }
@@ -85,7 +85,7 @@ impl Offset {
         }
     }
 
-    /// Writes each value's code to its place, and answers whether every value has one.
+    /// Writes the code of each value to `codes` at the same index, and returns whether every value has one.
     pub(crate) fn encode_all(self, values: &[i64], codes: &mut [u64]) -> bool
         requires { length codes.old ≡ length values.now }
         ensures all { IsTrue result ↔ All (IsWithin self) values.now }
@@ -93,7 +93,7 @@ impl Offset {
     {
         let largest = self.largest_code();
         let mut all = true;
-        // No branch a value, so that values are taken side by side.
+        // No branch per value, so that the loop can be vectorized.
         for i in 0..values.len() {
             let code = values[i].abs_diff(self.base);
             codes[i] = code;
@@ -110,7 +110,7 @@ impl Offset {
         self.base.wrapping_add_unsigned(code)
     }
 
-    /// The test that the codes of those values meet which compare so with the constant.
+    /// The test met by exactly the codes of those values that satisfy the comparison with the constant.
     pub(crate) fn test(self, op: CmpOp, constant: i64) -> CodeTest
         ensures { result ≡ offset_test self op constant }
     {
@@ -125,7 +125,7 @@ impl Offset {
         }
     }
 
-    /// The test that the codes of the values from `low` to `high` meet.
+    /// The test met by exactly the codes of the values from `low` to `high`.
     pub(crate) fn range(self, low: i64, high: i64) -> CodeTest
         ensures { result ≡ offset_range self low high }
     {

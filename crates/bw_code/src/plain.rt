@@ -13,14 +13,14 @@ use bw_mask::Mask;
 use std::alloc::{AllocError, Global};
 use std::marker::Model;
 
-/// Codes of 4 bytes each, or of 8.
+/// Codes of 4 bytes each, or of 8 bytes each.
 #[derive(Drop)]
 pub(crate) enum PlainCodes {
     Narrow(NarrowCodes),
     Wide(WideCodes),
 }
 
-/// A plain list of codes: of 4 bytes each where they have at most 32 bits, and else of 8.
+/// A plain list of codes: of 4 bytes each where they have at most 32 bits, else of 8.
 #[derive(Drop)]
 pub struct PlainColumn {
     codes: PlainCodes,
@@ -159,8 +159,8 @@ impl PlainColumn {
     ghost use Rattle.bw_code.specs.Columns.{code_at, count};
     ghost use Rattle.bw_code.specs.Shifts.{shifted, StaysBelow};
 
-    /// Counts the code of each of the rows from another base, and makes all codes ones of so many bits, which take as many bytes as
-    /// before. Takes no memory.
+    /// Changes the base of the code of each row in `rows` from `from` to `to`, and the width of all codes to `width`;
+    /// they take as many bytes as before. Takes no memory.
     pub fn shift(&mut self, rows: &Mask, from: i64, to: i64, width: u32)
         requires some { 1 ≤ width }
         requires narrow { width ≤ 64 }

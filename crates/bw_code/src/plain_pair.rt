@@ -1,4 +1,4 @@
-//! Two plain lists of codes compared row by row, 64 rows at a time.
+//! Comparing two plain lists of codes row by row, 64 rows at a time.
 
 ghost use Rattle.std.specs.Prelude.{List, length, slice_index, ℕ, ◌&&◌, ◌<◌, ◌^◌, ◌≡◌, ◌≤◌};
 ghost use Rattle.bw_mask.specs.Masks.{bit_of, len, row_at, SameShape};
@@ -10,7 +10,7 @@ use crate::compare::CmpOp;
 use crate::lanes::{compared, filled_up};
 use bw_mask::Mask;
 
-/// The needed ones of 64 rows whose codes compare so.
+/// Which of 64 rows are needed and have codes that satisfy the comparison.
 fn chosen(op: CmpOp, codes: &[u32], others: &[u32], needed: u64) -> u64
     requires long { 64 ≤ length codes.now }
     requires other { 64 ≤ length others.now }
@@ -23,7 +23,7 @@ fn chosen(op: CmpOp, codes: &[u32], others: &[u32], needed: u64) -> u64
     }
 }
 
-/// `out` becomes the needed rows whose codes compare so.
+/// `out` becomes the needed rows whose codes satisfy the comparison.
 pub(crate) fn compare_rows(op: CmpOp, codes: &[u32], others: &[u32], need: &Mask, out: &mut Mask)
     requires few { length codes.now ≤ 2 ^ 24 }
     requires other { length others.now ≡ length codes.now }
@@ -44,7 +44,7 @@ pub(crate) fn compare_rows(op: CmpOp, codes: &[u32], others: &[u32], need: &Mask
     out.put_word(blocks, found);
 }
 
-/// The units of a scan of two lists: one of each for each needed row.
+/// The units of a scan of two lists: one of each list for each needed row.
 pub(crate) fn units(need: &Mask) -> u64
     requires { len need.now ≤ 2 ^ 24 }
     ensures { (width : ℕ) (codes others : List ℕ) → length codes ≡ len need.now → result ≡ units_of_pair layouts.P width (row_at need.now) codes others }

@@ -1,4 +1,4 @@
-//! Plain codes put at some of 64 rows.
+//! Writing plain codes to some of 64 rows.
 
 ghost use Rattle.std.specs.Prelude.{All, false, if◌then◌else◌, length, slice_index, true, ℕ, ◌+◌, ◌<◌, ◌^◌, ◌≡◌, ◌≤◌};
 ghost use Rattle.bw_mask.specs.Masks.{bit_of};
@@ -6,7 +6,7 @@ ghost use Rattle.bw_code.specs.Columns.{filled_codes, put_codes};
 
 use bw_mask::has_bit;
 
-/// Puts codes as numbers of 32 bits, each where its bit is set. The others stay.
+/// Writes codes as 32-bit numbers, each where its bit is set. The others stay.
 fn put_chosen(kept: &mut [u32], rows: u64, codes: &[u64])
     requires few { length codes.now ≤ 64 }
     requires long { length kept.old ≡ length codes.now }
@@ -14,7 +14,7 @@ fn put_chosen(kept: &mut [u32], rows: u64, codes: &[u64])
     ensures long { length kept.new ≡ length kept.old }
     ensures each { (i : ℕ) → i < length kept.old → slice_index kept.new i ≡ (if bit_of rows i then slice_index codes.now i else slice_index kept.old i) }
 {
-    // No branch a code, so that codes are taken side by side.
+    // No branch per code, so that the loop can be vectorized.
     for i in 0..kept.len() {
         let own = kept[i];
         kept[i] = if has_bit(rows, i) {
@@ -25,20 +25,20 @@ fn put_chosen(kept: &mut [u32], rows: u64, codes: &[u64])
     }
 }
 
-/// Puts one code wherever a bit is set. The others stay.
+/// Writes one code wherever a bit is set. The others stay.
 fn fill_chosen(kept: &mut [u32], rows: u64, code: u32)
     requires few { length kept.old ≤ 64 }
     ensures long { length kept.new ≡ length kept.old }
     ensures each { (i : ℕ) → i < length kept.old → slice_index kept.new i ≡ (if bit_of rows i then code else slice_index kept.old i) }
 {
-    // No branch a code, so that codes are taken side by side.
+    // No branch per code, so that the loop can be vectorized.
     for i in 0..kept.len() {
         let own = kept[i];
         kept[i] = if has_bit(rows, i) { code } else { own };
     }
 }
 
-/// Row at + i takes code i where bit i of the word is set.
+/// Row at + i takes code i where bit i of `rows` is set.
 pub(crate) fn put_run(kept: &mut [u32], at: usize, rows: u64, codes: &[u64])
     requires few { length codes.now ≤ 64 }
     requires there { at + length codes.now ≤ length kept.old }
@@ -50,7 +50,7 @@ pub(crate) fn put_run(kept: &mut [u32], at: usize, rows: u64, codes: &[u64])
     put_chosen(block, rows, codes);
 }
 
-/// Row at + i takes the code where bit i of the word is set.
+/// Row at + i takes the code where bit i of `rows` is set.
 pub(crate) fn fill_run(kept: &mut [u32], at: usize, rows: u64, code: u32)
     requires few { length kept.old ≤ 2 ^ 24 }
     requires inside { at ≤ length kept.old }

@@ -1,11 +1,12 @@
-//! Tests against ranks among sorted entries.
+//! Tests by ranks among sorted entries.
 
 ghost use Rattle.std.specs.Prelude.{◌≡◌, ◌-◌};
 ghost use Rattle.bw_code.specs.Encodings.{rank_range, rank_test};
 
 use crate::compare::{CmpOp, CodeTest};
 
-/// The test against so many entries, `r` of them below the constant and `q` not above it.
+/// The test for a comparison with a constant among `count` entries, `r` of them below the constant and `q` below or
+/// equal to it.
 pub(crate) fn rank_test(op: CmpOp, r: u64, q: u64, count: u64) -> CodeTest
     ensures { result ≡ rank_test op r q count }
 {
@@ -29,8 +30,8 @@ pub(crate) fn rank_test(op: CmpOp, r: u64, q: u64, count: u64) -> CodeTest
     }
 }
 
-/// The test from a low to a high end against so many entries, `r` of them below the low end and `q` not above the high
-/// one.
+/// The test for a range of values among `count` entries, `r` of them below its low end and `q` below or equal to its
+/// high end.
 pub(crate) fn rank_range(r: u64, q: u64, count: u64) -> CodeTest
     ensures { result ≡ rank_range r q count }
 {

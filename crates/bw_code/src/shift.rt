@@ -1,4 +1,4 @@
-//! Codes counted from another base.
+//! Rebasing codes: counting them from another base.
 
 ghost use Rattle.std.specs.Prelude.{length, pos, slice_index, ℕ, ◌-ℤ◌, ◌<◌, ◌^◌, ◌≡◌, ◌≤◌};
 ghost use Rattle.bw_mask.specs.Masks.{bit_of, row_at};
@@ -7,21 +7,21 @@ ghost use Rattle.bw_code.specs.Shifts.{moved, shifted, IsWord, StaysBelow};
 
 use bw_mask::{Mask, has_bit};
 
-/// What is added modulo 2^64 to count a code from another base.
+/// What is added modulo 2^64 to rebase a code.
 pub fn word_between(from: i64, to: i64) -> u64
     ensures { IsWord (from -ℤ to) result }
 {
     from.cast_unsigned().wrapping_sub(to.cast_unsigned())
 }
 
-/// The code, and so much more where it is to move, modulo 2^64.
+/// The code, plus `by` where it moves, modulo 2^64.
 fn moved(code: u64, moves: bool, by: u64) -> u64
     ensures { result ≡ moved by moves code }
 {
     code.wrapping_add(if moves { by } else { 0 })
 }
 
-/// Adds so much to each of at most 64 codes whose bit is set.
+/// Adds `by` to each of at most 64 codes whose bit is set.
 fn shift_block(codes: &mut [u32], rows: u64, by: u64)
     requires few { length codes.old ≤ 64 }
     requires fit { (i : ℕ) → i < length codes.old → moved by (bit_of rows i) (slice_index codes.old i) < 2 ^ 32 }
@@ -33,7 +33,7 @@ fn shift_block(codes: &mut [u32], rows: u64, by: u64)
     }
 }
 
-/// Adds so much to the code of each of the rows, modulo 2^64.
+/// Adds `by` to the code of each of the rows, modulo 2^64.
 fn shift_blocks(codes: &mut [u32], rows: &Mask, by: u64)
     requires few { length codes.old ≤ 2 ^ 24 }
     requires fit { (i : ℕ) → i < length codes.old → moved by (row_at rows.now i) (slice_index codes.old i) < 2 ^ 32 }
@@ -47,7 +47,7 @@ fn shift_blocks(codes: &mut [u32], rows: &Mask, by: u64)
     }
 }
 
-/// Adds so much to each of at most 64 codes of 64 bits whose bit is set.
+/// Adds `by` to each of at most 64 codes of 64 bits whose bit is set.
 fn shift_wide_block(codes: &mut [u64], rows: u64, by: u64)
     requires few { length codes.old ≤ 64 }
     ensures len { length codes.new ≡ length codes.old }
@@ -58,7 +58,7 @@ fn shift_wide_block(codes: &mut [u64], rows: u64, by: u64)
     }
 }
 
-/// Adds so much to the code of 64 bits of each of the rows, modulo 2^64.
+/// Adds `by` to the 64-bit code of each of the rows, modulo 2^64.
 fn shift_wide_blocks(codes: &mut [u64], rows: &Mask, by: u64)
     requires few { length codes.old ≤ 2 ^ 24 }
     ensures len { length codes.new ≡ length codes.old }
@@ -71,7 +71,7 @@ fn shift_wide_blocks(codes: &mut [u64], rows: &Mask, by: u64)
     }
 }
 
-/// Counts the code of each of the rows from another base.
+/// Rebases the code of each of the rows.
 pub(crate) fn shift_codes(codes: &mut [u32], rows: &Mask, from: i64, to: i64)
     requires few { length codes.old ≤ 2 ^ 24 }
     requires low { Fit 64 codes.old }
@@ -82,7 +82,7 @@ pub(crate) fn shift_codes(codes: &mut [u32], rows: &Mask, from: i64, to: i64)
     shift_blocks(codes, rows, word_between(from, to));
 }
 
-/// Counts the code of 64 bits of each of the rows from another base.
+/// Rebases the 64-bit code of each of the rows.
 pub(crate) fn shift_wide_codes(codes: &mut [u64], rows: &Mask, from: i64, to: i64)
     requires few { length codes.old ≤ 2 ^ 24 }
     requires low { Fit 64 codes.old }

@@ -8,7 +8,7 @@ pub trait Source<U> {
 
     ghost reads: { Self → ℕ };
 
-    /// Unit i. The number of reads rises by one.
+    /// Unit i. The number of reads is raised by one.
     fn read(&mut self, i: usize) -> U
         requires there { i < length (units self.old) }
         requires few { reads self.old < 2 ^ 63 }
@@ -16,7 +16,7 @@ pub trait Source<U> {
         ensures units { units self.new ≡ units self.old }
         ensures reads { reads self.new ≡ reads self.old + 1 };
 
-    /// How many reads there were.
+    /// The number of reads so far.
     fn reads(&self) -> u64
         ensures { result ≡ reads self.now };
 }

@@ -9,7 +9,7 @@ ghost use Rattle.bw_code.specs.declared.compare.CodeTest.TheVariants.{All, Cmp, 
 ghost use Rattle.bw_code.specs.declared.kind.Layout.{Layout as Form};
 ghost use Rattle.bw_code.specs.declared.kind.Layout.TheVariants.{P};
 
-/// A segment without a needed row costs nothing, and what a segment costs is by its own rows alone.
+/// A segment without a needed row costs nothing, and the cost of a segment depends on its own rows alone.
 pub fn units_of_segments()
     ensures unneeded { (cut : Segmentation) (test : Test) (needed : ℕ → Bool) (code : ℕ → ℕ)
         → some_below cut.rows needed ≡ false → segment_units cut test needed code ≡ 0 }
@@ -18,8 +18,8 @@ pub fn units_of_segments()
         → segment_units cut test needed code ≡ segment_units cut test also other }
 {}
 
-/// In each layout a test that no code meets, or each code, costs nothing. Of plain codes each needed
-/// row costs one unit in every other test, and a scan of two columns what it costs to fetch both codes.
+/// In each layout a test that no code or every code meets costs nothing. In plain codes any other test costs one unit
+/// for each needed row, and a scan of two columns costs as much as fetching both codes.
 pub fn units_of_scans()
     ensures none { (layout : Form) (width : ℕ) (needed : ℕ → Bool) (codes : List ℕ) → units_of_scan layout width None needed codes ≡ 0 }
     ensures all { (layout : Form) (width : ℕ) (needed : ℕ → Bool) (codes : List ℕ) → units_of_scan layout width All needed codes ≡ 0 }

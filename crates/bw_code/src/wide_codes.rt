@@ -132,7 +132,8 @@ impl WideCodes {
     ghost use Rattle.bw_code.specs.Columns.{code_at, count};
     ghost use Rattle.bw_code.specs.Shifts.{shifted, StaysBelow};
 
-    /// Counts the code of each of the rows from another base, and makes all codes ones of so many bits. Takes no memory.
+    /// Changes the base of the code of each row in `rows` from `from` to `to`, and the width of all codes to `width`.
+    /// Takes no memory.
     pub(crate) fn shift(&mut self, rows: &Mask, from: i64, to: i64, width: u32)
         requires some { 1 ≤ width }
         requires narrow { width ≤ 64 }
@@ -147,7 +148,7 @@ impl WideCodes {
     }
 }
 
-/// Puts codes last, within the capacity.
+/// Appends codes, within the capacity.
 fn append(kept: &mut Vec<u64>, codes: &[u64])
     requires room { vec_len kept.old + length codes.now ≤ vec_capacity kept.old }
     ensures capacity { vec_capacity kept.old ≤ vec_capacity kept.new }
@@ -160,7 +161,7 @@ fn append(kept: &mut Vec<u64>, codes: &[u64])
     kept[len..].copy_from_slice(codes);
 }
 
-/// The needed ones of 64 rows whose codes are in the interval.
+/// Which of 64 rows are needed and have codes in the interval.
 fn chosen(codes: &[u64], interval: WideInterval, needed: u64) -> u64
     requires { 64 ≤ length codes.now }
     ensures { (i : ℕ) → i < 64 → bit_of result i ≡ (bit_of needed i && is_in interval (slice_index codes.now i)) }
@@ -190,7 +191,7 @@ fn rows_in(codes: &[u64], interval: WideInterval, need: &Mask, out: &mut Mask)
     out.put_word(blocks, found);
 }
 
-/// `out` becomes the rows whose code has bit i.
+/// `out` becomes the rows whose code has bit i set.
 fn rows_with_bit(codes: &[u64], i: u32, out: &mut Mask)
     requires few { length codes.now ≤ 2 ^ 24 }
     requires bit { i < 64 }

@@ -40,7 +40,7 @@ impl WideInterval {
         }
     }
 
-    /// The codes of 64 bits that meet a test.
+    /// The 64-bit codes that meet a test.
     pub(crate) fn of(test: CodeTest) -> WideInterval
         requires { TestFits 64 test }
         ensures { (code : ℕ) → code < 2 ^ 64 → is_in result code ≡ meets test code }
@@ -68,7 +68,7 @@ impl WideInterval {
         }
     }
 
-    /// Bit i says whether the i-th of the first 64 codes is in.
+    /// Bit i says whether the i-th of the first 64 codes is in the interval.
     pub(crate) fn rows(self, codes: &[u64]) -> u64
         requires { 64 ≤ length codes.now }
         ensures { (i : ℕ) → i < 64 → bit_of result i ≡ is_in self (slice_index codes.now i) }
@@ -84,13 +84,13 @@ fn between(codes: &[u64], low: u64, span: u64) -> u64
     requires ends { low + span < 2 ^ 64 }
     ensures { (i : ℕ) → i < 64 → bit_of result i ≡ (nat_le low (slice_index codes.now i) && nat_le (slice_index codes.now i) (low + span)) }
 {
-    // A code below `low` is by now above each span.
+    // A code below `low` wraps around to more than any span.
     (u64x64::from_slice(codes) - u64x64::splat(low))
         .simd_le(u64x64::splat(span))
         .to_bitmask()
 }
 
-/// Bit i says whether the i-th of the first 64 codes and that of the others compare so.
+/// Bit i says whether the i-th of the first 64 codes and of the first 64 others satisfy the comparison.
 pub fn compared_rows(op: CmpOp, codes: &[u64], others: &[u64]) -> u64
     requires long { 64 ≤ length codes.now }
     requires other { 64 ≤ length others.now }
@@ -107,7 +107,7 @@ pub fn compared_rows(op: CmpOp, codes: &[u64], others: &[u64]) -> u64
     }
 }
 
-/// Bit r says whether the r-th of the first 64 codes has bit i.
+/// Bit r says whether the r-th of the first 64 codes has bit i set.
 pub(crate) fn rows_with_bit(codes: &[u64], i: u32) -> u64
     requires long { 64 ≤ length codes.now }
     requires bit { i < 64 }
@@ -118,7 +118,7 @@ pub(crate) fn rows_with_bit(codes: &[u64], i: u32) -> u64
         .to_bitmask()
 }
 
-/// The codes, and zeros behind them.
+/// The codes, padded with zeros.
 pub(crate) fn filled_up(codes: &[u64]) -> [u64; 64]
     requires { length codes.now ≤ 64 }
     ensures { (i : ℕ) → slice_index result i ≡ slice_index codes.now i }

@@ -1,4 +1,4 @@
-//! Plain codes of 64 bits put at some of 64 rows.
+//! Writing plain 64-bit codes to some of 64 rows.
 
 ghost use Rattle.std.specs.Prelude.{false, if◌then◌else◌, length, slice_index, true, ℕ, ◌+◌, ◌<◌, ◌^◌, ◌≡◌, ◌≤◌};
 ghost use Rattle.bw_mask.specs.Masks.{bit_of};
@@ -6,34 +6,34 @@ ghost use Rattle.bw_code.specs.Columns.{filled_codes, put_codes};
 
 use bw_mask::has_bit;
 
-/// Puts codes, each where its bit is set. The others stay.
+/// Writes codes, each where its bit is set. The others stay.
 fn put_chosen(kept: &mut [u64], rows: u64, codes: &[u64])
     requires few { length codes.now ≤ 64 }
     requires long { length kept.old ≡ length codes.now }
     ensures long { length kept.new ≡ length kept.old }
     ensures each { (i : ℕ) → i < length kept.old → slice_index kept.new i ≡ (if bit_of rows i then slice_index codes.now i else slice_index kept.old i) }
 {
-    // No branch a code, so that codes are taken side by side.
+    // No branch per code, so that the loop can be vectorized.
     for i in 0..kept.len() {
         let own = kept[i];
         kept[i] = if has_bit(rows, i) { codes[i] } else { own };
     }
 }
 
-/// Puts one code wherever a bit is set. The others stay.
+/// Writes one code wherever a bit is set. The others stay.
 fn fill_chosen(kept: &mut [u64], rows: u64, code: u64)
     requires few { length kept.old ≤ 64 }
     ensures long { length kept.new ≡ length kept.old }
     ensures each { (i : ℕ) → i < length kept.old → slice_index kept.new i ≡ (if bit_of rows i then code else slice_index kept.old i) }
 {
-    // No branch a code, so that codes are taken side by side.
+    // No branch per code, so that the loop can be vectorized.
     for i in 0..kept.len() {
         let own = kept[i];
         kept[i] = if has_bit(rows, i) { code } else { own };
     }
 }
 
-/// Row at + i takes code i where bit i of the word is set.
+/// Row at + i takes code i where bit i of `rows` is set.
 pub(crate) fn put_run(kept: &mut [u64], at: usize, rows: u64, codes: &[u64])
     requires few { length codes.now ≤ 64 }
     requires there { at + length codes.now ≤ length kept.old }
@@ -44,7 +44,7 @@ pub(crate) fn put_run(kept: &mut [u64], at: usize, rows: u64, codes: &[u64])
     put_chosen(block, rows, codes);
 }
 
-/// Row at + i takes the code where bit i of the word is set.
+/// Row at + i takes the code where bit i of `rows` is set.
 pub(crate) fn fill_run(kept: &mut [u64], at: usize, rows: u64, code: u64)
     requires few { length kept.old ≤ 2 ^ 24 }
     requires inside { at ≤ length kept.old }

@@ -8,6 +8,7 @@ pub mod Coded
 pub mod Extremes
 pub mod Filled
 pub mod Flat
+pub mod Full
 pub mod Grown
 pub mod Held
 pub mod Known
@@ -17,6 +18,7 @@ pub mod Masked
 pub mod MaskedPlanes
 pub mod Measuring
 pub mod Narrow
+pub mod Near
 pub mod Ordered
 pub mod Overwriting
 pub mod PairRows

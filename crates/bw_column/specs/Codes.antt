@@ -9,7 +9,7 @@ use Rattle.bw_code.specs.Lists.{made}
 use Rattle.bw_code.specs.declared.kind.Layout.{Layout}
 use Rattle.bw_column.specs.Values.{IsNullOrHeld, IsStorable, widest}
 
--- an encoding has a code for a value; for a null any has
+-- an encoding has a code for a value; every encoding has one for a null
 abbrev pub IsCoded : Encoding → Option ℤ → Type 0
 IsCoded e None = ⊤
 IsCoded e (Some x) = HasCode e x
@@ -21,7 +21,7 @@ code_for e (Some x) = unwrap_or (code_of e x) 0
 abbrev pub codes_for : Encoding → List (Option ℤ) → List ℕ
 codes_for e values = map (code_for e) values
 
--- the value of a row, by its code and by whether it is there
+-- the value of a row, by its code and whether it is non-null
 abbrev pub value_from : Encoding → ℕ → Bool → Option ℤ
 value_from e code true = Some (value_of e code)
 value_from e code false = None
@@ -34,7 +34,7 @@ abbrev pub IsRowCode : Encoding → ℕ → Bool → Type 0
 IsRowCode e code true = (code_of e (value_of e code) ≡ Some code) × IsStorable (value_of e code)
 IsRowCode e code false = code ≡ 0
 
--- the codes of a column in a layout, and the rows that are not null
+-- the codes of a column in a layout, and its non-null rows
 pub record AreRowCodes (layout : Layout) (e : Encoding) (codes : CodeList) (nonnull : MaskRows) : Type 0 where
   pub sound : IsEncoding e
   pub len : len nonnull ≡ count codes

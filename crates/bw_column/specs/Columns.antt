@@ -1,4 +1,4 @@
--- A column: its values, its layout, its encoding, and for how many values there is room.
+-- A column: its values, its layout, its encoding, and its capacity in values.
 use Rattle.std.specs.Prelude.{List, Option, ℕ, ℤ, ◌≡◌, ◌≤◌}
 use Rattle.bw_code.specs.declared.encoding.Encoding.{Encoding}
 use Rattle.bw_code.specs.declared.kind.Layout.{Layout}

@@ -10,7 +10,7 @@ use Rattle.bw_mask.specs.declared.truth_value.TruthValue.TheVariants.{Unknown}
 use Rattle.bw_code.specs.Tests.{int_compares}
 use Rattle.bw_code.specs.declared.compare.CmpOp.{CmpOp}
 
--- whether a test holds of a value; it holds of no null
+-- whether a test holds of a value; it holds for no null
 abbrev pub holds_of : (ℤ → Bool) → Option ℤ → Bool
 holds_of holds None = false
 holds_of holds (Some x) = holds x
@@ -20,7 +20,7 @@ abbrev pub truth_of : (ℤ → Bool) → Option ℤ → TruthValue
 truth_of holds None = Unknown
 truth_of holds (Some x) = truth_of_bool (holds x)
 
--- whether two values compare so; a null does not
+-- whether two values satisfy a comparison; false where either is null
 abbrev pub compare_so : CmpOp → Option ℤ → Option ℤ → Bool
 compare_so op None y = false
 compare_so op (Some x) y = holds_of (λ z. int_compares op x z) y
@@ -32,11 +32,11 @@ abbrev pub compared : CmpOp → Option ℤ → Option ℤ → TruthValue
 compared op None y = Unknown
 compared op (Some x) y = truth_of (λ z. int_compares op x z) y
 
--- both ends are in
+-- both ends are inclusive
 abbrev pub lies_between : ℤ → ℤ → Option ℤ → TruthValue
 lies_between low high value = truth_of (λ x. int_le low x && int_le x high) value
 
--- no value is in a list of no entries
+-- no value is in an empty list
 abbrev pub is_listed : List ℤ → Option ℤ → TruthValue
 is_listed entries value = truth_of (λ x. list_any (λ entry. int_eq x entry) entries) value
 

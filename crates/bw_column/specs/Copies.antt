@@ -1,4 +1,4 @@
--- Values that a column takes over from a copy of those that another has in the rows of a mask.
+-- Values that a column copies from those that another column has in the rows of a mask.
 use Rattle.std.specs.Prelude.{List, None, Option, false, if◌then◌else◌, length, ℕ, ℤ, ◌≡◌}
 use Rattle.bw_mask.specs.Masks.{MaskRows, len, row_at}
 use Rattle.bw_code.specs.Lists.{made}
@@ -8,7 +8,7 @@ use Rattle.bw_column.specs.Values.{value_at}
 abbrev pub masked : MaskRows → List (Option ℤ) → List (Option ℤ)
 masked places values = made (length values) (λ i. if row_at places i then value_at values i else None)
 
--- values for the rows of a mask, that are null in every row that is not in it
+-- values for the rows of a mask, null in every row that is not in it
 pub record IsMasked (places : MaskRows) (values : List (Option ℤ)) : Type 0 where
   pub long : length values ≡ len places
   pub null : (i : ℕ) → row_at places i ≡ false → value_at values i ≡ None

@@ -16,7 +16,7 @@ use Rattle.bw_column.specs.Columns.{ColumnView}
 use Rattle.bw_column.specs.Comparisons.{holds_of}
 use Rattle.bw_column.specs.Values.{value_at}
 
--- the needed rows whose value is not null
+-- the needed rows whose value is non-null
 abbrev pub needed_known : MaskRows → List (Option ℤ) → ℕ → Bool
 needed_known need values i = row_at need i && is_some (value_at values i)
 
@@ -30,7 +30,7 @@ units_of_comparison column op constant need = units_of_test column (test_of colu
 abbrev pub units_of_range : ColumnView → ℤ → ℤ → MaskRows → ℕ
 units_of_range column low high need = units_of_test column (range_of column.encoding low high) (needed_known need column.values)
 
--- one scan for each entry of a list, in order, of the needed rows that no entry before it has made true
+-- one scan for each entry of a list, in order, of the needed rows that no earlier entry has made true
 abbrev pub units_of_entries : ColumnView → (ℕ → Bool) → List ℤ → ℕ
 units_of_entries column needed [] = 0
 units_of_entries column needed (c ∷ entries) = units_of_test column (test_of column.encoding Eq c) needed + units_of_entries column (λ i. needed i && not (holds_of (λ x. int_eq x c) (value_at column.values i))) entries
@@ -63,17 +63,17 @@ same_layout S V = false
 same_layout S H = false
 same_layout S P = false
 
--- two columns of the same encoding, whose codes so compare as their values do, in the same layout
+-- two columns of the same layout and encoding, whose codes therefore compare as their values do
 abbrev pub are_alike : ColumnView → ColumnView → Bool
 are_alike column other = same_layout column.layout other.layout && same_encoding column.encoding other.encoding
 
--- two columns of distances from bases, neither in plain codes: of every other layout planes can be read, of H too
+-- two columns of kind OFFSET, neither in plain codes: every other layout has planes that can be read, H too
 abbrev pub have_sums : ColumnView → ColumnView → Bool
 have_sums column other = (is_offset column.encoding && is_offset other.encoding) && not (is_plain column.layout || is_plain other.layout)
 
--- what is read to compare two columns at the needed rows, at which neither is null: their codes side by side, where they are
--- alike (of plain codes that is what it costs to fetch them); else all planes of both, to which the bases are added; else the two
--- values of each row
+-- what is read to compare two columns at the needed rows where neither is null: their codes side by side, where they are alike
+-- (for plain codes this is the cost of fetching them); else all planes of both, to which the bases are added; else the two values
+-- of each row
 abbrev pub units_of_both : ColumnView → ColumnView → (ℕ → Bool) → ℕ
 units_of_both column other needed =
     if are_alike column other then units_of_pair column.layout (width column.encoding) needed (codes_for column.encoding column.values) (codes_for other.encoding other.values)

@@ -1,9 +1,9 @@
--- The codes that are kept from when a column makes ready for values until it takes them.
+-- The codes that a column keeps from when it prepares for values until it takes them.
 use Rattle.std.specs.Prelude.{List, ⊤, ℕ, ◌≡◌}
 use Rattle.bw_column.specs.declared.kept.KeptCodes.{KeptCodes}
 use Rattle.bw_column.specs.declared.kept.KeptCodes.TheVariants.{Distances, Places}
 
--- where any are kept, it is these
+-- if codes are kept, they are these
 abbrev pub AreKept : List ℕ → KeptCodes → Type 0
 AreKept codes Distances = ⊤
 AreKept codes (Places list) = list.items ≡ codes

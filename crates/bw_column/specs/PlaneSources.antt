@@ -15,14 +15,14 @@ abbrev pub reads_in : ColumnPlanes → ℕ
 reads_in (planes.V source) = source.reads
 reads_in (planes.S source) = source.reads
 
--- planes that hold the codes of a column, none of which was read
+-- planes that hold the codes of a column, none of them read yet
 pub record HoldsCodes (codes : CodeList) (source : ColumnPlanes) : Type 0 where
   pub units : length (units_in source) ≡ segments_of 256 (count codes) * codes.width
   pub rows : (q i r : ℕ) → q < segments_of 256 (count codes) → i < codes.width → r < 256
       → row_in (slice_index_or (units_in source) (q * codes.width + i) []) r ≡ bit_of (code_at codes (256 * q + r)) (codes.width - 1 - i)
   pub unread : reads_in source ≡ 0
 
--- words that hold the planes of how far some cells lie above a base, and a word that says which of them are not null
+-- words that hold the planes of the distances of some cells from a base, and a word that says which of them are non-null
 pub record ArePlanesOf (k : ℕ) (base : ℤ) (cells : List (Option ℤ)) (words : List ℕ) (there : ℕ) : Type 0 where
   pub planes : (b r : ℕ) → b < k → r < 64 → bit_of (slice_index words b) r ≡ bit_of (slice_index (map (distance_from base) cells) r) b
   pub present : (i : ℕ) → bit_of there i ≡ is_some (slice_index_or cells i None)

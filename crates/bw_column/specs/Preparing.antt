@@ -1,4 +1,4 @@
--- What a column has ready to take values.
+-- What a column has prepared to take values.
 use Rattle.std.specs.Prelude.{Bool, List, Option, if◌then◌else◌, length, ⊤, ℕ, ℤ, ◌+◌, ◌++◌, ◌^◌, ◌≡◌, ◌≤◌}
 use Rattle.std.specs.List.{All}
 use Rattle.bw_code.specs.Encodings.{IsFit, kind_of, width}
@@ -14,7 +14,7 @@ use Rattle.bw_column.specs.declared.kept.KeptCodes.{KeptCodes}
 use Rattle.bw_column.specs.declared.step.Step.{Step}
 use Rattle.bw_column.specs.declared.step.Step.TheVariants.{Replace, Shift, Stay}
 
--- the step that comes before, and the codes of the values that are kept
+-- the step that comes first, and the codes that are kept
 pub record Preparation : Type 0 where
   pub step : Step
   pub codes : KeptCodes
@@ -25,23 +25,23 @@ pub record IsEncodingFor (old : List (Option ℤ)) (own : Encoding) (values : Li
   pub stays : All (IsCoded own) values → e ≡ own
   pub anew : (All (IsCoded own) values → ⊥) → IsFit (known (old ++ values)) e × (kind_of e ≡ kind_of own)
 
--- the column after a step: as it was, with its codes counted from another base, or the one that takes its place
+-- the column after a step: unchanged, rebased, or replaced by another
 abbrev pub after : ColumnView → Step → ColumnView
 after column Stay = column
 after column (Shift offset) = record { values = column.values; layout = column.layout; encoding = by.Offset offset; room = column.room }
 after column (Replace other) = other
 
--- codes can be counted from another base where their layout lets them, they are distances, and each value has a code from there
--- that the layout holds
+-- codes can be rebased where their layout allows it, they are distances, and each value has a code from the new base that the
+-- layout holds
 abbrev pub CanTake : ColumnView → Step → Type 0
 CanTake column (Shift offset) = ShiftsTo column.layout (width column.encoding) offset.width × (kind_of column.encoding ≡ kind.Offset) × All (IsCoded (by.Offset offset)) column.values × (offset.width ≤ widest column.layout)
 CanTake column other = ⊤
 
--- how many values a column gets more
+-- by how many values a column grows
 abbrev pub more : Bool → List (Option ℤ) → ℕ
 more grow values = if grow then length values else 0
 
--- what is prepared lets the column as it stands take these values, at its end where it is to grow
+-- what is prepared lets the column in its present state take these values, at its end where it is to grow
 pub record IsPreparedFor (column : ColumnView) (values : List (Option ℤ)) (grow : Bool) (prepared : Preparation) : Type 0 where
   pub can : CanTake column prepared.step
   pub same : (after column prepared.step).values ≡ column.values

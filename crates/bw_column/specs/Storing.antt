@@ -1,4 +1,4 @@
--- The codes of a column, in whichever layout they lie.
+-- The codes of a column, in any layout.
 use Rattle.bw_code.specs.Columns.{CodeList}
 use Rattle.std.specs.Prelude.{ℕ, ◌↔◌, ◌≡◌, ◌≤◌}
 use Rattle.bw_code.specs.declared.kind.Layout.{Layout}
@@ -32,7 +32,7 @@ lent_layout (lent.V codes) = layouts.V
 lent_layout (lent.H codes) = layouts.H
 lent_layout (lent.S codes) = layouts.S
 
--- where codes can get another base without being laid anew: plain codes that take as many bytes as before, and planes where the width stays
+-- where codes can be rebased in place: plain codes that take as many bytes as before, and planes where the width stays
 abbrev pub ShiftsTo : Layout → ℕ → ℕ → Type 0
 ShiftsTo layouts.P old new = (new ≤ 32) ↔ (old ≤ 32)
 ShiftsTo layouts.V old new = new ≡ old

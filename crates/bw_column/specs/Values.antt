@@ -3,7 +3,7 @@ use Rattle.std.specs.Prelude.{FitsSigned, List, None, Option, Some, slice_index_
 use Rattle.std.specs.Int.{w32, w64}
 use Rattle.bw_code.specs.declared.kind.Layout.{Layout}
 use Rattle.bw_code.specs.declared.kind.Layout.TheVariants as layouts
--- those of the values that are not null
+-- the non-null values
 pub use Rattle.bw_cells.specs.Known.{known}
 
 -- the integers of the type INTEGER, which every layout holds
@@ -22,7 +22,7 @@ abbrev pub IsNullOrStorable : Option ℤ → Type 0
 IsNullOrStorable None = ⊤
 IsNullOrStorable (Some x) = IsStorable x
 
--- the integers that a column in a layout may hold: BitWeaving/H takes those of 32 bits, the others those of 64
+-- the integers that a column in a layout may hold: those of 32 bits in BitWeaving/H, those of 64 bits in the others
 abbrev pub IsHeld : Layout → ℤ → Type 0
 IsHeld layouts.P x = FitsSigned w64 x
 IsHeld layouts.V x = FitsSigned w64 x
@@ -33,13 +33,13 @@ abbrev pub IsNullOrHeld : Layout → Option ℤ → Type 0
 IsNullOrHeld layout None = ⊤
 IsNullOrHeld layout (Some x) = IsHeld layout x
 
--- how many bits a code has at most
+-- the greatest width of a code, in bits
 abbrev pub widest : Layout → ℕ
 widest layouts.P = 64
 widest layouts.V = 64
 widest layouts.H = 32
 widest layouts.S = 64
 
--- the value of a row; null past the last
+-- the value of a row; null after the last row
 abbrev pub value_at : List (Option ℤ) → ℕ → Option ℤ
 value_at values i = slice_index_or values i None

@@ -1,4 +1,4 @@
-//! Ends between which the values of a column lie, told by its encoding alone.
+//! Bounds on the values of a column, derived from its encoding alone.
 
 ghost use Rattle.std.specs.Prelude.{ℤ, ◌≤ℤ◌};
 ghost use Rattle.bw_code.specs.Ascending.{IsAscending};
@@ -9,7 +9,7 @@ ghost use Rattle.bw_column.specs.Values.{IsStorable, known};
 use crate::column::Column;
 use bw_code::{Encoding, Ends, Offset};
 
-/// The greatest i64 that has a code by an offset, whose top may lie above every i64.
+/// The greatest i64 that has a code in an offset encoding, whose top may be above every i64.
 fn greatest_of(offset: Offset) -> i64
     ensures { (x : ℤ) → IsWithin offset x → IsStorable x → x ≤ℤ result }
 {
@@ -17,7 +17,7 @@ fn greatest_of(offset: Offset) -> i64
     offset.base.saturating_add_unsigned(largest)
 }
 
-/// The first and the last of some entries, which ascend; none of no entries.
+/// The first and the last of ascending entries; `None` for an empty list.
 fn entry_ends(entries: &[i64]) -> Option<Ends>
     requires { IsAscending entries.now }
     ensures { AreEntryBounds entries.now result }
@@ -32,8 +32,8 @@ fn entry_ends(entries: &[i64]) -> Option<Ends>
 }
 
 impl Column {
-    /// Ends between which the values lie that are not null. They need not be values: the encoding tells them, and no row is
-    /// read. `None` only where no value has a code.
+    /// Bounds between which all non-null values lie. They need not be values of the column: they come from the
+    /// encoding, and no row is read. Returns `None` only where no value has a code.
     pub fn bounds(&self) -> Option<Ends>
         ensures { AreBounds (known self.now.values) result }
     {

@@ -1,4 +1,4 @@
-//! Columns made of values.
+//! Building columns from values.
 
 ghost use Rattle.std.specs.Prelude.{[], All, IfOk, OnOk, is_some, length, map, ℕ, ◌++◌, ◌+◌, ◌<◌, ◌^◌, ◌≡◌, ◌≤◌};
 ghost use Rattle.bw_code.specs.Encodings.{IsFit, kind_of, width};
@@ -16,7 +16,7 @@ use bw_mask::Mask;
 use std::alloc::{AllocError, Global};
 
 impl Column {
-    /// A column without values, and room for so many.
+    /// An empty column with room for `room` values.
     pub(crate) fn with_room(
         alloc: Global,
         layout: Layout,
@@ -41,7 +41,7 @@ impl Column {
         })
     }
 
-    /// A column of these values. Its encoding is the one of its kind that fits those that are not null.
+    /// A column of these values. Its encoding is the one of the given kind that fits the non-null values.
     pub fn build<C: Measured>(
         alloc: Global,
         values: &C,
@@ -61,7 +61,7 @@ impl Column {
         }
     }
 
-    /// A column of these values by their distances from the least.
+    /// A column of these values, each encoded as its distance from the least.
     fn build_measured<C: Measured>(
         alloc: Global,
         values: &C,
@@ -81,7 +81,8 @@ impl Column {
         Ok(column)
     }
 
-    /// A column of these values by their places among the distinct ones, which are found together.
+    /// A column of these values, each encoded as its index among the distinct ones; distinct values and indices are
+    /// found in one pass.
     fn build_ranked<C: Measured>(
         alloc: Global,
         values: &C,
@@ -101,8 +102,8 @@ impl Column {
         Ok(column)
     }
 
-    /// A column of the same values, as `build` makes it of them. From a dictionary to a dictionary no value is looked at: the
-    /// entries are there, and only codes move.
+    /// A column of the same values, as `build` would make it. From a dictionary to a dictionary no value is read: the
+    /// entries already exist, and only codes are mapped.
     pub fn rebuild(&self, alloc: Global, layout: Layout, kind: Kind) -> Result<Column, AllocError>
         requires { All (IsNullOrHeld layout) self.now.values }
         ensures values { IfOk result (λ c. c.values ≡ self.now.values) }
@@ -117,7 +118,7 @@ impl Column {
         }
     }
 
-    /// Makes room for so many values more. The column stays as it is, also where memory is wanting.
+    /// Makes room for `more` further values. The column stays as it is, also where it runs out of memory.
     #[tactic(auto, using(bw_code::proofs::Lists::made_len))]
     pub(crate) fn reserve(&mut self, more: usize) -> Result<(), AllocError>
         requires { length self.old.values + more ≤ 2 ^ 24 }

@@ -1,4 +1,4 @@
-//! Values added to a column, and values put in place of others. What may want memory comes first.
+//! Appending values to a column, and overwriting some of its values. All that may run out of memory is done first.
 
 ghost use Rattle.std.specs.Prelude.{All, IfOk, IsTrue, OnOk, count_by, true, false, length, ℕ, ◌++◌, ◌+◌, ◌<◌, ◌^◌, ◌↔◌, ◌≡◌, ◌≤◌};
 ghost use Rattle.bw_code.specs.Encodings.{IsFit, kind_of, width};
@@ -24,8 +24,8 @@ use bw_mask::Mask;
 use std::alloc::{AllocError, Global};
 use std::marker::Model;
 
-/// What a column has ready to take values: what it does before so that each of them has a code, and the codes that were
-/// looked for in a dictionary.
+/// What a column has prepared to take values: the step after which each of them has a code, and the codes that were
+/// looked up in a dictionary.
 #[derive(Drop)]
 pub struct Prepared {
     pub(crate) step: Step,
@@ -40,7 +40,7 @@ impl Model for Prepared {
     ghost view = { λ p. record { step = p.step; codes = p.codes } };
 }
 
-/// How many values a column gets more.
+/// By how many values a column grows.
 fn count_more<C: Cells>(values: &C, grow: bool) -> usize
     ensures { result ≡ more grow (C.cells values.now) }
 {
@@ -48,9 +48,9 @@ fn count_more<C: Cells>(values: &C, grow: bool) -> usize
 }
 
 impl Column {
-    /// Makes ready to take the values, at the end where the column is to grow, and else in place of others. Where one
-    /// of them has no code, what is prepared has the step to an encoding that fits all values. The column keeps its
-    /// values, layout and encoding, also where memory is wanting; at most its room grows.
+    /// Prepares to take the values: at the end where the column is to grow (`grow`), else in place of others. Where one
+    /// of them has no code, the result includes the step to an encoding that fits all values. The column keeps its
+    /// values, layout and encoding, also where it runs out of memory; at most its room grows.
     pub fn room_for<C: Measured>(
         &mut self,
         alloc: Global,
@@ -69,7 +69,7 @@ impl Column {
         }
     }
 
-    /// The same of a column of distances from a base.
+    /// The same for a column of kind OFFSET.
     fn room_measured<C: Measured>(
         &mut self,
         alloc: Global,
@@ -95,7 +95,7 @@ impl Column {
         Ok(Prepared { step, codes })
     }
 
-    /// Whether each of the values has a code in a column of distances from a base, which the ends of the values tell.
+    /// Whether each of the values has a code in a column of kind OFFSET; their least and greatest decide it.
     fn has_codes_for<C: Measured>(&self, values: &C) -> bool
         requires { kind_of self.now.encoding ≡ kinds.Offset }
         ensures { IsTrue result ↔ All (IsCoded self.now.encoding) (C.cells values.now) }
@@ -106,7 +106,8 @@ impl Column {
         spans(own, values.ends())
     }
 
-    /// The same of a column in a dictionary: which integers the values have, and which of them is each, is found together.
+    /// The same for a column of kind DICTIONARY: the distinct values and the index of each value among them are found
+    /// in one pass.
     fn room_ranked<C: Measured>(
         &mut self,
         alloc: Global,
@@ -133,7 +134,7 @@ impl Column {
         Ok(Prepared { step, codes })
     }
 
-    /// Adds the values at the end. Takes no memory.
+    /// Appends the values. Takes no memory.
     pub fn append<C: Measured>(&mut self, prepared: Prepared, values: &C)
         requires { IsPreparedFor self.old (C.cells values.now) true prepared }
         ensures values { self.new.values ≡ self.old.values ++ C.cells values.now }
@@ -148,7 +149,7 @@ impl Column {
         }
     }
 
-    /// Puts the values in the set places: in the n-th set place the n-th value. Takes no memory.
+    /// Writes the values to the set places: the n-th value to the n-th set place. Takes no memory.
     pub fn overwrite(&mut self, prepared: Prepared, places: &Mask, values: &[Option<i64>])
         requires prepared { IsPreparedFor self.old values.now false prepared }
         requires places { len places.now ≡ length self.old.values }

@@ -1,4 +1,4 @@
-//! The codes of many values at a time.
+//! Encoding many values at a time.
 
 ghost use Rattle.std.specs.Bool.{OnTrue};
 ghost use Rattle.std.specs.Prelude.{All, IfSome, IsSome, IsTrue, is_some, length, map, replicate, ◌++◌, ◌+◌, ◌-◌, ◌^◌, ◌↔◌, ◌≡◌, ◌≤◌};
@@ -18,7 +18,7 @@ fn code(encoding: &Encoding, value: Option<i64>) -> Option<u64>
     }
 }
 
-/// Whether so many times a value have a code: of no values each has one.
+/// Whether `count` copies of a value have a code; true where `count` is 0.
 pub(crate) fn has_code_times(encoding: &Encoding, value: Option<i64>, count: usize) -> bool
     ensures { IsTrue result ↔ All (IsCoded encoding.now) (replicate count value) }
 {
@@ -36,15 +36,15 @@ pub(crate) fn code_of(encoding: &Encoding, value: Option<i64>) -> u64
     code
 }
 
-/// The greatest code by an offset.
+/// The greatest code of an offset encoding.
 pub(crate) fn greatest_code(offset: Offset) -> u64
     ensures { result ≡ 2 ^ offset.width - 1 }
 {
     u64::MAX >> (64 - offset.width)
 }
 
-/// Writes each value's distance from the base to its place in `codes`, and answers whether every value has a code. The
-/// distance of a value below the base wraps, and at 64 bits only the comparison with the base tells it.
+/// Writes the distance of each value from the base to `codes` at the same index, and returns whether every value has a
+/// code. The distance of a value below the base wraps around; at 64 bits only the comparison with the base detects it.
 fn encode_by_offset(offset: Offset, values: &[Option<i64>], codes: &mut [u64]) -> bool
     requires { length codes.old ≡ length values.now }
     ensures all { IsTrue result ↔ All (IsCoded (by.Offset offset)) values.now }
@@ -52,7 +52,7 @@ fn encode_by_offset(offset: Offset, values: &[Option<i64>], codes: &mut [u64]) -
 {
     let greatest = greatest_code(offset);
     let mut all = true;
-    // No branch a value, so that values are taken side by side. A null is taken as the base, whose code is 0.
+    // No branch per value, so that the loop can be vectorized. A null is encoded as the base, whose code is 0.
     for i in 0..values.len() {
         let value = values[i].unwrap_or(offset.base);
         let distance = value
@@ -64,7 +64,7 @@ fn encode_by_offset(offset: Offset, values: &[Option<i64>], codes: &mut [u64]) -
     all
 }
 
-/// The same by any encoding, value by value.
+/// The same for any encoding, one value at a time.
 fn encode_each(encoding: &Encoding, values: &[Option<i64>], codes: &mut [u64]) -> bool
     requires { length codes.old ≡ length values.now }
     ensures all { IsTrue result ↔ All (IsCoded encoding.now) values.now }
@@ -79,8 +79,8 @@ fn encode_each(encoding: &Encoding, values: &[Option<i64>], codes: &mut [u64]) -
     true
 }
 
-/// Writes each value's code to its place in `codes`, and answers whether every value has one. Where one has none,
-/// nothing is said of what `codes` holds.
+/// Writes the code of each value to `codes` at the same index, and returns whether every value has one. If not, the
+/// content of `codes` is unspecified.
 pub(crate) fn encode_all(encoding: &Encoding, values: &[Option<i64>], codes: &mut [u64]) -> bool
     requires { length codes.old ≡ length values.now }
     ensures all { IsTrue result ↔ All (IsCoded encoding.now) values.now }

@@ -13,7 +13,7 @@ use bw_code::{Encoding, Kind, Layout};
 use bw_mask::Mask;
 use std::marker::Model;
 
-/// A column of integers and nulls: the codes of its values, 0 at a null, and the rows that are not null.
+/// A column of integers and nulls: the codes of its values, 0 for a null, and the mask of the non-null rows.
 #[derive(Drop)]
 pub struct Column {
     pub(crate) encoding: Encoding,
@@ -35,7 +35,7 @@ impl Model for Column {
 }
 
 impl Column {
-    /// How many values there are. Each is null or one of the integers that the layout holds.
+    /// The number of values. Each is null or one of the integers that the layout can hold.
     #[tactic(auto, using(bw_code::proofs::Lists::made_len, crate::proofs::Rows::row_held))]
     pub fn len(&self) -> usize
         ensures count { result ≡ length self.now.values }
@@ -45,21 +45,21 @@ impl Column {
         self.codes.len()
     }
 
-    /// The layout that was asked for.
+    /// The layout that was chosen when the column was built.
     pub fn layout(&self) -> Layout
         ensures { result ≡ self.now.layout }
     {
         self.codes.layout()
     }
 
-    /// The kind of the encoding.
+    /// The kind of encoding.
     pub fn kind(&self) -> Kind
         ensures { result ≡ kind_of self.now.encoding }
     {
         self.encoding.kind()
     }
 
-    /// The encoding of the values that are not null. Each of them has its code.
+    /// The encoding of the non-null values. Each of them has a code.
     pub fn encoding(&self) -> &Encoding
         ensures is { result.now ≡ self.now.encoding }
         ensures sound { IsEncoding self.now.encoding }
@@ -68,7 +68,7 @@ impl Column {
         &self.encoding
     }
 
-    /// The rows whose value is not null.
+    /// The rows whose value is non-null.
     #[tactic(auto, using(bw_code::proofs::Lists::made_len))]
     pub fn nonnull(&self) -> &Mask
         ensures len { len result.now ≡ length self.now.values }
@@ -78,7 +78,7 @@ impl Column {
         &self.nonnull
     }
 
-    /// Value i.
+    /// The value of row i.
     #[tactic(auto, using(bw_code::proofs::Lists::made_len))]
     pub fn get(&self, i: usize) -> Option<i64>
         requires { i < length self.now.values }
@@ -88,7 +88,7 @@ impl Column {
         value(&self.encoding, self.codes.get(i), self.nonnull.get(i))
     }
 
-    /// `out` becomes the rows whose code has bit i. Bit 0 is the lowest. A null's code is 0.
+    /// `out` becomes the rows whose code has bit i set. Bit 0 is the lowest. The code of a null is 0.
     #[tactic(auto, using(bw_code::proofs::Lists::made_len))]
     pub fn plane(&self, i: u32, out: &mut Mask)
         requires bit { i < width self.now.encoding }
@@ -99,7 +99,7 @@ impl Column {
         self.codes.plane(i, out);
     }
 
-    /// The codes of the values, 0 at a null, lent in the type of the layout.
+    /// The codes of the values, 0 for a null, lent as the type of the layout.
     pub fn storage(&self) -> Storage<'_>
         ensures layout { lent_layout result ≡ self.now.layout }
         ensures width { (lent_list result).width ≡ width self.now.encoding }
@@ -109,7 +109,7 @@ impl Column {
         self.codes.lent()
     }
 
-    /// Puts a value with its code in place i.
+    /// Sets row i to a value and its code.
     #[tactic(auto, using(bw_code::proofs::Lists::made_len))]
     pub(crate) fn put(&mut self, i: usize, value: Option<i64>, code: u64)
         requires inside { i < length self.old.values }

@@ -1,4 +1,4 @@
-//! The planes of a column's codes, each layout's in its own way.
+//! The bit planes of a column's codes, each layout's in its own way.
 
 ghost use Rattle.std.specs.Prelude.{IfSome, if◌then◌else◌, length, pos, ℕ, ◌&&◌, ◌*◌, ◌+◌, ◌+ℤ◌, ◌^◌, ◌≡◌, ◌≤◌};
 ghost use Rattle.bw_mask.specs.Masks.{SameShape, len, row_at};
@@ -15,7 +15,8 @@ use bw_code::{CmpOp, Offset, Source};
 use bw_mask::Mask;
 use bw_vertical::{PlaneSource, add_from};
 
-/// The planes of a column of codes, read one at a time: unit q * width + i is plane i of segment q, of 256 rows.
+/// The bit planes of a column of codes, read one at a time: unit q * width + i is plane i of segment q, which has 256
+/// rows.
 #[derive(Drop)]
 pub(crate) enum ColumnPlanes<'a> {
     V(PlaneSource<'a>),
@@ -44,7 +45,7 @@ impl<'a> Source<[u64; 4]> for ColumnPlanes<'a> {
     }
 }
 
-/// Compares the values of two columns as `add_from` does. The layout of the second is looked at once, and not at each read.
+/// Compares the values of two columns as `add_from` does. The layout of the second is matched once, not at each read.
 fn add_beside<A: Source<[u64; 4]>>(
     a: &mut A,
     left: Offset,
@@ -76,7 +77,7 @@ fn add_beside<A: Source<[u64; 4]>>(
     }
 }
 
-/// Compares the values of two columns as `add_from` does. The layout of each is looked at once, and not at each read.
+/// Compares the values of two columns as `add_from` does. The layout of each is matched once, not at each read.
 pub(crate) fn add_planes(
     planes: &mut ColumnPlanes<'_>,
     left: Offset,
@@ -109,7 +110,7 @@ pub(crate) fn add_planes(
 }
 
 impl Codes {
-    /// The planes, none of them read, where they are at hand. Of a plain list and of words of sections none is.
+    /// The planes, none of them read yet, where the layout has planes; `None` for layouts P and H.
     pub(crate) fn planes(&self) -> Option<ColumnPlanes<'_>>
         requires { (list_of self.now).width ≤ widest (layout_of self.now) }
         ensures { IfSome result (HoldsCodes (list_of self.now)) }

@@ -1,4 +1,4 @@
-//! Comparisons of a column at the needed rows, without memory.
+//! Comparing a column at the needed rows, without taking memory.
 
 ghost use Rattle.std.specs.Prelude.{length, ℕ, ℤ, Bool, ◌≡◌, Some};
 ghost use Rattle.bw_mask.specs.Masks.{len, row_at};
@@ -14,7 +14,7 @@ use bw_code::{CmpOp, CodeTest, Meter};
 use bw_mask::{Mask, Truth};
 
 impl Column {
-    /// The truth that a test of codes tells of the values.
+    /// Evaluates at the needed rows the predicate on values that a test of codes stands for.
     fn test_in(&self, test: CodeTest, need: &Mask, truth: &mut Truth, meter: &mut Meter)
         requires test { TestFits (width self.now.encoding) test }
         requires need { len need.now ≡ length self.now.values }
@@ -28,9 +28,9 @@ impl Column {
         *truth = Truth::new(trues, falses);
     }
 
-    /// `truth` becomes, at each needed row, whether the value compares so with the constant. What it was before is of
-    /// no account. It is unknown at a null and at every row that is not needed. The units of one scan of the needed
-    /// rows that are not null are added to the meter. Takes no memory.
+    /// `truth` becomes, at each needed row, the truth of comparing the value with the constant. Its earlier content
+    /// does not matter. It is unknown at a null and at every row that is not needed. The units of one scan of the
+    /// needed non-null rows are added to the meter. Takes no memory.
     pub fn compare_in(
         &self,
         op: CmpOp,
@@ -48,8 +48,9 @@ impl Column {
         self.test_in(test, need, truth, meter);
     }
 
-    /// `truth` becomes, at each needed row, whether the value lies from `low` to `high`, both ends in, as `compare_in`
-    /// does. Where `low` is above `high`, no value does. The units of one scan are added to the meter. Takes no memory.
+    /// `truth` becomes, at each needed row, whether the value lies between `low` and `high`, both inclusive, as in
+    /// `compare_in`. Where `low` is above `high`, no value does. The units of one scan are added to the meter. Takes no
+    /// memory.
     pub fn range_in(&self, low: i64, high: i64, need: &Mask, truth: &mut Truth, meter: &mut Meter)
         requires need { len need.now ≡ length self.now.values }
         requires truth { length truth.old ≡ length self.now.values }
@@ -60,9 +61,9 @@ impl Column {
         self.test_in(test, need, truth, meter);
     }
 
-    /// `truth` becomes, at each needed row, whether the value is one of the entries, as `compare_in` does. No value is
-    /// in a list of no entries. For each entry in order, the units of one scan of the needed rows that are not null and
-    /// not yet true are added to the meter. Takes no memory.
+    /// `truth` becomes, at each needed row, whether the value is one of the entries, as in `compare_in`. No value is in
+    /// an empty list. For each entry in order, the units of one scan of the needed non-null rows that are not yet true
+    /// are added to the meter. Takes no memory.
     pub fn in_list_in(&self, entries: &[i64], need: &Mask, truth: &mut Truth, meter: &mut Meter)
         requires need { len need.now ≡ length self.now.values }
         requires truth { length truth.old ≡ length self.now.values }
@@ -74,11 +75,12 @@ impl Column {
         *truth = Truth::new(trues, falses);
     }
 
-    /// `truth` becomes, at each needed row, whether the values of both columns compare so. What it was before is of no
-    /// account. It is unknown where either is null and at every row that is not needed. Takes no memory. The meter is
-    /// raised by what is read of both at the needed rows where neither is null (`units_of_columns`): a scan of both side by side
-    /// where their layout and encoding are the same, the planes of both where only their bases or widths differ, and else
-    /// two fetches for each row. Where one of them is in layout H, planes are counted and not read: values are compared.
+    /// `truth` becomes, at each needed row, the truth of comparing the values of both columns. Its earlier content does
+    /// not matter. It is unknown where either value is null and at every row that is not needed. Takes no memory. The
+    /// meter is raised by what is read of both at the needed rows where neither is null (`units_of_columns`): a scan of
+    /// both side by side where their layout and encoding are the same, the planes of both where only their bases or
+    /// widths differ, and else two fetches for each row. Where one of them is in layout H, the planes are counted but
+    /// not read: values are compared instead.
     pub fn compare_column_in(
         &self,
         op: CmpOp,

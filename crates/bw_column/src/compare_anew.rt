@@ -1,4 +1,4 @@
-//! Comparisons of a column at the needed rows, each with a truth of its own.
+//! Comparing a column at the needed rows, with the result in a new `Truth`.
 
 ghost use Rattle.std.specs.Prelude.{IfOk, OnErr, OnOk, length, ◌≡◌};
 ghost use Rattle.bw_mask.specs.Masks.{len};
@@ -13,7 +13,7 @@ use bw_mask::{Mask, Truth, TruthValue};
 use std::alloc::{AllocError, Global};
 
 impl Column {
-    /// What `compare_in` says, in a truth of its own. Where memory is wanting, the meter stays as it is.
+    /// The same as `compare_in`, in a new `Truth`. Where it runs out of memory, the meter stays as it is.
     pub fn compare(
         &self,
         alloc: Global,
@@ -32,7 +32,7 @@ impl Column {
         Ok(truth)
     }
 
-    /// What `range_in` says, in a truth of its own. Where memory is wanting, the meter stays as it is.
+    /// The same as `range_in`, in a new `Truth`. Where it runs out of memory, the meter stays as it is.
     pub fn range(
         &self,
         alloc: Global,
@@ -51,7 +51,7 @@ impl Column {
         Ok(truth)
     }
 
-    /// What `in_list_in` says, in a truth of its own. Where memory is wanting, the meter stays as it is.
+    /// The same as `in_list_in`, in a new `Truth`. Where it runs out of memory, the meter stays as it is.
     pub fn in_list(
         &self,
         alloc: Global,
@@ -69,7 +69,7 @@ impl Column {
         Ok(truth)
     }
 
-    /// What `compare_column_in` says, in a truth of its own. Where memory is wanting, the meter stays as it is.
+    /// The same as `compare_column_in`, in a new `Truth`. Where it runs out of memory, the meter stays as it is.
     pub fn compare_column(
         &self,
         alloc: Global,

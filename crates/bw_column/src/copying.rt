@@ -1,4 +1,4 @@
-//! Values taken over from another column, word by word and by their codes.
+//! Copying values from another column, a word of rows at a time, by their codes.
 
 ghost use Rattle.std.specs.Prelude.{All, IfOk, IfSome, IsTrue, List, Option, [], drop, false, if◌then◌else◌, length, slice_index, take, ℕ, ℤ, ◌%◌, ◌&&◌, ◌++◌, ◌+◌, ◌<◌, ◌^◌, ◌↔◌, ◌≡◌, ◌≤◌};
 ghost use Rattle.bw_mask.specs.Masks.{bit_of, len};
@@ -18,12 +18,13 @@ use crate::codes::greatest_code;
 use crate::column::Column;
 use crate::kept::KeptCodes;
 use crate::step::Step;
+use crate::within::has_top;
 use bw_cells::Measured;
 use bw_code::{Encoding, Ends, Layout, Offset};
 use bw_mask::{Mask, has_bit};
 use std::alloc::{AllocError, Global};
 
-/// Whether each value that has a code by one offset has one by another, by bases and widths alone.
+/// Whether bases and widths alone show that each value with a code in `other` has one in `offset`, too.
 fn covers(offset: Offset, other: Offset) -> bool
     ensures { IsTrue result → (x : ℤ) → IsWithin other x → IsWithin offset x }
 {
@@ -35,7 +36,7 @@ fn covers(offset: Offset, other: Offset) -> bool
     lift <= greatest && greatest_code(other) <= greatest - lift
 }
 
-/// Whether values with these ends have codes by an offset.
+/// Whether values between these ends have codes in an offset encoding.
 pub(crate) fn spans(offset: Offset, ends: Option<Ends>) -> bool
     ensures { (values : List (Option ℤ)) → AreEnds (known values) ends → (IsTrue result ↔ All (IsCoded (by.Offset offset)) values) }
 {
@@ -48,8 +49,7 @@ pub(crate) fn spans(offset: Offset, ends: Option<Ends>) -> bool
     greatest.abs_diff(offset.base) <= greatest_code(offset)
 }
 
-/// Codes that are distances from a base, of those rows alone whose bit is set both times: 0 for each other row. Answers which rows
-/// are left.
+/// Sets to 0 the code of each row that is not in both words of bits. Returns the rows that are in both.
 #[tactic(auto, using(bw_mask::proofs::Bits::bit_of_and))]
 fn keep_rows(codes: &mut [u64], present: u64, rows: u64) -> u64
     requires { length codes.old ≤ 64 }
@@ -64,7 +64,8 @@ fn keep_rows(codes: &mut [u64], present: u64, rows: u64) -> u64
     kept
 }
 
-/// Words of planes of those rows alone whose bit is set both times. Answers which rows are left.
+/// Clears in all words of planes the bits of each row that is not in both words of bits. Returns the rows that are in
+/// both.
 #[tactic(auto, using(bw_mask::proofs::Bits::bit_of_and))]
 fn keep_bits(words: &mut [u64; 64], present: u64, rows: u64) -> u64
     ensures each { (b r : ℕ) → b < 64 → bit_of (slice_index words.new b) r ≡ (bit_of (slice_index words.old b) r && bit_of rows r) }
@@ -76,7 +77,7 @@ fn keep_bits(words: &mut [u64; 64], present: u64, rows: u64) -> u64
     present & rows
 }
 
-/// The layout of a copy: planes stay planes, and all else is copied in plain codes.
+/// The layout of a copy: V stays V, and every other layout is copied to plain codes.
 fn copied_layout(layout: Layout) -> Layout
     ensures held { (values : List (Option ℤ)) → All (IsNullOrHeld layout) values → All (IsNullOrHeld result) values }
     ensures wide { widest layout ≤ widest result }
@@ -89,8 +90,8 @@ fn copied_layout(layout: Layout) -> Layout
 }
 
 impl Column {
-    /// A copy of the values in the rows of a mask in planes or plain codes, and NULL in the other rows. It keeps the values while the
-    /// columns change. The column is of kind OFFSET; of a DICTIONARY there is no copy.
+    /// A copy of the values in the rows of a mask, in planes or plain codes, with NULL in the other rows. It stays the
+    /// same while the columns change. Returns a copy only of a column of kind OFFSET, `None` for a DICTIONARY.
     pub fn copy_at(&self, alloc: Global, places: &Mask) -> Result<Option<Column>, AllocError>
         requires { len places.now ≡ length self.now.values }
         ensures values { IfOk result (λ copy. IfSome copy (λ c. c.values ≡ masked places.now self.now.values)) }
@@ -110,7 +111,7 @@ impl Column {
         Ok(Some(copy))
     }
 
-    /// Adds the values that another column has in the rows of a mask, and NULL for each other row, within the room.
+    /// Appends the values that another column has in the rows of a mask, and NULL for each other row, within the room.
     fn extend_masked(&mut self, offset: Offset, other: &Column, places: &Mask)
         requires places { len places.now ≡ length other.now.values }
         requires none { self.old.values ≡ [] }
@@ -130,7 +131,7 @@ impl Column {
         }
     }
 
-    /// Adds n of these values from row `at` on, at most 64, by their codes.
+    /// Appends n of these values from row `at` on, at most 64, by their codes.
     fn extend_masked_codes(
         &mut self,
         offset: Offset,
@@ -159,7 +160,7 @@ impl Column {
         self.extend_rows(codes, kept);
     }
 
-    /// The same by their planes, where both columns have such.
+    /// The same by their planes, where both columns have planes.
     fn extend_masked_run(
         &mut self,
         offset: Offset,
@@ -194,9 +195,9 @@ impl Column {
         self.extend_masked_codes(offset, other, places, at, n);
     }
 
-    /// Makes ready to take a copy's values. Where one of them has no code, what is prepared has the step to an encoding that
-    /// fits all values, as that of `room_for`. The column keeps its values, layout and encoding, also where memory is wanting;
-    /// at most its room grows.
+    /// Prepares to take the values of a copy. Where one of them has no code, the result includes the step to an
+    /// encoding that fits all values, as in `room_for`. The column keeps its values, layout and encoding, also where it
+    /// runs out of memory; at most its room grows.
     pub fn room_to_copy(
         &mut self,
         alloc: Global,
@@ -222,8 +223,8 @@ impl Column {
         Ok(Prepared { step, codes })
     }
 
-    /// Whether each value of another column has a code here. Both are of kind OFFSET. Bases and widths may tell it without a
-    /// look at the values; else their ends do.
+    /// Whether each value of another column has a code in this one. Both are of kind OFFSET. Bases and widths may
+    /// decide it without reading values; else the least and greatest value do.
     fn has_codes_of(&self, other: &Column) -> bool
         requires own { kind_of self.now.encoding ≡ kind.Offset }
         requires kind { kind_of other.now.encoding ≡ kind.Offset }
@@ -239,11 +240,15 @@ impl Column {
         if covers(own, offset) {
             return true;
         }
-        spans(own, other.ends())
+        // Planes tell their ends sooner than all distances.
+        if other.layout() == Layout::V || !has_top(own) {
+            return spans(own, other.ends());
+        }
+        other.lies_within(own)
     }
 
-    /// Puts a copy's values at some of at most 64 rows from row `at` on, which is the first of a word's: at row at + i where bit
-    /// i of the word is set, by their codes. Every other row keeps its value.
+    /// Writes the values of a copy to some of at most 64 rows from row `at` on, the first row of a word: to row at + i
+    /// where bit i of `rows` is set, by their codes. Every other row keeps its value.
     fn copy_codes(&mut self, offset: Offset, at: usize, n: usize, rows: u64, copy: &Column)
         requires word { at % 64 ≡ 0 }
         requires few { n ≤ 64 }
@@ -263,7 +268,7 @@ impl Column {
         self.put_coded(at, rows, codes, present);
     }
 
-    /// The same by their planes, where both columns have such.
+    /// The same by their planes, where both columns have planes.
     fn copy_rows(&mut self, offset: Offset, at: usize, n: usize, rows: u64, copy: &Column)
         requires word { at % 64 ≡ 0 }
         requires few { n ≤ 64 }
@@ -288,7 +293,7 @@ impl Column {
         self.copy_codes(offset, at, n, rows, copy);
     }
 
-    /// Puts a copy's values in the set places, those of a word at once.
+    /// Writes the values of a copy to the set places, a word of rows at a time.
     fn copy_runs(&mut self, offset: Offset, places: &Mask, copy: &Column)
         requires encoding { self.old.encoding ≡ by.Offset offset }
         requires coded { All (IsCoded self.old.encoding) copy.now.values }
@@ -309,7 +314,7 @@ impl Column {
         }
     }
 
-    /// Puts a copy's values in the set places, of which it is a copy. Takes no memory.
+    /// Writes the values of a copy to the set places, from which the copy was taken. Takes no memory.
     pub fn copy_from(&mut self, prepared: Prepared, places: &Mask, copy: &Column)
         requires prepared { IsPreparedFor self.old (chosen_values places.now copy.now.values) false prepared }
         requires own { kind_of self.old.encoding ≡ kind.Offset }

@@ -1,4 +1,4 @@
-//! How far the values of a column lie above a base, by their codes.
+//! Distances of the values of a column from a base, computed from their codes.
 
 ghost use Rattle.std.specs.Prelude.{None, Some, pos, drop, if◌then◌else◌, is_some, length, map, slice_index, slice_index_or, take, ℕ, ◌%◌, ◌+◌, ◌<◌, ◌^◌, ◌≡◌, ◌≤◌};
 ghost use Rattle.bw_mask.specs.Masks.{bit_of};
@@ -15,7 +15,7 @@ use bw_cells::Measured;
 use bw_code::{Encoding, Ends, Offset};
 use bw_mask::{Mask, has_bit};
 
-/// Adds so much to each number, modulo 2^64.
+/// Adds `more` to each number, modulo 2^64.
 fn add_to_each(numbers: &mut [u64], more: u64)
     ensures count { length numbers.new ≡ length numbers.old }
     ensures each { (k : ℕ) → k < length numbers.old → slice_index numbers.new k ≡ (slice_index numbers.old k + more) % 2 ^ 64 }
@@ -25,26 +25,26 @@ fn add_to_each(numbers: &mut [u64], more: u64)
     }
 }
 
-/// Adds so much to each number whose bit is set, modulo 2^64. Each other becomes 0.
+/// Adds `more` to each number whose bit is set, modulo 2^64. Each other number becomes 0.
 fn add_where_set(numbers: &mut [u64], set: u64, more: u64)
     requires { length numbers.old ≤ 64 }
     ensures count { length numbers.new ≡ length numbers.old }
     ensures each { (k : ℕ) → k < length numbers.old → slice_index numbers.new k ≡ (if bit_of set k then (slice_index numbers.old k + more) % 2 ^ 64 else 0) }
 {
-    // Most words have no null, and then no bit is looked at.
+    // Most words of rows have no null, and then no bit is tested.
     if set == u64::MAX {
         add_to_each(numbers, more);
         return;
     }
-    // No branch a number, so that numbers are taken side by side.
+    // No branch per number, so that the loop can be vectorized.
     for i in 0..numbers.len() {
         let sum = numbers[i].wrapping_add(more);
         numbers[i] = if has_bit(set, i) { sum } else { 0 };
     }
 }
 
-/// Fills `out` with the distances from a base of the values of at most 64 rows from row `at` on, and answers which of them
-/// are not null. The codes are distances already, from another base.
+/// Fills `out` with the distances from a base of the values of at most 64 rows from row `at` on, and returns which of
+/// them are non-null. The codes are already distances, but from another base.
 fn distances_by_offset(
     offset: Offset,
     codes: &Codes,
@@ -69,8 +69,8 @@ fn distances_by_offset(
     present
 }
 
-/// How far an entry lies above a base, modulo 2^64, where its row is not null, and 0 elsewhere. The distance is made at a null,
-/// too: what is left to choose takes no branch.
+/// The distance of an entry from a base, modulo 2^64, where its row is non-null, else 0. It is computed for a null,
+/// too, so that the choice needs no branch.
 #[inline]
 fn distance_where(there: bool, entry: i64, base: i64) -> u64
     ensures { result ≡ (if there then distance_from base (Some entry) else 0) }
@@ -79,22 +79,22 @@ fn distance_where(there: bool, entry: i64, base: i64) -> u64
     if there { distance } else { 0 }
 }
 
-/// Each code of at most 64 rows becomes the distance of its entry from a base, modulo 2^64, where its bit is set, and 0
-/// elsewhere.
+/// Replaces each code of at most 64 rows by the distance of its entry from a base, modulo 2^64, where its bit is set,
+/// and by 0 elsewhere.
 fn measure_entries(codes: &mut [u64], set: u64, entries: &[i64], base: i64)
     requires few { length codes.old ≤ 64 }
     requires inside { (k : ℕ) → k < length codes.old → slice_index codes.old k < length entries.now }
     ensures count { length codes.new ≡ length codes.old }
     ensures each { (k : ℕ) → k < length codes.old → slice_index codes.new k ≡ (if bit_of set k then distance_from base (Some (slice_index_or entries.now (slice_index codes.old k) (pos 0))) else 0) }
 {
-    // The code of a null is 0, which is the place of an entry, too.
+    // The code of a null is 0, which is the index of an entry, too.
     for i in 0..codes.len() {
         let entry = entries[codes[i] as usize];
         codes[i] = distance_where(has_bit(set, i), entry, base);
     }
 }
 
-/// The same by a dictionary. Where it has no entries, each row is null, and its code is 0.
+/// The same for a dictionary. Where it has no entries, each row is null, and its code is 0.
 fn distances_by_entries(
     entries: &[i64],
     codes: &Codes,

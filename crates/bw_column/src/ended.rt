@@ -1,4 +1,4 @@
-//! Cells whose ends are asked for once.
+//! Cells whose least and greatest value are computed once.
 
 ghost use Rattle.std.specs.Prelude.{◌≡◌};
 
@@ -6,7 +6,7 @@ use bw_cells::{Cells, Measured};
 use bw_code::Ends;
 use std::marker::Model;
 
-/// Cells with their ends, so that who asks for these again causes no second pass over the cells.
+/// Cells with their least and greatest value, so that asking for these again takes no second pass over the cells.
 #[derive(Drop)]
 pub(crate) struct EndedCells<'a, C: Measured> {
     cells: &'a C,
@@ -26,7 +26,7 @@ impl<'a, C: Measured> Model for EndedCells<'a, C> {
 }
 
 impl<'a, C: Measured> EndedCells<'a, C> {
-    /// The cells, whose ends are found now.
+    /// The cells, with their ends computed now.
     pub(crate) fn of(cells: &'a C) -> EndedCells<'a, C>
         ensures { result ≡ C.cells cells.now }
     {

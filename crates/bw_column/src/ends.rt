@@ -1,6 +1,6 @@
-//! The least and the greatest value of a column, found among its codes.
+//! The least and the greatest value of a column, found from its codes.
 
-ghost use Rattle.std.specs.Prelude.{Bool, length, slice_index, ℕ, ◌^◌, ◌-◌, ◌≡◌, ◌≤◌};
+ghost use Rattle.std.specs.Prelude.{Bool, length, slice_index, true, ℕ, ◌^◌, ◌-◌, ◌<◌, ◌≡◌, ◌≤◌};
 ghost use Rattle.bw_mask.specs.Masks.{bit_of, row_at};
 ghost use Rattle.bw_code.specs.Columns.{code_at, count};
 ghost use Rattle.bw_code.specs.Fittings.{AreEnds};
@@ -15,11 +15,36 @@ use bw_code::{CodeColumn, Ends};
 use bw_mask::{Mask, has_bit};
 use bw_vertical::{CodeEnds, VerticalColumn, word_ends};
 
-/// The least of these codes whose bit is set, or the start where none is below it.
+/// The least of `start` and of the codes.
+fn least_of(start: u64, codes: &[u64]) -> u64
+    ensures { (has : ℕ → Bool) → ((i : ℕ) → i < length codes.now → has i ≡ true) → IsLeastFrom start (length codes.now) has (slice_index codes.now) result }
+{
+    let mut least = start;
+    for i in 0..codes.len() {
+        least = least.min(codes[i]);
+    }
+    least
+}
+
+/// The greatest of `start` and of the codes.
+fn greatest_of(start: u64, codes: &[u64]) -> u64
+    ensures { (has : ℕ → Bool) → ((i : ℕ) → i < length codes.now → has i ≡ true) → IsGreatestFrom start (length codes.now) has (slice_index codes.now) result }
+{
+    let mut greatest = start;
+    for i in 0..codes.len() {
+        greatest = greatest.max(codes[i]);
+    }
+    greatest
+}
+
+/// The least of `start` and of the codes whose bit is set.
 fn least_from(start: u64, codes: &[u64], present: u64) -> u64
     requires { length codes.now ≤ 64 }
     ensures { IsLeastFrom start (length codes.now) (bit_of present) (slice_index codes.now) result }
 {
+    if present == u64::MAX {
+        return least_of(start, codes);
+    }
     let mut least = start;
     for i in 0..codes.len() {
         let code = if has_bit(present, i) {
@@ -32,11 +57,14 @@ fn least_from(start: u64, codes: &[u64], present: u64) -> u64
     least
 }
 
-/// The greatest of these codes whose bit is set, or the start where none is above it.
+/// The greatest of `start` and of the codes whose bit is set.
 fn greatest_from(start: u64, codes: &[u64], present: u64) -> u64
     requires { length codes.now ≤ 64 }
     ensures { IsGreatestFrom start (length codes.now) (bit_of present) (slice_index codes.now) result }
 {
+    if present == u64::MAX {
+        return greatest_of(start, codes);
+    }
     let mut greatest = start;
     for i in 0..codes.len() {
         let code = if has_bit(present, i) { codes[i] } else { 0 };
@@ -45,7 +73,7 @@ fn greatest_from(start: u64, codes: &[u64], present: u64) -> u64
     greatest
 }
 
-/// The least and the greatest of the codes of the rows that are not null, by their planes.
+/// The least and the greatest code of the non-null rows, by their planes.
 fn plane_ends(codes: &VerticalColumn, nonnull: &Mask) -> CodeEnds
     ensures { AreCodeEnds (row_at nonnull.now) (code_at codes.now) (count codes.now) result }
 {
@@ -61,7 +89,7 @@ fn plane_ends(codes: &VerticalColumn, nonnull: &Mask) -> CodeEnds
     ends
 }
 
-/// The least and the greatest of a code and of those of the rows that are not null, of which these are known.
+/// The least and the greatest of `start` and of the codes of the non-null rows, whose ends are given.
 fn ends_from(start: u64, ends: CodeEnds) -> (u64, u64)
     ensures least { (n : ℕ) (marked : ℕ → Bool) (code : ℕ → ℕ) → AreCodeEnds marked code n ends → IsLeastFrom start n marked code result.0 }
     ensures greatest { (n : ℕ) (marked : ℕ → Bool) (code : ℕ → ℕ) → AreCodeEnds marked code n ends → IsGreatestFrom start n marked code result.1 }
@@ -72,7 +100,7 @@ fn ends_from(start: u64, ends: CodeEnds) -> (u64, u64)
     (start.min(ends.least), start.max(ends.greatest))
 }
 
-/// The least and the greatest of a code and of the codes of the rows that are not null.
+/// The least and the greatest of `start` and of the codes of the non-null rows.
 fn code_ends(codes: &Codes, nonnull: &Mask, start: u64) -> (u64, u64)
     ensures least { IsLeastFrom start (count (list_of codes.now)) (row_at nonnull.now) (code_at (list_of codes.now)) result.0 }
     ensures greatest { IsGreatestFrom start (count (list_of codes.now)) (row_at nonnull.now) (code_at (list_of codes.now)) result.1 }
@@ -83,7 +111,7 @@ fn code_ends(codes: &Codes, nonnull: &Mask, start: u64) -> (u64, u64)
     }
 }
 
-/// The same by the codes, which are read in runs.
+/// The same by the codes, which are read in blocks.
 fn run_ends(codes: &Codes, nonnull: &Mask, start: u64) -> (u64, u64)
     ensures least { IsLeastFrom start (count (list_of codes.now)) (row_at nonnull.now) (code_at (list_of codes.now)) result.0 }
     ensures greatest { IsGreatestFrom start (count (list_of codes.now)) (row_at nonnull.now) (code_at (list_of codes.now)) result.1 }
@@ -104,7 +132,7 @@ fn run_ends(codes: &Codes, nonnull: &Mask, start: u64) -> (u64, u64)
 }
 
 impl Column {
-    /// The ends of the values that are not null, if there are any: codes keep the order of their values.
+    /// The least and the greatest non-null value, if there is one: codes keep the order of their values.
     pub(crate) fn ends(&self) -> Option<Ends>
         ensures { AreEnds (known self.now.values) result }
     {

@@ -1,4 +1,4 @@
-//! Values added at the end of a column.
+//! Appending values to a column.
 
 ghost use Rattle.std.specs.Prelude.{All, List, Option, drop, length, slice_index, take, true, ℕ, ℤ, ◌%◌, ◌++◌, ◌+◌, ◌<◌, ◌^◌, ◌≡◌, ◌≤◌};
 ghost use Rattle.bw_mask.specs.Masks.{bit_of};
@@ -16,7 +16,7 @@ use bw_code::{Encoding, Layout, Offset};
 use bw_dictionary::RankedCells;
 
 impl Column {
-    /// Adds at most 64 rows at the end, within the room, by their codes: those whose bit is set are not null.
+    /// Appends at most 64 rows by their codes, within the room: those whose bit is set are non-null.
     #[tactic(auto, using(bw_code::proofs::Lists::made_len))]
     pub(crate) fn extend_rows(&mut self, codes: &[u64], present: u64)
         requires block { length codes.now ≤ 64 }
@@ -33,7 +33,7 @@ impl Column {
         self.nonnull.push_bits(codes.len(), present);
     }
 
-    /// Adds at most 64 values with their codes at the end, within the room.
+    /// Appends at most 64 values with their codes, within the room.
     fn extend(&mut self, values: &[Option<i64>], codes: &[u64])
         requires block { length values.now ≤ 64 }
         requires coded { All (IsCoded self.old.encoding) values.now }
@@ -50,7 +50,7 @@ impl Column {
         self.extend_rows(codes, presence(values));
     }
 
-    /// Adds at most 64 values at the end, within the room.
+    /// Appends at most 64 values, within the room.
     fn extend_block(&mut self, values: &[Option<i64>])
         requires block { length values.now ≤ 64 }
         requires coded { All (IsCoded self.old.encoding) values.now }
@@ -70,7 +70,7 @@ impl Column {
         self.extend(values, codes);
     }
 
-    /// Adds cells at the end, within the room, each by the code that is looked for.
+    /// Appends cells, within the room, looking up the code of each.
     fn extend_each<C: Cells>(&mut self, cells: &C)
         requires coded { All (IsCoded self.old.encoding) (C.cells cells.now) }
         requires held { All (IsNullOrHeld self.old.layout) (C.cells cells.now) }
@@ -91,8 +91,8 @@ impl Column {
         }
     }
 
-    /// Adds n cells at the end, within the room, so few that their rows lie in one word, by the words of the planes of their
-    /// distances from the base. The layout is V.
+    /// Appends n cells, within the room, by the words of the planes of their distances from the base. Their rows lie in
+    /// one word. The layout is V.
     #[tactic(auto, using(bw_code::proofs::Lists::made_len))]
     pub(crate) fn extend_planes(
         &mut self,
@@ -117,8 +117,8 @@ impl Column {
         self.nonnull.push_bits(n, present);
     }
 
-    /// Adds cells from number `at` on at the end, within the room, as many as there are places for their codes, at most 64. Their
-    /// codes are their distances from the base.
+    /// Appends `codes.len()` cells, at most 64, from cell `at` on, within the room. Their codes are their distances
+    /// from the base; `codes` is a buffer.
     fn extend_distances<C: Measured>(
         &mut self,
         offset: Offset,
@@ -142,7 +142,7 @@ impl Column {
         self.extend_rows(codes, present);
     }
 
-    /// Whether codes that come next begin a word of planes.
+    /// Whether the next code appended begins a word of planes.
     #[tactic(auto, using(bw_code::proofs::Lists::made_len))]
     pub(crate) fn begins_planes(&self) -> bool
         ensures { result ≡ true → (self.now.layout ≡ layouts.V) × (length self.now.values % 64 ≡ 0) }
@@ -150,8 +150,8 @@ impl Column {
         self.layout() == Layout::V && self.len() % 64 == 0
     }
 
-    /// Adds n cells from number `at` on, at most 64, at the end, within the room: by their planes, where they have such as the
-    /// column has, else by their distances from the base.
+    /// Appends n cells, at most 64, from cell `at` on, within the room: by their planes, where the cells have planes of
+    /// the column's base and width, else by their distances from the base.
     fn extend_run<C: Measured>(&mut self, offset: Offset, cells: &C, at: usize, n: usize)
         requires encoding { self.old.encoding ≡ by.Offset offset }
         requires coded { All (IsCoded self.old.encoding) (C.cells cells.now) }
@@ -178,7 +178,7 @@ impl Column {
         self.extend_distances(offset, cells, at, &mut list[..n]);
     }
 
-    /// Adds cells at the end, within the room. Their codes are their distances from the base: none is looked at by itself.
+    /// Appends cells, within the room. Their codes are their distances from the base, so none is looked up.
     fn extend_measured<C: Measured>(&mut self, offset: Offset, cells: &C)
         requires encoding { self.old.encoding ≡ by.Offset offset }
         requires coded { All (IsCoded self.old.encoding) (C.cells cells.now) }
@@ -198,7 +198,7 @@ impl Column {
         }
     }
 
-    /// Adds cells at the end, within the room.
+    /// Appends cells, within the room.
     pub(crate) fn extend_from<C: Measured>(&mut self, cells: &C)
         requires coded { All (IsCoded self.old.encoding) (C.cells cells.now) }
         requires held { All (IsNullOrHeld self.old.layout) (C.cells cells.now) }
@@ -215,7 +215,7 @@ impl Column {
         }
     }
 
-    /// Adds cells with their codes at the end, within the room. Of the cells it asks only which of them are there.
+    /// Appends cells with their codes, within the room. Of the cells it reads only which are non-null.
     pub(crate) fn extend_with<C: Measured>(&mut self, cells: &C, codes: &[u64])
         requires coded { All (IsCoded self.old.encoding) (C.cells cells.now) }
         requires codes { codes.now ≡ codes_for self.old.encoding (C.cells cells.now) }
@@ -237,7 +237,7 @@ impl Column {
         }
     }
 
-    /// The same by the cells' places among the entries, which are widened run by run.
+    /// The same by the indices of the cells among the entries, which are widened block by block.
     pub(crate) fn extend_ranked<C: Measured>(&mut self, cells: &C, ranked: &RankedCells)
         requires coded { All (IsCoded self.old.encoding) (C.cells cells.now) }
         requires codes { ranked.now.places.items ≡ codes_for self.old.encoding (C.cells cells.now) }

@@ -1,4 +1,4 @@
-//! One value put in place of others. It has one code, so that no list of values or codes is wanted.
+//! Overwriting rows with one value. It has one code, so that no list of values or codes is needed.
 
 ghost use Rattle.std.specs.Prelude.{All, IfOk, count_by, false, is_some, length, replicate, ℕ, ◌%◌, ◌&&◌, ◌+◌, ◌^◌, ◌≡◌, ◌≤◌};
 ghost use Rattle.bw_mask.specs.Masks.{bit_of, len};
@@ -17,7 +17,7 @@ use crate::step::Step;
 use bw_mask::Mask;
 use std::alloc::{AllocError, Global};
 
-/// Of the rows of a word those that are not null once they have this value.
+/// Which of some rows of a word are non-null once they have this value.
 fn present_rows(rows: u64, value: Option<i64>) -> u64
     ensures { (i : ℕ) → bit_of result i ≡ (bit_of rows i && is_some value) }
 {
@@ -25,8 +25,8 @@ fn present_rows(rows: u64, value: Option<i64>) -> u64
 }
 
 impl Column {
-    /// Puts a value with its code at some of at most 64 rows from row `at` on, which is the first of a word's: at row at + i
-    /// where bit i of the word is set. Every other row keeps its value.
+    /// Writes a value and its code to some of at most 64 rows from row `at` on, the first row of a word: to row at + i
+    /// where bit i of `rows` is set. Every other row keeps its value.
     fn fill_rows(&mut self, at: usize, n: usize, rows: u64, value: Option<i64>, code: u64)
         requires word { at % 64 ≡ 0 }
         requires few { n ≤ 64 }
@@ -43,7 +43,7 @@ impl Column {
         put_presence(&mut self.nonnull, at, n, rows, present_rows(rows, value));
     }
 
-    /// Puts a value with its code in the set places, those of a word at once.
+    /// Writes a value and its code to the set places, a word of rows at a time.
     fn fill_with(&mut self, places: &Mask, value: Option<i64>, code: u64)
         requires coded { IsCoded self.old.encoding value }
         requires code { code ≡ code_for self.old.encoding value }
@@ -64,7 +64,7 @@ impl Column {
         }
     }
 
-    /// Puts a value in the set places, where it has a code if there is any.
+    /// Writes a value to the set places. It has a code if any place is set.
     fn fill_all(&mut self, places: &Mask, value: Option<i64>)
         requires coded { All (IsCoded self.old.encoding) (replicate (count_by (λ row. row) places.now.rows) value) }
         requires held { All (IsNullOrHeld self.old.layout) (replicate (count_by (λ row. row) places.now.rows) value) }
@@ -80,7 +80,7 @@ impl Column {
         }
     }
 
-    /// Puts one value in the set places. Takes no memory.
+    /// Writes one value to all set places. Takes no memory.
     pub fn fill(&mut self, prepared: Prepared, places: &Mask, value: Option<i64>)
         requires prepared { IsPreparedFor self.old (replicate (count_by (λ row. row) places.now.rows) value) false prepared }
         requires places { len places.now ≡ length self.old.values }
@@ -93,8 +93,8 @@ impl Column {
         self.fill_all(places, value);
     }
 
-    /// Makes ready to take so many times one value in place of others, as `room_for` does for a list. The column keeps its
-    /// values, layout and encoding, also where memory is wanting; at most its room grows.
+    /// Prepares to write `count` copies of a value in place of others, as `room_for` does for a list of values. The
+    /// column keeps its values, layout and encoding, also where it runs out of memory; at most its room grows.
     pub fn room_to_fill(
         &mut self,
         alloc: Global,

@@ -1,5 +1,5 @@
-//! A column whose dictionary takes in other values: the entries that some row still has are put together with the new ones, and
-//! each code moves to its new place.
+//! Growing a column's dictionary by other values: the entries that some row still has are merged with the new ones, and
+//! each code is mapped to its new index.
 
 ghost use Rattle.std.specs.Prelude.{All, Contains, IfOk, None, drop, is_some, length, slice_index_or, take, ℕ, ℤ, ◌++◌, ◌+◌, ◌^◌, ◌↔◌, ◌≡◌, ◌≤◌};
 ghost use Rattle.bw_code.specs.Encodings.{AreCodes, IsFit, code_of, kind_of, width};
@@ -20,16 +20,16 @@ use bw_dictionary::{
 };
 use std::alloc::{AllocError, Global};
 
-/// A column in a dictionary that has other values, too.
+/// A column whose dictionary has other values, too.
 #[derive(Drop)]
 pub(crate) struct Grown {
     pub(crate) column: Column,
-    /// The codes there of the other values, which ascend.
+    /// The codes that the other values have in that dictionary, ascending.
     pub(crate) codes: Vec<u64>,
 }
 
 impl Column {
-    /// Fills `codes` with those of at most 64 rows from row `at` on, and answers which of them are not null.
+    /// Fills `codes` with the codes of at most 64 rows from row `at` on, and returns which of the rows are non-null.
     #[tactic(auto, using(bw_code::proofs::Lists::made_len))]
     fn read_codes(&self, at: usize, codes: &mut [u64]) -> u64
         requires few { length codes.old ≤ 64 }
@@ -72,8 +72,8 @@ impl Column {
         Ok(stands)
     }
 
-    /// The same values in a layout and another dictionary, where the code of each is what the table has in the place of its code
-    /// here, and room for so many values more.
+    /// The same values in a layout and another dictionary, with room for `more` further values. `moves` has the new
+    /// code of each value at the index of its old code.
     fn moved(
         &self,
         alloc: Global,
@@ -107,7 +107,8 @@ impl Column {
         Ok(column)
     }
 
-    /// The same values in a layout and a dictionary that has those of the cells, too, with room for so many values more.
+    /// The same values in a layout and a dictionary that includes those of the cells, with room for `more` further
+    /// values.
     fn grown_in<C: Measured>(
         &self,
         alloc: Global,
@@ -143,7 +144,7 @@ impl Column {
         Ok(Grown { column, codes })
     }
 
-    /// The same values in a dictionary that has those of the cells, too, with room for so many values more.
+    /// The same values in a dictionary that includes those of the cells, with room for `more` further values.
     pub(crate) fn grown<C: Measured>(
         &self,
         alloc: Global,
@@ -166,8 +167,8 @@ impl Column {
         self.grown_in(alloc, self.layout(), cells, ranked, more)
     }
 
-    /// The same values in a layout and in a dictionary that has those entries alone that some row has. No value is looked at,
-    /// only codes move.
+    /// The same values in a layout and a dictionary of only those entries that some row has. No value is read, only
+    /// codes are mapped.
     pub(crate) fn rebuilt_in(&self, alloc: Global, layout: Layout) -> Result<Column, AllocError>
         requires kind { kind_of self.now.encoding ≡ kinds.Dictionary }
         requires held { All (IsNullOrHeld layout) self.now.values }

@@ -1,4 +1,4 @@
-//! The codes of cells that a column makes ready for, as far as they are kept until it takes them.
+//! The codes of cells that a column has prepared for, as far as they are kept until it takes the cells.
 
 ghost use Rattle.std.specs.Prelude.{All, IfOk, IfSome, IsSome, length, ◌<◌, ◌↔◌, ◌≡◌};
 ghost use Rattle.bw_code.specs.Encodings.{IsEncoding, kind_of};
@@ -14,17 +14,18 @@ use bw_code::Encoding;
 use bw_dictionary::{RankedCells, find_entries};
 use std::alloc::{AllocError, Global};
 
-/// The codes of cells. Only those of a DICTIONARY are kept: each was looked for in its list.
+/// The codes of cells. Only those of a DICTIONARY are kept: each took a lookup in the dictionary.
 #[derive(Drop)]
 pub(crate) enum KeptCodes {
-    /// Distances from a base, which cost no more than to be kept, or a code that is looked for once for all cells.
+    /// Distances from a base, which are as cheap to compute as to keep, or one code that is looked up once for all
+    /// cells.
     Distances,
-    /// Places in a dictionary.
+    /// Indices in a dictionary.
     Places(Vec<u64>),
 }
 
 impl KeptCodes {
-    /// The code of a cell, by its number among the cells.
+    /// The code of a cell, by its index among the cells.
     pub(crate) fn code_of(&self, encoding: &Encoding, cells: &[Option<i64>], i: usize) -> u64
         requires kept { AreKept (codes_for encoding.now cells.now) self.now }
         requires coded { All (IsCoded encoding.now) cells.now }
@@ -38,7 +39,7 @@ impl KeptCodes {
     }
 }
 
-/// The codes of cells by a dictionary, if each of them has one.
+/// The codes of cells in a dictionary, if each of them has one.
 pub(crate) fn find_codes<C: Measured>(
     alloc: Global,
     encoding: &Encoding,

@@ -1,4 +1,4 @@
-//! The planes of a column as they lie in memory: those of distances in layout V.
+//! The planes of a column as they lie in memory: those of kind OFFSET in layout V.
 
 ghost use Rattle.std.specs.Prelude.{IfSome, None, drop, is_some, length, map, slice_index, slice_index_or, take, true, ℕ, ◌%◌, ◌+◌, ◌<◌, ◌≡◌, ◌≤◌, ◌⊎◌};
 ghost use Rattle.bw_mask.specs.Masks.{bit_of};
@@ -12,7 +12,7 @@ use bw_code::{CodeColumn, Offset};
 use bw_mask::Mask;
 use bw_vertical::{VerticalColumn, shift_words};
 
-/// Whether so many rows from row `at` on have the bits of a whole word of a column of so many rows.
+/// Whether `count` rows from row `at` on are all rows of one word of a column of `rows` rows.
 fn is_word(at: usize, count: usize, rows: usize) -> bool
     requires { at + count ≤ rows }
     ensures { result ≡ true → (at % 64 ≡ 0) × (0 < count) × ((count ≡ 64) ⊎ (at + count ≡ rows)) }
@@ -20,7 +20,7 @@ fn is_word(at: usize, count: usize, rows: usize) -> bool
     at % 64 == 0 && 0 < count && (count == 64 || at + count == rows)
 }
 
-/// Whether codes by an offset are those of k bits from a base on.
+/// Whether an offset encoding has this base and codes of k bits.
 fn is_frame(offset: Offset, base: i64, k: usize) -> bool
     ensures base { result ≡ true → offset.base ≡ base }
     ensures width { result ≡ true → offset.width ≡ k }
@@ -28,8 +28,8 @@ fn is_frame(offset: Offset, base: i64, k: usize) -> bool
     offset.base == base && offset.width as usize == k
 }
 
-/// The planes of at most 64 rows from row `at` on, of k bits from a base on, where the rows are those of a word, and which of
-/// them are not null. Codes that are counted from another base, or have another width, are shifted plane by plane.
+/// The planes of k bits of the distances from a base, for at most 64 rows from row `at` on that are all rows of a word,
+/// and which of them are non-null. Codes with another base or width are shifted plane by plane.
 pub(crate) fn lent_planes(
     offset: Offset,
     codes: &VerticalColumn,

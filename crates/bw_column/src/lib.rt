@@ -25,10 +25,11 @@ mod runs;
 mod split;
 mod step;
 mod storage;
+mod within;
 
 pub use change::Prepared;
 pub use column::Column;
 pub use storage::Storage;
 
-/// Columns of kind OFFSET compared over sources of planes, whatever their bases.
+/// Compares columns of kind OFFSET over sources of planes, whatever their bases.
 pub use bw_vertical::add_from;

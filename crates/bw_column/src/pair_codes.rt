@@ -1,4 +1,4 @@
-//! Two columns compared by their codes, without fetching a value.
+//! Comparing two columns by their codes, without fetching values.
 
 ghost use Rattle.std.specs.Prelude.{is_some, length, true, ℕ, ◌&&◌, ◌+◌, ◌^◌, ◌≡◌, ◌≤◌};
 ghost use Rattle.bw_mask.specs.Masks.{SameShape, len, row_at};
@@ -15,7 +15,7 @@ use crate::column_planes::add_planes;
 use bw_code::{CmpOp, Encoding, Layout, Meter, Source};
 use bw_mask::Mask;
 
-/// The units of all planes of two columns of so many bits, where any row is known.
+/// The units of all planes of two columns of these widths, where any row is known; else 0.
 fn units_of_planes(width: u32, other_width: u32, known: &Mask) -> u64
     requires few { len known.now ≤ 2 ^ 24 }
     requires narrow { width ≤ 64 }
@@ -30,14 +30,14 @@ fn units_of_planes(width: u32, other_width: u32, known: &Mask) -> u64
 }
 
 impl Column {
-    /// Whether both have the same encoding, so that their codes compare as their values do, and lie in the same way.
+    /// Whether both have the same layout and encoding, so that their codes compare as their values do.
     pub(crate) fn is_alike(&self, other: &Column) -> bool
         ensures { result ≡ are_alike self.now other.now }
     {
         self.layout() == other.layout() && self.encoding == other.encoding
     }
 
-    /// `out` becomes the known rows whose values compare so, by the codes side by side.
+    /// `out` becomes the known rows whose values satisfy the comparison, by scanning the codes of both side by side.
     #[tactic(auto, using(bw_code::proofs::Lists::made_len))]
     pub(crate) fn compare_codes(
         &self,
@@ -60,7 +60,7 @@ impl Column {
         self.codes.scan_pair(&other.codes, op, known, out, meter);
     }
 
-    /// Whether both hold distances from bases, in layouts of which planes can be read.
+    /// Whether both are of kind OFFSET and in layouts that have planes.
     pub(crate) fn has_sums_with(&self, other: &Column) -> bool
         ensures { result ≡ have_sums self.now other.now }
     {
@@ -71,8 +71,8 @@ impl Column {
         are_offsets && self.layout() != Layout::P && other.layout() != Layout::P
     }
 
-    /// `out` becomes the known rows whose values compare so, by the planes of both, to which the bases are added, where planes are
-    /// at hand, and else by the values. What it costs is told by the planes in either way.
+    /// `out` becomes the known rows whose values satisfy the comparison: by the planes of both, adding the bases, where
+    /// both lend planes, else by the values. In both cases the cost is that of the planes.
     #[tactic(auto, using(bw_code::proofs::Lists::made_len))]
     pub(crate) fn compare_sums(
         &self,
@@ -97,7 +97,7 @@ impl Column {
         };
         let (Some(mut planes), Some(mut others)) = (self.codes.planes(), other.codes.planes())
         else {
-            // A plane of H is spread over all words of a segment: its codes are read quicker.
+            // A plane of H is spread over all words of a segment: reading its codes is faster.
             self.compare_rows(op, other, known, out);
             meter.add(units_of_planes(left.width, right.width, known));
             return;

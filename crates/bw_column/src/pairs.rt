@@ -1,4 +1,4 @@
-//! Two columns compared at the needed rows.
+//! Comparing two columns at the needed rows.
 
 ghost use Rattle.std.specs.Prelude.{is_some, length, negsuc, not, slice_index, true, ℕ, ◌&&◌, ◌+◌, ◌-◌, ◌<◌, ◌^◌, ◌≡◌, ◌≤◌};
 ghost use Rattle.bw_mask.specs.Masks.{SameShape, bit_of, len, row_at};
@@ -14,7 +14,7 @@ use bw_cells::Measured;
 use bw_code::{CmpOp, Meter, compared_rows};
 use bw_mask::Mask;
 
-/// The units of fetching two values at each row that is in.
+/// The units of fetching two values for each row of a mask.
 fn units_of_rows(rows: &Mask) -> u64
     requires { len rows.now ≤ 2 ^ 24 }
     ensures { result ≡ units_of_fetches (row_at rows.now) (len rows.now) }
@@ -23,8 +23,9 @@ fn units_of_rows(rows: &Mask) -> u64
 }
 
 impl Column {
-    /// Fills `out` with how far the values of the 64 rows from row `at` on lie above the least 64-bit integer, as far as there are
-    /// such rows: numbers in the order of the values, whatever their encoding. Answers which of the rows are not null.
+    /// Fills `out` with the distances of the values of the 64 rows from row `at` on, as far as they exist, from the
+    /// least 64-bit integer: numbers in the order of the values, whatever the encoding. Returns which of the rows are
+    /// non-null.
     fn rise_of_block(&self, at: usize, out: &mut [u64; 64]) -> u64
         requires { at ≤ length self.now.values }
         ensures rises { (i : ℕ) → i < 64 → at + i < length self.now.values → slice_index out.new i ≡ distance_from (negsuc (2 ^ 63 - 1)) (value_at self.now.values (at + i)) }
@@ -34,7 +35,7 @@ impl Column {
         self.distances(at, i64::MIN, &mut out[..n])
     }
 
-    /// Bit i says whether the values of row `at + i` compare so, as far as there are such rows.
+    /// Bit i says whether the values of row `at + i` satisfy the comparison, as far as that row exists.
     fn compared_block(&self, op: CmpOp, other: &Column, at: usize) -> u64
         requires at { at ≤ length self.now.values }
         requires other { length other.now.values ≡ length self.now.values }
@@ -50,7 +51,7 @@ impl Column {
         present & others & compared_rows(op, &left, &right)
     }
 
-    /// Of the 64 rows from row `at` on, the needed ones whose values compare so.
+    /// Of the 64 rows from row `at` on, the needed ones whose values satisfy the comparison.
     #[tactic(auto, using(bw_mask::proofs::Bits::bit_of_and))]
     fn chosen_of_block(&self, op: CmpOp, other: &Column, at: usize, needed: u64) -> u64
         requires at { at ≤ length self.now.values }
@@ -65,7 +66,7 @@ impl Column {
         }
     }
 
-    /// `out` becomes the needed rows whose values compare so.
+    /// `out` becomes the needed rows whose values satisfy the comparison.
     pub(crate) fn compare_rows(&self, op: CmpOp, other: &Column, need: &Mask, out: &mut Mask)
         requires other { length other.now.values ≡ length self.now.values }
         requires need { len need.now ≡ length self.now.values }
@@ -79,8 +80,8 @@ impl Column {
         }
     }
 
-    /// `out` becomes the known rows whose values compare so, by the first way that the two columns allow: a scan of
-    /// both, an addition of planes, or their values.
+    /// `out` becomes the known rows whose values satisfy the comparison, by the first way that the two columns allow: a
+    /// scan of both, an addition of planes, or their values.
     fn compare_known(
         &self,
         op: CmpOp,
@@ -108,7 +109,7 @@ impl Column {
         }
     }
 
-    /// Those where the values of both columns compare so, and the others where neither is null.
+    /// Splits the needed rows where neither value is null: those where the comparison holds, and the others.
     pub(crate) fn split_by_column(
         &self,
         op: CmpOp,

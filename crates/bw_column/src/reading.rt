@@ -1,4 +1,4 @@
-//! Values read from codes.
+//! Decoding values from codes.
 
 ghost use Rattle.std.specs.Prelude.{drop, length, slice_index, take, ℕ, ◌+◌, ◌<◌, ◌≡◌, ◌≤◌};
 ghost use Rattle.bw_mask.specs.Masks.{bit_of};
@@ -14,7 +14,7 @@ use bw_cells::Cells;
 use bw_code::{Encoding, Offset};
 use bw_mask::{Mask, has_bit};
 
-/// The value of a row, by its code and by whether it is there.
+/// The value of a row, by its code and whether it is non-null.
 pub(crate) fn value(encoding: &Encoding, code: u64, there: bool) -> Option<i64>
     requires { IsRowCode encoding.now code there }
     ensures { result ≡ value_from encoding.now code there }
@@ -26,7 +26,7 @@ pub(crate) fn value(encoding: &Encoding, code: u64, there: bool) -> Option<i64>
     }
 }
 
-/// Fills `out` with the values of codes that are distances from a base, of which those are there whose bit is set.
+/// Fills `out` with the values of codes that are distances from a base. Those whose bit is set are non-null.
 fn decode_by_offset(offset: Offset, codes: &[u64], present: u64, out: &mut [Option<i64>])
     requires few { length out.old ≤ 64 }
     requires codes { length codes.now ≡ length out.old }
@@ -38,7 +38,8 @@ fn decode_by_offset(offset: Offset, codes: &[u64], present: u64, out: &mut [Opti
     }
 }
 
-/// The value of a row by an offset. The number is made at a null, too: what is left to choose takes no branch.
+/// The value of a row in an offset encoding. The number is computed for a null, too, so that the choice needs no
+/// branch.
 #[inline]
 fn value_by_offset(offset: Offset, code: u64, there: bool) -> Option<i64>
     requires { IsRowCode (by.Offset offset) code there }
@@ -48,7 +49,7 @@ fn value_by_offset(offset: Offset, code: u64, there: bool) -> Option<i64>
     if there { Some(number) } else { None }
 }
 
-/// The same by any encoding, value by value.
+/// The same for any encoding, one value at a time.
 fn decode_each(encoding: &Encoding, codes: &[u64], present: u64, out: &mut [Option<i64>])
     requires few { length out.old ≤ 64 }
     requires codes { length codes.now ≡ length out.old }
@@ -60,7 +61,7 @@ fn decode_each(encoding: &Encoding, codes: &[u64], present: u64, out: &mut [Opti
     }
 }
 
-/// Fills `out` with the values of the codes, of which those are there whose bit is set.
+/// Fills `out` with the values of the codes. Those whose bit is set are non-null.
 fn decode_all(encoding: &Encoding, codes: &[u64], present: u64, out: &mut [Option<i64>])
     requires few { length out.old ≤ 64 }
     requires codes { length codes.now ≡ length out.old }

@@ -1,4 +1,4 @@
-//! Values put at some of 64 rows of a column at a time.
+//! Writing values to some of 64 rows of a column at a time.
 
 ghost use Rattle.std.specs.Prelude.{All, List, None, Option, count_by, false, if◌then◌else◌, length, min, slice_index, slice_index_or, ℕ, ℤ, ◌%◌, ◌+◌, ◌-◌, ◌<◌, ◌^◌, ◌≡◌, ◌≤◌};
 ghost use Rattle.bw_mask.specs.Masks.{SameShape, bit_of, len, row_at};
@@ -19,11 +19,11 @@ use bw_cells::presence;
 use bw_code::Offset;
 use bw_mask::{Mask, has_bit};
 
-/// Below how many set places of a word each is put by itself.
+/// Where fewer places of a word than this are set, each is written by itself.
 const FEW: u32 = 8;
 
-/// Fills `out` with what there is for the set places from `at` on, of which the first has the one of this number, and with
-/// `none` where a place is not set. Answers the number of the next set place's.
+/// Fills `out` with the items for the set places from `at` on, the first set place taking item `first`, and with `none`
+/// where a place is not set. Returns the index of the next set place's item.
 fn spread<T: Copy>(
     places: &Mask,
     at: usize,
@@ -45,7 +45,7 @@ fn spread<T: Copy>(
     let rows = places.bits(at, out.len());
     let last = list.len() - 1;
     let mut next = first;
-    // No branch a place: past the last one there is no set place, and the last is read to no end.
+    // No branch per place: after the last item no place is set, and reading the last one again has no effect.
     for i in 0..out.len() {
         let here = list[next.min(last)];
         let is_set = has_bit(rows, i);
@@ -57,7 +57,8 @@ fn spread<T: Copy>(
     next
 }
 
-/// Of at most 64 rows from row `at` on those whose bit is set become what the other word says of them.
+/// Of at most 64 rows from row `at` on, those whose bit is set in `rows` become non-null where their bit is set in
+/// `present`, else null.
 pub(crate) fn put_presence(nonnull: &mut Mask, at: usize, n: usize, rows: u64, present: u64)
     requires few { n ≤ 64 }
     requires inside { at + n ≤ len nonnull.old }
@@ -70,8 +71,9 @@ pub(crate) fn put_presence(nonnull: &mut Mask, at: usize, n: usize, rows: u64, p
 }
 
 impl Column {
-    /// Puts codes at some of at most 64 rows from row `at` on, which is the first of a word's: row at + i takes code i where bit
-    /// i of the word is set, and is not null where bit i of `present` is. Every other row keeps its value.
+    /// Writes codes to some of at most 64 rows from row `at` on, the first row of a word: row at + i takes code i where
+    /// bit i of `rows` is set, and becomes non-null where bit i of `present` is set, else null. Every other row keeps
+    /// its value.
     pub(crate) fn put_coded(&mut self, at: usize, rows: u64, codes: &[u64], present: u64)
         requires word { at % 64 ≡ 0 }
         requires few { length codes.now ≤ 64 }
@@ -87,8 +89,9 @@ impl Column {
         put_presence(&mut self.nonnull, at, codes.len(), rows, present);
     }
 
-    /// Puts cells at some of n rows from row `at` on, which is the first of a word's, by the words of the planes of their
-    /// distances from the base: at row at + i where bit i of the word is set. Every other row keeps its value. The layout is V.
+    /// Writes cells to some of n rows from row `at` on, the first row of a word, by the words of the planes of their
+    /// distances from the base: to row at + i where bit i of `rows` is set. Every other row keeps its value. The layout
+    /// is V.
     pub(crate) fn put_planes(
         &mut self,
         offset: Offset,
@@ -113,8 +116,8 @@ impl Column {
         put_presence(&mut self.nonnull, at, n, rows, present);
     }
 
-    /// Puts values with their codes at some of at most 64 rows from row `at` on, which is the first of a word's: row at + i
-    /// takes value i where bit i of the word is set. Every other row keeps its value.
+    /// Writes values with their codes to some of at most 64 rows from row `at` on, the first row of a word: row at + i
+    /// takes value i where bit i of `rows` is set. Every other row keeps its value.
     fn put_rows(&mut self, at: usize, rows: u64, values: &[Option<i64>], codes: &[u64])
         requires word { at % 64 ≡ 0 }
         requires few { length values.now ≤ 64 }
@@ -131,7 +134,7 @@ impl Column {
         self.put_coded(at, rows, codes, presence(values));
     }
 
-    /// Puts values, each of which has a code, at some of at most 64 rows from row `at` on, as `put_rows`.
+    /// Writes values, each of which has a code, to some of at most 64 rows from row `at` on, as `put_rows`.
     fn put_block(&mut self, at: usize, rows: u64, values: &[Option<i64>])
         requires word { at % 64 ≡ 0 }
         requires few { length values.now ≤ 64 }
@@ -151,8 +154,8 @@ impl Column {
         self.put_rows(at, rows, values, codes);
     }
 
-    /// Puts the values with their codes in the set places of a word, of which the first has the value of this number.
-    /// Answers the number of the next word's first.
+    /// Writes values with their codes to the set places of a word, the first set place taking value `first`. Returns
+    /// the index of the value for the next word's first set place.
     fn put_word(
         &mut self,
         places: &Mask,
@@ -194,8 +197,8 @@ impl Column {
         }
     }
 
-    /// Puts the values with their codes in the set places, in order. Where many of a word's places are set, they are put
-    /// at once.
+    /// Writes values with their codes to the set places, in order. Where many places of a word are set, they are
+    /// written at once.
     pub(crate) fn put_runs(&mut self, places: &Mask, values: &[Option<i64>], codes: &KeptCodes)
         requires coded { All (IsCoded self.old.encoding) values.now }
         requires codes { AreKept (codes_for self.old.encoding values.now) codes.now }

@@ -1,4 +1,4 @@
-//! The needed rows that are not null, split into those where a comparison holds and the others.
+//! Splitting the needed non-null rows into those where a comparison holds and the others.
 
 ghost use Rattle.std.specs.Prelude.{Bool, Some, is_some, length, not, true, ℕ, ℤ, ◌&&◌, ◌+◌, ◌<◌, ◌≡◌, ◌≤◌};
 ghost use Rattle.std.specs.List.{list_any};
@@ -17,7 +17,7 @@ use bw_code::{CmpOp, CodeTest, Meter};
 use bw_mask::Mask;
 
 impl Column {
-    /// Those where the code meets the test, and the others.
+    /// Splits into the rows whose code meets the test, and the others.
     #[tactic(auto, using(bw_code::proofs::Lists::made_len))]
     pub(crate) fn split(
         &self,
@@ -43,7 +43,8 @@ impl Column {
         falses.andnot_in(trues);
     }
 
-    /// Takes the rows of an entry out of `rest`, whose rows are not null. What becomes of `found` is of no account.
+    /// Removes the rows of an entry from `rest`, whose rows are non-null. The content of `found` afterwards is
+    /// unspecified.
     #[tactic(auto, using(bw_code::proofs::Lists::made_len))]
     fn take_out(&self, entry: i64, rest: &mut Mask, found: &mut Mask, meter: &mut Meter)
         requires rest { len rest.old ≡ length self.now.values }
@@ -59,7 +60,7 @@ impl Column {
         rest.andnot_in(found);
     }
 
-    /// Those where the value is one of the entries, and the others.
+    /// Splits into the rows whose value is one of the entries, and the others.
     pub(crate) fn split_by_list(
         &self,
         entries: &[i64],

@@ -1,4 +1,4 @@
-//! How a column comes to have a code for each of some values.
+//! The step that gives a column a code for each of some values.
 
 ghost use Rattle.std.specs.Bool.{OnTrue};
 ghost use Rattle.std.specs.Prelude.{All, IfOk, length, ◌++◌, ◌+◌, ◌^◌, ◌≡◌, ◌≤◌};
@@ -20,16 +20,16 @@ use std::alloc::{AllocError, Global};
 /// What a column does before it takes values, so that each of them has a code.
 #[derive(Drop)]
 pub(crate) enum Step {
-    /// Nothing: each has one.
+    /// Nothing: each value has one.
     Stay,
-    /// Its codes are counted from another base, where they lie.
+    /// Its codes are rebased where they lie.
     Shift(Offset),
-    /// Another column takes its place: the same values, encoded anew.
+    /// Another column replaces it: the same values, encoded again.
     Replace(Column),
 }
 
 impl Column {
-    /// The offset that spans the column's values and these.
+    /// The offset encoding that spans the column's values and these.
     fn offset_with<C: Measured>(&self, values: &C) -> Offset
         requires kind { kind_of self.now.encoding ≡ kinds.Offset }
         requires held { All (IsNullOrHeld self.now.layout) (C.cells values.now) }
@@ -42,8 +42,8 @@ impl Column {
         Offset::spanning(ends_of_both(self.ends(), values.ends()))
     }
 
-    /// The step to the encoding of the column's kind that fits its values and these, and room for so many values more. The column
-    /// keeps its values, layout and encoding, also where memory is wanting.
+    /// The step to the encoding of the column's kind that fits its values and these, with room for `more` further
+    /// values. The column keeps its values, layout and encoding, also where it runs out of memory.
     pub(crate) fn step_with<C: Measured>(
         &mut self,
         alloc: Global,
@@ -75,7 +75,7 @@ impl Column {
         }
     }
 
-    /// The same values by another offset, and room for so many values more.
+    /// The same values in another offset encoding, with room for `more` further values.
     fn anew(&self, alloc: Global, offset: Offset, more: usize) -> Result<Column, AllocError>
         requires coded { All (IsCoded (by.Offset offset)) self.now.values }
         requires narrow { offset.width ≤ widest self.now.layout }
@@ -91,7 +91,7 @@ impl Column {
         Ok(column)
     }
 
-    /// Whether codes can be counted from another base where they lie, as codes of so many bits.
+    /// Whether codes can be rebased where they lie, becoming codes of `bits` bits.
     fn shifts_to(&self, bits: u32) -> bool
         ensures { OnTrue result (ShiftsTo self.now.layout (width self.now.encoding) bits) }
     {
@@ -102,8 +102,8 @@ impl Column {
         }
     }
 
-    /// The step to another offset, and room for so many values more. Codes that can be shifted take no second column. The
-    /// column keeps its values, layout and encoding, also where memory is wanting.
+    /// The step to another offset encoding, with room for `more` further values. Codes that can be shifted need no
+    /// second column. The column keeps its values, layout and encoding, also where it runs out of memory.
     fn step_to(&mut self, alloc: Global, offset: Offset, more: usize) -> Result<Step, AllocError>
         requires kind { kind_of self.old.encoding ≡ kinds.Offset }
         requires coded { All (IsCoded (by.Offset offset)) self.old.values }
@@ -123,7 +123,7 @@ impl Column {
         Ok(Step::Replace(self.anew(alloc, offset, more)?))
     }
 
-    /// Counts the codes, which are distances from a base, from another base.
+    /// Rebases the codes, which are distances from a base.
     fn shift_to(&mut self, offset: Offset)
         requires { CanTake self.old (Step.Shift offset) }
         ensures values { self.new.values ≡ self.old.values }
@@ -139,7 +139,7 @@ impl Column {
         self.encoding = Encoding::Offset(offset);
     }
 
-    /// Takes a step. Takes no memory.
+    /// Applies a step. Takes no memory.
     pub(crate) fn take(&mut self, step: Step)
         requires { CanTake self.old step }
         ensures values { self.new.values ≡ (after self.old step).values }

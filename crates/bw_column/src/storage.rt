@@ -20,7 +20,7 @@ use bw_mask::Mask;
 use bw_vertical::VerticalColumn;
 use std::alloc::{AllocError, Global};
 
-/// The codes of a column, lent in the type of its layout.
+/// The codes of a column, lent as the type of its layout.
 #[derive(Clone, Copy)]
 pub enum Storage<'a> {
     P(&'a PlainColumn),
@@ -29,7 +29,7 @@ pub enum Storage<'a> {
     S(&'a SliceColumn),
 }
 
-/// Codes in a layout. What each call does with them is what `CodeColumn` says.
+/// Codes in a layout. Each call does what `CodeColumn` says.
 #[derive(Drop)]
 pub(crate) enum Codes {
     P(PlainColumn),
@@ -39,7 +39,7 @@ pub(crate) enum Codes {
 }
 
 impl Codes {
-    /// No codes.
+    /// An empty list of codes.
     pub(crate) fn with_width(alloc: Global, layout: Layout, width: u32) -> Result<Codes, AllocError>
         requires some { 1 ≤ width }
         requires narrow { width ≤ widest layout }
@@ -110,8 +110,7 @@ impl Codes {
         }
     }
 
-    /// Adds n codes at the end, within the room, so few that their rows lie in one word, by the words of their planes. The
-    /// layout is V.
+    /// Appends n codes, within the room, by the words of their planes. Their rows lie in one word. The layout is V.
     pub(crate) fn extend_words(&mut self, words: &[u64; 64], n: usize)
         requires layout { layout_of self.old ≡ layouts.V }
         requires some { 0 < n }
@@ -187,7 +186,8 @@ impl Codes {
         }
     }
 
-    /// Puts codes at some of n rows from row `at` on, those whose bit is set, by the words of their planes. The layout is V.
+    /// Writes codes to those of n rows from row `at` on whose bit is set, by the words of their planes. The layout is
+    /// V.
     pub(crate) fn put_words(&mut self, at: usize, n: usize, rows: u64, words: &[u64; 64])
         requires layout { layout_of self.old ≡ layouts.V }
         requires word { at % 64 ≡ 0 }
@@ -290,7 +290,8 @@ impl Codes {
         }
     }
 
-    /// Counts the code of each of the rows from another base, and makes all codes ones of so many bits, where they lie.
+    /// Changes in place the base of the code of each row in `rows` from `from` to `to`, and the width of all codes to
+    /// `width`.
     pub(crate) fn shift(&mut self, rows: &Mask, from: i64, to: i64, width: u32)
         requires here { ShiftsTo (layout_of self.old) (list_of self.old).width width }
         requires some { 1 ≤ width }

@@ -45,7 +45,7 @@ digits_value_after-append : (xs ys : List ℕ) (n : ℕ) → digits_value_after 
 digits_value_after-append [] ys n = refl
 digits_value_after-append (x ∷ xs) ys n = digits_value_after-append xs ys (n * 10 + digit_value x)
 
--- what the first bytes write, and what is left behind them
+-- what the first bytes spell, and what is left after them
 size_of-append : (xs ys : List ℕ) → option_and_then (λ n. size_after n ys) (then_some (list_all is_ascii_digit xs) (digits_value 10 xs)) ≡ size_of (xs ++ ys)
 size_of-append xs ys = rw (list_all-append is_ascii_digit xs ys, digits_value_after-append xs ys 0) (by_case (list_all is_ascii_digit xs))
   where

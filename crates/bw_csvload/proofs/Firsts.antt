@@ -1,4 +1,4 @@
--- What was put last so far, and what the rest gives, make the whole.
+-- What was appended so far, and what the rest gives, make the whole.
 use Rattle.std.proofs.Common.{Err, Option, length-append, ℤ, List, Ok, Result, [], ap, ap₂, map, refl, sym, zero, ℕ, ◌+◌, ◌++◌, ◌*◌, ◌≡◌, ◌∙◌, ◌∷◌, add-one, append_assoc, arith, drop, drop-cons, get_or, length, suc, ◌<◌}
 use Rattle.std.proofs.lemmas.Bool.Decides.{nat_tests}
 use Rattle.std.proofs.lemmas.List.{append-nil, get_or-map, length-map}
@@ -17,7 +17,7 @@ abbrev pub after : {A : Type 0} → List A → Result (List A) CsvFault → Resu
 after done (Ok rest) = Ok (done ++ rest)
 after done (Err e) = Err e
 
--- what was put behind the old ones, and what the rest gives, make the whole
+-- what was appended to the old ones, and what the rest gives, make the whole
 pub record Growing {A : Type 0} (whole : Result (List A) CsvFault) (old now : List A) (rest : Result (List A) CsvFault) : Type 0 where
   pub added : List A
   pub grown : now ≡ old ++ added
@@ -67,7 +67,7 @@ module _ {A B : Type 0} (f : ℕ → A → Result B CsvFault) (xs : List A) (i :
   place_fault old now e g fault =
       is_fault (all_or_first (numbered f 1 xs)) e (g.goes_on ∙ ap (after g.added) (numbered_next (i + 1) ∙ ap (λ r. before r (all_or_first (numbered f (i + 1 + 1) (drop (i + 1) xs)))) fault))
 
-  -- the next one is put last
+  -- the next one is appended
   pub place_more : (old now : List B) (y : B) → Growing (all_or_first (numbered f 1 xs)) old now (all_or_first (numbered f (i + 1) (drop i xs)))
       → f (i + 1) x ≡ Ok y → Growing (all_or_first (numbered f 1 xs)) old (now ++ y ∷ []) (all_or_first (numbered f (i + 1 + 1) (drop (i + 1) xs)))
   place_more old now y g good =

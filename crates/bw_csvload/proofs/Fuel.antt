@@ -82,7 +82,7 @@ record-leaves cfg s (c ∷ rest) p start e =
     let shorter = more.shorter in
     (omega arith, more.between)
 
--- how many records are asked for is of no account, where there are no more
+-- how many records are asked for does not matter, where there are no more
 enough : (n m : ℕ) (s : State) (xs : List ℕ) → ends_at_end s ≡ false → length xs < n → length xs < m → records_from default_config n s xs ≡ records_from default_config m s xs
 unfolding records_from
 enough zero m s xs start big other = absurd (omega arith)

@@ -1,4 +1,4 @@
--- What a field of a CSV file says: NULL, or an integer of its column's type by an optional sign and digits.
+-- The value of a field of a CSV file: NULL, or an integer of its column's type, spelled by an optional sign and digits.
 use Rattle.std.specs.Prelude.{Bool, Err, List, Ok, None, Option, Result, Some, [], codes, if◌then◌else◌, neg_ℤ, not, pos, ℕ, ℤ, ◌&&◌, ◌==◌, ◌||◌, ◌∷◌, false, length}
 use Rattle.std.specs.Char.{is_ascii_digit}
 use Rattle.std.specs.List.{list_all}
@@ -9,7 +9,7 @@ use Rattle.bw_code.specs.declared.kind.ColumnType.{ColumnType}
 use Rattle.bw_csvload.specs.declared.fault.FieldFault.{FieldFault}
 use Rattle.bw_csvload.specs.declared.fault.FieldFault.TheVariants.{NotInteger, Range}
 
--- nothing, or NULL in any case
+-- empty, or NULL in any case
 abbrev pub is_null : List ℕ → Bool
 is_null text = (length text == 0) || str_eq_ignore_ascii_case text (codes "NULL")
 
@@ -31,11 +31,11 @@ are_digits text = not (length text == 0) && list_all is_ascii_digit text
 abbrev pub signed : Bool → ℕ → ℤ
 signed minus size = if minus then neg_ℤ (pos size) else pos size
 
--- the integer, where the type has it
+-- the integer, if it is of the type
 abbrev pub within_type : ColumnType → ℤ → Result (Option ℤ) FieldFault
 within_type t x = if is_of_type t x then Ok (Some x) else Err Range
 
--- what a field of a column of this type says
+-- the value of a field of a column of this type
 abbrev pub cell_of : ColumnType → List ℕ → Result (Option ℤ) FieldFault
 cell_of t text =
     if is_null text then Ok None

@@ -1,4 +1,4 @@
--- The two forms in which cells lie in memory.
+-- The two forms in which cells are stored in memory.
 use Rattle.std.specs.Prelude.{All, Bool, List, Option, false, true, ℤ, ◌≡◌, ⊤}
 use Rattle.bw_code.specs.declared.kind.ColumnType.{ColumnType}
 use Rattle.bw_code.specs.declared.kind.ColumnType.TheVariants.{BigInt, Integer}
@@ -7,7 +7,7 @@ use Rattle.bw_csvload.specs.declared.cells.Cells.TheVariants as lent
 use Rattle.bw_csvload.specs.declared.cells.CellList.{CellList}
 use Rattle.bw_csvload.specs.declared.cells.CellList.TheVariants as list
 
--- the cells, in whichever form they lie
+-- the cells, in either form
 abbrev pub cells_of : Cells → List (Option ℤ)
 cells_of (lent.Integers cells) = cells.now
 cells_of (lent.Values cells) = cells.now

@@ -1,4 +1,4 @@
-//! Cells that lie one after the other in memory.
+//! Cells stored contiguously in memory.
 
 ghost use Rattle.std.specs.Prelude.{[], ◌≡◌};
 ghost use Rattle.std.specs.List.{list_all};
@@ -7,16 +7,16 @@ ghost use Rattle.bw_csvload.specs.Forms.{cells_in, cells_of, is_integer, TakesCe
 use bw_code::ColumnType;
 use std::alloc::Global;
 
-/// Cells, row after row; NULL is `None`. They are narrow in memory where each column is INTEGER.
+/// Cells, row by row; NULL is `None`. They are 32-bit in memory where each column is INTEGER, else 64-bit.
 #[derive(Debug, Clone, Copy, PartialEq, Eq)]
 pub enum Cells<'a> {
-    /// Of columns that are all INTEGER.
+    /// Cells of columns that are all INTEGER.
     Integers(&'a [Option<i32>]),
-    /// Of columns of which one or more are BIGINT.
+    /// Cells of columns at least one of which is BIGINT.
     Values(&'a [Option<i64>]),
 }
 
-/// The same, in a buffer of its own.
+/// The same, in an owned buffer.
 #[derive(Drop)]
 pub(crate) enum CellList {
     Integers(Vec<Option<i32>>),
@@ -33,7 +33,7 @@ fn are_integers(types: &[ColumnType]) -> bool
 }
 
 impl CellList {
-    /// No cells yet, in the form that is wide enough for columns of these types.
+    /// An empty list of cells, in the form that is wide enough for columns of these types.
     pub(crate) fn new(alloc: Global, types: &[ColumnType]) -> CellList
         ensures none { cells_in result ≡ [] }
         ensures form { TakesCells types.now result }
@@ -45,7 +45,7 @@ impl CellList {
         }
     }
 
-    /// All of them.
+    /// All cells.
     pub(crate) fn as_cells(&self) -> Cells<'_>
         ensures { cells_of result ≡ cells_in self.now }
     {

@@ -1,4 +1,4 @@
-//! The rows of a file, flat in memory.
+//! The rows of a file, stored flat in memory.
 
 ghost use Rattle.std.specs.Prelude.{◌≡◌, ◌<◌, ◌+◌, ◌*◌, ◌≤◌, [], drop, get_or, length, take};
 ghost use Rattle.std.specs.List.{flat_map};
@@ -8,12 +8,11 @@ ghost use Rattle.bw_csvload.specs.Rows.{lines_of};
 use crate::cells::{CellList, Cells};
 use std::marker::Model;
 
-/// The rows of a file, all of one width, one after the other in one buffer. A contract sees the
-/// list of the rows.
+/// The rows of a file, all of the same width, contiguous in one buffer. Contracts see the list of the rows.
 #[derive(Drop)]
 pub struct CsvRows {
     width: usize,
-    /// How many rows there are: the cells don't tell, where a row has none.
+    /// The number of rows: where a row has no cells, the buffer doesn't tell.
     count: usize,
     cells: CellList,
 }
@@ -41,7 +40,7 @@ fn line<T>(cells: &[T], width: usize, i: usize) -> &[T]
 }
 
 impl CsvRows {
-    /// So many rows of this width, which lie in these cells.
+    /// `count` rows of this width, which are stored in these cells.
     pub(crate) fn new(width: usize, count: usize, cells: CellList) -> CsvRows
         requires { length (cells_in cells) ≡ count * width }
         ensures { result ≡ lines_of width count (cells_in cells) }
@@ -53,14 +52,14 @@ impl CsvRows {
         }
     }
 
-    /// How many rows there are.
+    /// The number of rows.
     pub fn len(&self) -> usize
         ensures { result ≡ length self.now }
     {
         self.count
     }
 
-    /// The cells of row i, where rows are counted from 0.
+    /// The cells of row i, counted from 0.
     pub fn row(&self, i: usize) -> Cells<'_>
         requires { i < length self.now }
         ensures { cells_of result ≡ get_or self.now i [] }
@@ -71,7 +70,7 @@ impl CsvRows {
         }
     }
 
-    /// The cells of all rows, row after row.
+    /// The cells of all rows, row by row.
     pub fn cells(&self) -> Cells<'_>
         ensures { cells_of result ≡ flat_map (λ row. row) self.now }
     {

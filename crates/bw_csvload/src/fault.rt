@@ -1,19 +1,19 @@
-//! Why a file gives no rows.
+//! Why a file could not be read as rows.
 
 ghost use Rattle.std.specs.Prelude.{◌≡◌};
 ghost use Rattle.bw_csvload.specs.declared.fault.CsvFault.TheVariants.{Memory};
 
 use std::alloc::AllocFailed;
 
-/// Why a file gives no rows: its first fault, by record and then by field. Records are counted from
-/// 1, a header included, and the fields of a record from 1.
+/// Why a file could not be read as rows: its first fault, by record and then by field. Records are counted from 1,
+/// including a header, and the fields of a record from 1.
 #[derive(Debug, Clone, Copy, PartialEq, Eq)]
 pub enum CsvFault {
-    /// This record has more fields than the table has columns, or fewer.
+    /// This record has more or fewer fields than the table has columns.
     Fields(u64),
-    /// Of this record this field is neither NULL nor an integer.
+    /// In this record this field is neither NULL nor an integer.
     NotInteger(u64, u64),
-    /// An integer lies outside the type of its column.
+    /// An integer is outside the type of its column.
     Range,
     /// There was not enough memory for the rows or for a record.
     Memory,
@@ -27,7 +27,7 @@ impl<T: Drop> From<AllocFailed<T>> for CsvFault {
     }
 }
 
-/// What is wrong with a field, wherever it stands.
+/// What is wrong with a field, whatever its position.
 #[derive(Debug, Clone, Copy, PartialEq, Eq)]
 pub(crate) enum FieldFault {
     /// It is neither NULL nor an integer.

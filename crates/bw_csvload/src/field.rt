@@ -1,4 +1,4 @@
-//! What a field of a file says.
+//! The value of a field of a file.
 
 ghost use Rattle.std.specs.Prelude.{◌<◌, ◌≡◌};
 ghost use Rattle.std.specs.Char.{is_ascii_digit};
@@ -12,13 +12,13 @@ use crate::lanes::{LANES, number_written};
 use bw_code::ColumnType;
 use std::simd::prelude::*;
 
-/// The least number of 20 digits, and so outside each type with either sign.
+/// The least number of 20 digits, which is outside each type with either sign.
 const TOO_LARGE: u64 = 10_000_000_000_000_000_000;
 
-/// From this size on one digit more makes 20.
+/// From this number on one more digit makes 20.
 const FULL: u64 = TOO_LARGE / 10;
 
-/// What a field of a column of INTEGER says: NULL, or an integer of the type.
+/// The value of a field of an INTEGER column: NULL, or an integer of the type.
 pub(crate) fn integer_cell(text: &[u8]) -> Result<Option<i32>, FieldFault>
     ensures { result ≡ cell_of Integer text.now }
 {
@@ -38,7 +38,7 @@ pub(crate) fn integer_cell(text: &[u8]) -> Result<Option<i32>, FieldFault>
     }
 }
 
-/// What a field of a column of this type says: NULL, or an integer of the type.
+/// The value of a field of a column of this type: NULL, or an integer of the type.
 pub(crate) fn cell(text: &[u8], column_type: ColumnType) -> Result<Option<i64>, FieldFault>
     ensures { result ≡ cell_of column_type text.now }
 {
@@ -52,7 +52,7 @@ pub(crate) fn cell(text: &[u8], column_type: ColumnType) -> Result<Option<i64>, 
     within_type(column_type, if is_minus(text) { -size } else { size })
 }
 
-/// The integer, where the type has it.
+/// The integer, if it is of the type.
 fn within_type(column_type: ColumnType, number: i128) -> Result<Option<i64>, FieldFault>
     ensures { result ≡ within_type column_type number }
 {
@@ -62,7 +62,7 @@ fn within_type(column_type: ColumnType, number: i128) -> Result<Option<i64>, Fie
     }
 }
 
-/// Whether the text is nothing, or NULL in any case.
+/// Whether the text is empty, or NULL in any case.
 fn is_null(text: &[u8]) -> bool
     ensures { result ≡ is_null text.now }
 {
@@ -79,7 +79,7 @@ fn is_minus(text: &[u8]) -> bool
     }
 }
 
-/// The text without the sign that it begins with, if there is one.
+/// The text without its leading sign, if there is one.
 fn without_sign(text: &[u8]) -> &[u8]
     ensures { result.now ≡ without_sign text.now }
 {
@@ -89,8 +89,8 @@ fn without_sign(text: &[u8]) -> &[u8]
     }
 }
 
-/// The number that the text writes behind its sign, or `TOO_LARGE` where it is greater; `None` where that is
-/// not one or more digits.
+/// The number that the digits after the sign spell, or `TOO_LARGE` if it is greater; `None` if they are not one or more
+/// digits.
 fn size_written(text: &[u8]) -> Option<u64>
     ensures { result ≡ size_written text.now }
 {
@@ -101,8 +101,7 @@ fn size_written(text: &[u8]) -> Option<u64>
     size_of(digits)
 }
 
-/// The number that the text writes, or `TOO_LARGE` where it is greater; `None` where not each byte is
-/// a digit.
+/// The number that the text spells, or `TOO_LARGE` if it is greater; `None` if not each byte is a digit.
 fn size_of(text: &[u8]) -> Option<u64>
     ensures { result ≡ size_of text.now }
 {
@@ -113,8 +112,8 @@ fn size_of(text: &[u8]) -> Option<u64>
     size_after(front, &text[LANES..])
 }
 
-/// The number that the text writes after the digits of `front`, or `TOO_LARGE` where it is greater;
-/// `None` where not each byte is a digit.
+/// The number that the digits of `front` followed by the text spell, or `TOO_LARGE` if it is greater; `None` if not
+/// each byte is a digit.
 fn size_after(front: u64, text: &[u8]) -> Option<u64>
     requires { front < TOO_LARGE }
     ensures { result ≡ size_after front text.now }
@@ -124,7 +123,7 @@ fn size_after(front: u64, text: &[u8]) -> Option<u64>
         if !text[i].is_ascii_digit() {
             return None;
         }
-        // More digits would only make it greater, so that they need no number that holds them.
+        // More digits would only make it greater, so that they need not be added.
         if size >= FULL {
             return all_digits(&text[i + 1..]).then_some(TOO_LARGE);
         }
@@ -133,7 +132,7 @@ fn size_after(front: u64, text: &[u8]) -> Option<u64>
     Some(size)
 }
 
-/// Whether there is nothing but digits.
+/// Whether each byte is a digit.
 fn all_digits(text: &[u8]) -> bool
     ensures { result ≡ list_all is_ascii_digit text.now }
 {

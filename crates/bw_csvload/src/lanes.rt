@@ -12,15 +12,15 @@ use std::simd::prelude::*;
 /// How many digits are read at a time.
 pub(crate) const LANES: usize = 8;
 
-/// What the digit 1 counts for at each of the eight places.
+/// The weights of the eight digits.
 const PLACES: [u32; LANES] = [10_000_000, 1_000_000, 100_000, 10_000, 1_000, 100, 10, 1];
 
-/// The number that eight bytes write; `None` where not each of them is a digit.
+/// The number that eight bytes spell; `None` if not each of them is a digit.
 pub(crate) fn number_written(bytes: u8x8) -> Option<u64>
     ensures number { result ≡ then_some (list_all is_ascii_digit bytes) (digits_value 10 bytes) }
     ensures small { IfSome result (λ number. number < 10 ^ LANES) }
 {
-    // What stands below '0' comes to stand above 9, as what stands above '9' does.
+    // A byte below '0' wraps around to more than 9, and a byte above '9' is more than 9, too.
     let digits = bytes - u8x8::splat(b'0');
     let others = digits.simd_gt(u8x8::splat(9)).to_bitmask();
     if others != 0 {

@@ -1,4 +1,4 @@
-//! The rows that a CSV file spells for columns of given types, or its first fault.
+//! The rows of a CSV file for columns of given types, or its first fault.
 #![tactic(auto)]
 
 mod cells;

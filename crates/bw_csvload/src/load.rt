@@ -21,15 +21,15 @@ use std::alloc::Global;
 /// What the first record of a file is.
 #[derive(Debug, Clone, Copy, PartialEq, Eq)]
 pub enum FirstRecord {
-    /// It is a row like the others.
+    /// A row like the others.
     Row,
-    /// It names the columns, and is left out unread. It still counts as record 1.
+    /// The names of the columns, which are skipped unread. It still counts as record 1.
     Header,
 }
 
-/// The rows that the bytes of a CSV file spell for a table whose columns have these types, or the first
-/// fault by record and then by field. The fields of a record belong to the columns in order: an empty one
-/// or NULL is `None`, and an integer its value.
+/// The rows of the bytes of a CSV file for a table whose columns have these types, or the first fault by record and
+/// then by field. The fields of a record belong to the columns in order: an empty field or NULL is `None`, and an
+/// integer its value.
 pub fn rows(
     alloc: Global,
     bytes: &[u8],
@@ -50,7 +50,7 @@ pub fn rows(
     }
 }
 
-/// The rows of the records that the reader has yet to give, of which so many stand before them.
+/// The rows of the records that the reader has not read yet; this many records come before them.
 fn rows_after(
     alloc: Global,
     reader: &mut Reader<&[u8]>,
@@ -72,7 +72,7 @@ fn rows_after(
 }
 
 #[tactic(auto, unfolding(csv::specs::Reading::strip_bom))]
-/// The text without the byte order mark that it begins with, if there is one.
+/// The text without its leading byte order mark, if there is one.
 fn without_mark(text: &[u8]) -> &[u8]
     ensures { result.now ≡ strip_bom text.now }
 {
@@ -82,7 +82,7 @@ fn without_mark(text: &[u8]) -> &[u8]
     }
 }
 
-/// Puts the cells of a record last.
+/// Appends the cells of a record.
 fn push_row(
     cells: &mut CellList,
     types: &[ColumnType],
@@ -103,7 +103,7 @@ fn push_row(
     }
 }
 
-/// Puts the cells of a record last whose fields all belong to columns of INTEGER.
+/// Appends the cells of a record whose fields all belong to INTEGER columns.
 fn push_integers(
     cells: &mut Vec<Option<i32>>,
     number: u64,
@@ -121,7 +121,7 @@ fn push_integers(
     Ok(())
 }
 
-/// Puts the cells of a record last that has a field for each of these types.
+/// Appends the cells of a record that has a field for each of these types.
 fn push_values(
     cells: &mut Vec<Option<i64>>,
     types: &[ColumnType],
@@ -141,7 +141,7 @@ fn push_values(
     Ok(())
 }
 
-/// What this field of a record says, where that is no fault.
+/// The value of this field of a record, or its fault with its position.
 fn located<T: Drop>(number: u64, place: u64, said: Result<T, FieldFault>) -> Result<T, CsvFault>
     ensures { result ≡ located number place said }
 {

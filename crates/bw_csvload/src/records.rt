@@ -1,4 +1,4 @@
-//! The records of a text, one after the other.
+//! The records of a text, one after another.
 
 ghost use Rattle.std.specs.Prelude.{◌≡◌, ◌≤◌, ◌+◌, length, ◌∷◌, [], true, IfOk, IfErr, ◌<◌, ◌^◌};
 ghost use Rattle.std.specs.Bool.{MatchBool};
@@ -22,8 +22,8 @@ pub(crate) fn records_of(alloc: Global, text: &[u8]) -> Reader<&[u8]>
         .from_reader(alloc, text)
 }
 
-/// Reads the next record, if there is one. A slice does not fail, and records of any length are
-/// taken, so an error is want of memory.
+/// Reads the next record, if there is one. Reading a slice does not fail, and records of any length are accepted, so
+/// the only error is out of memory.
 pub(crate) fn read_next(
     reader: &mut Reader<&[u8]>,
     fields: &mut ByteRecord,

@@ -1,4 +1,4 @@
-//! Entries looked for among others.
+//! Looking up entries in a list of entries.
 
 ghost use Rattle.std.specs.Prelude.{All, Contains, IfOk, IfSome, IsSome, length, pos, slice_index_or, ◌<◌, ◌↔◌, ◌≤◌, ◌≤ℤ◌};
 ghost use Rattle.bw_code.specs.Ascending.{IsAscending};
@@ -7,7 +7,7 @@ ghost use Rattle.bw_dictionary.specs.Finding.{AreBelow};
 
 use std::alloc::{AllocError, Global};
 
-/// The places of the wanted integers among the entries, if each of them is there.
+/// The indices of the wanted integers among the entries, if all of them are present.
 pub fn find_entries(
     alloc: Global,
     entries: &[i64],
@@ -30,8 +30,8 @@ pub fn find_entries(
     Ok(Some(places))
 }
 
-/// The first place from `at` on whose entry is not below an integer, by galloping (Bentley and Yao, 1976), since many wanted
-/// integers lie near each other: by steps that double, and then by bisection of the last.
+/// The first index from `at` on whose entry is not below an integer, by galloping (Bentley and Yao, 1976), since many
+/// wanted integers are near each other: by steps that double, and then by bisection of the last step.
 fn first_from(entries: &[i64], at: usize, x: i64) -> usize
     requires entries { IsAscending entries.now }
     requires inside { at ≤ length entries.now }

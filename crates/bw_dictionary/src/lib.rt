@@ -1,5 +1,5 @@
-//! Dictionaries by ranks: the distinct integers among cells with the place of each, found in one go; entries put together with
-//! others; and entries looked for among others.
+//! Dictionaries by ranks: the distinct integers among cells with the index of each cell's integer, found in one pass;
+//! merging entries with others; and looking up entries in others.
 #![tactic(auto)]
 
 mod entries;

@@ -1,4 +1,4 @@
-//! The entries of a dictionary that still stand, put together with new ones.
+//! Merging the entries of a dictionary that are still in use with new ones.
 
 ghost use Rattle.std.specs.Prelude.{IfOk, length, ◌+◌, ◌<◌, ◌≡◌, ◌≤◌};
 ghost use Rattle.bw_code.specs.Ascending.{IsAscending};
@@ -6,30 +6,30 @@ ghost use Rattle.bw_dictionary.specs.Merging.{IsTurn, IsUnion};
 
 use std::alloc::{AllocError, Global};
 
-/// Which list the next entry is of.
+/// Which list the next entry comes from.
 enum Turn {
-    /// The next old one does not stand.
+    /// The next old entry is not in use.
     Skip,
-    /// The next old one alone.
+    /// The next old entry alone.
     Old,
-    /// The next new one alone.
+    /// The next new entry alone.
     New,
-    /// Both have it.
+    /// Both lists have it.
     Both,
 }
 
-/// Two lists of entries put together.
+/// The result of merging two lists of entries.
 #[derive(Debug, Drop)]
 pub struct MergedEntries {
     /// All entries, ascending.
     pub entries: Vec<i64>,
-    /// For each old one that still stands its place among all.
+    /// For each old entry that is still in use its index among all.
     pub moves: Vec<u64>,
-    /// For each new one its place among all.
+    /// For each new entry its index among all.
     pub places: Vec<u64>,
 }
 
-/// Which list the next entry is of, after i old and j new ones.
+/// Which list the next entry comes from, after i old and j new ones.
 fn turn_of(old: &[i64], stands: &[bool], new: &[i64], i: usize, j: usize) -> Turn
     requires flags { length stands.now ≡ length old.now }
     requires old { i ≤ length old.now }
@@ -55,7 +55,7 @@ fn turn_of(old: &[i64], stands: &[bool], new: &[i64], i: usize, j: usize) -> Tur
     Turn::Both
 }
 
-/// The old entries that still stand, put together with the new ones.
+/// The old entries that are still in use, merged with the new ones.
 pub fn merge_entries(
     alloc: Global,
     old: &[i64],

@@ -1,4 +1,4 @@
-//! The distinct integers among cells, and the place of each cell's among them.
+//! The distinct integers among cells, and the index of each cell's integer among them.
 
 ghost use Rattle.std.specs.Prelude.{All, FitsSigned, IfOk, [], drop, length, map, pos, take, ◌+◌, ◌+ℤ◌, ◌^◌, ◌≡◌, ◌≤◌, ◌≤ℤ◌};
 ghost use Rattle.bw_cells.specs.Distances.{distance_from};
@@ -13,17 +13,18 @@ use bw_code::Ends;
 use bw_rank::{Ranks, rank};
 use std::alloc::{AllocError, Global};
 
-/// The distinct integers among cells, and the place of each cell's among them: the entries of a dictionary and its codes.
+/// The distinct integers among cells, and the index of each cell's integer among them: the entries of a dictionary and
+/// its codes.
 #[derive(Debug, Drop)]
 pub struct RankedCells {
     /// The distinct integers, ascending.
     pub entries: Vec<i64>,
-    /// For each cell the place of its integer among the entries, and 0 for a NULL.
+    /// For each cell the index of its integer among the entries, and 0 for a NULL.
     pub places: Vec<u32>,
 }
 
 impl RankedCells {
-    /// Fills `codes` with the places from number `at` on.
+    /// Fills `codes` with the indices of the cells from cell `at` on.
     pub fn read_codes(&self, at: usize, codes: &mut [u64])
         requires { at + length codes.old ≤ length self.now.places.items }
         ensures { codes.new ≡ take (length codes.old) (drop at self.now.places.items) }
@@ -31,7 +32,7 @@ impl RankedCells {
         widen(&self.places[at..at + codes.len()], codes);
     }
 
-    /// The codes of the cells by a table that has one for each entry; that of a NULL is 0.
+    /// The codes of the cells, from a table with one code for each entry; that of a NULL is 0.
     pub fn codes<C: Measured>(
         &self,
         alloc: Global,
@@ -58,7 +59,7 @@ impl RankedCells {
     }
 }
 
-/// Places as codes.
+/// Indices as codes.
 fn widen(places: &[u32], codes: &mut [u64])
     requires { length places.now ≡ length codes.old }
     ensures { codes.new ≡ places.now }
@@ -68,7 +69,7 @@ fn widen(places: &[u32], codes: &mut [u64])
     }
 }
 
-/// The distinct integers among at most 16,777,216 cells, and the place of each cell's among them.
+/// The distinct integers among at most 16,777,216 cells, and the index of each cell's integer among them.
 pub fn rank_cells<C: Measured>(alloc: Global, cells: &C) -> Result<RankedCells, AllocError>
     requires { length (C.cells cells.now) ≤ 2 ^ 24 }
     ensures { IfOk result (AreRanked (C.cells cells.now)) }
@@ -79,7 +80,7 @@ pub fn rank_cells<C: Measured>(alloc: Global, cells: &C) -> Result<RankedCells, 
     }
 }
 
-/// No integers, and a place for each NULL.
+/// No integers, and index 0 for each NULL.
 fn rank_nulls<C: Measured>(alloc: Global, cells: &C) -> Result<RankedCells, AllocError>
     requires { known (C.cells cells.now) ≡ [] }
     ensures { IfOk result (AreRanked (C.cells cells.now)) }
@@ -90,7 +91,8 @@ fn rank_nulls<C: Measured>(alloc: Global, cells: &C) -> Result<RankedCells, Allo
     })
 }
 
-/// The same of cells with these ends, by their distances from the least. That of a NULL is 0, so it gets no entry of its own.
+/// The same for cells with these ends, by their distances from the least. That of a NULL is 0, so it gets no entry of
+/// its own.
 fn rank_between<C: Measured>(
     alloc: Global,
     cells: &C,
@@ -109,7 +111,7 @@ fn rank_between<C: Measured>(
     })
 }
 
-/// How far each cell lies above the base; 0 for a NULL.
+/// The distance of each cell from the base; 0 for a NULL.
 fn distances_of<C: Measured>(alloc: Global, cells: &C, base: i64) -> Result<Vec<u64>, AllocError>
     ensures { IfOk result (λ distances. distances.items ≡ map (distance_from base) (C.cells cells.now)) }
 {
@@ -125,7 +127,7 @@ fn distances_of<C: Measured>(alloc: Global, cells: &C, base: i64) -> Result<Vec<
     Ok(distances)
 }
 
-/// The integers that lie so far above the least.
+/// The integers at these distances from the least.
 fn values_at(alloc: Global, ends: Ends, distances: &[u64]) -> Result<Vec<i64>, AllocError>
     requires { All (λ n. (ends.least +ℤ pos n) ≤ℤ ends.greatest) distances.now }
     ensures { IfOk result (λ values. values.items ≡ map (λ n. ends.least +ℤ pos n) distances.now) }

@@ -1,4 +1,4 @@
-//! Which places of a dictionary some code has, and codes that move to other places, in runs of at most 64 rows.
+//! Which entries of a dictionary some code refers to, and mapping codes to other indices, in blocks of at most 64 rows.
 
 ghost use Rattle.std.specs.Prelude.{false, if◌then◌else◌, length, slice_index, slice_index_or, true, ℕ, ◌<◌, ◌↔◌, ◌≡◌, ◌≤◌, ◌⊎◌};
 ghost use Rattle.bw_mask.specs.Masks.{bit_of};
@@ -7,7 +7,7 @@ ghost use Rattle.bw_dictionary.specs.Moving.{IsCodeOf};
 
 use bw_mask::has_bit;
 
-/// Marks the places that the codes of a run have, of those rows whose bit is set.
+/// Marks the entries that the codes of a block refer to, for those rows whose bit is set.
 pub fn mark_standing(stands: &mut [bool], codes: &[u64], present: u64)
     requires few { length codes.now ≤ 64 }
     requires inside { (k : ℕ) → k < length codes.now → bit_of present k ≡ true → slice_index codes.now k < length stands.old }
@@ -21,7 +21,7 @@ pub fn mark_standing(stands: &mut [bool], codes: &[u64], present: u64)
     }
 }
 
-/// Each code of a run becomes what the table has in its place, and 0 where the row's bit isn't set.
+/// Replaces each code of a block by the table's value at its index, and by 0 where the row's bit isn't set.
 pub fn move_codes(codes: &mut [u64], present: u64, moves: &[u64])
     requires few { length codes.old ≤ 64 }
     requires inside { (k : ℕ) → k < length codes.old → bit_of present k ≡ true → slice_index codes.old k < length moves.now }

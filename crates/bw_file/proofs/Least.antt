@@ -80,7 +80,7 @@ pub spells_by : (version : Version) (bytes : List ℕ) (t : Table) → SpelledBy
 spells_by First bytes t s = inl s
 spells_by Second bytes t s = inr s
 
--- behind the columns of a table nothing stands
+-- there is nothing after the columns of a table
 pub nothing_behind : (version : Version) (bytes rest behind : List ℕ) (t : Table) (hs : List Header) (cs : List (List (Option ℤ))) (n : ℕ) → SpelledBy version bytes t → n ≡ t.rows → hs ≡ t.headers → All (HasType version) hs
     → All (λ c. length c ≡ n) cs → AllZip IsTyped hs cs → rest ≡ flat_map (column_bytes version) t.columns → rest ≡ flat_map (column_bytes version) cs ++ behind → behind ≡ []
 nothing_behind version bytes rest behind t hs cs n s rows heads types long typed whole found =

@@ -47,7 +47,7 @@ first_eight (a ∷ b ∷ c ∷ d ∷ e ∷ f ∷ g ∷ []) small long = absurd (
 pub base_bytes : (bytes : List ℕ) → ((k : ℕ) → slice_index bytes k < 256) → 8 ≤ length bytes → little_bytes 8 (cast_unsigned w64 (cast_signed w64 (little_number 8 bytes))) ≡ take 8 bytes
 base_bytes bytes small long = ap (little_bytes 8) (of_z-to_z w64 (little_number 8 bytes) (little_from-lt 0 8 bytes small)) ∙ first_eight bytes small long
 
--- the base, the width and the planes behind the bits
+-- the base, the width and the planes after the bits
 pub after_bits : (rest behind : List ℕ) (base : ℤ) (width : ℕ) → 9 ≤ length rest → ((k : ℕ) → slice_index rest k < 256) → base ≡ cast_signed w64 (little_number 8 rest)
     → width ≡ get_or rest 8 0 → drop 9 rest ≡ behind → rest ≡ little_bytes 8 (cast_unsigned w64 base) ++ (width ∷ behind)
 after_bits rest behind base width long small is wide next =
@@ -87,7 +87,7 @@ pub few_wide : (values : List ℤ) → (frame_of values).width ≤ 64
 few_wide [] = omega arith
 few_wide (x ∷ xs) = few_bits (distance (fold int_max x xs) (fold int_min x xs))
 
--- bits, and behind them the base, the width and the rest
+-- bits, and after them the base, the width and the rest
 module _ (bytes present rest : List ℕ) (size : ℕ) (base : ℤ) (width : ℕ) (small : (k : ℕ) → slice_index bytes k < 256) (front : present ≡ take size bytes) (back : rest ≡ drop size bytes)
     (room : size + 9 ≤ length bytes) (is : base ≡ cast_signed w64 (little_number 8 rest)) (wide : width ≡ get_or rest 8 0) where
   small_rest : (k : ℕ) → slice_index rest k < 256
@@ -106,7 +106,7 @@ module _ (bytes present rest : List ℕ) (size : ℕ) (base : ℤ) (width : ℕ)
       let long : length present ≡ presence_size (length cells) = omega (arith, ap length front, length-take size bytes, room, count) in
       parts_are cells present (drop 9 rest) tail base width all fits long (sym (joined (drop 9 rest) refl) ∙ same)
 
--- there are as many bytes behind as the planes have
+-- the bytes after them are as many as the planes have
 pub planes_there : (cells : List (Option ℤ)) (present rest tail : List ℕ) (base : ℤ) (width : ℕ) → AreParts cells present base width rest tail → width * presence_size (length cells) ≤ length rest
 planes_there cells present rest tail base width are =
     let f = frame_of (known cells) in

@@ -35,7 +35,7 @@ bit_of_bytes n k bytes small h =
     let place : 0 + k / 8 ≡ k / 8 = omega arith in
     ap (λ b. b == 1) (bit_from n 0 k bytes small h ∙ ap (λ p. bit_at (slice_index bytes p) (k % 8)) place)
 
--- fewer bytes than a word has are read with zeros behind them
+-- fewer bytes than a word has are read with zeros after them
 zero_at : (j : ℕ) → slice_index (replicate {A = ℕ} 8 0) j ≡ 0
 zero_at j =
     elim (cases_lt j 8) [

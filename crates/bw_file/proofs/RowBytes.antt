@@ -87,7 +87,7 @@ module _ (left : List ℕ) (f : ℕ → ℕ) (j any : ℕ) (there : j < length l
         | inr other ↦ subst (λ w. w < 256) (sym (byte_before i other)) (so_far i (omega (arith, h, other)))
       ]
 
--- some bytes with zeros behind them
+-- some bytes with zeros after them
 zero_at : (n j : ℕ) → get_or (replicate {A = ℕ} n 0) j 0 ≡ 0
 zero_at n j =
     elim (cases_lt j n) [

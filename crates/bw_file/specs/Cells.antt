@@ -1,4 +1,4 @@
--- The columns of a table file as bytes, version 1: a bit for each row, which says whether its cell is not null, and then the cells, each of 4 bytes in two's complement, the lowest byte first.
+-- A column of a table file, version 1: one bit per row (cell non-null), then cells of 4 bytes, two's complement, little-endian.
 use Rattle.std.specs.Prelude.{FitsSigned, List, None, Option, Some, [], drop, length, suc, take, zero, ℕ, ℤ, ◌*◌, ◌+◌, ◌++◌, ◌/◌, ◌∷◌, ⊤}
 use Rattle.std.specs.Int.{cast_unsigned, w32}
 use Rattle.std.specs.List.{flat_map}
@@ -9,7 +9,7 @@ abbrev pub IsCell : Option ℤ → Type 0
 IsCell None = ⊤
 IsCell (Some z) = FitsSigned w32 z
 
--- a cell as a number of 4 bytes, 0 at a null
+-- a cell as a number of 4 bytes, 0 for a null
 abbrev pub cell_number : Option ℤ → ℕ
 cell_number None = 0
 cell_number (Some z) = cast_unsigned w32 z
@@ -17,26 +17,26 @@ cell_number (Some z) = cast_unsigned w32 z
 abbrev pub cell_bytes : Option ℤ → List ℕ
 cell_bytes cell = little_bytes 4 (cell_number cell)
 
--- 1 where a cell is not null
+-- 1 where a cell is non-null
 abbrev pub presence : Option ℤ → ℕ
 presence None = 0
 presence (Some z) = 1
 
--- a byte of which bit i says whether cell i is not null; spare bits are 0
+-- a byte whose bit i says whether cell i is non-null; spare bits are 0
 abbrev pub presence_byte : List (Option ℤ) → ℕ
 presence_byte [] = 0
 presence_byte (cell ∷ cells) = presence cell + 2 * presence_byte cells
 
--- so many bytes, each for the next eight cells
+-- n bytes, each for the next eight cells
 abbrev pub presence_bytes : ℕ → List (Option ℤ) → List ℕ
 presence_bytes zero cells = []
 presence_bytes (suc n) cells = presence_byte (take 8 cells) ∷ presence_bytes n (drop 8 cells)
 
--- how many bytes there are for the bits of so many rows
+-- how many bytes the bits of n rows take
 abbrev pub presence_size : ℕ → ℕ
 presence_size rows = (rows + 7) / 8
 
--- how many bytes a column of so many rows has
+-- how many bytes a column of n rows takes
 abbrev pub column_size : ℕ → ℕ
 column_size rows = presence_size rows + 4 * rows
 

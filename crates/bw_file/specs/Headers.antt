@@ -32,7 +32,7 @@ type_bytes Second t = type_number t ∷ []
 abbrev pub header_bytes : Version → Header → List ℕ
 header_bytes version header = length header.name ∷ header.name ++ (type_bytes version header.column_type ++ layout_number header.layout ∷ kind_number header.kind ∷ [])
 
--- how many bytes a header has
+-- how many bytes a header takes
 abbrev pub header_size : Version → Header → ℕ
 header_size First header = 3 + length header.name
 header_size Second header = 4 + length header.name

@@ -1,5 +1,5 @@
--- A column of a table file as bytes, version 2: a bit for each row, which says whether its cell is not null; the base, 8 bytes in two's complement; the
--- width; and as many planes of bits, that of the highest bit first, each laid out as the bits of the rows. Numbers stand lowest byte first.
+-- A column of a table file, version 2: one bit per row (cell non-null); the base, 8 bytes in two's complement; the width; and
+-- one plane for each bit of the width, highest bit first, laid out like the bits of the rows. Numbers are little-endian.
 use Rattle.std.specs.Prelude.{All, Bool, FitsSigned, List, None, Option, Some, [], drop, fold, if◌then◌else◌, length, map, pos, slice_index, suc, take, zero, ℕ, ℤ, ⊤, ◌%◌, ◌*◌, ◌+ℤ◌, ◌+◌, ◌++◌, ◌-◌, ◌/◌, ◌<◌, ◌==◌, ◌^◌, ◌≡◌, ◌≤ℤ◌, ◌≤◌, ◌∷◌}
 use Rattle.std.specs.Int.{bit_at, cast_unsigned, int_max, int_min, w64}
 use Rattle.std.specs.List.{range_with_len}
@@ -19,7 +19,7 @@ abbrev pub IsWideCell : Option ℤ → Type 0
 IsWideCell None = ⊤
 IsWideCell (Some z) = FitsSigned w64 z
 
--- bit b of how far a cell lies above a base; 0 at a null
+-- bit b of the distance of a cell from a base; 0 for a null
 abbrev pub bit_in : ℤ → ℕ → Option ℤ → ℕ
 bit_in base b None = 0
 bit_in base b (Some z) = bit_at (distance z base) b
@@ -29,22 +29,22 @@ abbrev pub bit_byte : (Option ℤ → ℕ) → List (Option ℤ) → ℕ
 bit_byte bit [] = 0
 bit_byte bit (cell ∷ cells) = bit cell + 2 * bit_byte bit cells
 
--- so many bytes, each for the next eight cells
+-- n bytes, each for the next eight cells
 abbrev pub bit_bytes : (Option ℤ → ℕ) → ℕ → List (Option ℤ) → List ℕ
 bit_bytes bit zero cells = []
 bit_bytes bit (suc n) cells = bit_byte bit (take 8 cells) ∷ bit_bytes bit n (drop 8 cells)
 
--- the planes of k bits, each of so many bytes
+-- the planes of k bits, each of n bytes
 abbrev pub plane_bytes : ℤ → ℕ → ℕ → List (Option ℤ) → List ℕ
 plane_bytes base zero size cells = []
 plane_bytes base (suc b) size cells = bit_bytes (bit_in base b) size cells ++ plane_bytes base b size cells
 
--- what codes are counted from, and how many bits they have
+-- the base of codes, and their width in bits
 pub record Frame : Type 0 where
   pub base : ℤ
   pub width : ℕ
 
--- the least of some integers and the bits of how far the greatest lies above it; of none 0 and 1
+-- the least of some integers, and the number of bits of the distance of the greatest from it; for no integers 0 and 1
 abbrev pub frame_of : List ℤ → Frame
 frame_of [] = record { base = pos 0; width = 1 }
 frame_of (x ∷ xs) = record { base = fold int_min x xs; width = bits_of (distance (fold int_max x xs) (fold int_min x xs)) }
@@ -57,11 +57,11 @@ framed_bytes frame cells =
 abbrev pub column_bytes : List (Option ℤ) → List ℕ
 column_bytes cells = framed_bytes (frame_of (known cells)) cells
 
--- how many bytes a column of so many bits and rows has
+-- how many bytes a column of this width and number of rows takes
 abbrev pub column_size : ℕ → ℕ → ℕ
 column_size width rows = 9 + (width + 1) * presence_size rows
 
--- bit i of plane p, of planes of so many bytes
+-- bit i of plane p, of planes of n bytes
 abbrev pub plane_bit : ℕ → List ℕ → ℕ → ℕ → ℕ
 plane_bit size planes p i = bit_at (slice_index planes (p * size + i / 8)) (i % 8)
 
@@ -76,27 +76,27 @@ read_cell base k size present planes i = if bit_at (slice_index present (i / 8))
 abbrev pub cells_in : ℕ → ℤ → ℕ → List ℕ → List ℕ → List (Option ℤ)
 cells_in rows base k present planes = map (read_cell base k (presence_size rows) present planes) (range_with_len 0 rows)
 
--- no bit of a plane is set where that of a cell is not
+-- no bit of a plane is set where the bit of the cell is clear
 abbrev pub HasNoStrayBit : ℕ → ℕ → List ℕ → List ℕ → Type 0
 HasNoStrayBit k size present planes = (p i : ℕ) → p < k → i / 8 < size → bit_at (slice_index present (i / 8)) (i % 8) ≡ 0 → plane_bit size planes p i ≡ 0
 
--- bits of so many rows, and planes in which none is set but where a cell is not null
+-- bits of n rows, and planes in which a bit is set only where a cell is non-null
 pub record ArePlanes (rows k : ℕ) (present planes : List ℕ) : Type 0 where
   pub bits : length present ≡ presence_size rows
   pub long : length planes ≡ k * presence_size rows
   pub spare : HasNoSpareBit rows present
   pub inside : HasNoStrayBit k (presence_size rows) present planes
 
--- NULL, or a BIGINT so near above a base that its code has k bits
+-- NULL, or a BIGINT whose distance from a base is a code of k bits
 abbrev pub IsNear : ℤ → ℕ → Option ℤ → Type 0
 IsNear base k None = ⊤
 IsNear base k (Some z) = FitsSigned w64 z × (base ≤ℤ z) × (distance z base < 2 ^ k)
 
--- whether row i is not null
+-- whether row i is non-null
 abbrev pub has_in : List ℕ → ℕ → Bool
 has_in present i = bit_at (slice_index present (i / 8)) (i % 8) == 1
 
--- bits and planes of so many rows, whose cells are read from the base on, and the ends of these
+-- bits and planes of n rows, the cells that are read from them with this base, and the ends of these
 pub record IsPlaneColumn (rows : ℕ) (base : ℤ) (k : ℕ) (present planes : List ℕ) (ends : Option Ends) : Type 0 where
   pub few : rows ≤ row_limit
   pub narrow : k ≤ 64

@@ -9,7 +9,7 @@ use Rattle.bw_code.specs.Headers.{row_limit}
 use Rattle.bw_code.specs.declared.ends.Ends.{Ends}
 use Rattle.bw_file.specs.Cells.{IsCell, cell_number, presence_size}
 
--- the cell of row i, by the bits that say which are not null and the words
+-- the cell of row i, by the bits that say which cells are non-null and by the words
 abbrev pub read_cell : List ℕ → List ℕ → ℕ → Option ℤ
 read_cell present words i =
     if bit_at (slice_index present (i / 8)) (i % 8) == 1 then Some (cast_signed w32 (little_number 4 (drop (4 * i) words))) else None
@@ -26,11 +26,11 @@ HasNoSpareBit rows present = (i : ℕ) → rows ≤ i → bit_at (slice_index pr
 abbrev pub cells_in : ℕ → List ℕ → List ℕ → List (Option ℤ)
 cells_in rows present words = map (read_cell present words) (range_with_len 0 rows)
 
--- the words of the first rows are those of the cells that are read there: 0 at a null
+-- the words of the first rows are those of the cells read there: 0 for a null
 abbrev pub AreSpelled : ℕ → List ℕ → List ℕ → Type 0
 AreSpelled rows present words = (i : ℕ) → i < rows → little_number 4 (drop (4 * i) words) ≡ cell_number (read_cell present words i)
 
--- bits and words of so many rows, as a column spells its cells, and the ends of these
+-- bits and words of n rows, as a column encodes its cells, and the ends of these
 pub record IsColumn (rows : ℕ) (present words : List ℕ) (ends : Option Ends) : Type 0 where
   pub few : rows ≤ row_limit
   pub bits : length present ≡ presence_size rows

@@ -1,13 +1,13 @@
-//! Blocks of rows: a bit for each, eight to a byte.
+//! Blocks of rows: one bit for each, eight to a byte.
 
 ghost use Rattle.std.specs.Prelude.{false, length, not, true, ℕ, ◌&&◌, ◌*◌, ◌+◌, ◌/◌, ◌<◌, ◌≡◌, ◌≤◌};
 ghost use Rattle.bw_file.specs.Descents.{bit_at_row};
 
-/// How many bytes of a plane are looked at together. They lie one after the other in memory, and with the rows that are left
-/// they fit the nearest cache.
+/// How many bytes of a plane are processed together. They are contiguous in memory, and together with the rows that are
+/// left they fit the L1 cache.
 pub(crate) const BLOCK: usize = 512;
 
-/// The first n of the bytes from `from` on, and zeros behind them.
+/// The first n of the bytes from `from` on, padded with zeros.
 pub(crate) fn block_of(bytes: &[u8], from: usize, n: usize) -> [u8; BLOCK]
     requires few { n ≤ 512 }
     requires there { from + n ≤ length bytes.now }
@@ -19,7 +19,7 @@ pub(crate) fn block_of(bytes: &[u8], from: usize, n: usize) -> [u8; BLOCK]
     block
 }
 
-/// Whether any row has a bit.
+/// Whether the bit of any row is set.
 pub(crate) fn has_row(rows: &[u8; BLOCK]) -> bool
     ensures none { result ≡ false → (r : ℕ) → bit_at_row rows.now r ≡ false }
     ensures some { result ≡ true → (r : ℕ) × (bit_at_row rows.now r ≡ true) }
@@ -28,13 +28,13 @@ pub(crate) fn has_row(rows: &[u8; BLOCK]) -> bool
     keep_with(rows, rows, &mut left)
 }
 
-/// Keeps of some rows those that have no bit in a plane, and answers whether there is any.
+/// Keeps those of some rows whose bit in a plane is clear, and returns whether any is kept.
 pub(crate) fn keep_without(rows: &[u8; BLOCK], plane: &[u8; BLOCK], left: &mut [u8; BLOCK]) -> bool
     ensures each { (r : ℕ) → bit_at_row left.new r ≡ (bit_at_row rows.now r && not (bit_at_row plane.now r)) }
     ensures none { result ≡ false → (r : ℕ) → bit_at_row left.new r ≡ false }
     ensures some { result ≡ true → (r : ℕ) × (bit_at_row left.new r ≡ true) }
 {
-    // No early end, so that many bytes are looked at by one instruction.
+    // No early exit, so that the loop is vectorized.
     let mut any = 0;
     'bytes: for j in 0..BLOCK {
         let byte = rows[j] & !plane[j];
@@ -44,7 +44,7 @@ pub(crate) fn keep_without(rows: &[u8; BLOCK], plane: &[u8; BLOCK], left: &mut [
     any != 0
 }
 
-/// Keeps of some rows those that have a bit in a plane, and answers whether there is any.
+/// Keeps those of some rows whose bit in a plane is set, and returns whether any is kept.
 pub(crate) fn keep_with(rows: &[u8; BLOCK], plane: &[u8; BLOCK], left: &mut [u8; BLOCK]) -> bool
     ensures each { (r : ℕ) → bit_at_row left.new r ≡ (bit_at_row rows.now r && bit_at_row plane.now r) }
     ensures none { result ≡ false → (r : ℕ) → bit_at_row left.new r ≡ false }

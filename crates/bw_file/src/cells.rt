@@ -1,4 +1,4 @@
-//! The cells of a column by their bits and words.
+//! Reading the cells of a column from its bits and words.
 
 ghost use Rattle.std.specs.Prelude.{None, Some, drop, get_or, if◌then◌else◌, length, nat_eq, slice_index, ℕ, ◌%◌, ◌*◌, ◌+◌, ◌/◌, ◌<◌, ◌==◌, ◌≡◌, ◌≤◌};
 ghost use Rattle.std.specs.Int.{bit_at, cast_signed, w32};
@@ -27,7 +27,8 @@ pub(crate) fn read_cells(present: &[u8], words: &[u8], at: usize, out: &mut [Opt
     }
 }
 
-/// How many eights of rows from row `at` on have their bits in a byte each: none if that is not the first row of a byte.
+/// How many groups of eight rows from row `at` on have their bits in one byte each: none if `at` is not the first row
+/// of a byte.
 fn whole_eights(at: usize, count: usize) -> usize
     ensures within { 8 * result ≤ count }
     ensures first { 0 < result → at % 8 ≡ 0 }
@@ -35,8 +36,8 @@ fn whole_eights(at: usize, count: usize) -> usize
     if at % 8 == 0 { count / 8 } else { 0 }
 }
 
-/// Fills `out` with the cells of eight rows, by the byte that has their bits and by their words. The places of the bits
-/// are known here, so that a cell takes half the steps that it takes by itself.
+/// Fills `out` with the cells of eight rows, from the byte with their bits and from their words. The positions of the
+/// bits are constants here, so that a cell takes half as many steps as on its own.
 #[inline]
 fn read_eight(present: u8, words: &[u8], out: &mut [Option<i64>])
     requires count { length out.old ≡ 8 }
@@ -77,13 +78,13 @@ pub(crate) fn word_at(words: &[u8], i: usize) -> i32
     LittleEndian::read_i32(&words[4 * i..])
 }
 
-/// The cell that has bit j of the byte and this word.
+/// The cell with bit j of the byte and this word.
 #[inline]
 fn cell_by(present: u8, j: usize, word: i32) -> Option<i64>
     requires { j < 8 }
     ensures { result ≡ (if bit_at present j == 1 then Some word else None) }
 {
-    // The word is there at a null, too: what is left to choose takes no branch.
+    // A null has a word, too, so that the choice needs no branch.
     let number = i64::from(word);
     if has_bit(present, j) {
         Some(number)
@@ -92,7 +93,7 @@ fn cell_by(present: u8, j: usize, word: i32) -> Option<i64>
     }
 }
 
-/// Whether the cell of row i is not null.
+/// Whether the cell of row i is non-null.
 #[inline]
 pub(crate) fn has_cell(present: &[u8], i: usize) -> bool
     requires few { i < row_limit }

@@ -1,4 +1,4 @@
-//! The least and the greatest code of a column of planes, and the values that they stand for.
+//! The least and the greatest code of a column of planes, and the values that codes stand for.
 
 ghost use Rattle.std.specs.Prelude.{All, Bool, IfSome, None, Option, false, length, pos, ℕ, ℤ, ◌*◌, ◌+ℤ◌, ◌+◌, ◌<◌, ◌≡◌, ◌≤◌};
 ghost use Rattle.bw_cells.specs.Known.{known};
@@ -17,7 +17,7 @@ use crate::descent::block_ends;
 use bw_code::{ColumnType, Ends};
 use bw_vertical::CodeEnds;
 
-/// What is known of the codes of k bits of so many rows.
+/// The ends of the codes of k bits of `rows` rows.
 pub(crate) fn code_ends(present: &[u8], planes: &[u8], rows: usize, k: usize) -> CodeEnds
     requires narrow { k ≤ 64 }
     requires few { rows ≤ row_limit }
@@ -36,12 +36,12 @@ pub(crate) fn code_ends(present: &[u8], planes: &[u8], rows: usize, k: usize) ->
     ends
 }
 
-/// What codes stand for.
+/// The values that codes stand for.
 #[derive(Clone, Copy)]
 pub(crate) enum Values {
-    /// Integers of a type, with the least and the greatest of them, if there are any.
+    /// Integers of the column's type, with the least and the greatest of them, if there are any.
     OfType(Option<Ends>),
-    /// Not only integers of the type.
+    /// Not all are integers of the type.
     Beyond,
 }
 
@@ -63,7 +63,7 @@ fn value_of(base: i64, code: u64, column_type: ColumnType) -> Option<i64>
     }
 }
 
-/// What the codes of k bits of so many rows stand for.
+/// The values of the codes of k bits of `rows` rows.
 pub(crate) fn values_in(
     present: &[u8],
     planes: &[u8],

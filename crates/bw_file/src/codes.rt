@@ -1,4 +1,4 @@
-//! The codes of a column off its planes, 64 at a time.
+//! Reading the codes of a column from its planes, 64 at a time.
 
 ghost use Rattle.std.specs.Prelude.{length, nat_lt, slice_index, ℕ, ◌%◌, ◌&&◌, ◌*◌, ◌+◌, ◌-◌, ◌<◌, ◌==◌, ◌^◌, ◌≡◌, ◌≤◌};
 ghost use Rattle.bw_mask.specs.Masks.{bit_of};
@@ -7,7 +7,7 @@ ghost use Rattle.bw_file.specs.Planes.{code_in, plane_bit};
 use crate::row_bits::bits_of_rows;
 use bw_vertical::{codes_of_words, halves_of_words};
 
-/// Word b has bit b of the codes of so many rows from row `at` on, which is the first whose bit lies in its byte.
+/// Word b has bit b of the codes of `count` rows from row `at` on, which is the first row of a byte.
 pub(crate) fn words_at(planes: &[u8], size: usize, k: usize, at: usize, count: usize) -> [u64; 64]
     requires narrow { k ≤ 64 }
     requires few { count ≤ 64 }
@@ -36,7 +36,7 @@ fn widen(numbers: &[u32; 64], out: &mut [u64])
     }
 }
 
-/// Fills `out` with the first of the numbers of 64 bits that have these halves.
+/// Fills `out` with the first of the 64-bit numbers that have these halves.
 fn join(low: &[u32; 64], high: &[u32; 64], out: &mut [u64])
     requires few { length out.old ≤ 64 }
     ensures len { length out.new ≡ length out.old }
@@ -47,8 +47,8 @@ fn join(low: &[u32; 64], high: &[u32; 64], out: &mut [u64])
     }
 }
 
-/// Fills `out` with the codes of k bits of at most 64 rows from row `at` on, which is the first whose bit lies in its byte. The planes have so
-/// many bytes each.
+/// Fills `out` with the codes of k bits of at most 64 rows from row `at` on, which is the first row of a byte. Each
+/// plane has `size` bytes.
 pub(crate) fn read_codes(planes: &[u8], size: usize, k: usize, at: usize, out: &mut [u64])
     requires narrow { k ≤ 64 }
     requires few { length out.old ≤ 64 }

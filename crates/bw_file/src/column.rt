@@ -15,14 +15,14 @@ use bw_cells::{Cells, Measured};
 use bw_code::{ColumnType, Ends};
 use std::marker::Model;
 
-/// A column by the version of its file.
+/// A column, depending on the version of its file.
 #[derive(Drop)]
 pub(crate) enum LentColumn<'a> {
     Words(WordColumn<'a>),
     Planes(PlaneColumn<'a>),
 }
 
-/// A column of a table file, lent from the file's bytes. A contract sees the list of its cells.
+/// A column of a table file, lent from the file's bytes. Contracts see the list of its cells.
 #[derive(Drop)]
 pub struct FileColumn<'a> {
     column: LentColumn<'a>,
@@ -38,7 +38,7 @@ impl<'a> Model for FileColumn<'a> {
 }
 
 impl<'a> FileColumn<'a> {
-    /// How many rows the column has. The cell of each is NULL or a BIGINT.
+    /// The number of rows of the column. The cell of each is NULL or a BIGINT.
     pub fn rows(&self) -> usize
         ensures count { result ≡ length self.now }
         ensures few { length self.now ≤ row_limit }
@@ -50,8 +50,8 @@ impl<'a> FileColumn<'a> {
         }
     }
 
-    /// The column of so many rows and of this type that stands first, and the bytes behind it, if one stands there. In
-    /// version 1 the type is INTEGER.
+    /// The column of `rows` rows and of this type at the start of the bytes, and the bytes after it; `None` if there is
+    /// none. In version 1 the type is INTEGER.
     pub(crate) fn first_in(
         version: Version,
         bytes: &'a [u8],

@@ -17,8 +17,8 @@ use bw_code::{Ends, Header, Offset};
 use bw_sql::Name;
 use std::alloc::{AllocError, Global};
 
-/// A column of so many rows for each header, which stand first one after another, and the bytes behind them; `None` if no
-/// such columns stand there.
+/// One column of `rows` rows for each header, one after another at the start of the bytes, and the bytes after them;
+/// `None` if there are none.
 pub(crate) fn columns_in<'a>(
     alloc: Global,
     version: Version,
@@ -55,7 +55,7 @@ fn frame(ends: Option<Ends>) -> Offset
     Offset::spanning(ends)
 }
 
-/// How many bytes planes of so many bits and of so many rows have, with what stands before them in a column.
+/// How many bytes the planes take for this width and number of rows, together with what precedes them in a column.
 pub(crate) fn planes_size(width: u32, rows: usize) -> u64
     requires narrow { width ≤ 64 }
     requires few { rows ≤ row_limit }
@@ -65,7 +65,7 @@ pub(crate) fn planes_size(width: u32, rows: usize) -> u64
     9 + (u64::from(width) + 1) * rows.div_ceil(8) as u64
 }
 
-/// Puts the ends of each column's integers in its place. Takes no memory.
+/// Writes the ends of each column's integers to `ends` at the same index. Takes no memory.
 pub(crate) fn take_ends<C: Measured>(columns: &[C], ends: &mut [Option<Ends>])
     requires { length ends.old ≡ length columns.now }
     ensures len { length ends.new ≡ length columns.now }
@@ -76,7 +76,7 @@ pub(crate) fn take_ends<C: Measured>(columns: &[C], ends: &mut [Option<Ends>])
     }
 }
 
-/// Puts the bytes of columns of so many rows last, by version 2. These are the ends of each column's integers.
+/// Appends the bytes of columns of `rows` rows, in version 2. `ends` are the ends of each column's integers.
 pub(crate) fn put_columns<C: Measured>(
     bytes: &mut Vec<u8>,
     rows: usize,
@@ -96,7 +96,7 @@ pub(crate) fn put_columns<C: Measured>(
     Ok(())
 }
 
-/// Puts the bytes of a column of so many rows last, by version 2. These are the ends of its integers.
+/// Appends the bytes of a column of `rows` rows, in version 2. `ends` are the ends of its integers.
 fn put_column<C: Measured>(
     bytes: &mut Vec<u8>,
     rows: usize,

@@ -1,4 +1,4 @@
-//! From bytes to the table that they spell.
+//! Decoding bytes to the table that they encode.
 
 ghost use Rattle.std.specs.Prelude.{Err, IfOk, length, ◌*◌, ◌≡◌, ◌≤◌};
 ghost use Rattle.bw_code.specs.Headers.{column_limit, row_limit};
@@ -14,7 +14,7 @@ use crate::table::TableFile;
 use crate::version::Version;
 use std::alloc::Global;
 
-/// How many bytes a column of so many rows has at least.
+/// The least number of bytes of a column of `rows` rows.
 fn least_column_size(version: Version, rows: usize) -> usize
     requires { rows ≤ row_limit }
     ensures { result ≡ least_column_size version rows }
@@ -25,8 +25,8 @@ fn least_column_size(version: Version, rows: usize) -> usize
     }
 }
 
-/// A number of bytes that each table of so many columns and rows has, whatever the names and the values: a name has at
-/// least a byte, and codes at least a bit.
+/// A lower bound on the number of bytes of any table with these numbers of columns and rows, whatever the names and the
+/// values: a name has at least one byte, and codes have at least one bit.
 fn least_size(front: FileFront) -> usize
     requires columns { front.columns ≤ column_limit }
     requires rows { front.rows ≤ row_limit }
@@ -35,9 +35,9 @@ fn least_size(front: FileFront) -> usize
     14 + front.columns * (4 + least_column_size(front.version, front.rows))
 }
 
-/// The table that the bytes spell, lent from them. `NotTable` if they spell none, `Memory` if the memory for the headers
-/// and the list of columns is not there. Before memory is taken, the bytes are compared with the fewest that a table of
-/// so many columns and rows has.
+/// The table that the bytes encode, lent from them. Returns `NotTable` if they encode none, and `Memory` if there is
+/// not enough memory for the headers and the list of columns. Before taking memory, the number of bytes is compared
+/// with the least that a table of so many columns and rows has.
 pub fn decode<'a>(alloc: Global, bytes: &'a [u8]) -> Result<TableFile<'a>, FileFault>
     ensures found { IfOk result (λ table. Spells bytes.entry.now table) }
     ensures none { result ≡ Err NotTable → (t : Table) → Spells bytes.entry.now t → ⊥ }

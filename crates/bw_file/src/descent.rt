@@ -1,4 +1,4 @@
-//! The least and the greatest code of a block of rows, by a descent over the bytes of their planes.
+//! The least and the greatest code of a block of rows, found by a descent over the bytes of their planes.
 
 ghost use Rattle.std.specs.Prelude.{Bool, cond, false, length, true, ℕ, ◌*◌, ◌+◌, ◌/◌, ◌<◌, ◌^◌, ◌≡◌, ◌≤◌};
 ghost use Rattle.bw_file.specs.Descents.{bit_at_row, IsGreatestSoFar, IsLeastSoFar};
@@ -16,7 +16,7 @@ struct Reached {
 }
 
 impl Reached {
-    /// The least with one plane more, of which these are the bits.
+    /// The least with one more plane, whose bits are `plane`.
     fn less(&mut self, plane: &[u8; BLOCK])
         requires { self.old.number < 2 ^ 63 }
         ensures least { (has : ℕ → Bool) (code next : ℕ → ℕ) → ((r : ℕ) → has r ≡ true → next r ≡ cond (bit_at_row plane.now r) 1 0 + 2 * code r) → IsLeastSoFar has code self.old.number self.old.rows → IsLeastSoFar has next self.new.number self.new.rows }
@@ -31,7 +31,7 @@ impl Reached {
         }
     }
 
-    /// The greatest with one plane more, of which these are the bits.
+    /// The greatest with one more plane, whose bits are `plane`.
     fn greater(&mut self, plane: &[u8; BLOCK])
         requires { self.old.number < 2 ^ 63 }
         ensures greatest { (has : ℕ → Bool) (code next : ℕ → ℕ) → ((r : ℕ) → has r ≡ true → next r ≡ cond (bit_at_row plane.now r) 1 0 + 2 * code r) → IsGreatestSoFar has code self.old.number self.old.rows → IsGreatestSoFar has next self.new.number self.new.rows }
@@ -47,8 +47,8 @@ impl Reached {
     }
 }
 
-/// What is known of the codes of k bits of those rows of a block that are there. Byte `from` of each plane, which has so many
-/// bytes, is the first of the block.
+/// The ends of the codes of k bits of those rows of a block that are non-null. Each plane has `size` bytes, and its
+/// byte `from` is the first of the block.
 pub(crate) fn block_ends(
     planes: &[u8],
     size: usize,

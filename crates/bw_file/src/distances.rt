@@ -1,4 +1,4 @@
-//! How far the cells of a column lie above a base, by their bits and words.
+//! Distances of the cells of a column from a base, from their bits and words.
 
 ghost use Rattle.std.specs.Prelude.{None, Some, drop, get_or, if◌then◌else◌, length, ℕ, ◌%◌, ◌*◌, ◌+◌, ◌/◌, ◌<◌, ◌≡◌, ◌≤◌};
 ghost use Rattle.std.specs.Int.{bit_at};
@@ -9,8 +9,8 @@ ghost use Rattle.bw_file.specs.Reading.{cell_by, read_cell};
 
 use crate::cells::{has_bit, has_cell, word_at};
 
-/// Fills `out` with how far each cell from row `at` on lies above the base, modulo 2^64, and 0 at a null. That row is the
-/// first whose bit lies in its byte.
+/// Fills `out` with the distance of each cell from row `at` on from the base, modulo 2^64, and with 0 for a null. Row
+/// `at` is the first row of a byte.
 pub(crate) fn read_distances(present: &[u8], words: &[u8], at: usize, base: i64, out: &mut [u64])
     requires few { at + length out.old ≤ row_limit }
     requires first { at % 8 ≡ 0 }
@@ -32,7 +32,7 @@ pub(crate) fn read_distances(present: &[u8], words: &[u8], at: usize, base: i64,
     }
 }
 
-/// Fills `out` with how far each of eight cells lies above the base, by the byte that has their bits and by their words.
+/// Fills `out` with the distances of eight cells from the base, from the byte with their bits and from their words.
 #[inline]
 fn read_eight_distances(present: u8, words: &[u8], base: i64, out: &mut [u64])
     requires count { length out.old ≡ 8 }
@@ -45,12 +45,12 @@ fn read_eight_distances(present: u8, words: &[u8], base: i64, out: &mut [u64])
     }
 }
 
-/// How far a word lies above the base, modulo 2^64, where it is there, and else 0.
+/// The distance of a word from the base, modulo 2^64, where its cell is non-null, else 0.
 #[inline]
 fn distance(there: bool, word: i32, base: i64) -> u64
     ensures { result ≡ distance_from base (if there then Some word else None) }
 {
-    // A null is taken as the base: what is left to choose takes no branch.
+    // A null is treated as the base, so that the choice needs no branch.
     let number = if there { i64::from(word) } else { base };
     number.cast_unsigned().wrapping_sub(base.cast_unsigned())
 }

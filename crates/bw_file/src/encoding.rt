@@ -1,4 +1,4 @@
-//! From a table to its bytes, by version 2.
+//! Encoding a table as bytes, in version 2.
 
 ghost use Rattle.std.specs.Prelude.{All, IfOk, length, map, ◌≡◌, ◌≤◌};
 ghost use Rattle.std.specs.List.{AllZip};
@@ -18,7 +18,7 @@ use bw_code::{Ends, Header};
 use bw_sql::Name;
 use std::alloc::{AllocError, Global};
 
-/// How many bytes spell the table of these headers and columns, each of so many rows. Takes no memory.
+/// How many bytes encode the table of these headers and columns, each of `rows` rows. Takes no memory.
 pub fn file_length<C: Measured>(headers: &[Header<Name>], rows: usize, columns: &[C]) -> u64
     requires few { length headers.now ≤ column_limit }
     requires some { length columns.now ≤ column_limit }
@@ -33,14 +33,14 @@ pub fn file_length<C: Measured>(headers: &[Header<Name>], rows: usize, columns: 
     length_by_ends(headers, rows, ends)
 }
 
-/// There are no more columns than a table has headers at most.
+/// There are at most as many columns as a table may have headers.
 fn are_few<C: Measured>(headers: &[Header<Name>], columns: &[C])
     requires few { length headers.now ≤ column_limit }
     requires typed { AllZip IsTyped headers.now (map C.cells columns.now) }
     ensures { length columns.now ≤ column_limit }
 {}
 
-/// The bytes that spell the table of these headers and columns, each of so many rows.
+/// The bytes that encode the table of these headers and columns, each of `rows` rows.
 pub fn encode<C: Measured>(
     alloc: Global,
     headers: &[Header<Name>],
@@ -60,7 +60,7 @@ pub fn encode<C: Measured>(
     encode_by_ends(alloc, headers, rows, columns, ends)
 }
 
-/// The same where the ends of each column's integers are known: no column is read for them.
+/// The same where the ends of each column's integers are known: no column is read to find them.
 pub fn encode_by_ends<C: Measured>(
     alloc: Global,
     headers: &[Header<Name>],

@@ -1,4 +1,4 @@
-//! The least and the greatest of the cells of a column, found while its words are looked over.
+//! The least and the greatest of the cells of a column, found while its words are checked.
 
 ghost use Rattle.std.specs.Prelude.{IfSome, None, Option, Some, false, length, negsuc, pos, unwrap_or, if◌then◌else◌, ◌*◌, ◌<ℤ◌, ◌≡◌, ◌≤◌, ◌≤ℤ◌};
 ghost use Rattle.std.specs.Int.{int_max, int_min};
@@ -17,15 +17,16 @@ use bw_code::Ends;
 /// What one pass over the words of a column finds.
 #[derive(Clone, Copy)]
 pub(crate) enum Spelling {
-    /// Each word is that of the cell that is read there: 0 at a null. With the least and the greatest of the cells that are
+    /// Each word is that of the cell read there: 0 for a null. With the least and the greatest of the cells that are
     /// integers, if there are any.
     Right(Option<Ends>),
     /// The word of some null is not 0.
     Wrong,
 }
 
-/// Whether the words of the first rows are those of the cells that are read there, and the ends of these cells.
-// Not inlined: within its caller LLVM takes the words in another way, which is nearly half as long again.
+/// Whether the words of the first rows are those of the cells read there, and the ends of these cells.
+// Not inlined: inlined into its caller, LLVM compiles the loop over words differently, and it takes nearly half as long
+// again.
 #[inline(never)]
 pub(crate) fn spelled_ends(present: &[u8], words: &[u8], rows: usize) -> Spelling
     requires few { rows ≤ row_limit }
@@ -36,10 +37,11 @@ pub(crate) fn spelled_ends(present: &[u8], words: &[u8], rows: usize) -> Spellin
     ensures wrong { result ≡ found.Wrong → AreSpelled rows present.now words.now → ⊥ }
 {
     let mut agree = true;
-    // Eight of each, so that no row waits for the one before it.
+    // Eight accumulators of each, so that no row depends on the one before it.
     let mut least = [i32::MAX; 8];
     let mut greatest = [i32::MIN; 8];
-    // No branch, and the place of each bit is known among eight. A null is taken as what changes neither end.
+    // No branch, and the position of each bit among eight is a constant. A null is treated as a value that changes
+    // neither end.
     'eights: for q in 0..rows / 8 {
         let byte = present[q];
         'bits: for j in 0..8 {
@@ -50,7 +52,7 @@ pub(crate) fn spelled_ends(present: &[u8], words: &[u8], rows: usize) -> Spellin
             greatest[j] = greatest[j].max(word_or(there, word, i32::MIN));
         }
     }
-    // A place that is known beforehand would leave LLVM only half of the eight to take side by side above.
+    // With constant positions here, LLVM would vectorize only half of the eight above.
     'rest: for i in rows / 8 * 8..rows {
         let there = has_cell(present, i);
         let word = word_at(words, i);
@@ -87,16 +89,16 @@ fn greatest_of(words: &[i32; 8]) -> i32
     greatest
 }
 
-/// The word where it is there, and else what stands for a null, as long as the word of a null is 0.
+/// The word where its cell is non-null, else what stands for a null, if the word of a null is 0.
 #[inline]
 fn word_or(there: bool, word: i32, null: i32) -> i32
     ensures { (there ≡ false → word ≡ pos 0) → result ≡ unwrap_or (if there then Some word else None) null }
 {
-    // Joined with a word that is 0 it is itself. By the null alone here, the pass takes nearly half as long again.
+    // OR with a word that is 0 changes nothing. With `null` alone here, the pass takes nearly half as long again.
     if there { word } else { word | null }
 }
 
-/// The ends, where the one is not above the other. As long as no integer is there, it is.
+/// The ends if `least` is at most `greatest`. As long as no integer was found, it is not.
 fn ends_between(least: i32, greatest: i32) -> Option<Ends>
     ensures some { IfSome result (λ ends. (ends.least ≡ least) × (ends.greatest ≡ greatest) × (least ≤ℤ greatest)) }
     ensures none { result ≡ None → greatest <ℤ least }

@@ -1,16 +1,16 @@
-//! Why bytes give no table.
+//! Why bytes could not be decoded to a table.
 
 ghost use Rattle.std.specs.Prelude.{◌≡◌};
 ghost use Rattle.bw_file.specs.declared.fault.FileFault.TheVariants.{Memory};
 
 use std::alloc::{AllocError, AllocFailed};
 
-/// Why bytes give no table.
+/// Why bytes could not be decoded to a table.
 #[derive(Debug, Clone, Copy, PartialEq, Eq)]
 pub enum FileFault {
-    /// No table is spelled so.
+    /// The bytes encode no table.
     NotTable,
-    /// The memory that the table needs is not there.
+    /// There is not enough memory for the table.
     Memory,
 }
 

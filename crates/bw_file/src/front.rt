@@ -1,4 +1,4 @@
-//! What stands before the headers: mark, version and counts.
+//! What comes before the headers: mark, version and counts.
 
 ghost use Rattle.std.specs.Prelude.{IfSome, None, Some, length, take, ◌<◌, ◌≡◌, ◌≤◌};
 ghost use Rattle.bw_code.specs.Headers.{row_limit, column_limit};
@@ -13,7 +13,7 @@ pub(crate) const COLUMN_LIMIT: usize = 64;
 
 const ROW_LIMIT: usize = 16_777_216;
 
-/// What a front tells: the version, and how many columns and how many rows a table has.
+/// The content of a front: the version, and the numbers of columns and rows.
 #[derive(Clone, Copy)]
 pub(crate) struct FileFront {
     pub(crate) version: Version,
@@ -21,7 +21,7 @@ pub(crate) struct FileFront {
     pub(crate) rows: usize,
 }
 
-/// The front of a file of this version with so many columns and rows.
+/// The front of a file of this version with these numbers of columns and rows.
 pub(crate) fn front(version: Version, columns: usize, rows: usize) -> [u8; 14]
     requires few { columns ≤ column_limit }
     requires short { rows ≤ row_limit }
@@ -34,7 +34,7 @@ pub(crate) fn front(version: Version, columns: usize, rows: usize) -> [u8; 14]
     front
 }
 
-/// The version of this number.
+/// The version with this number.
 fn version_of(number: u16) -> Option<Version>
     ensures found { IfSome result (λ version. number ≡ version_number version) }
     ensures none { result ≡ None → (version : AnyVersion) → number ≡ version_number version → ⊥ }
@@ -46,7 +46,7 @@ fn version_of(number: u16) -> Option<Version>
     }
 }
 
-/// What the front of the bytes tells, if they begin with a front and the counts are in range.
+/// The front that the bytes begin with, if there is one and its counts are in range.
 #[tactic(auto, using(crate::proofs::Fronts::told_long, crate::proofs::Fronts::told_columns, crate::proofs::Fronts::told_rows, crate::proofs::Fronts::told_version, crate::proofs::Fronts::told_front))]
 pub(crate) fn read_front(bytes: &[u8]) -> Option<FileFront>
     ensures some { IfSome result (λ front. (0 < front.columns) × (front.columns ≤ column_limit) × (front.rows ≤ row_limit)) }
@@ -68,7 +68,7 @@ pub(crate) fn read_front(bytes: &[u8]) -> Option<FileFront>
     if rows > ROW_LIMIT {
         return None;
     }
-    // The mark is looked at here.
+    // The mark is checked here.
     if &bytes[..14] == front(version, columns, rows).as_slice() {
         Some(FileFront {
             version,

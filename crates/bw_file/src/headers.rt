@@ -42,7 +42,7 @@ fn name_length(name: &Name) -> u64
     name.as_bytes().len() as u64
 }
 
-/// Puts the bytes of headers last, by version 2.
+/// Appends the bytes of headers, in version 2.
 pub(crate) fn put_headers(bytes: &mut Vec<u8>, headers: &[Header<Name>]) -> Result<(), AllocError>
     ensures { OnOk result (bytes.new.items ≡ bytes.old.items ++ flat_map (header_bytes Second) headers.now) }
 {
@@ -52,7 +52,7 @@ pub(crate) fn put_headers(bytes: &mut Vec<u8>, headers: &[Header<Name>]) -> Resu
     Ok(())
 }
 
-/// Puts the bytes of a header last, by version 2.
+/// Appends the bytes of a header, in version 2.
 fn put_header(bytes: &mut Vec<u8>, header: &Header<Name>) -> Result<(), AllocError>
     ensures { OnOk result (bytes.new.items ≡ bytes.old.items ++ header_bytes Second header.now) }
 {
@@ -93,7 +93,7 @@ fn kind_number(kind: Kind) -> u8
     }
 }
 
-/// The type of this number.
+/// The type with this number.
 fn type_of(number: u8) -> Option<ColumnType>
     ensures found { IfSome result (λ column_type. number ≡ type_number column_type) }
     ensures none { result ≡ None → (column_type : ColumnType) → number ≡ type_number column_type → ⊥ }
@@ -105,7 +105,7 @@ fn type_of(number: u8) -> Option<ColumnType>
     }
 }
 
-/// The layout of this number.
+/// The layout with this number.
 fn layout_of(number: u8) -> Option<Layout>
     ensures found { IfSome result (λ layout. number ≡ layout_number layout) }
     ensures none { result ≡ None → (layout : Layout) → number ≡ layout_number layout → ⊥ }
@@ -119,7 +119,7 @@ fn layout_of(number: u8) -> Option<Layout>
     }
 }
 
-/// The kind of this number.
+/// The kind with this number.
 fn kind_of(number: u8) -> Option<Kind>
     ensures found { IfSome result (λ kind. number ≡ kind_number kind) }
     ensures none { result ≡ None → (kind : Kind) → number ≡ kind_number kind → ⊥ }
@@ -131,7 +131,8 @@ fn kind_of(number: u8) -> Option<Kind>
     }
 }
 
-/// So many headers of this version that stand first, and the bytes after them; `None` if no headers stand there.
+/// The given number of headers of this version at the start of the bytes, and the bytes after them; `None` if they are
+/// not there.
 pub(crate) fn read_headers<'a>(
     alloc: Global,
     version: Version,
@@ -158,7 +159,7 @@ pub(crate) fn read_headers<'a>(
     Ok(Some((headers, rest)))
 }
 
-/// The header of this version that stands first, and the bytes after it; `None` if none stands there.
+/// The header of this version at the start of the bytes, and the bytes after it; `None` if there is none.
 fn read_header<'a>(
     alloc: Global,
     version: Version,
@@ -205,7 +206,7 @@ fn read_header<'a>(
     Ok(Some((header, after)))
 }
 
-/// The type that stands first, and the bytes after it; `None` if none stands there. Version 1 has no byte for it.
+/// The type at the start of the bytes, and the bytes after it; `None` if there is none. Version 1 has no byte for it.
 fn read_type<'a>(version: Version, bytes: &'a [u8]) -> Option<(ColumnType, &'a [u8])>
     ensures first { version ≡ First → IfSome result (λ f. f.0 ≡ Integer) }
     ensures bytes { IfSome result (λ f. bytes.entry.now ≡ type_bytes version f.0 ++ f.1.now) }
@@ -222,7 +223,7 @@ fn read_type<'a>(version: Version, bytes: &'a [u8]) -> Option<(ColumnType, &'a [
     }
 }
 
-/// Whether two headers have one name.
+/// Whether two headers have the same name.
 pub(crate) fn has_name_twice(headers: &[Header<Name>]) -> bool
     ensures { result ≡ not (are_distinct (map (λ header. header.name) headers.now)) }
 {
@@ -241,7 +242,7 @@ fn has_name(headers: &[Header<Name>], name: &Name) -> bool
     headers.iter().any(|header| name == &header.name)
 }
 
-/// The headers' names are names. Their type says so: this only reads, and no code is left of it.
+/// The names of headers are valid names. Their type says so: this only reads it, and compiles to nothing.
 pub(crate) fn have_names(headers: &[Header<Name>])
     ensures { All (λ header. IsName header.name) headers.now }
 {

@@ -1,4 +1,4 @@
-//! How long the file of a table is, by the ends of its columns' values.
+//! The length of a table's file, by the ends of its columns' values.
 
 ghost use Rattle.std.specs.Prelude.{All, List, Option, length, ℤ, ◌*◌, ◌≡◌, ◌≤◌};
 ghost use Rattle.std.specs.List.{AllZip, sum_by};
@@ -11,8 +11,8 @@ use crate::headers::headers_size;
 use bw_code::{Ends, Header, Offset};
 use bw_sql::Name;
 
-/// How many bytes spell a table of these headers and so many rows, of whose columns these are the ends of the values. Takes
-/// no memory.
+/// How many bytes encode a table of these headers and this number of rows, given the ends of each column's values.
+/// Takes no memory.
 pub fn length_by_ends(headers: &[Header<Name>], rows: usize, ends: &[Option<Ends>]) -> u64
     requires few { length headers.now ≤ column_limit }
     requires some { length ends.now ≤ column_limit }
@@ -23,7 +23,7 @@ pub fn length_by_ends(headers: &[Header<Name>], rows: usize, ends: &[Option<Ends
     14 + headers_size(headers) + sizes_by_ends(ends, rows)
 }
 
-/// How many bytes columns of so many rows have, by the ends of their values.
+/// How many bytes columns of `rows` rows take, by the ends of their values.
 fn sizes_by_ends(ends: &[Option<Ends>], rows: usize) -> u64
     requires some { length ends.now ≤ column_limit }
     requires few { rows ≤ row_limit }

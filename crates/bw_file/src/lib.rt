@@ -1,6 +1,6 @@
-//! A table as the bytes of a table file, and back. The specs give the format; a table has one spelling by each of the two
-//! versions, and bytes spell one table at most. A table that is read is lent from the file's bytes, and one that is written
-//! is read in runs of cells: neither makes a second copy of the cells.
+//! A table as the bytes of a table file, and back. The specs define the format; a table has one encoding in each of the
+//! two versions, and bytes encode at most one table. A table that is read is lent from the file's bytes, and one that
+//! is written is read in blocks of cells: neither makes a second copy of the cells.
 #![tactic(auto)]
 
 mod block;

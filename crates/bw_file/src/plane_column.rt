@@ -18,17 +18,17 @@ use bw_cells::{Cells, Measured, distances_in_run};
 use bw_code::{ColumnType, Ends, Offset};
 use std::marker::Model;
 
-/// A column of planes, lent from the file's bytes. A contract sees the list of its cells.
+/// A column of planes, lent from the file's bytes. Contracts see the list of its cells.
 #[derive(Drop)]
 pub(crate) struct PlaneColumn<'a> {
-    // A bit for each row.
+    // One bit for each row.
     present: &'a [u8],
-    // As many planes as the codes have bits, with a bit for each row, the highest bit first.
+    // One plane for each bit of the codes, with one bit for each row, the highest bit first.
     planes: &'a [u8],
     rows: usize,
     base: i64,
     width: usize,
-    // Of the cells that are integers.
+    // The ends of the cells that are integers.
     ends: Option<Ends>,
 }
 
@@ -44,7 +44,7 @@ impl<'a> Model for PlaneColumn<'a> {
 }
 
 impl<'a> PlaneColumn<'a> {
-    /// How many rows the column has. The cell of each is NULL or a BIGINT.
+    /// The number of rows of the column. The cell of each is NULL or a BIGINT.
     pub(crate) fn rows(&self) -> usize
         ensures count { result ≡ length self.now }
         ensures few { length self.now ≤ row_limit }
@@ -53,7 +53,7 @@ impl<'a> PlaneColumn<'a> {
         self.rows
     }
 
-    /// The column of so many rows and of this type that stands first, and the bytes behind it, if one stands there.
+    /// The column of `rows` rows and of this type at the start of the bytes, and the bytes after it, if there is one.
     pub(crate) fn first_in(
         bytes: &'a [u8],
         rows: usize,
@@ -155,7 +155,7 @@ impl<'a> Measured for PlaneColumn<'a> {
     }
 }
 
-/// Fills `out` with the cells of the rows from row `at` on, which are read from the base on by codes of k bits.
+/// Fills `out` with the cells of the rows from row `at` on, whose codes have k bits and are distances from the base.
 fn read_plane_cells(
     present: &[u8],
     planes: &[u8],
@@ -179,7 +179,7 @@ fn read_plane_cells(
     }
 }
 
-/// The cell of row i, which is read from the base on by its code of k bits.
+/// The cell of row i, whose code has k bits and is a distance from the base.
 fn cell_at(present: &[u8], planes: &[u8], rows: usize, base: i64, k: usize, i: usize) -> Option<i64>
     requires narrow { k ≤ 64 }
     requires few { rows ≤ row_limit }
@@ -197,7 +197,7 @@ fn cell_at(present: &[u8], planes: &[u8], rows: usize, base: i64, k: usize, i: u
     Some(base.wrapping_add_unsigned(codes[i % 8]))
 }
 
-/// Adds to each number that has a bit, modulo 2^64.
+/// Adds `more` to each number whose bit is set, modulo 2^64.
 fn lift(numbers: &mut [u64], there: u64, more: u64)
     requires few { length numbers.old ≤ 64 }
     ensures len { length numbers.new ≡ length numbers.old }

@@ -1,4 +1,4 @@
-//! The parts of a column of planes that stands first among bytes.
+//! The parts of a column of planes at the start of bytes.
 
 ghost use Rattle.std.specs.Prelude.{All, IfSome, List, None, Option, length, ℕ, ℤ, ◌*◌, ◌+◌, ◌++◌, ◌∷◌, ◌≡◌, ◌≤◌};
 ghost use Rattle.std.specs.Int.{cast_unsigned, w64};
@@ -9,19 +9,19 @@ ghost use Rattle.bw_file.specs.Planes.{column_bytes, IsWideCell};
 
 use byteorder::{ByteOrder, LittleEndian};
 
-/// What a column of planes consists of, and what stands behind it.
+/// The parts of a column of planes, and the bytes after it.
 #[derive(Clone, Copy)]
 pub(crate) struct PlaneParts<'a> {
-    // A bit for each row.
+    // One bit for each row.
     pub(crate) present: &'a [u8],
     pub(crate) base: i64,
     pub(crate) width: usize,
-    // As many planes, the highest bit first.
+    // `width` planes, the highest bit first.
     pub(crate) planes: &'a [u8],
     pub(crate) after: &'a [u8],
 }
 
-/// The parts of the column of so many rows that stands first, if the bytes are long enough for one.
+/// The parts of the column of `rows` rows at the start of the bytes, if these are long enough for one.
 pub(crate) fn plane_parts<'a>(bytes: &'a [u8], rows: usize) -> Option<PlaneParts<'a>>
     requires few { rows ≤ row_limit }
     ensures narrow { IfSome result (λ p. p.width ≤ 64) }

@@ -1,4 +1,4 @@
-//! The planes of a column, written 64 rows at a time.
+//! Writing the planes of a column, 64 rows at a time.
 
 ghost use Rattle.std.specs.Prelude.{All, None, drop, is_some, length, map, slice_index, slice_index_or, take, ℕ, ◌%◌, ◌*◌, ◌+◌, ◌-◌, ◌/◌, ◌<◌, ◌==◌, ◌^◌, ◌≡◌, ◌≤◌};
 ghost use Rattle.bw_mask.specs.Masks.{bit_of};
@@ -13,7 +13,7 @@ use bw_cells::Measured;
 use bw_vertical::wide_plane_words;
 use byteorder::{ByteOrder, LittleEndian};
 
-// How many cells are looked at together: as many as one word has bits for.
+// How many cells are processed together: one for each bit of a word.
 pub(crate) const RUN: usize = 64;
 
 /// Writes the first bytes of a word, the lowest first.
@@ -22,7 +22,7 @@ fn put_word(out: &mut [u8], word: u64)
     ensures len { length out.new ≡ length out.old }
     ensures bits { (i : ℕ) → i / 8 < length out.old → bit_of (slice_index out.new (i / 8)) (i % 8) ≡ bit_of word i }
 {
-    // All runs but the last have 8 bytes, which are written as one word.
+    // All blocks but the last have 8 bytes, which are written as one word.
     if out.len() == 8 {
         LittleEndian::write_u64(out, word);
     } else {
@@ -30,8 +30,8 @@ fn put_word(out: &mut [u8], word: u64)
     }
 }
 
-/// Writes the bits of 64 rows, of which the first is row `at` and has the first bit of a byte. Word b has bit b of their codes. The planes have so
-/// many bytes each; bits past them are left out.
+/// Writes the bits of 64 rows, the first of which is row `at`, the first row of a byte. Word b has bit b of their
+/// codes. Each plane has `size` bytes; bits past them are left out.
 fn put_words(planes: &mut [u8], size: usize, k: usize, at: usize, words: &[u64; 64])
     requires narrow { k ≤ 64 }
     requires first { at % 8 ≡ 0 }
@@ -51,8 +51,8 @@ fn put_words(planes: &mut [u8], size: usize, k: usize, at: usize, words: &[u64; 
     }
 }
 
-/// The words of the planes of at most 64 cells from number `at` on, as the column has them or else made of how far the cells
-/// lie above the base, and which of the cells are integers.
+/// The words of the planes of at most 64 cells from cell `at` on, lent by the column or else computed from the
+/// distances of the cells from the base, and which of the cells are integers.
 fn planes_at<C: Measured>(
     column: &C,
     at: usize,
@@ -77,7 +77,7 @@ fn planes_at<C: Measured>(
     present
 }
 
-/// Writes the bits and the planes of a column whose codes have k bits from the base on.
+/// Writes the bits and the planes of a column whose codes have k bits and are distances from the base.
 pub(crate) fn write_planes<C: Measured>(
     present: &mut [u8],
     planes: &mut [u8],
@@ -106,7 +106,7 @@ pub(crate) fn write_planes<C: Measured>(
     }
 }
 
-/// Writes a column of so many rows, of which these are the base and the width.
+/// Writes a column of `rows` rows with this base and width.
 pub(crate) fn write_column<C: Measured>(
     out: &mut [u8],
     rows: usize,

@@ -1,4 +1,4 @@
-//! The bits that say which cells of a column are not null.
+//! The bits that say which cells of a column are non-null.
 
 ghost use Rattle.std.specs.Prelude.{List, None, Option, false, is_some, length, slice_index_or, true, ℕ, ℤ, ◌≡◌, ◌≤◌};
 ghost use Rattle.bw_mask.specs.Masks.{bit_of};
@@ -8,12 +8,12 @@ ghost use Rattle.bw_file.specs.Reading.{HasNoSpareBit};
 
 use byteorder::{ByteOrder, LittleEndian};
 
-/// Writes the bits of cells, of which bit i of the word says whether cell i is not null.
+/// Writes the bits of cells: bit i of the word says whether cell i is non-null.
 pub(crate) fn write_presence(out: &mut [u8], bits: u64)
     requires few { length out.old ≤ 8 }
     ensures { (cells : List (Option ℤ)) → ((i : ℕ) → bit_of bits i ≡ is_some (slice_index_or cells i None)) → out.new ≡ presence_bytes (length out.old) cells }
 {
-    // All runs but the last have 8 bytes, which are written as one word.
+    // All blocks but the last have 8 bytes, which are written as one word.
     if out.len() == 8 {
         LittleEndian::write_u64(out, bits);
     } else {
@@ -21,7 +21,7 @@ pub(crate) fn write_presence(out: &mut [u8], bits: u64)
     }
 }
 
-/// Whether a bit past the last row is set. No column has one.
+/// Whether a bit past the last row is set. In a valid column none is.
 pub(crate) fn has_spare_bit(present: &[u8], rows: usize) -> bool
     requires few { rows ≤ row_limit }
     requires long { length present.now ≡ presence_size rows }

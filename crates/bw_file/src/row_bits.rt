@@ -5,7 +5,7 @@ ghost use Rattle.bw_mask.specs.Masks.{bit_of};
 
 use byteorder::{ByteOrder, LittleEndian};
 
-/// The bits from bit `at` on, of which that is the first in its byte. No bit is set past so many.
+/// The bits from bit `at` on, which is the first in its byte. Only the first `count` can be set.
 pub(crate) fn bits_of_rows(bytes: &[u8], at: usize, count: usize) -> u64
     requires few { count ≤ 64 }
     requires first { at % 8 ≡ 0 }
@@ -16,7 +16,7 @@ pub(crate) fn bits_of_rows(bytes: &[u8], at: usize, count: usize) -> u64
     bits_of_bytes(&bytes[at / 8..]) & low_bits(count)
 }
 
-/// The bits of the first eight bytes, or of as many as there are, those of the first byte lowest.
+/// The bits of the first eight bytes, or of all if there are fewer, those of the first byte lowest.
 fn bits_of_bytes(bytes: &[u8]) -> u64
     ensures { (k : ℕ) → k < 64 → k / 8 < length bytes.now → bit_of result k ≡ bit_of (slice_index bytes.now (k / 8)) (k % 8) }
 {
@@ -28,7 +28,7 @@ fn bits_of_bytes(bytes: &[u8]) -> u64
     LittleEndian::read_u64(&eight)
 }
 
-/// The n lowest bits.
+/// A word with the n lowest bits set.
 fn low_bits(n: usize) -> u64
     requires { n ≤ 64 }
     ensures { (i : ℕ) → bit_of result i ≡ nat_lt i n }

@@ -1,15 +1,15 @@
-//! Bits that no plane may have.
+//! Bits that may not be set in a plane.
 
 ghost use Rattle.std.specs.Prelude.{bit_and, false, length, slice_index, true, ℕ, ◌*◌, ◌-◌, ◌<◌, ◌^◌, ◌≡◌, ◌≤◌};
 ghost use Rattle.bw_file.specs.Planes.{HasNoStrayBit};
 
-/// Whether a plane has a bit that the bits of the rows, as many bytes, do not have.
+/// Whether a bit of a plane is set that is clear in the bits of the rows, which are the same number of bytes.
 fn has_bit_beyond(present: &[u8], plane: &[u8]) -> bool
     requires { length plane.now ≡ length present.now }
     ensures no { result ≡ false → (j : ℕ) → j < length present.now → bit_and (slice_index plane.now j) (255 - slice_index present.now j) ≡ 0 }
     ensures yes { result ≡ true → ((j : ℕ) → j < length present.now → bit_and (slice_index plane.now j) (255 - slice_index present.now j) ≡ 0) → ⊥ }
 {
-    // No early end, so that many bytes are looked at by one instruction.
+    // No early exit, so that the loop is vectorized.
     let mut stray = 0;
     'bytes: for j in 0..present.len() {
         stray |= plane[j] & !present[j];
@@ -17,7 +17,7 @@ fn has_bit_beyond(present: &[u8], plane: &[u8]) -> bool
     stray != 0
 }
 
-/// Whether a plane has a bit at a row whose cell is null, or past the last row. The planes have so many bytes each.
+/// Whether a plane has a bit set at a row whose cell is null, or past the last row. Each plane has `size` bytes.
 pub(crate) fn has_stray_bit(present: &[u8], planes: &[u8], size: usize, k: usize) -> bool
     requires narrow { k ≤ 64 }
     requires short { size ≤ 2 ^ 24 }

@@ -12,8 +12,8 @@ use bw_code::Header;
 use bw_sql::Name;
 use std::marker::Model;
 
-/// A table as a table file holds it: 1 to 64 headers, and for each of them a column of as many cells as there are
-/// rows, lent from the file's bytes. A contract sees headers, rows and columns.
+/// A table as a table file holds it: 1 to 64 headers, and for each of them a column with one cell for each row, lent
+/// from the file's bytes. Contracts see headers, rows and columns.
 #[derive(Drop)]
 pub struct TableFile<'a> {
     headers: Vec<Header<Name>>,
@@ -61,7 +61,7 @@ impl<'a> TableFile<'a> {
         &self.headers
     }
 
-    /// How many rows there are.
+    /// The number of rows.
     pub fn rows(&self) -> usize
         ensures { result ≡ self.now.rows }
     {
@@ -75,7 +75,7 @@ impl<'a> TableFile<'a> {
         &self.columns
     }
 
-    /// The headers and the columns, to take over.
+    /// The headers and the columns, by value.
     pub fn into_headers_and_columns(self) -> (Vec<Header<Name>>, Vec<FileColumn<'a>>)
         ensures headers { result.0.items ≡ self.entry.headers }
         ensures columns { result.1.items ≡ self.entry.columns }

@@ -3,7 +3,7 @@
 ghost use Rattle.std.specs.Prelude.{◌≡◌};
 ghost use Rattle.bw_file.specs.Format.{version_number};
 
-/// How a table file spells its table.
+/// How a table file encodes its table.
 #[derive(Clone, Copy, Debug, PartialEq, Eq)]
 pub enum Version {
     /// No types; the cells of a column as words of 4 bytes.

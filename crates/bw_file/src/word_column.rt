@@ -13,15 +13,15 @@ use bw_cells::{Cells, Measured, distances_in_run};
 use bw_code::Ends;
 use std::marker::Model;
 
-/// A column of words, lent from the file's bytes. A contract sees the list of its cells.
+/// A column of words, lent from the file's bytes. Contracts see the list of its cells.
 #[derive(Drop)]
 pub(crate) struct WordColumn<'a> {
-    // A bit for each row.
+    // One bit for each row.
     present: &'a [u8],
     // Four bytes for each row.
     words: &'a [u8],
     rows: usize,
-    // Of the cells that are integers.
+    // The ends of the cells that are integers.
     ends: Option<Ends>,
 }
 
@@ -37,7 +37,7 @@ impl<'a> Model for WordColumn<'a> {
 }
 
 impl<'a> WordColumn<'a> {
-    /// How many rows the column has. The cell of each is NULL or an INTEGER.
+    /// The number of rows of the column. The cell of each is NULL or an INTEGER.
     pub(crate) fn rows(&self) -> usize
         ensures count { result ≡ length self.now }
         ensures few { length self.now ≤ row_limit }
@@ -46,7 +46,7 @@ impl<'a> WordColumn<'a> {
         self.rows
     }
 
-    /// The column of so many rows whose bytes these are, if they are those of one.
+    /// The column of `rows` rows that has exactly these bytes, if they are those of one.
     pub(crate) fn in_bytes(bytes: &'a [u8], rows: usize) -> Option<WordColumn<'a>>
         requires few { rows ≤ row_limit }
         requires long { length bytes.now ≡ column_size rows }

@@ -1,4 +1,4 @@
--- The rows of a segment whose codes compare so with those of other units.
+-- The rows of a segment whose codes satisfy the comparison with those of other units.
 use Rattle.std.proofs.Common.{Bool, List, bit_or, get_or, ltb, subst, ℕ, ◌&&◌, ◌*◌, ◌+◌, ◌-◌, ◌/◌, ◌^◌, ◌≡◌, ◌≤◌}
 use Rattle.bw_lane.specs.declared.sections.LaneOp.{LaneOp}
 use Rattle.bw_lane.specs.Sections.{IsCompared, holds, on, section_of, sections_in}
@@ -6,7 +6,7 @@ use Rattle.bw_lane.proofs.Joins.{AreJoined, compared_marks, word_joined}
 use Rattle.bw_horizontal.specs.Words.{code_at, segment_rows}
 use Rattle.bw_horizontal.proofs.Marks.{all_rows}
 
--- whether section t of word i of segment q is there and compares so with the other one
+-- whether section t of word i of segment q exists and satisfies the comparison with the other one
 abbrev pub comparing : LaneOp → ℕ → List ℕ → List ℕ → ℕ → ℕ → ℕ → Bool
 comparing op k units others q i t = ltb t (sections_in k) && holds op (section_of k t (get_or units (q * (k + 1) + i) 0)) (section_of k t (get_or others (q * (k + 1) + i) 0))
 

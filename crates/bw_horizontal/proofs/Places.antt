@@ -53,7 +53,7 @@ apart k a b narrow same also =
     let i : a % segment_rows k % (k + 1) ≡ b % segment_rows k % (k + 1) = sym (mod-mul-add (a / segment_rows k) (k + 1) _ x) ∙ ap (λ n. n % (k + 1)) same ∙ mod-mul-add (b / segment_rows k) (k + 1) _ y in
     sym (row_is k a narrow) ∙ rw (q, i, also) (row_is k b narrow)
 
--- the place of the row n rows on, which is of the run of row j or the first behind it
+-- the position of the row n rows later, which is in the run of row j or the first after it
 module _ (k j n : ℕ) (narrow : k ≤ 32) where
   abbrev q : ℕ
   q = j / segment_rows k
@@ -85,7 +85,7 @@ module _ (k j n : ℕ) (narrow : k ≤ 32) where
       let there : 0 < sections_in k = omega (arith, full) in
       (subst (λ m. m / segment_rows k ≡ q + 1) at (row_segment k (q + 1) 0 0 low there), subst (λ m. m % segment_rows k % (k + 1) ≡ 0) at (row_word k (q + 1) 0 0 low there), subst (λ m. section_in k m ≡ 0) at (row_section k (q + 1) 0 0 low there))
 
-  -- the words of a run lie one behind the other
+  -- the words of a run are consecutive
   pub word_on : i + n < k + 1 → word_of k (j + n) ≡ word_of k j + n
   word_on h = let on = next_word h in rw (on.0, on.1) (omega arith)
 

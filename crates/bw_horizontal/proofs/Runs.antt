@@ -16,7 +16,7 @@ run_there k row n size narrow some run there =
     let last : row % segment_rows k % (k + 1) + (n - 1) < k + 1 = omega (arith, some, run) in
     omega (arith, word_on k row (n - 1) narrow last, there (n - 1) (omega (arith, some)), some)
 
--- stored words with a part written anew by stored words
+-- stored words with a part overwritten by stored words
 pub part_stored : (k first n : ℕ) (words part : List ℕ) → first + n ≤ length words → length part ≡ n → All (IsStored k) words → All (IsStored k) part → All (IsStored k) (put_mid first n words part)
 part_stored k first n words part fits long stored anew i d h =
     subst (IsStored k) (get_or_default (put_mid first n words part) i 0 d h)

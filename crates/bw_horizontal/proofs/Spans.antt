@@ -98,7 +98,7 @@ module _ (k at rows q own : ℕ) (old words after new : List ℕ) (narrow : k �
         | inr l ↦ omega (arith, low, mul-le-mul_right {m = q + 1} {n = j / segment_rows k} (k + 1) (omega (arith, l, e)))
       ]))
 
--- no row from the end of 64 on is chosen, where none is behind the last
+-- no row from the end of 64 on is chosen, where none is after the last
 pub none_behind : (n at rows end : ℕ) → rows < 2 ^ 64 → (end < n → at + 64 ≤ end) → ((r : ℕ) → bit_of rows r ≡ true → at + r < n) → (j : ℕ) → end ≤ j → is_chosen at rows j ≡ false
 none_behind n at rows end fits whole there j h =
     elim (cases_Bool (is_chosen at rows j)) [

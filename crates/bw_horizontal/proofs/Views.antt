@@ -149,7 +149,7 @@ module _ (k n row code : ℕ) (words new : List ℕ) (h : AreWords k n words) (l
   pub codes_set : codes_of k n new ≡ set (codes_of k n words) row code
   codes_set = made_set n (code_in k words) (code_in k new) row code low (each row ∙ ap (λ b. if b then code else code_in k words row) (eq-eqb row row refl)) (λ j l ne. codes_other k row code words new each j ne)
 
--- codes put behind the last
+-- codes appended
 module _ (k n : ℕ) (codes words filled new : List ℕ) (h : AreWords k n words) (few : n + length codes ≤ 2 ^ 24)
     (same : (i : ℕ) → get_or filled i 0 ≡ get_or words i 0) (len : length new ≡ segments_of (segment_rows k) (n + length codes) * (k + 1)) (stored : All (IsStored k) new)
     (put : (i : ℕ) → i < length codes → code_in k new (n + i) ≡ get_or codes i 0)

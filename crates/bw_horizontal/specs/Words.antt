@@ -1,5 +1,5 @@
--- Codes of k bits as words of sections: unit q * (k + 1) + i is word i of segment q. A section is a code and above it a
--- delimiter bit, and a word holds as many sections as fit 64 bits, from the low end.
+-- Codes of k bits as words of sections: unit q * (k + 1) + i is word i of segment q. A section is a code and a delimiter bit
+-- above it, and a word holds as many sections as fit 64 bits, from the low end.
 use Rattle.std.specs.Prelude.{Bool, List, length, min, nat_lt, slice_index, ℕ, ◌%◌, ◌&&◌, ◌*◌, ◌+◌, ◌/◌, ◌==◌, ◌^◌, ◌≡◌, ◌≤◌}
 use Rattle.std.specs.List.{All}
 use Rattle.bw_code.specs.Lists.{made}
@@ -10,7 +10,8 @@ use Rattle.bw_lane.specs.Sections.{IsStored, on, section_of, sections_in}
 abbrev pub segment_rows : ℕ → ℕ
 segment_rows k = (k + 1) * sections_in k
 
--- the word of row j, and its section in that word: the rows of a segment go round its words, section by section
+-- the word of row j, and its section in that word: consecutive rows of a segment lie in consecutive words, then in the next
+-- section of these words
 abbrev pub word_of : ℕ → ℕ → ℕ
 word_of k j = j / segment_rows k * (k + 1) + j % segment_rows k % (k + 1)
 
@@ -29,16 +30,16 @@ code_in k units j = section_of k (section_in k j) (slice_index units (word_of k 
 abbrev pub codes_of : ℕ → ℕ → List ℕ → List ℕ
 codes_of k n units = made n (code_in k units)
 
--- the words of so many segments, in which delimiters and spare bits are 0
+-- the words of a number of segments, in which delimiters and spare bits are 0
 pub record AreSegments (k segments : ℕ) (units : List ℕ) : Type 0 where
   pub count : length units ≡ segments * (k + 1)
   pub stored : All (IsStored k) units
 
--- of the word only delimiters are set, of those sections whose code passes
+-- only delimiters are set in the word: those of the sections whose code passes
 abbrev pub AreDelimiters : ℕ → (ℕ → Bool) → ℕ → ℕ → Type 0
 AreDelimiters k passes word found = (p : ℕ) → on found p ≡ (p % (k + 1) == k && (nat_lt (p / (k + 1)) (sections_in k) && passes (section_of k (p / (k + 1)) word)))
 
--- the words of a column of n codes: those of all its segments, in which the places of no row are 0
+-- the words of a column of n codes: those of all its segments, in which sections without a row are 0
 pub record AreWords (k n : ℕ) (words : List ℕ) : Type 0 where
   pub some : 1 ≤ k
   pub narrow : k ≤ 32
@@ -46,7 +47,7 @@ pub record AreWords (k n : ℕ) (words : List ℕ) : Type 0 where
   pub segments : AreSegments k (segments_of (segment_rows k) n) words
   pub clean : (j : ℕ) → n ≤ j → code_in k words j ≡ 0
 
--- for how many rows so many words have room: whole segments, and at most 2^24 rows
+-- how many rows a number of words has room for: whole segments, and at most 2^24 rows
 abbrev pub room_in : ℕ → ℕ → ℕ
 room_in k words = min (2 ^ 24) (segment_rows k * (words / (k + 1)))
 

@@ -1,4 +1,4 @@
-//! Codes put at some of 64 rows: all sections of a word at once.
+//! Writing codes to some of 64 rows: all sections of a word at once.
 
 ghost use Rattle.std.specs.Prelude.{false, if◌then◌else◌, length, slice_index, ℕ, ◌%◌, ◌*◌, ◌+◌, ◌-◌, ◌/◌, ◌<◌, ◌^◌, ◌≡◌, ◌≤◌};
 ghost use Rattle.std.specs.List.{All};
@@ -10,10 +10,11 @@ ghost use Rattle.bw_horizontal.specs.Words.{code_in, segment_rows};
 use crate::storage::put_codes;
 use bw_lane::SectionMasks;
 
-/// How many words the segments have at most in which 64 rows lie: three of the widest codes' segments.
+/// The greatest number of words in the segments that 64 rows lie in: three segments of the widest codes.
 const MOST_WORDS: usize = 99;
 
-/// The word in which the codes of some sections become those of `new`: of the sections whose lowest bit is set in `rows`.
+/// The word with the codes of some sections replaced by those of `new`: of the sections whose lowest bit is set in
+/// `rows`.
 fn blended(masks: SectionMasks, word: u64, new: u64, rows: u64) -> u64
     requires some { 1 ≤ masks.width }
     requires word { IsStored masks.width word }
@@ -27,8 +28,8 @@ fn blended(masks: SectionMasks, word: u64, new: u64, rows: u64) -> u64
     word ^ ((word ^ new) & bits)
 }
 
-/// The codes of some rows of a segment become those of a segment of `new`: of the rows whose bit is set, the segment's first row
-/// has bit 0. The segments begin with these words.
+/// The codes of some rows of a segment become those of a segment of `new`: of the rows whose bit is set, bit 0 being
+/// the segment's first row. The segments begin at these words.
 fn blend_segment(
     words: &mut [u64],
     masks: SectionMasks,
@@ -54,7 +55,7 @@ fn blend_segment(
     }
 }
 
-/// The bits of the rows from `start` on, by those of the rows from `at` on.
+/// The bits of the rows from `start` on, given those of the rows from `at` on.
 fn rows_from(rows: u64, at: usize, start: usize) -> u64
     requires behind { at < start + 64 }
     requires before { start < at + 64 }
@@ -67,8 +68,8 @@ fn rows_from(rows: u64, at: usize, start: usize) -> u64
     }
 }
 
-/// The codes of the rows from `at` on whose bit is set become those that `new` has, segment by segment. Its first segment is
-/// that of row `at`, and no row from `end` on is chosen.
+/// The codes of the rows from `at` on whose bit is set become those of `new`, segment by segment. The first segment of
+/// `new` is that of row `at`, and no row from `end` on is chosen.
 fn blend(words: &mut [u64], width: u32, at: usize, end: usize, rows: u64, new: &[u64])
     requires some { 1 ≤ width }
     requires narrow { width ≤ 32 }
@@ -104,7 +105,7 @@ fn blend(words: &mut [u64], width: u32, at: usize, end: usize, rows: u64, new: &
     }
 }
 
-/// Row at + i takes code i where bit i of the word is set.
+/// Row at + i takes code i where bit i of `rows` is set.
 pub(crate) fn put_run(words: &mut [u64], width: u32, at: usize, rows: u64, codes: &[u64])
     requires some { 1 ≤ width }
     requires narrow { width ≤ 32 }
@@ -125,7 +126,7 @@ pub(crate) fn put_run(words: &mut [u64], width: u32, at: usize, rows: u64, codes
     blend(words, width, at, at + codes.len(), rows, &new);
 }
 
-/// Row at + i takes the code where bit i of the word is set. No row from `end` on does.
+/// Row at + i takes the code where bit i of `rows` is set. No bit is set for rows from `end` on.
 pub(crate) fn fill_run(words: &mut [u64], width: u32, at: usize, end: usize, rows: u64, code: u64)
     requires some { 1 ≤ width }
     requires narrow { width ≤ 32 }

@@ -19,9 +19,9 @@ use bw_mask::Mask;
 use std::alloc::{AllocError, Global};
 use std::marker::Model;
 
-/// Codes of at most 32 bits, side by side in words (BitWeaving/H: Li and Patel, SIGMOD 2013). A code and a delimiter bit
-/// above it, which is 0, are a section, and a word has as many sections as fit it. A segment is as many words as a
-/// section has bits; its rows go round its words, section by section.
+/// Codes of at most 32 bits, side by side in words (BitWeaving/H: Li and Patel, SIGMOD 2013). A section is a code and a
+/// delimiter bit above it, which is 0, and a word has as many sections as fit it. A segment has as many words as a
+/// section has bits; its consecutive rows lie in consecutive words, then in the next section of these words, and so on.
 #[derive(Drop)]
 pub struct HorizontalColumn {
     width: u32,
@@ -42,8 +42,8 @@ impl Model for HorizontalColumn {
 }
 
 impl HorizontalColumn {
-    /// The words: bit p of section t of word i of segment q is bit p of the code of the row that lies there. Delimiters,
-    /// bits above the last section and the places of no row are 0.
+    /// The words: bit p of section t of word i of segment q is bit p of the code of the row that lies there.
+    /// Delimiters, bits above the last section and sections without a row are 0.
     pub fn words(&self) -> &[u64]
         ensures count { length result.now ≡ segments_of (segment_rows self.now.width) (count self.now) * (self.now.width + 1) }
         ensures bits { (w p : ℕ) → bit_of (slice_index result.now w) p ≡ (nat_lt p (sections_in self.now.width * (self.now.width + 1)) && bit_of (code_at self.now (row_of_bit self.now.width w p)) (p % (self.now.width + 1))) }

@@ -1,4 +1,4 @@
-//! Rows gathered until they fill a word of a mask: each word is written once.
+//! Collecting rows until they fill a word of a mask: each word is written once.
 
 ghost use Rattle.std.specs.Prelude.{Bool, false, ℕ, ◌+◌, ◌<◌, ◌≡◌, ◌≤◌};
 ghost use Rattle.bw_mask.specs.Masks.{SameShape, bit_of, len, row_at};
@@ -6,7 +6,7 @@ ghost use Rattle.bw_horizontal.specs.Gathering.{AreGathered};
 
 use bw_mask::Mask;
 
-/// The bits from so many places on.
+/// The bits from bit `places` on.
 fn past(word: u64, places: usize) -> u64
     requires { places ≤ 64 }
     ensures { (i : ℕ) → bit_of result i ≡ bit_of word (places + i) }
@@ -14,7 +14,7 @@ fn past(word: u64, places: usize) -> u64
     if places < 64 { word >> places } else { 0 }
 }
 
-/// Adds n rows behind `at` others, and returns those of a word that is not full; `rest` are those before.
+/// Appends n rows after the first `at`, and returns the rows of a word that is not full yet; `rest` has those before.
 pub(crate) fn gather(out: &mut Mask, at: usize, rest: u64, n: usize, rows: u64) -> u64
     requires most { n ≤ 64 }
     requires clean { (i : ℕ) → n ≤ i → bit_of rows i ≡ false }
@@ -31,7 +31,7 @@ pub(crate) fn gather(out: &mut Mask, at: usize, rest: u64, n: usize, rows: u64) 
     past(rows, 64 - begun)
 }
 
-/// Puts the rows of the last word into the mask.
+/// Writes the rows of the last word to the mask.
 pub(crate) fn finish(out: &mut Mask, at: usize, rest: u64)
     ensures shape { SameShape out.new out.old }
     ensures rows { (wanted : ℕ → Bool) → AreGathered out.old at rest wanted → (j : ℕ) → j < at → j < len out.old → row_at out.new j ≡ wanted j }

@@ -10,6 +10,7 @@ mod planes;
 mod scan;
 mod source;
 mod storage;
+mod word_test;
 
 pub use column::HorizontalColumn;
 pub use pair::pair_from;

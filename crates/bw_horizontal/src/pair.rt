@@ -1,5 +1,5 @@
-//! Scans of two lists of words of sections side by side, a word of each at a time in the segments that have a needed row
-//! (BitWeaving/H: Li and Patel, SIGMOD 2013).
+//! Scans of two lists of words of sections side by side, one word of each at a time, in the segments that have a needed
+//! row (BitWeaving/H: Li and Patel, SIGMOD 2013).
 
 ghost use Rattle.std.specs.Prelude.{false, length, nat_lt, ℕ, ◌&&◌, ◌*◌, ◌+◌, ◌<◌, ◌^◌, ◌≡◌, ◌≤◌};
 ghost use Rattle.std.specs.List.{All};
@@ -10,12 +10,12 @@ ghost use Rattle.bw_code.specs.Units.{by_words, cost_of, segments_of, side_units
 ghost use Rattle.bw_horizontal.specs.Words.{AreSegments, code_at, code_in, segment_rows};
 
 use crate::gather::{finish, gather};
-use crate::scan::lane_op;
+use crate::word_test::lane_op;
 use bw_code::{CmpOp, Source};
 use bw_lane::{LaneOp, SectionMasks};
 use bw_mask::Mask;
 
-/// The rows of segment q whose codes compare so, the first row lowest.
+/// The rows of segment q whose codes satisfy the comparison, the first row in bit 0.
 fn rows_comparing<A: Source<u64>, B: Source<u64>>(
     a: &mut A,
     b: &mut B,
@@ -47,7 +47,7 @@ fn rows_comparing<A: Source<u64>, B: Source<u64>>(
     rows
 }
 
-/// The needed rows of segment q whose codes compare so.
+/// The needed rows of segment q whose codes satisfy the comparison.
 fn segment<A: Source<u64>, B: Source<u64>>(
     a: &mut A,
     b: &mut B,
@@ -78,9 +78,9 @@ fn segment<A: Source<u64>, B: Source<u64>>(
     need & rows_comparing(a, b, masks, q, op)
 }
 
-/// Scans the words of sections of two columns: `out` becomes the needed rows whose codes compare so, the first column's on
-/// the left, and of the units of each so many are read as `side_units` says: all words of each segment with a needed row.
-/// Unit q * (width + 1) + i is word i of segment q.
+/// Scans the words of sections of two columns: `out` becomes the needed rows whose codes satisfy the comparison, the
+/// first column's on the left. The number of units read of each is `side_units`: all words of each segment with a
+/// needed row. Unit q * (width + 1) + i is word i of segment q.
 pub fn pair_from<A: Source<u64>, B: Source<u64>>(
     a: &mut A,
     b: &mut B,

@@ -1,4 +1,4 @@
-//! Where the code of a row lies in words of sections.
+//! The position of a row's code in words of sections.
 
 ghost use Rattle.std.specs.Prelude.{if◌then◌else◌, length, slice_index, ℕ, ◌%◌, ◌*◌, ◌+◌, ◌/◌, ◌<◌, ◌==◌, ◌^◌, ◌≡◌, ◌≤◌};
 ghost use Rattle.std.specs.List.{All};
@@ -8,7 +8,7 @@ ghost use Rattle.bw_horizontal.specs.Words.{code_in, section_in, segment_rows, w
 
 use bw_lane::SectionMasks;
 
-/// The place of a row's code. Those of rows behind it are found without a division.
+/// The position of a row's code. Those of the rows after it are found without a division.
 #[derive(Clone, Copy)]
 pub(crate) struct Place {
     masks: SectionMasks,
@@ -26,7 +26,7 @@ pub(crate) struct Place {
 }
 
 impl Place {
-    /// The place of a row in words of codes of so many bits.
+    /// The position of a row in words of codes of this width.
     pub(crate) fn of(width: u32, row: usize) -> Place
         requires narrow { width ≤ 32 }
         requires small { row ≤ 2 ^ 32 }
@@ -46,7 +46,7 @@ impl Place {
         }
     }
 
-    /// How many rows there are from this one on in its section, each in the word behind that of the one before.
+    /// How many rows from this one on are in its section, each in the word after that of the row before.
     pub(crate) fn run(self) -> usize
         ensures some { 1 ≤ result }
         ensures end { result + self.row % segment_rows self.masks.width % (self.masks.width + 1) ≡ self.masks.width + 1 }
@@ -54,7 +54,7 @@ impl Place {
         self.masks.width as usize + 1 - self.word
     }
 
-    /// The place of the row so many rows on, at most the first behind the run.
+    /// The position `rows` rows later, at most the first after the run.
     pub(crate) fn after(self, rows: usize) -> Place
         requires small { self.row ≤ 2 ^ 32 }
         requires run { rows + self.row % segment_rows self.masks.width % (self.masks.width + 1) ≤ self.masks.width + 1 }
@@ -73,7 +73,7 @@ impl Place {
                 section: self.section,
             };
         }
-        // Without a division, since this is asked at the end of each run.
+        // Without a division, since this runs at the end of each run.
         if (self.section as usize + 2) * words <= 64 {
             return Place {
                 masks,
@@ -100,7 +100,7 @@ impl Place {
         self.masks.code(words[self.start + self.word], self.section)
     }
 
-    /// Fills `out` with the codes of the rows from this one on, which are of the run.
+    /// Fills `out` with the codes of the rows from this one on, all within the run.
     pub(crate) fn codes(self, words: &[u64], out: &mut [u64])
         requires run { length out.old + self.row % segment_rows self.masks.width % (self.masks.width + 1) ≤ self.masks.width + 1 }
         requires there { (i : ℕ) → i < length out.old → word_of self.masks.width (self.row + i) < length words.now }
@@ -126,7 +126,7 @@ impl Place {
         words[i] = self.masks.with_code(words[i], self.section, code as u32);
     }
 
-    /// The codes of the rows from this one on, which are of the run, become these.
+    /// The codes of the rows from this one on, all within the run, become these.
     pub(crate) fn put_run(self, words: &mut [u64], codes: &[u64])
         requires some { 1 ≤ length codes.now }
         requires run { length codes.now + self.row % segment_rows self.masks.width % (self.masks.width + 1) ≤ self.masks.width + 1 }
@@ -139,7 +139,7 @@ impl Place {
         ensures other { (j : ℕ) → (self.row ≤ j → self.row + length codes.now ≤ j) → code_in self.masks.width words.new j ≡ code_in self.masks.width words.old j }
     {
         let first = self.start + self.word;
-        // The run's words alone, one for each code: no bound is left to be looked at for each row.
+        // Only the run's words, one for each code: no bounds check is left per row.
         let run = &mut words[first..first + codes.len()];
         for i in 0..codes.len() {
             run[i] = self.masks.with_code(run[i], self.section, codes[i] as u32);

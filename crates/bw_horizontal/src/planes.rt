@@ -1,4 +1,4 @@
-//! The rows whose code has a bit.
+//! The rows whose code has a bit set.
 
 ghost use Rattle.std.specs.Prelude.{length, nat_lt, ℕ, ◌&&◌, ◌*◌, ◌+◌, ◌<◌, ◌≡◌, ◌≤◌};
 ghost use Rattle.bw_lane.specs.Sections.{on};
@@ -9,7 +9,7 @@ use crate::gather::{finish, gather};
 use bw_lane::{LaneOp, SectionMasks};
 use bw_mask::Mask;
 
-/// The delimiters of the sections whose code has bit i.
+/// The delimiters of the sections whose code has bit i set.
 fn with_bit(masks: &SectionMasks, i: u32, word: u64) -> u64
     requires bit { i < masks.now.width }
     ensures { AreDelimiters masks.now.width (λ code. bit_of code i) word result }
@@ -18,7 +18,7 @@ fn with_bit(masks: &SectionMasks, i: u32, word: u64) -> u64
     word << (masks.width - i) & delimiters
 }
 
-/// The rows of segment q whose code has bit i, the first row lowest.
+/// The rows of segment q whose code has bit i set, the first row in bit 0.
 fn rows_with_bit(words: &[u64], masks: &SectionMasks, q: usize, i: u32) -> u64
     requires bit { i < masks.now.width }
     requires there { (q + 1) * (masks.now.width + 1) ≤ length words.now }
@@ -32,7 +32,7 @@ fn rows_with_bit(words: &[u64], masks: &SectionMasks, q: usize, i: u32) -> u64
     rows
 }
 
-/// `out` becomes the rows whose code has bit i.
+/// `out` becomes the rows whose code has bit i set.
 pub(crate) fn plane(words: &[u64], width: u32, i: u32, out: &mut Mask)
     requires words { AreWords width (len out.old) words.now }
     requires bit { i < width }

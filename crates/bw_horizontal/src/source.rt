@@ -4,7 +4,7 @@ ghost use Rattle.std.specs.Prelude.{◌≡◌};
 
 use bw_code::Source;
 
-/// Words that were lent, and how many of them were read.
+/// Lent words, and how many of them were read.
 #[derive(Drop)]
 pub(crate) struct WordSource<'a> {
     words: &'a [u64],
@@ -12,7 +12,7 @@ pub(crate) struct WordSource<'a> {
 }
 
 impl<'a> WordSource<'a> {
-    /// The words, none of them read.
+    /// The words, none of them read yet.
     pub(crate) fn new(words: &'a [u64]) -> WordSource<'a>
         ensures words { ⟦<WordSource<'a> as Source<u64>>⟧.units result ≡ words.now }
         ensures none { ⟦<WordSource<'a> as Source<u64>>⟧.reads result ≡ 0 }

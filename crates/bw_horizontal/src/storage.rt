@@ -1,4 +1,4 @@
-//! Words of a column: room for rows, and codes put and read.
+//! The words of a column: room for rows, writing codes and reading them.
 
 ghost use Rattle.std.specs.Prelude.{All, length, slice_index, vec_capacity, vec_len, ℕ, ◌*◌, ◌+◌, ◌<◌, ◌^◌, ◌≡◌, ◌≤◌};
 ghost use Rattle.bw_lane.specs.Sections.{IsStored};
@@ -8,10 +8,10 @@ ghost use Rattle.bw_horizontal.specs.Words.{code_in, segment_rows, word_of};
 
 use crate::place::Place;
 
-/// How wide codes are at least that are put and read run after run.
+/// The least width of codes that are written and read run by run.
 const LEAST_IN_RUNS: u32 = 6;
 
-/// How many words so many rows take.
+/// How many words `rows` rows take.
 pub(crate) fn words_for(width: u32, rows: usize) -> usize
     requires narrow { width ≤ 32 }
     requires few { rows ≤ 2 ^ 24 }
@@ -21,7 +21,7 @@ pub(crate) fn words_for(width: u32, rows: usize) -> usize
     rows.div_ceil(words * (64 / words)) * words
 }
 
-/// Adds words of zeros until there are those of so many rows, within the capacity.
+/// Appends words of zeros until there are enough for `rows` rows, within the capacity.
 pub(crate) fn fill_up(words: &mut Vec<u64>, width: u32, rows: usize)
     requires narrow { width ≤ 32 }
     requires few { rows ≤ 2 ^ 24 }
@@ -36,9 +36,9 @@ pub(crate) fn fill_up(words: &mut Vec<u64>, width: u32, rows: usize)
     };
 }
 
-/// The codes of the rows from `at` on become these, row after row.
+/// The codes of the rows from `at` on become these, row by row.
 ///
-/// Apart from the loop over runs in the machine's code too, so that the registers serve this loop alone.
+/// Kept separate from the loop over runs in the machine code too, so that this loop has the registers to itself.
 #[inline(never)]
 fn put_rows(words: &mut [u64], width: u32, at: usize, codes: &[u64])
     requires narrow { width ≤ 32 }
@@ -57,7 +57,7 @@ fn put_rows(words: &mut [u64], width: u32, at: usize, codes: &[u64])
     }
 }
 
-/// The codes of the rows from `at` on become these, run after run.
+/// The codes of the rows from `at` on become these, run by run.
 fn put_runs(words: &mut [u64], width: u32, at: usize, codes: &[u64])
     requires narrow { width ≤ 32 }
     requires few { at + length codes.now ≤ 2 ^ 24 }
@@ -78,7 +78,7 @@ fn put_runs(words: &mut [u64], width: u32, at: usize, codes: &[u64])
     }
 }
 
-/// The codes of the rows from `at` on become these. Narrow codes have short runs, which do not pay.
+/// The codes of the rows from `at` on become these. Narrow codes have short runs, which do not pay off.
 pub(crate) fn put_codes(words: &mut [u64], width: u32, at: usize, codes: &[u64])
     requires narrow { width ≤ 32 }
     requires few { at + length codes.now ≤ 2 ^ 24 }
@@ -96,7 +96,7 @@ pub(crate) fn put_codes(words: &mut [u64], width: u32, at: usize, codes: &[u64])
     }
 }
 
-/// Fills `out` with the codes of the rows from `at` on, row after row.
+/// Fills `out` with the codes of the rows from `at` on, row by row.
 fn read_rows(words: &[u64], width: u32, at: usize, out: &mut [u64])
     requires narrow { width ≤ 32 }
     requires few { at + length out.old ≤ 2 ^ 24 }
@@ -110,7 +110,7 @@ fn read_rows(words: &[u64], width: u32, at: usize, out: &mut [u64])
     }
 }
 
-/// Fills `out` with the codes of the rows from `at` on, run after run.
+/// Fills `out` with the codes of the rows from `at` on, run by run.
 fn read_runs(words: &[u64], width: u32, at: usize, out: &mut [u64])
     requires narrow { width ≤ 32 }
     requires few { at + length out.old ≤ 2 ^ 24 }
@@ -127,7 +127,7 @@ fn read_runs(words: &[u64], width: u32, at: usize, out: &mut [u64])
     }
 }
 
-/// Fills `out` with the codes of the rows from `at` on. Narrow codes have short runs, which do not pay.
+/// Fills `out` with the codes of the rows from `at` on. Narrow codes have short runs, which do not pay off.
 pub(crate) fn read_codes(words: &[u64], width: u32, at: usize, out: &mut [u64])
     requires narrow { width ≤ 32 }
     requires few { at + length out.old ≤ 2 ^ 24 }

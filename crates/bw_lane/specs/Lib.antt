@@ -1,2 +1,3 @@
+pub mod Marking
 pub mod Rows
 pub mod Sections

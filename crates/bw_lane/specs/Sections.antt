@@ -1,4 +1,4 @@
--- A word of sections. A section is a code of k bits, and above it a delimiter bit; the lowest section is section 0.
+-- A word of sections. A section is a code of k bits and a delimiter bit above it; the lowest section is section 0.
 use Rattle.std.specs.Prelude.{false, ◌≢◌, ◌≡◌, List, slice_index, ◌&&◌, ℕ, zero, suc, Bool, not, ◌+◌, ◌-◌, ◌*◌, ◌/◌, ◌%◌, ◌^◌, ◌<◌, nat_lt, nat_le, ◌==◌, if◌then◌else◌}
 use Rattle.std.specs.Int.{bit_at}
 use Rattle.bw_lane.specs.declared.sections.LaneOp.{LaneOp}
@@ -21,7 +21,7 @@ holds Le a b = nat_le a b
 holds Gt a b = nat_lt b a
 holds Ge a b = nat_le b a
 
--- A word that holds codes alone: each section is a code, its delimiter is 0, and no bit above the last section is set.
+-- A word that holds only codes: each section is a code, its delimiter is 0, and no bit above the last section is set.
 pub record IsStored (k word : ℕ) : Type 0 where
   pub no_spare : word < 2 ^ (sections_in k * (k + 1))
   pub codes : (t : ℕ) → t < sections_in k → section_of k t word < 2 ^ k
@@ -58,6 +58,6 @@ code_at k words r = section_of k (r / (k + 1)) (slice_index words (r % (k + 1)))
 abbrev pub AreRowsWhere : LaneOp → ℕ → List ℕ → ℕ → ℕ → Type 0
 AreRowsWhere op k words c rows = (r : ℕ) → on rows r ≡ (nat_lt r (rows_in k) && holds op (code_at k words r) c)
 
--- in the word no bit is set but delimiters
+-- only delimiters are set in the word
 abbrev pub HasDelimitersAlone : ℕ → ℕ → Type 0
 HasDelimitersAlone k word = (p : ℕ) → p % (k + 1) ≢ k → on word p ≡ false

@@ -4,6 +4,7 @@
 ghost use Rattle.std.specs.Prelude.{◌≡◌, ℕ, ◌==◌, if◌then◌else◌, ◌+◌, ◌-◌, ◌*◌, ◌/◌, ◌%◌, ◌<◌, ◌≤◌, ◌^◌, length, slice_index, bit_and, bit_xor};
 ghost use Rattle.std.specs.List.{All};
 ghost use Rattle.bw_lane.specs.Sections.{IsCompared, IsStored, code_bits, delimiter_bits, lowest_bits, section_of, sections_in};
+ghost use Rattle.bw_lane.specs.Marking.{marks};
 
 use std::simd::prelude::*;
 
@@ -109,6 +110,49 @@ impl SectionMasks {
     }
 }
 
+/// A comparison of the codes of any word with those of one word, prepared for many words. Whatever the comparison, a word is
+/// flipped, added to, masked and flipped again, so that no branch is taken per word.
+#[derive(Clone, Copy)]
+pub struct SectionTest {
+    flip: u64,
+    add: u64,
+    delimiters: u64,
+    turn: u64,
+}
+
+impl SectionTest {
+    /// Compares the codes of a word, section by section: of a prepared comparison the delimiters are set where it holds.
+    #[inline]
+    pub fn marks(&self, word: u64) -> u64
+        ensures { result ≡ marks self.now word }
+    {
+        ((word ^ self.flip).wrapping_add(self.add) & self.delimiters) ^ self.turn
+    }
+}
+
+impl SectionMasks {
+    /// Prepares the comparison of the codes of any word with those of `y`.
+    pub fn against(&self, op: LaneOp, y: u64) -> SectionTest
+        requires { IsStored self.now.width y }
+        ensures { (x : ℕ) → IsStored self.now.width x → IsCompared op self.now.width x y (marks result x) }
+    {
+        let (flip, add, turn) = match op {
+            LaneOp::Eq => (y, self.codes, self.delimiters),
+            LaneOp::Ne => (y, self.codes, 0),
+            LaneOp::Lt => (self.codes, y, 0),
+            LaneOp::Le => (self.codes, y + self.lowest, 0),
+            LaneOp::Gt => (0, y ^ self.codes, 0),
+            LaneOp::Ge => (0, (y ^ self.codes) + self.lowest, 0),
+        };
+        SectionTest {
+            flip,
+            add,
+            delimiters: self.delimiters,
+            turn,
+        }
+    }
+}
+
 impl SectionMasks {
     /// The word whose sections all hold the code `c`.
     pub fn constant(&self, c: u32) -> u64
@@ -176,7 +220,7 @@ impl SectionMasks {
             & u64x4::splat(self.delimiters)
     }
 
-    /// Compares the codes of four words and four, section by section.
+    /// Compares the codes of four words with those of four others, section by section.
     pub fn compare_lanes(&self, op: LaneOp, x: u64x4, y: u64x4) -> u64x4
         requires x_stored { All (IsStored self.now.width) x }
         requires y_stored { All (IsStored self.now.width) y }
@@ -215,8 +259,8 @@ pub fn word_compare(op: LaneOp, x: &[u64], y: u64, k: u32, out: &mut [u64])
     }
 }
 
-/// Compares the codes of each word of `x` with those of the word of `y` in its place, as `word_compare` does with one
-/// word.
+/// Compares the codes of each word of `x` with those of the word of `y` at the same index, as `word_compare` does with
+/// one word.
 pub fn word_compare_pair(op: LaneOp, x: &[u64], y: &[u64], k: u32, out: &mut [u64])
     requires width { k ≤ 32 }
     requires same { length out.old ≡ length x.now }

@@ -11,8 +11,8 @@ fn low_half(bits: u64) -> u32
     (bits % 0x1_0000_0000) as u32
 }
 
-/// Compares 32 rows with a constant by one byte more. `lt` are the rows below the constant so far, `eq` those that are
-/// equal to it so far, and `c` is the constant's byte.
+/// Compares 32 rows with a constant by one more byte. `lt` are the rows below the constant so far, `eq` those equal to
+/// it so far, and `c` is the constant's byte.
 pub fn byte_step(slice: &[u8; 32], c: u8, lt: &mut u32, eq: &mut u32)
     ensures less { (r : ℕ) → r < 32 → bit_of lt.new r ≡ (bit_of lt.old r || (bit_of eq.old r && nat_lt (slice_index slice.now r) c)) }
     ensures same { (r : ℕ) → r < 32 → bit_of eq.new r ≡ (bit_of eq.old r && (slice_index slice.now r == c)) }
@@ -22,8 +22,8 @@ pub fn byte_step(slice: &[u8; 32], c: u8, lt: &mut u32, eq: &mut u32)
     *eq &= low_half(s.simd_eq(c).to_bitmask());
 }
 
-/// Compares 32 rows of two columns by one byte more. `lt` are the rows in which the first is below the second so far, `eq`
-/// those in which they are equal so far.
+/// Compares 32 rows of two columns by one more byte. `lt` are the rows in which the first is below the second so far,
+/// `eq` those in which they are equal so far.
 pub fn byte_pair_step(a: &[u8; 32], b: &[u8; 32], lt: &mut u32, eq: &mut u32)
     ensures less { (r : ℕ) → r < 32 → bit_of lt.new r ≡ (bit_of lt.old r || (bit_of eq.old r && nat_lt (slice_index a.now r) (slice_index b.now r))) }
     ensures same { (r : ℕ) → r < 32 → bit_of eq.new r ≡ (bit_of eq.old r && (slice_index a.now r == slice_index b.now r)) }

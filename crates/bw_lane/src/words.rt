@@ -1,4 +1,4 @@
-//! Words of bits: combined four at a time, with a plain loop for the rest, and counted one by one.
+//! Operations on words of bits: combined four at a time, with a plain loop for the rest, and counted one by one.
 
 ghost use Rattle.std.specs.Prelude.{bit_and, bit_or, length, slice_index, ℕ, ◌-◌, ◌<◌, ◌^◌, ◌≡◌, ◌≤◌};
 ghost use Rattle.std.specs.List.{sum_by, zip};
@@ -6,7 +6,7 @@ ghost use Rattle.std.specs.Int.RustNames.{count_ones};
 
 use std::simd::prelude::*;
 
-/// Each word of a keeps the bits that the word of b has too.
+/// Keeps in each word of a the bits that are set in the word of b, too.
 pub fn and_words(a: &mut [u64], b: &[u64])
     requires { length a.old ≡ length b.now }
     ensures len { length a.new ≡ length a.old }
@@ -24,7 +24,7 @@ pub fn and_words(a: &mut [u64], b: &[u64])
     }
 }
 
-/// Each word of a gets the bits of the word of b.
+/// Sets in each word of a the bits that are set in the word of b.
 pub fn or_words(a: &mut [u64], b: &[u64])
     requires { length a.old ≡ length b.now }
     ensures len { length a.new ≡ length a.old }
@@ -42,7 +42,7 @@ pub fn or_words(a: &mut [u64], b: &[u64])
     }
 }
 
-/// Each word of a loses the bits of the word of b.
+/// Clears in each word of a the bits that are set in the word of b.
 pub fn andnot_words(a: &mut [u64], b: &[u64])
     requires { length a.old ≡ length b.now }
     ensures len { length a.new ≡ length a.old }
@@ -68,13 +68,13 @@ pub fn count_words(words: &[u64]) -> u64
     words.iter().map(|word| word.count_ones() as u64).sum()
 }
 
-/// How many bits are set in both of two words side by side.
+/// How many bits are set in both words of each pair at the same index.
 pub fn count_and_words(a: &[u64], b: &[u64]) -> u64
     requires same { length a.now ≡ length b.now }
     requires few { length a.now ≤ 2 ^ 56 }
     ensures { result ≡ sum_by (λ p. count_ones (bit_and p.0 p.1)) (zip a.now b.now) }
 {
-    // By the places: a loop over both slices at once ends at two ends, and takes twice as long.
+    // By index: a loop over both slices at once has two end conditions, and takes twice as long.
     let mut total = 0;
     'words: for i in 0..a.len() {
         total += u64::from((a[i] & b[i]).count_ones());

@@ -111,7 +111,7 @@ module _ (token says : List ℕ) (spelled : IsSpelled k.Text token) (same : says
   pub is_good : IsTrue (is_good_text says)
   is_good = subst (λ l. IsTrue (is_good_text l)) (sym said) spelled.2
 
--- what stands behind the first byte
+-- what is after the first byte
 pub behind_first : (token : List ℕ) → contents (take (length token - 1) (drop 1 token)) ≡ text_says token
 behind_first [] = refl
 behind_first (b ∷ bytes) =

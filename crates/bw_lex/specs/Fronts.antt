@@ -1,4 +1,4 @@
--- The front of a script up to a semicolon, as a computation: comments, texts and other bytes (SQL-92, <direct SQL statement>).
+-- The prefix of a script up to a semicolon, as a computation: comments, texts and other bytes (SQL-92, <direct SQL statement>).
 use Rattle.std.specs.Prelude.{◌≡◌, ℕ, ◌+◌, ◌≤◌, Bool, true, false, not, ◌&&◌, ◌==◌, if◌then◌else◌, nat_lt, List, [], ◌∷◌, length, take, drop, Option, Some, None, IsTrue, ◌⊎◌}
 use Rattle.std.specs.List.{list_all, prefix_len}
 use Rattle.bw_lex.specs.Parts.{IsRun, Piece, is_blank_run}
@@ -13,7 +13,7 @@ front n blank = record { len = n; is_blank = blank }
 abbrev pub says_len : List ℕ → ℕ
 says_len after = prefix_len (λ b. not (b == 39)) after
 
--- behind a quote: how long the text is, with its quotes, up to the next one or the end
+-- after a quote: how long the text is, with its quotes, up to the next one or the end
 abbrev pub text_len : List ℕ → ℕ
 text_len after = if nat_lt (says_len after) (length after) then says_len after + 2 else says_len after + 1
 
@@ -34,12 +34,12 @@ front_from b bytes =
     else (if b == 45 then Some (if begins_with 45 bytes then front (comment_len (b ∷ bytes)) true else front 1 false)
     else Some (plain_front (b ∷ bytes))))
 
--- the first of them, where there is no cut
+-- the first of them; `None` at a cut or at the end
 abbrev pub first_front : List ℕ → Option Front
 first_front [] = None
 first_front (b ∷ bytes) = front_from b bytes
 
--- the front of the script is pieces, and no cut
+-- the prefix of the script is pieces, without a cut
 pub record IsFront (script : List ℕ) (f : Front) : Type 0 where
   pub pieces : List Piece
   pub run : IsRun pieces script (drop f.len script)

@@ -10,11 +10,11 @@ use Rattle.bw_lex.specs.Spellings.{is_blank, is_good_text, is_word_byte, word_go
 use Rattle.bw_lex.specs.declared.piece.Piece.{Piece}
 use Rattle.bw_lex.specs.declared.piece.Piece.TheVariants.{Separator, Token, Bad}
 
--- a word goes as far as there are word bytes, and has 128 at most
+-- a word extends as far as there are word bytes, and has at most 128
 abbrev pub word_piece : List ℕ → Piece
 word_piece bytes = if nat_le (prefix_len is_word_byte bytes) 128 then Token k.Word (prefix_len is_word_byte bytes) else Bad
 
--- a number goes as far as there are digits, and no letter or _ is next
+-- a number extends as far as there are digits, and no letter or _ is next
 abbrev pub number_piece : List ℕ → Piece
 number_piece bytes =
     if word_goes_on (drop (prefix_len is_ascii_digit bytes) bytes) then Bad else Token k.Number (prefix_len is_ascii_digit bytes)
@@ -52,25 +52,25 @@ abbrev pub pair_piece : Option Symbol → ℕ → Piece
 pair_piece None a = single_piece (single_of a)
 pair_piece (Some symbol) a = Token (k.Symbol symbol) 2
 
--- a symbol of two bytes goes before one of one
+-- a symbol of two bytes takes precedence over one of one byte
 abbrev pub symbol_piece : List ℕ → Piece
 symbol_piece [] = Bad
 symbol_piece (a ∷ []) = single_piece (single_of a)
 symbol_piece (a ∷ b ∷ bytes) = pair_piece (pair_of a b) a
 
 abbrev mutual
-  -- behind a quote, at this place: the place past the next quote that isn't doubled
+  -- after a quote, at this index: the index past the next quote that isn't doubled
   pub quoted_end : ℕ → List ℕ → Option ℕ
   quoted_end at [] = None
   quoted_end at (b ∷ bytes) = if b == 39 then quote_end (at + 1) bytes else quoted_end (at + 1) bytes
 
-  -- the same past a quote, which another one doubles
+  -- the same after a quote that may be doubled by the next one
   pub quote_end : ℕ → List ℕ → Option ℕ
   quote_end at [] = Some at
   quote_end at (b ∷ bytes) = if b == 39 then quoted_end (at + 1) bytes else Some at
 
 abbrev mutual
-  -- behind a quote: what stands up to the quote that isn't doubled, where a doubled one is one
+  -- after a quote: the content up to the quote that isn't doubled, with each doubled quote once
   pub contents : List ℕ → List ℕ
   contents [] = []
   contents (b ∷ bytes) = if b == 39 then quote_contents bytes else b ∷ contents bytes
@@ -79,7 +79,7 @@ abbrev mutual
   quote_contents [] = []
   quote_contents (b ∷ bytes) = if b == 39 then 39 ∷ contents bytes else []
 
--- what a text says, without the quotes round it
+-- the content of a text, without the quotes around it
 abbrev pub text_says : List ℕ → List ℕ
 text_says [] = []
 text_says (quote ∷ bytes) = contents bytes
@@ -91,7 +91,7 @@ closed_text bytes (Some n) = if is_good_text (contents bytes) then Token k.Text 
 abbrev pub text_piece : List ℕ → Piece
 text_piece bytes = closed_text bytes (quoted_end 1 bytes)
 
--- -- begins a comment, which goes up to the end of the line
+-- -- begins a comment, which extends to the end of the line
 abbrev pub is_comment : List ℕ → Bool
 is_comment (a ∷ b ∷ bytes) = a == 45 && b == 45
 is_comment _ = false
@@ -99,7 +99,7 @@ is_comment _ = false
 abbrev pub comment_len : List ℕ → ℕ
 comment_len bytes = prefix_len (λ b. not (b == 10)) bytes
 
--- The first piece. Nothing is left to begin one where there are no bytes.
+-- The first piece. Where there are no bytes there is none.
 abbrev pub piece_from : ℕ → List ℕ → Piece
 piece_from b bytes =
     if is_alone b then single_piece (single_of b)
@@ -114,7 +114,7 @@ abbrev pub first_piece : List ℕ → Piece
 first_piece [] = Bad
 first_piece (b ∷ bytes) = piece_from b bytes
 
--- a piece has a byte, and no more than there are
+-- a piece has at least one byte, and no more than there are
 abbrev pub FitsIn : Piece → List ℕ → Type 0
 FitsIn (Separator n) bytes = (0 < n) × (n ≤ length bytes)
 FitsIn (Token kind n) bytes = (0 < n) × (n ≤ length bytes)

@@ -34,7 +34,7 @@ word_goes_on (b ∷ bytes) = is_word_byte b
 abbrev pub IsOneBlank : List ℕ → Type 0
 IsOneBlank bytes = (b : ℕ) × (bytes ≡ b ∷ []) × IsTrue (is_blank b)
 
--- -- and what follows in its line
+-- -- and what follows it in its line
 abbrev pub IsComment : List ℕ → Type 0
 IsComment bytes = (says : List ℕ) × (bytes ≡ 45 ∷ 45 ∷ says) × IsTrue (has_no 10 says)
 
@@ -43,7 +43,7 @@ abbrev pub IsWord : List ℕ → Type 0
 IsWord [] = ⊥
 IsWord (b ∷ bytes) = IsTrue (is_ascii_alphabetic b) × IsTrue (list_all is_word_byte bytes)
 
--- digits, one at least
+-- one or more digits
 abbrev pub IsNumber : List ℕ → Type 0
 IsNumber bytes = (bytes ≢ []) × IsTrue (list_all is_ascii_digit bytes)
 
@@ -52,7 +52,7 @@ abbrev pub doubled : List ℕ → List ℕ
 doubled [] = []
 doubled (b ∷ bytes) = if b == 39 then 39 ∷ 39 ∷ doubled bytes else b ∷ doubled bytes
 
--- between quotes, with each quote of its own twice
+-- between quotes, with each quote inside it twice
 abbrev pub quoted : List ℕ → List ℕ
 quoted says = 39 ∷ doubled says ++ 39 ∷ []
 
@@ -70,7 +70,7 @@ IsSymbol (Compare Le) bytes = bytes ≡ codes "<="
 IsSymbol (Compare Gt) bytes = bytes ≡ codes ">"
 IsSymbol (Compare Ge) bytes = bytes ≡ codes ">="
 
--- what a text may say: 1 to 255 bytes of UTF-8, without the byte 0
+-- what a text may contain: 1 to 255 bytes of UTF-8, without the byte 0
 abbrev pub is_good_text : List ℕ → Bool
 is_good_text says = nat_lt 0 (length says) && nat_le (length says) 255 && not (list_any (λ b. b == 0) says) && is_utf8 says
 

@@ -1,22 +1,22 @@
-//! Why a text has no statement.
+//! Why a text is no statement.
 
 ghost use Rattle.std.specs.Prelude.{◌≡◌};
 ghost use Rattle.bw_lex.specs.declared.fault.SqlFault.TheVariants.{Memory};
 
 use std::alloc::{AllocError, AllocFailed};
 
-/// Why a text has no statement.
+/// Why a text is no statement.
 #[derive(Clone, Copy, Debug, PartialEq, Eq, Drop)]
 pub enum SqlFault {
-    /// A bad token, or tokens that are no statement.
+    /// A bad token, or tokens that form no statement.
     Syntax,
     /// More than 65,536 bytes.
     TooLong,
-    /// A `(` before which 64 more `(` than `)` stand.
+    /// A `(` preceded by 64 more `(` than `)`.
     TooDeep,
-    /// A number above 9223372036854775807, or above 9223372036854775808 behind a `-`.
+    /// A number above 9223372036854775807, or above 9223372036854775808 after a `-`.
     BigNumber,
-    /// A growth was refused.
+    /// An allocation failed.
     Memory,
 }
 

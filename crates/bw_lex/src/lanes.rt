@@ -1,4 +1,4 @@
-//! Runs of bytes that are looked at sixteen at a time.
+//! Runs of bytes that are scanned sixteen at a time.
 
 ghost use Rattle.std.specs.Prelude.{◌≡◌, ◌==◌, ◌||◌, ◌≤◌, ◌<◌, length, map, not};
 ghost use Rattle.std.specs.Char.{is_ascii_digit};
@@ -10,7 +10,7 @@ use std::simd::prelude::*;
 
 const LANES: usize = 16;
 
-// Bit i is 1 where byte i is no digit.
+// Bit i is 1 where byte i is not a digit.
 fn no_digits(bytes: u8x16) -> u64
     ensures { result ≡ mask_l (map (λ b. not (is_ascii_digit b)) bytes) }
 {
@@ -32,7 +32,7 @@ fn digits_one_by_one(bytes: &[u8]) -> usize
     bytes.iter().take_while(|b| b.is_ascii_digit()).count()
 }
 
-/// How many digits come first.
+/// The number of leading digits.
 pub(crate) fn digits_len(bytes: &[u8]) -> usize
     ensures { result ≡ prefix_len is_ascii_digit bytes.now }
 {

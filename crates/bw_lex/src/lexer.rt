@@ -37,7 +37,7 @@ pub fn tokens(alloc: Global, text: &[u8]) -> Result<Vec<Token>, SqlFault>
     Ok(tokens)
 }
 
-/// A text has its tokens in one way only, and none where a token is bad.
+/// A text has only one list of tokens, and none where a token is bad.
 pub fn one_reading()
     ensures same { (text : List ℕ) (a b : List Token) → AreTokens text a → AreTokens text b → a ≡ b }
     ensures bad { (text : List ℕ) (a : List Token) → AreTokens text a → HasBadToken text → ⊥ }

@@ -1,4 +1,4 @@
-//! The first piece of a text: a separator or a token, as long as it can be.
+//! The first piece of a text: a separator or a token, as long as possible.
 
 ghost use Rattle.std.specs.Prelude.{◌≡◌, ◌==◌, ◌≢◌, ◌+◌, ◌^◌, ◌<◌, ◌≤◌, [], ◌∷◌, length, IfOk, IfSome, IsTrue, slice_index};
 ghost use Rattle.std.specs.List.{list_any, prefix_len};
@@ -12,7 +12,7 @@ use crate::lanes::digits_len;
 use crate::token::{CompareOp, Symbol, TokenKind};
 use std::alloc::{AllocError, Global};
 
-/// What a text begins with, and how many bytes it has.
+/// What a text begins with, and its number of bytes.
 #[derive(Clone, Copy, Debug, PartialEq, Eq)]
 pub enum Piece {
     /// A blank, or a comment up to the end of its line.
@@ -87,7 +87,7 @@ fn single_piece(b: u8) -> Piece
     }
 }
 
-// A symbol that needs no look at the next byte.
+// A symbol that can be recognized without the next byte.
 fn is_alone(b: u8) -> bool
     ensures { result ≡ is_alone b }
 {
@@ -123,7 +123,7 @@ fn single(b: u8) -> Option<Symbol>
     }
 }
 
-// Behind a quote: the place past the next quote that isn't doubled.
+// After a quote: the index past the next quote that isn't doubled.
 fn text_end(bytes: &[u8]) -> Option<usize>
     requires { length bytes.now < 2 ^ 63 }
     ensures { result ≡ quoted_end 1 bytes.now }
@@ -146,7 +146,7 @@ fn text_end(bytes: &[u8]) -> Option<usize>
     }
 }
 
-// Behind a quote: what stands up to the next quote that isn't doubled.
+// After a quote: the content up to the next quote that isn't doubled.
 pub(crate) fn text_contents(alloc: Global, bytes: &[u8]) -> Result<Vec<u8>, AllocError>
     ensures { IfOk result (λ text. text.items ≡ contents bytes.now) }
 {
@@ -221,7 +221,7 @@ pub(crate) fn is_blank(b: u8) -> bool
     b == b'\t' || b == b'\n' || b == b'\r' || b == b' '
 }
 
-/// The separator or the token that a text begins with, as long as it can be.
+/// The separator or the token that a text begins with, as long as possible.
 pub fn first_piece(alloc: Global, bytes: &[u8]) -> Result<Piece, AllocError>
     requires { length bytes.now < 2 ^ 63 }
     ensures is { IfOk result (λ piece. piece ≡ first_piece bytes.now) }

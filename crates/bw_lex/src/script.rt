@@ -12,16 +12,16 @@ use crate::piece::{comment_len, is_blank};
 use crate::token::Span;
 use std::alloc::{AllocError, Global};
 
-/// A part of a script: what stands between two `;` outside texts and comments, or behind the last.
+/// A part of a script: what is between two `;` outside texts and comments, or after the last.
 #[derive(Clone, Copy, Debug, PartialEq, Eq)]
 pub struct Part {
-    /// The whole run, with its blanks and comments and without the `;`.
+    /// The whole part, including blanks and comments, without the `;`.
     pub span: Span,
     /// Whether a `;` closes it.
     pub is_closed: bool,
 }
 
-// Bytes at the front of a script: how many, and whether they are nothing but blanks and comments.
+// A prefix of a script: its number of bytes, and whether it is nothing but blanks and comments.
 #[derive(Clone, Copy)]
 pub(crate) struct Front {
     pub(crate) len: usize,
@@ -34,7 +34,7 @@ fn says_len(after: &[u8]) -> usize
     after.iter().take_while(|b| **b != b'\'').count()
 }
 
-// Behind a quote: the text's length with its quotes, up to the next quote or the end.
+// After a quote: the text's length with its quotes, up to the next quote or the end.
 fn text_len(after: &[u8]) -> usize
     requires { length after.now < 2 ^ 63 }
     ensures { result ≡ text_len after.now }
@@ -61,7 +61,7 @@ fn plain_front(bytes: &[u8]) -> Front
     Front { len, is_blank }
 }
 
-// A comment, a text, or other bytes. Nothing at a cut or at the end.
+// A comment, a text, or other bytes. `None` at a cut or at the end.
 fn first_front(script: &[u8]) -> Option<Front>
     requires { length script.now < 2 ^ 63 }
     ensures { result ≡ first_front script.now }
@@ -85,7 +85,7 @@ fn first_front(script: &[u8]) -> Option<Front>
     }
 }
 
-// What stands before the first cut.
+// What precedes the first cut.
 fn first_run(script: &[u8]) -> Front
     requires { length script.now < 2 ^ 63 }
     ensures front { IsFront script.now result }
@@ -113,8 +113,8 @@ fn add_unless_blank(parts: &mut Vec<Part>, is_blank: bool, part: Part) -> Result
     Ok(())
 }
 
-/// The parts of a script in order: the runs between its cuts that aren't blank, and the rest behind
-/// the last cut where that isn't blank. A cut is a `;` outside texts and comments.
+/// The parts of a script in order: the runs between its cuts that aren't blank, and the rest after the last cut if it
+/// isn't blank. A cut is a `;` outside texts and comments.
 pub fn parts(alloc: Global, script: &[u8]) -> Result<Vec<Part>, AllocError>
     requires { length script.now < 2 ^ 63 }
     ensures parts { IfOk result (λ parts. AreParts script.now parts.items) }
@@ -135,7 +135,7 @@ pub fn parts(alloc: Global, script: &[u8]) -> Result<Vec<Part>, AllocError>
     }
 }
 
-/// A script has its parts in one way only, and is the runs that they come from with the cuts between.
+/// A script has only one list of parts, and it is the runs that they come from with the cuts between them.
 pub fn one_splitting()
     ensures whole { (script : List ℕ) (parts : List Part) → AreParts script parts → IsJoined 0 script parts }
     ensures same { (script : List ℕ) (a b : List Part) → AreParts script a → AreParts script b → a ≡ b }

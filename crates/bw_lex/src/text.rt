@@ -1,4 +1,4 @@
-//! What a text token says.
+//! The content of a text token.
 
 ghost use Rattle.std.specs.Prelude.{◌≡◌, IfOk, IsTrue};
 ghost use Rattle.bw_lex.specs.Pieces.{text_says};
@@ -8,7 +8,7 @@ ghost use Rattle.bw_lex.specs.declared.token.TokenKind.TheVariants.{Text};
 use crate::piece::text_contents;
 use std::alloc::{AllocError, Global};
 
-/// What a text token says: what stands between its quotes, each doubled quote once.
+/// The content of a text token: what is between its quotes, with each doubled quote once.
 pub fn text_says(alloc: Global, token: &[u8]) -> Result<Vec<u8>, AllocError>
     requires { IsSpelled Text token.now }
     ensures value { IfOk result (λ says. says.items ≡ text_says token.now) }

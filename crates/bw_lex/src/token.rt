@@ -1,27 +1,27 @@
-//! Tokens, and their places in the text.
+//! Tokens, and their positions in the text.
 
-/// A place in a text: the bytes from `start` up to but not with `end`.
+/// A range of a text: the bytes from `start` up to but not including `end`.
 #[derive(Clone, Copy, Debug, PartialEq, Eq)]
 pub struct Span {
     pub start: usize,
     pub end: usize,
 }
 
-/// A token and its place.
+/// A token and its position.
 #[derive(Clone, Copy, Debug, PartialEq, Eq)]
 pub struct Token {
     pub kind: TokenKind,
     pub span: Span,
 }
 
-/// What a token is.
+/// The kind of a token.
 #[derive(Clone, Copy, Debug, PartialEq, Eq)]
 pub enum TokenKind {
     /// A letter, and then letters, digits and `_`.
     Word,
     /// Digits.
     Number,
-    /// What stands between single quotes, with them.
+    /// What is between single quotes, including these.
     Text,
     Symbol(Symbol),
 }

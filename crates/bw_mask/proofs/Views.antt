@@ -54,7 +54,7 @@ rows_push n f g b same other =
           get_or_append_left (rows_of n f) (b ∷ []) false j (omega (arith, rows_len n f)) ∙ rows_at n f j low ∙ sym (other j d)
     ])
 
--- n rows, and m more behind them
+-- n rows, and m more after them
 pub rows_append : (n m : ℕ) (f g h : ℕ → Bool) → ((j : ℕ) → j < n → g j ≡ f j) → ((i : ℕ) → i < m → g (n + i) ≡ h i) → rows_of (n + m) g ≡ rows_of n f ++ rows_of m h
 rows_append n m f g h old more =
     rows_are (n + m) g (rows_of n f ++ rows_of m h) (length-append (rows_of n f) (rows_of m h) ∙ omega (arith, rows_len n f, rows_len m h)) (λ j l.

@@ -1,10 +1,10 @@
--- A mask says of each row whether it is in; row i is bit i % 64 of word i / 64, and bits past the end are 0.
+-- A mask tells for each row whether it is set; row i is bit i % 64 of word i / 64, and bits past the end are 0.
 use Rattle.std.specs.Prelude.{Bool, List, None, Option, Some, false, length, map, slice_index_or, true, ℕ, ◌+◌, ◌/◌, ◌<◌, ◌^◌, ◌≡◌, ◌≤◌}
 use Rattle.std.specs.List.{range_with_len}
--- whether a bit of a word is set, and whether a row is in by the words; no row past the last word is
+-- whether a bit of a word is set, and whether a row is set in a list of words; no row past the last word is
 pub use Rattle.bw_lane.specs.Rows.{bit_of, row_in}
 
--- the rows, and for how many there is room
+-- the rows, and the capacity in rows
 pub record MaskRows : Type 0 where
   pub rows : List Bool
   pub room : ℕ
@@ -12,7 +12,7 @@ pub record MaskRows : Type 0 where
 abbrev pub len : MaskRows → ℕ
 len mask = length mask.rows
 
--- whether a row is in; no row past the end is
+-- whether a row is set; no row past the end is
 abbrev pub row_at : MaskRows → ℕ → Bool
 row_at mask i = slice_index_or mask.rows i false
 
@@ -20,12 +20,12 @@ row_at mask i = slice_index_or mask.rows i false
 abbrev pub SameShape : MaskRows → MaskRows → Type 0
 SameShape a b = (len a ≡ len b) × (a.room ≡ b.room)
 
--- the least place from i on where a test holds, if there is one
+-- the least index from i on where a test holds, if there is one
 abbrev pub IsNext : (ℕ → Bool) → ℕ → Option ℕ → Type 0
 IsNext test i None = (j : ℕ) → i ≤ j → test j ≡ false
 IsNext test i (Some next) = (i ≤ next) × (test next ≡ true) × ((j : ℕ) → i ≤ j → j < next → test j ≡ false)
 
--- the first n places, each with what a test says of it
+-- the first n indices, each with the result of a test
 abbrev pub rows_of : ℕ → (ℕ → Bool) → List Bool
 rows_of n test = map test (range_with_len 0 n)
 

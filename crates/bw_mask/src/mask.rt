@@ -1,4 +1,4 @@
-//! A mask of rows: for each row whether it is in.
+//! A mask of rows: for each row whether it is set.
 
 ghost use Rattle.std.specs.Prelude.{◌≡◌, ℕ, ◌+◌, ◌*◌, ◌/◌, ◌<◌, ◌≤◌, ◌^◌, [], ◌∷◌, ◌++◌, ◌&&◌, ◌||◌, not, count_by, false, nat_lt, replicate, slice_set, IfOk, OnOk, length};
 ghost use Rattle.std.specs.List.{list_any};
@@ -9,8 +9,8 @@ use std::alloc::{AllocError, Global};
 use std::marker::Model;
 use std::mem::replace;
 
-/// A mask of rows: for each row whether it is in. Row i is bit i % 64 of word i / 64, and bits past
-/// the end are 0. There are at most 2^32 rows.
+/// A mask of rows: for each row whether it is set. Row i is bit i % 64 of word i / 64, and bits past the end are 0.
+/// There are at most 2^32 rows.
 #[derive(Drop)]
 pub struct Mask {
     words: Vec<u64>,
@@ -29,7 +29,7 @@ impl Model for Mask {
 }
 
 impl Mask {
-    /// A mask of n rows that are all in or all out.
+    /// A mask of n rows that are all set or all clear.
     pub fn filled(alloc: Global, n: usize, bit: bool) -> Result<Mask, AllocError>
         requires { n ≤ 2 ^ 32 }
         ensures { IfOk result (λ mask. mask.rows ≡ replicate n bit) }
@@ -41,7 +41,7 @@ impl Mask {
         })
     }
 
-    /// A mask of the same rows.
+    /// A copy of the mask.
     pub fn try_clone(&self) -> Result<Mask, AllocError>
         ensures { IfOk result (λ mask. mask.rows ≡ self.now.rows) }
     {
@@ -51,7 +51,7 @@ impl Mask {
         })
     }
 
-    /// Makes room for so many rows more. The rows stay as they are, also where memory is wanting.
+    /// Makes room for `more` further rows. The rows stay as they are, also where it runs out of memory.
     #[tactic(auto, using(crate::proofs::Views::rows_len))]
     pub fn reserve(&mut self, more: usize) -> Result<(), AllocError>
         requires { len self.old + more ≤ 2 ^ 32 }
@@ -63,7 +63,7 @@ impl Mask {
         self.words.reserve(more_words)
     }
 
-    /// Adds a row at the end, within the room.
+    /// Appends a row, within the room.
     #[tactic(auto, using(crate::proofs::Views::rows_len))]
     pub fn push(&mut self, bit: bool)
         requires room { len self.old < self.old.room }
@@ -76,7 +76,7 @@ impl Mask {
         self.len += 1;
     }
 
-    /// Adds n rows at the end, within the room: the n lowest bits of the word.
+    /// Appends n rows, within the room: the n lowest bits of the word.
     #[tactic(auto, using(crate::proofs::Views::rows_len))]
     pub fn push_bits(&mut self, n: usize, word: u64)
         requires most { n ≤ 64 }
@@ -91,7 +91,7 @@ impl Mask {
         self.len = end;
     }
 
-    /// How many rows there are.
+    /// The number of rows.
     #[tactic(auto, using(crate::proofs::Views::rows_len))]
     pub fn len(&self) -> usize
         ensures rows { result ≡ len self.now }
@@ -100,7 +100,7 @@ impl Mask {
         self.len
     }
 
-    /// Whether row i is in.
+    /// Whether row i is set.
     #[tactic(auto, using(crate::proofs::Views::rows_len, crate::proofs::Views::rows_clean, crate::proofs::Bits::bit_test))]
     pub fn get(&self, i: usize) -> bool
         requires { i < len self.now }
@@ -109,7 +109,7 @@ impl Mask {
         self.words[i / 64] >> (i % 64) & 1 == 1
     }
 
-    /// Puts row i in or out.
+    /// Sets or clears row i.
     #[tactic(auto, using(crate::proofs::Views::rows_len))]
     pub fn set(&mut self, i: usize, bit: bool)
         requires { i < len self.old }
@@ -119,7 +119,7 @@ impl Mask {
         words::put_bit(&mut self.words, i, bit);
     }
 
-    /// Keeps the rows that are in both.
+    /// Keeps the rows that are set in both.
     #[tactic(auto, using(crate::proofs::Views::rows_len))]
     pub fn and_in(&mut self, other: &Mask)
         requires { len self.old ≡ len other.now }
@@ -129,7 +129,7 @@ impl Mask {
         words::and_words(&mut self.words, &other.words);
     }
 
-    /// Adds the rows of the other.
+    /// Sets the rows that are set in the other.
     #[tactic(auto, using(crate::proofs::Views::rows_len))]
     pub fn or_in(&mut self, other: &Mask)
         requires { len self.old ≡ len other.now }
@@ -139,7 +139,7 @@ impl Mask {
         words::or_words(&mut self.words, &other.words);
     }
 
-    /// Takes out the rows of the other.
+    /// Clears the rows that are set in the other.
     #[tactic(auto, using(crate::proofs::Views::rows_len))]
     pub fn andnot_in(&mut self, other: &Mask)
         requires { len self.old ≡ len other.now }
@@ -149,7 +149,7 @@ impl Mask {
         words::andnot_words(&mut self.words, &other.words);
     }
 
-    /// Becomes the rows that are in both of two others.
+    /// Becomes the rows that are set in both of two others.
     #[tactic(auto, using(crate::proofs::Views::rows_len))]
     pub fn become_intersection(&mut self, a: &Mask, b: &Mask)
         requires a { len self.old ≡ len a.now }
@@ -171,7 +171,7 @@ impl Mask {
         words::difference_words(&mut self.words, &all.words, &some.words);
     }
 
-    /// Puts in the rows that are out, and out those that are in.
+    /// Sets the rows that are clear, and clears those that are set.
     #[tactic(auto, using(crate::proofs::Views::rows_len))]
     pub fn complement_in(&mut self)
         ensures shape { SameShape self.new self.old }
@@ -181,7 +181,7 @@ impl Mask {
         words::cut(&mut self.words, self.len);
     }
 
-    /// Takes the rows out, so that none is left. Takes no memory.
+    /// Moves the rows out, leaving an empty mask. Takes no memory.
     pub(crate) fn take(&mut self) -> Mask
         ensures taken { result ≡ self.old }
         ensures left { self.new.rows ≡ [] }
@@ -194,7 +194,7 @@ impl Mask {
         replace(self, none)
     }
 
-    /// How many rows are in.
+    /// How many rows are set.
     pub fn count(&self) -> usize
         ensures rows { result ≡ count_by (λ row. row) self.now.rows }
         ensures few { result ≤ len self.now }
@@ -202,7 +202,7 @@ impl Mask {
         words::count_words(&self.words) as usize
     }
 
-    /// How many rows are in both.
+    /// How many rows are set in both.
     #[tactic(auto, using(crate::proofs::Views::rows_len))]
     pub fn count_both(&self, other: &Mask) -> usize
         requires { len self.now ≡ len other.now }
@@ -212,7 +212,7 @@ impl Mask {
         words::count_both_words(&self.words, &other.words) as usize
     }
 
-    /// Whether a row is in.
+    /// Whether any row is set.
     pub fn any(&self) -> bool
         ensures rows { result ≡ list_any (λ row. row) self.now.rows }
         ensures none { result ≡ false → (i : ℕ) → row_at self.now i ≡ false }
@@ -220,7 +220,7 @@ impl Mask {
         words::next_row(&self.words, 0).is_some()
     }
 
-    /// The least row from row i on that is in.
+    /// The first set row from row i on.
     #[tactic(auto, using(crate::proofs::Views::rows_clean))]
     pub fn next_from(&self, i: usize) -> Option<usize>
         ensures { IsNext (row_at self.now) i result }
@@ -228,7 +228,7 @@ impl Mask {
         words::next_row(&self.words, i)
     }
 
-    /// Rows at, at + 1, .. at + n - 1 as the n lowest bits of a word. Rows past the end read 0.
+    /// Rows at, at + 1, .. at + n - 1 as the n lowest bits of a word. Rows past the end read as 0.
     #[tactic(auto, using(crate::proofs::Views::rows_clean))]
     pub fn bits(&self, at: usize, n: usize) -> u64
         requires { n ≤ 64 }
@@ -237,8 +237,8 @@ impl Mask {
         words::bits(&self.words, at, n)
     }
 
-    /// Rows at, at + 1, .. at + n - 1, as far as there are such rows, become the n lowest bits of
-    /// the word. No other row changes.
+    /// Rows at, at + 1, .. at + n - 1, as far as they exist, become the n lowest bits of the word. No other row
+    /// changes.
     #[tactic(auto, using(crate::proofs::Views::rows_len))]
     pub fn put_bits(&mut self, at: usize, n: usize, word: u64)
         requires { n ≤ 64 }
@@ -250,7 +250,7 @@ impl Mask {
         words::put_bits(&mut self.words, at, rows, word);
     }
 
-    /// Rows 64 k to 64 k + 63, as far as there are such rows, become the bits of the word. No other row changes.
+    /// Rows 64 k to 64 k + 63, as far as they exist, become the bits of the word. No other row changes.
     #[tactic(auto, using(crate::proofs::Views::rows_len))]
     pub fn put_word(&mut self, k: usize, word: u64)
         ensures shape { SameShape self.new self.old }
@@ -260,7 +260,7 @@ impl Mask {
         words::put_word(&mut self.words, self.len, k, word);
     }
 
-    /// Rows 256 q to 256 q + 255, as far as there are such rows, become the bits of four words. No other row changes.
+    /// Rows 256 q to 256 q + 255, as far as they exist, become the bits of four words. No other row changes.
     #[tactic(auto, using(crate::proofs::Views::rows_len))]
     pub fn put_lanes(&mut self, q: usize, lanes: &[u64; 4])
         requires { q < 2 ^ 32 }

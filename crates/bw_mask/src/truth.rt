@@ -32,7 +32,7 @@ impl Model for Truth {
     ghost invariant = { λ truth. AreTruths truth.t truth.f };
 }
 
-/// The rows become those whose truth is the value. What becomes of `f` is of no account.
+/// `t` becomes the rows whose truth is the value. The content of `f` afterwards is unspecified.
 fn keep_value(t: &mut Mask, f: &mut Mask, value: TruthValue)
     requires { AreTruths t.old f.old }
     ensures t_len { len t.new ≡ len t.old }
@@ -50,7 +50,7 @@ fn keep_value(t: &mut Mask, f: &mut Mask, value: TruthValue)
 }
 
 impl Truth {
-    /// The truth of rows of which these are true and these false.
+    /// The truth that is true at the first rows, false at the second, and unknown elsewhere.
     #[tactic(auto, using(crate::proofs::Pairs::truths_len, crate::proofs::Pairs::truths_at))]
     pub fn new(trues: Mask, falses: Mask) -> Truth
         requires { AreTruths trues falses }
@@ -63,7 +63,7 @@ impl Truth {
         }
     }
 
-    /// The same truth at n rows.
+    /// The same truth value at all of n rows.
     pub fn filled(alloc: Global, n: usize, value: TruthValue) -> Result<Truth, AllocError>
         requires { n ≤ 2 ^ 32 }
         ensures { IfOk result (λ truth. truth ≡ replicate n value) }
@@ -73,7 +73,7 @@ impl Truth {
         Ok(Truth::new(trues, falses))
     }
 
-    /// The same truths.
+    /// A copy of the truths.
     pub fn try_clone(&self) -> Result<Truth, AllocError>
         ensures { IfOk result (λ truth. truth ≡ self.now) }
     {
@@ -83,7 +83,7 @@ impl Truth {
         })
     }
 
-    /// How many rows there are.
+    /// The number of rows.
     #[tactic(auto, using(crate::proofs::Pairs::truths_len))]
     pub fn len(&self) -> usize
         ensures rows { result ≡ length self.now }
@@ -107,7 +107,7 @@ impl Truth {
         }
     }
 
-    /// The rows where it is true.
+    /// The rows where the condition is true.
     #[tactic(auto, using(crate::proofs::Pairs::truths_len, crate::proofs::Pairs::truths_at, crate::proofs::Pairs::from_True))]
     pub fn trues(&self) -> &Mask
         ensures len { len result.now ≡ length self.now }
@@ -116,7 +116,7 @@ impl Truth {
         &self.t
     }
 
-    /// The rows where it is false.
+    /// The rows where the condition is false.
     #[tactic(auto, using(crate::proofs::Pairs::truths_len, crate::proofs::Pairs::truths_at, crate::proofs::Pairs::from_False))]
     pub fn falses(&self) -> &Mask
         ensures len { len result.now ≡ length self.now }
@@ -125,7 +125,7 @@ impl Truth {
         &self.f
     }
 
-    /// The rows where it is true.
+    /// The rows where the condition is true.
     #[tactic(auto, using(crate::proofs::Pairs::truths_len, crate::proofs::Pairs::truths_at, crate::proofs::Pairs::from_True))]
     pub fn into_trues(self) -> Mask
         ensures len { len result ≡ length self }
@@ -135,7 +135,7 @@ impl Truth {
         trues
     }
 
-    /// Takes out the masks of the true rows and of the false rows, so that no row is left. Takes no memory.
+    /// Moves the masks of the true rows and of the false rows out, leaving no rows. Takes no memory.
     #[tactic(auto, using(crate::proofs::Pairs::truths_len, crate::proofs::Pairs::truths_at, crate::proofs::Pairs::from_True, crate::proofs::Pairs::from_False))]
     pub fn take_masks(&mut self) -> (Mask, Mask)
         ensures masks { AreTruths result.0 result.1 }
@@ -147,7 +147,7 @@ impl Truth {
         (self.t.take(), self.f.take())
     }
 
-    /// The same truth at each needed row, and unknown at every other. Takes no memory.
+    /// Sets each needed row to the same truth value, and every other row to unknown. Takes no memory.
     #[tactic(auto, using(crate::proofs::Pairs::truths_len, crate::proofs::Pairs::truths_at))]
     pub fn set_all(&mut self, value: TruthValue, need: &Mask)
         requires { len need.now ≡ length self.old }
@@ -194,7 +194,7 @@ impl Truth {
         self.f.and_in(&other.f);
     }
 
-    /// An IS test at each needed row, or where negated an IS NOT test. No other row stays in a mask.
+    /// An IS test at each needed row, or where `negated` an IS NOT test. Every other row becomes unknown.
     #[tactic(auto, using(crate::proofs::Pairs::truths_len, crate::proofs::Pairs::truths_at))]
     pub fn is_test_in(&mut self, value: TruthValue, negated: bool, need: &Mask)
         requires { len need.now ≡ length self.old }

@@ -12,7 +12,7 @@ pub enum TruthValue {
 }
 
 impl TruthValue {
-    /// True or false.
+    /// True or false, as `holds` is.
     pub fn of(holds: bool) -> TruthValue
         ensures { result ≡ truth_of_bool holds }
     {
@@ -56,7 +56,7 @@ impl TruthValue {
         }
     }
 
-    /// Whether this is the value: what an IS test asks, which is never unknown.
+    /// Whether this is the given value: the result of an IS test, which is never unknown.
     pub fn is(self, value: TruthValue) -> bool
         ensures same { result ≡ is_value self value }
         ensures test { truth_of_bool result ≡ is_of self value }

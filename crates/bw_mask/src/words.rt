@@ -1,4 +1,4 @@
-//! Words of bits: row i is bit i % 64 of word i / 64. Lengths are the caller's affair.
+//! Words of bits: row i is bit i % 64 of word i / 64. Lengths are up to the caller.
 
 ghost use Rattle.std.specs.Prelude.{bit_and, ◌≡◌, ◌≢◌, false, true, ℕ, ◌+◌, ◌*◌, ◌/◌, ◌%◌, ◌<◌, ◌≤◌, ◌^◌, ◌&&◌, ◌||◌, not, IfOk, length, nat_lt, replicate, slice_index, vec_len, vec_capacity};
 ghost use Rattle.std.specs.List.{sum_by, zip};
@@ -44,7 +44,7 @@ pub(crate) fn not_words(a: &mut [u64])
     }
 }
 
-/// Into `out` come the rows that are in a and in b.
+/// `out` becomes the rows that are in a and in b.
 #[tactic(auto, using(crate::proofs::Bits::bit_of_and))]
 pub(crate) fn intersection_words(out: &mut [u64], a: &[u64], b: &[u64])
     requires a { length out.old ≡ length a.now }
@@ -57,7 +57,7 @@ pub(crate) fn intersection_words(out: &mut [u64], a: &[u64], b: &[u64])
     }
 }
 
-/// Into `out` come the rows of a that are not in b.
+/// `out` becomes the rows of a that are not in b.
 #[tactic(auto, using(crate::proofs::Bits::bit_of_andnot))]
 pub(crate) fn difference_words(out: &mut [u64], a: &[u64], b: &[u64])
     requires a { length out.old ≡ length a.now }
@@ -70,7 +70,7 @@ pub(crate) fn difference_words(out: &mut [u64], a: &[u64], b: &[u64])
     }
 }
 
-/// The n lowest bits.
+/// A word with the n lowest bits set.
 fn low_bits(n: usize) -> u64
     requires { n ≤ 64 }
     ensures { (i : ℕ) → bit_of result i ≡ nat_lt i n }
@@ -78,21 +78,21 @@ fn low_bits(n: usize) -> u64
     if n == 0 { 0 } else { u64::MAX >> (64 - n) }
 }
 
-/// A word whose bits are all the same.
+/// A word whose bits are all `bit`.
 pub(crate) fn word_of(bit: bool) -> u64
     ensures { (i : ℕ) → i < 64 → bit_of result i ≡ bit }
 {
     if bit { u64::MAX } else { 0 }
 }
 
-/// So many words that are all the same.
+/// `count` copies of a word.
 pub(crate) fn equal_words(alloc: Global, word: u64, count: usize) -> Result<Vec<u64>, AllocError>
     ensures { IfOk result (λ words. words.items ≡ replicate count word) }
 {
     Vec::from_elem(alloc, word, count)
 }
 
-/// The chosen bits of word k, where there is such a word, become those of `word`.
+/// The chosen bits of word k, if it exists, become those of `word`.
 fn replace(words: &mut Vec<u64>, k: usize, chosen: u64, word: u64)
     ensures room { vec_capacity words.new ≡ vec_capacity words.old }
     ensures len { vec_len words.new ≡ vec_len words.old }
@@ -105,7 +105,7 @@ fn replace(words: &mut Vec<u64>, k: usize, chosen: u64, word: u64)
     }
 }
 
-/// Row i becomes bit.
+/// Row i becomes `bit`.
 pub(crate) fn put_bit(words: &mut Vec<u64>, i: usize, bit: bool)
     requires { i / 64 < vec_len words.old }
     ensures room { vec_capacity words.new ≡ vec_capacity words.old }
@@ -116,7 +116,7 @@ pub(crate) fn put_bit(words: &mut Vec<u64>, i: usize, bit: bool)
     replace(words, i / 64, 1 << (i % 64), u64::from(bit) << (i % 64));
 }
 
-/// The bits moved up by so many places; what is moved past the end is lost.
+/// The bits shifted left by `places`; bits shifted past the end are lost.
 fn up(word: u64, places: usize) -> u64
     requires { places ≤ 64 }
     ensures moved { (i : ℕ) → places + i < 64 → bit_of result (places + i) ≡ bit_of word i }
@@ -125,7 +125,7 @@ fn up(word: u64, places: usize) -> u64
     if places < 64 { word << places } else { 0 }
 }
 
-/// The bits moved down by so many places.
+/// The bits shifted right by `places`.
 fn down(word: u64, places: usize) -> u64
     requires { places ≤ 64 }
     ensures moved { (i : ℕ) → bit_of result i ≡ bit_of word (places + i) }
@@ -134,7 +134,7 @@ fn down(word: u64, places: usize) -> u64
     if places < 64 { word >> places } else { 0 }
 }
 
-/// Rows at, at + 1, .. at + n - 1 become the n lowest bits of the word, as far as there are words.
+/// Rows at, at + 1, .. at + n - 1 become the n lowest bits of the word, as far as the words go.
 pub(crate) fn put_bits(words: &mut Vec<u64>, at: usize, n: usize, word: u64)
     requires { n ≤ 64 }
     ensures room { vec_capacity words.new ≡ vec_capacity words.old }
@@ -153,7 +153,7 @@ pub(crate) fn put_bits(words: &mut Vec<u64>, at: usize, n: usize, word: u64)
     );
 }
 
-/// The bits of word k that are of the first n rows.
+/// The bits of word k that belong to the first n rows.
 fn within(n: usize, k: usize, word: u64) -> u64
     requires { k ≤ n / 64 }
     ensures { (i : ℕ) → i < 64 → bit_of result i ≡ (bit_of word i && nat_lt (64 * k + i) n) }
@@ -165,7 +165,7 @@ fn within(n: usize, k: usize, word: u64) -> u64
     }
 }
 
-/// Word k, where there is such a word, becomes this one. No row from n on, where the words end, comes in.
+/// Word k, if it exists, becomes `word`. Bits for rows from n on, where the words end, are cleared.
 pub(crate) fn put_word(words: &mut Vec<u64>, n: usize, k: usize, word: u64)
     requires { vec_len words.old ≡ (n + 63) / 64 }
     ensures room { vec_capacity words.new ≡ vec_capacity words.old }
@@ -191,7 +191,7 @@ pub(crate) fn put_four(words: &mut [u64], q: usize, lanes: &[u64; 4])
     }
 }
 
-/// Word k; past the last word 0.
+/// Word k; 0 past the last word.
 fn word_at(words: &[u64], k: usize) -> u64
     ensures { result ≡ slice_index words.now k }
 {
@@ -212,7 +212,7 @@ pub(crate) fn bits(words: &[u64], at: usize, n: usize) -> u64
     (low | high) & low_bits(n)
 }
 
-/// No row from n on stays.
+/// Clears all rows from n on.
 pub(crate) fn cut(words: &mut Vec<u64>, n: usize)
     requires { vec_len words.old ≡ (n + 63) / 64 }
     ensures room { vec_capacity words.new ≡ vec_capacity words.old }
@@ -225,7 +225,7 @@ pub(crate) fn cut(words: &mut Vec<u64>, n: usize)
     }
 }
 
-/// No row from n on stays.
+/// Clears all rows from n on.
 pub(crate) fn without_rest(mut words: Vec<u64>, n: usize) -> Vec<u64>
     requires { vec_len words ≡ (n + 63) / 64 }
     ensures len { vec_len result ≡ vec_len words }
@@ -236,7 +236,7 @@ pub(crate) fn without_rest(mut words: Vec<u64>, n: usize) -> Vec<u64>
     words
 }
 
-/// A word of zeros in front of row n, where n begins a word.
+/// A word of zeros before row n, where n begins a word.
 pub(crate) fn begin_word(words: &mut Vec<u64>, n: usize)
     requires count { vec_len words.old ≡ (n + 63) / 64 }
     requires room { n < 64 * vec_capacity words.old }
@@ -251,7 +251,7 @@ pub(crate) fn begin_word(words: &mut Vec<u64>, n: usize)
     }
 }
 
-/// Words of zeros behind the last one, until there are as many as n rows need.
+/// Words of zeros after the last one, until there are as many as n rows need.
 pub(crate) fn fill_up(words: &mut Vec<u64>, n: usize)
     requires count { vec_len words.old ≤ (n + 63) / 64 }
     requires room { n ≤ 64 * vec_capacity words.old }
@@ -274,7 +274,7 @@ pub fn has_bit(word: u64, i: usize) -> bool
     word >> i & 1 == 1
 }
 
-/// The place of the lowest bit that is set.
+/// The index of the lowest set bit.
 fn lowest(word: u64) -> usize
     requires { 0 < word }
     ensures below { result < 64 }
@@ -284,7 +284,7 @@ fn lowest(word: u64) -> usize
     word.trailing_zeros() as usize
 }
 
-/// The least row from i on that is in.
+/// The first set row from i on.
 pub(crate) fn next_row(words: &[u64], i: usize) -> Option<usize>
     requires { length words.now ≤ 2 ^ 32 }
     ensures { IsNext (row_in words.now) i result }
@@ -315,7 +315,7 @@ pub(crate) fn count_words(words: &[u64]) -> u64
     bw_lane::count_words(words)
 }
 
-/// How many bits are set in both of two words side by side.
+/// How many bits are set in both words of each pair at the same index.
 pub(crate) fn count_both_words(a: &[u64], b: &[u64]) -> u64
     requires same { length a.now ≡ length b.now }
     requires few { length a.now ≤ 2 ^ 56 }

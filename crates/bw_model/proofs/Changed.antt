@@ -86,7 +86,7 @@ table_left table condition is = record {
   few = omega (arith, is.few, length-filter_both (is_found table.headers condition) (λ row. not (is_found table.headers condition row)) (λ row. refl) table.rows);
 }
 
--- columns that are laid anew
+-- columns that are rebuilt
 
 module _ (choices : List LayoutChoice) where
   chosen_type : (header : Header) (list : List LayoutChoice) → (chosen_header list header).column_type ≡ header.column_type

@@ -7,7 +7,7 @@ use Rattle.bw_model.specs.ReplyText.{cell_text, line, lines_text, with_commas}
 use Rattle.bw_model.specs.declared.answer.Cell.{Cell}
 use Rattle.bw_model.proofs.Lines.{lines_of-first}
 
--- the texts after the first, each behind a comma
+-- the texts after the first, each after a comma
 abbrev pub others_text : {A : Type 0} → (A → List ℕ) → List A → List ℕ
 others_text text others = flat_map (λ item. codes "," ++ text item) others
 

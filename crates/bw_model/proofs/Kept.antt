@@ -99,7 +99,7 @@ changed store name change table there is are = record {
   tables = tables_with store name change table there is are.tables;
 }
 
--- a table put last
+-- a table appended
 
 not_here : (b c : Bool) (o : Option Table) (table : Table) → c ≡ b → is_some (if b then Some table else o) ≡ false → (c ≡ false) × (is_some o ≡ false)
 not_here true c o table same e = absurd (true≢false e)

@@ -45,7 +45,7 @@ abbrev KeepsNames : (Table → Table) → Type 0
 KeepsNames change = (table : Table) → HaveNames table.headers → HaveNames (change table).headers
 
 module _ (change : Table → Table) (keeps : KeepsNames change) where
-  -- the table of an entry is changed, or one behind it
+  -- the table of an entry is changed, or one after it
   put_in : (b : Bool) (entry : List ℕ × Table) (store changed : Store) → IsNamed entry → AreNamed store → AreNamed changed
       → AreNamed (if b then (entry.0, change entry.1) ∷ store else entry ∷ changed)
   put_in true entry store changed this others deeper = All-cons IsNamed (entry.0, change entry.1) store (this.0, keeps entry.1 this.1) others

@@ -41,7 +41,7 @@ get_or-mapped f (x ∷ xs) (suc i) d e within = get_or-mapped f xs i d e (omega 
 pub same_name : (x : List ℕ) → bytes_eq x x ≡ true
 same_name x = (bytes_eq-Decides x x).1 refl
 
--- the first place that passes, behind a front in which none passes
+-- the first place that passes, after a prefix in which none passes
 prefix-behind : {A : Type 0} (p : A → Bool) (front : List A) (x : A) (rest : List A) → list_any p front ≡ false → p x ≡ true → position_or_len p (front ++ x ∷ rest) ≡ length front
 prefix-behind p [] x rest none passes = ap (λ b. if not b then 1 + position_or_len p rest else 0) passes
 prefix-behind p (y ∷ front) x rest none passes =

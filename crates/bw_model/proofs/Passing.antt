@@ -65,7 +65,7 @@ passes columns name store none =
       wide = p.1.1.1.0;
     }
 
--- tests behind others of which none holds
+-- tests after others of which none holds
 pub first-append_none : (a b : Tests) → first_that_holds a ≡ None → first_that_holds (a ++ b) ≡ first_that_holds b
 first-append_none [] b e = refl
 first-append_none (t ∷ a) b e =

@@ -13,7 +13,7 @@ kind (refusal.WrongNumberOfFields record') = refusal.WrongNumberOfFields 0
 kind (refusal.NotInteger record' field) = refusal.NotInteger 0 0
 kind other = other
 
--- the two digits behind `error `
+-- the two digits after `error `
 abbrev code : List ℕ → ℕ
 code text = get_or text 6 0 * 10 + get_or text 7 0 - 528
 

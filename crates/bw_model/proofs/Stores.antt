@@ -36,7 +36,7 @@ create_first store name columns headers tests first made tested is =
 pub outcome_is : (store : Store) (said : Content) (statement : StatementTree) (first : Option Refusal) → first_that_holds (tests_of store said statement) ≡ first → outcome_of store said statement ≡ refused_or first store (carried_out store said statement)
 outcome_is store said statement first e = ap (λ o. refused_or o store (carried_out store said statement)) e
 
--- a table put last
+-- a table appended
 pub created : (store after : Store) (name given : List ℕ) (columns : List ColumnDefinition) (headers : List Header) (table : Table)
     → first_that_holds (tests_of store Nothing (create_table name columns)) ≡ None → given ≡ name → headers ≡ map header_of columns → table ≡ record { headers = headers; rows = [] } → after ≡ store ++ (given, table) ∷ []
     → ◌≡◌ {A = Reply × Store} (Done, after) (outcome_of store Nothing (create_table name columns))

@@ -1,4 +1,4 @@
--- The rows that a statement answers: headings, and lines of as many cells (SQL-92, query expression).
+-- The rows that a statement returns: headings, and lines with one cell for each (SQL-92, query expression).
 use Rattle.std.specs.Prelude.{◌≡◌, ◌*◌, ◌/◌, ◌<◌, ℕ, List, length, replicate}
 use Rattle.bw_sql.specs.Rows.{rows_of}
 use Rattle.bw_model.specs.declared.answer.Heading.{Heading}
@@ -8,7 +8,7 @@ pub record Shown : Type 0 where
   pub headings : List Heading
   pub lines : List (List Cell)
 
--- cells that lie flat are lines of this width, and none is left over
+-- flat cells that make whole lines of this width
 pub record AreWholeLines {A : Type 0} (width : ℕ) (cells : List A) : Type 0 where
   pub some : 0 < width
   pub count : ℕ

@@ -1,4 +1,4 @@
--- The cells of an answer, which are values that are shown or cells of any kind.
+-- The cells of an answer: values only, or cells of any kind.
 use Rattle.std.specs.Prelude.{List, map}
 use Rattle.bw_model.specs.Select.{shown}
 use Rattle.bw_model.specs.Store.{Value}

@@ -1,4 +1,4 @@
--- What a condition says of a row (SQL-92, search condition and predicates).
+-- The truth of a condition at a row (SQL-92, search condition and predicates).
 use Rattle.std.specs.Prelude.{Bool, true, false, List, [], ◌∷◌, Option, Some, None, filter, is_none}
 use Rattle.std.specs.Ordering.{int_cmp}
 use Rattle.std.specs.declared.cmp.Ordering.{Ordering}
@@ -15,7 +15,7 @@ use Rattle.bw_sql.specs.declared.tree.TruthWord.{TruthWord}
 use Rattle.bw_sql.specs.declared.tree.TruthWord.TheVariants as word
 use Rattle.bw_model.specs.Store.{Header, Row, Table, Value, place_of, value_from}
 
--- whether numbers that stand in this order compare so
+-- whether numbers in this order satisfy the comparison
 abbrev pub order_meets : CompareOp → Ordering → Bool
 order_meets Eq Equal = true
 order_meets Eq _ = false
@@ -30,7 +30,7 @@ order_meets Gt _ = false
 order_meets Ge Less = false
 order_meets Ge _ = true
 
--- a comparison with null on a side is unknown
+-- a comparison with null on either side is unknown
 abbrev pub compared : CompareOp → Value → Value → TruthValue
 compared op None right = Unknown
 compared op (Some left) None = Unknown
@@ -40,7 +40,7 @@ abbrev pub value_of : List Header → Row → Operand → Value
 value_of headers row (Column name) = value_from row (place_of headers name)
 value_of headers row (Constant value) = value
 
--- the truth value that a word spells
+-- the truth value that a keyword stands for
 abbrev pub truth_of_word : TruthWord → TruthValue
 truth_of_word word.True = True
 truth_of_word word.False = False

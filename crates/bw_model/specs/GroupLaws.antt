@@ -10,14 +10,14 @@ IsBefore (Some x) (Some y) = x <ℤ y
 IsBefore (Some x) None = Unit {0}
 IsBefore None y = ⊥
 
--- a row stands in one of these groups, and in no other
+-- a row is in exactly one of these groups
 pub record IsInOne (groups : List Group) (row : Row) : Type 0 where
   pub group : Group
   pub there : Contains groups group
   pub inside : Contains group.rows row
   pub only : (other : Group) → Contains groups other → Contains other.rows row → other ≡ group
 
--- two rows stand in one of these groups
+-- two rows are in the same one of these groups
 pub record AreTogether (groups : List Group) (row other : Row) : Type 0 where
   pub group : Group
   pub there : Contains groups group

@@ -1,5 +1,5 @@
--- Groups of rows by the value of a column (SQL-92, group by clause): as few as there can be, such that in each all values are the
--- same. Two values are the same where they are equal, or both null.
+-- Groups of rows by the value of a column (SQL-92, group by clause): as few as there can be, such that within each all values are
+-- the same. Two values are the same where they are equal, or both null.
 use Rattle.std.specs.Prelude.{ℕ, Bool, true, false, List, [], ◌∷◌, ◌++◌, Option, Some, None, is_none, map, if◌then◌else◌}
 use Rattle.std.specs.List.{dedup, filter, list_any}
 use Rattle.std.specs.Ordering.{int_eq}
@@ -15,15 +15,15 @@ is_same None None = true
 is_same (Some x) (Some y) = int_eq x y
 is_same _ _ = false
 
--- null, where one of the values is null
+-- null, if one of the values is null
 abbrev pub null_of : List Value → List Value
 null_of values = if list_any is_none values then None ∷ [] else []
 
--- each value once, in ascending order, and null last
+-- the distinct values, in ascending order, with null last
 abbrev pub group_values : List Value → List Value
 group_values values = map Some (dedup int_eq (sorted (known values))) ++ null_of values
 
--- the rows whose value is this
+-- the rows that have this value
 abbrev pub rows_having : Option ℕ → Value → List Row → List Row
 rows_having place value rows = filter (λ row. is_same (value_from row place) value) rows
 

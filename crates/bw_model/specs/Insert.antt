@@ -3,7 +3,7 @@ use Rattle.std.specs.Prelude.{ℕ, List, Option, Some, None, ◌++◌, map, posi
 use Rattle.std.specs.Str.{bytes_eq}
 use Rattle.bw_model.specs.Store.{Header, Row, Table, names, value_from}
 
--- the columns that the values are for: where none is listed, all of them in order
+-- the columns that the values are for: if none is listed, all of them in order
 abbrev pub target_columns : List Header → Option (List (List ℕ)) → List (List ℕ)
 target_columns headers None = names headers
 target_columns headers (Some list) = list
@@ -12,7 +12,7 @@ target_columns headers (Some list) = list
 abbrev pub row_for : List Header → List (List ℕ) → Row → Row
 row_for headers list values = map (λ header. value_from values (position (bytes_eq header.name) list)) headers
 
--- the table with these rows last
+-- the table with these rows appended
 abbrev pub with_rows : Option (List (List ℕ)) → List Row → Table → Table
 with_rows listed rows table = record {
   headers = table.headers;

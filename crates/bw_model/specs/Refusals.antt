@@ -1,5 +1,5 @@
--- Why a statement is refused: for each statement the refusals in their order, and the first that holds (SQL-92, the syntax rules
--- of table definition, drop table statement, insert statement, searched update and delete statements and query specification, and limits of this product's own).
+-- Why a statement is refused: its refusals in order, and the first that applies (SQL-92, syntax rules of table definition, drop
+-- table, insert, searched update and delete statements and query specification; and limits of this product's own).
 use Rattle.std.specs.Prelude.{ℕ, ◌+◌, ◌++◌, ◌==◌, Bool, true, false, ◌||◌, not, nat_le, nat_lt, List, [], ◌∷◌, Option, Some, None, is_some, length, map, if◌then◌else◌}
 use Rattle.std.specs.List.{list_all, list_any}
 use Rattle.std.specs.Str.{bytes_eq}
@@ -28,7 +28,7 @@ use Rattle.bw_model.specs.declared.content.Content.TheVariants as content
 use Rattle.bw_model.specs.declared.refusal.Refusal.{Refusal}
 use Rattle.bw_model.specs.declared.refusal.Refusal.TheVariants as refusal
 
--- which refusal a fault of a text is
+-- the refusal for a fault of a text
 abbrev pub refusal_of_fault : SqlFault → Refusal
 refusal_of_fault fault.Syntax = refusal.Syntax
 refusal_of_fault fault.TooLong = refusal.StatementTooLong
@@ -36,14 +36,14 @@ refusal_of_fault fault.TooDeep = refusal.NestedTooDeeply
 refusal_of_fault fault.BigNumber = refusal.NumberTooLarge
 refusal_of_fault fault.Memory = refusal.OutOfMemory
 
--- which refusal a fault of a CSV file is
+-- the refusal for a fault of a CSV file
 abbrev pub refusal_of_csv : CsvFault → Refusal
 refusal_of_csv (csv.Fields record') = refusal.WrongNumberOfFields record'
 refusal_of_csv (csv.NotInteger record' field) = refusal.NotInteger record' field
 refusal_of_csv csv.Range = refusal.OutOfRange
 refusal_of_csv csv.Memory = refusal.OutOfMemory
 
--- refusals in their order, each with whether it holds
+-- refusals in their order, each with whether it applies
 abbrev pub Tests : Type 0
 Tests = List (Refusal × Bool)
 
@@ -51,7 +51,7 @@ abbrev pub first_that_holds : Tests → Option Refusal
 first_that_holds [] = None
 first_that_holds (test ∷ tests) = if test.1 then Some test.0 else first_that_holds tests
 
--- the tests over a table, where it is there
+-- the tests over a table, if it exists
 abbrev pub over : Option Table → (Table → Tests) → Tests
 over None tests = (refusal.NoSuchTable, true) ∷ []
 over (Some table) tests = tests table
@@ -63,7 +63,7 @@ abbrev pub operand_is_missing : List Header → Operand → Bool
 operand_is_missing headers (Column name) = is_missing headers name
 operand_is_missing headers (Constant value) = false
 
--- whether the condition names a column that isn't there
+-- whether the condition names a column that doesn't exist
 abbrev mutual
   pub names_missing : List Header → ConditionTree → Bool
   names_missing headers (each_of parts) = some_names_missing headers parts
@@ -79,7 +79,7 @@ abbrev mutual
   some_names_missing headers none = false
   some_names_missing headers (more part parts) = names_missing headers part || some_names_missing headers parts
 
--- the most entries of an IN list
+-- the greatest number of entries in an IN list
 abbrev pub entry_limit : ℕ
 entry_limit = 1000
 
@@ -97,7 +97,7 @@ abbrev mutual
   some_has_long_list none = false
   some_has_long_list (more part parts) = has_long_list part || some_has_long_list parts
 
--- no condition names no column and has no list
+-- a missing condition names no column and has no list
 abbrev pub condition_misses : List Header → Option ConditionTree → Bool
 condition_misses headers None = false
 condition_misses headers (Some condition) = names_missing headers condition
@@ -106,7 +106,7 @@ abbrev pub lists_too_long : Option ConditionTree → Bool
 lists_too_long None = false
 lists_too_long (Some condition) = has_long_list condition
 
--- whether a layout is said that doesn't hold the column's type
+-- whether a layout is given that can't hold the column's type
 abbrev pub is_too_narrow : Header → Bool
 is_too_narrow header = not (holds_its_type header)
 
@@ -118,7 +118,7 @@ create_tests columns name store =
     ∷ (refusal.LayoutTooNarrow, list_any is_too_narrow columns)
     ∷ []
 
--- the types of the columns of these names
+-- the types of the columns with these names
 abbrev pub types_named : List Header → List (List ℕ) → List ColumnType
 types_named headers columns = map (type_named headers) columns
 
@@ -131,12 +131,12 @@ insert_tests columns rows table =
     ∷ (refusal.TableFull, nat_lt row_limit (length table.rows + length rows))
     ∷ []
 
--- whether a column of a type may be set to this, as far as it can be said without a row: a literal is of the type
+-- whether a column of a type may be set to this, as far as it can be decided without a row: a literal is of the type
 abbrev pub may_be_set : ColumnType → Operand → Bool
 may_be_set t (Column name) = true
 may_be_set t (Constant value) = is_null_or_of_type t value
 
--- whether what each column is set to in a row is of its type
+-- whether the value that each column is set to in a row is of its type
 abbrev pub fits_in : List Header → List SetClause → Row → Bool
 fits_in headers sets row = list_all (λ set. is_null_or_of_type (type_named headers set.column) (value_of headers row set.source)) sets
 
@@ -144,7 +144,7 @@ fits_in headers sets row = list_all (λ set. is_null_or_of_type (type_named head
 abbrev pub set_columns : List SetClause → List (List ℕ)
 set_columns sets = map (λ set. set.column) sets
 
--- the tests of UPDATE of a table of these columns that look at no row
+-- the tests of UPDATE that read no row, for a table of these columns
 abbrev pub set_tests : List Header → List SetClause → Option ConditionTree → Tests
 set_tests headers sets condition =
     (refusal.NoSuchColumn, list_any (is_missing headers) (set_columns sets))
@@ -168,7 +168,7 @@ delete_tests condition table =
     ∷ (refusal.OverLimit, lists_too_long condition)
     ∷ []
 
--- the columns that are to be laid anew
+-- the columns that are to be rebuilt
 abbrev pub chosen_columns : List LayoutChoice → List (List ℕ)
 chosen_columns choices = map (λ choice. choice.column) choices
 
@@ -183,19 +183,19 @@ abbrev pub grouping_is_missing : List Header → Option (List ℕ) → Bool
 grouping_is_missing headers None = false
 grouping_is_missing headers (Some name) = is_missing headers name
 
--- whether an item is another column than that of the groups
+-- whether an item is a column other than the grouping column
 abbrev pub is_other_column : List ℕ → SelectItem → Bool
 is_other_column name (item.Column other) = not (bytes_eq other name)
 is_other_column name _ = false
 
--- with groups all columns are asked for, or one that isn't that of the groups; without them columns beside set functions
+-- with groups all columns are asked for, or one other than the grouping column; without them both columns and set functions
 abbrev pub shows_mixed : Option (List ℕ) → ItemsTree → Bool
 shows_mixed (Some name) all_columns = true
 shows_mixed (Some name) (listed list) = list_any (is_other_column name) list
 shows_mixed None all_columns = false
 shows_mixed None (listed list) = is_mixed list
 
--- the tests of a SELECT of a table of these columns
+-- the tests of a SELECT over a table of these columns
 abbrev pub select_tests : SelectTree → List Header → Tests
 select_tests query headers =
     (refusal.NoSuchColumn, list_any (is_missing headers) (columns_in (shown_items headers query.items)))
@@ -205,11 +205,11 @@ select_tests query headers =
     ∷ (refusal.MixedItems, shows_mixed query.grouping query.items)
     ∷ []
 
--- of a SELECT, also where STATS stands before it
+-- the tests of a SELECT, also where STATS precedes it
 abbrev pub query_tests : SelectTree → Store → Tests
 query_tests query store = over (table_of store query.table) (λ table. select_tests query table.headers)
 
--- the fault of a CSV file, where it has one
+-- the fault of a CSV file, if it has one
 abbrev pub fault_test : Content → Refusal × Bool
 fault_test (content.Fault e) = (refusal_of_csv e, true)
 fault_test _ = (refusal.OutOfRange, false)
@@ -234,7 +234,7 @@ open_tests name store said =
     ∷ (refusal.NotTableFile, is_no_table said)
     ∷ []
 
--- a statement's tests, with what its file says to it
+-- a statement's tests, given what its file tells it
 abbrev pub tests_of : Store → Content → StatementTree → Tests
 tests_of store said (create_table name columns) = create_tests (map header_of columns) name store
 tests_of store said (drop_table name) = over (table_of store name) (λ table. [])
@@ -249,13 +249,13 @@ tests_of store said (load name file first) = over (table_of store name) (load_te
 tests_of store said (save name file) = over (table_of store name) save_tests
 tests_of store said (open_table name file) = open_tests name store said
 
--- the tests that need neither a file nor a look at rows
+-- the tests that need neither a file nor rows
 abbrev pub early_tests : Store → StatementTree → Tests
 early_tests store (update name sets condition) = over (table_of store name) (λ table. set_tests table.headers sets condition)
 early_tests store (load name file first) = over (table_of store name) (λ table. [])
 early_tests store (open_table name file) = (refusal.TableExists, is_some (table_of store name)) ∷ (refusal.OverLimit, nat_le table_limit (length store)) ∷ []
 early_tests store statement = tests_of store content.Nothing statement
 
--- why a statement is refused whatever its file says, and whichever rows are found
+-- why a statement is refused whatever its file contains, and whichever rows are found
 abbrev pub refused_early : Store → StatementTree → Option Refusal
 refused_early store statement = first_that_holds (early_tests store statement)

@@ -36,14 +36,14 @@ cell_text cell.Null = codes "NULL"
 cell_text (cell.Number n) = signed_decimal n
 cell_text (cell.Name name) = name
 
--- texts with a comma between each two
+-- texts, separated by commas
 abbrev pub with_commas : {A : Type 0} → (A → List ℕ) → List A → List ℕ
 with_commas text items = join_by text (codes ",") items
 
 abbrev pub lines_text : List (List Cell) → List ℕ
 lines_text lines = flat_map (λ cells. line (with_commas cell_text cells)) lines
 
--- the headings, the lines, and how many lines there were
+-- the headings, the lines, and the number of lines
 abbrev pub answer_text : Shown → List ℕ
 answer_text shown =
     line (with_commas heading_text shown.headings)

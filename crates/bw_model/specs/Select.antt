@@ -1,4 +1,4 @@
--- What a SELECT answers (SQL-92, query specification, group by clause and set function specification).
+-- What a SELECT returns (SQL-92, query specification, group by clause and set function specification).
 use Rattle.std.specs.Prelude.{ℕ, ℤ, Bool, false, true, not, if◌then◌else◌, List, [], ◌∷◌, ◌&&◌, Option, Some, None, filter_map, length, map, pos}
 use Rattle.std.specs.List.{list_any}
 use Rattle.bw_sql.specs.Tree.{ItemsTree, SelectTree, all_columns, listed}
@@ -16,7 +16,7 @@ use Rattle.bw_model.specs.declared.answer.Cell.TheVariants.{Null, Number}
 use Rattle.bw_model.specs.declared.answer.Heading.{Heading}
 use Rattle.bw_model.specs.declared.answer.Heading.TheVariants as heading
 
--- the items that are shown: * is all columns in order
+-- the items that are shown: * stands for all columns in order
 abbrev pub shown_items : List Header → ItemsTree → List SelectItem
 shown_items headers all_columns = map (λ name. item.Column name) (names headers)
 shown_items headers (listed list) = list
@@ -63,7 +63,7 @@ shown (Some number) = Number number
 abbrev pub line_of : List Header → List (List ℕ) → Row → List Cell
 line_of headers list row = map (λ name. shown (value_from row (place_of headers name))) list
 
--- a set function of the values that are not null
+-- a set function of the non-null values
 abbrev pub folded : SetFunction → List ℤ → Cell
 folded function.Count values = Number (pos (length values))
 folded function.Sum values = shown (sum values)
@@ -71,13 +71,13 @@ folded function.Min values = shown (least values)
 folded function.Max values = shown (greatest values)
 folded function.Median values = shown (median values)
 
--- what an item says of rows: how many they are, or a function of the values of a column that are not null
+-- the value of an item for rows: their number, or a function of the non-null values of a column
 abbrev pub said_of : List Header → List Row → SelectItem → Cell
 said_of headers rows item.CountRows = Number (pos (length rows))
 said_of headers rows (item.Function f name) = folded f (known (map (λ row. value_from row (place_of headers name)) rows))
 said_of headers rows (item.Column name) = Null
 
--- what an item says of a group: its value, or what a function says of its rows
+-- the value of an item for a group: the group's value, or that of a function of its rows
 abbrev pub said_in : List Header → Group → SelectItem → Cell
 said_in headers group (item.Column name) = shown group.value
 said_in headers group one = said_of headers group.rows one

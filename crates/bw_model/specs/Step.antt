@@ -1,4 +1,4 @@
--- What a statement does: the reply and the store after it (SQL-92, the general rules of the statements).
+-- The effect of a statement: the reply and the store after it (SQL-92, the general rules of the statements).
 use Rattle.std.specs.Prelude.{◌≡◌, ◌⊎◌, ℕ, List, [], ◌∷◌, ◌++◌, Option, Some, None, length, map, if◌then◌else◌}
 use Rattle.std.specs.Map.{remove_entry}
 use Rattle.std.specs.Str.{bytes_eq}
@@ -17,12 +17,12 @@ use Rattle.bw_model.specs.declared.refusal.Refusal.TheVariants.{OutOfMemory}
 use Rattle.bw_model.specs.declared.reply.Reply.{Reply}
 use Rattle.bw_model.specs.declared.reply.Reply.TheVariants.{Done, Count, Rows, Units, Refused}
 
--- the table, or one without columns and rows where there is none
+-- the table, or one without columns and rows if there is none
 abbrev pub table_or_none : Option Table → Table
 table_or_none None = record { headers = []; rows = [] }
 table_or_none (Some table) = table
 
--- the store with the table of this name changed so, in its place
+-- the store with the table of this name changed by a function, at the same position
 abbrev pub with_table : Store → List ℕ → (Table → Table) → Store
 with_table [] name change = []
 with_table (entry ∷ store) name change = if bytes_eq name entry.0 then (entry.0, change entry.1) ∷ store else entry ∷ with_table store name change
@@ -31,11 +31,11 @@ with_table (entry ∷ store) name change = if bytes_eq name entry.0 then (entry.
 abbrev pub without_table : Store → List ℕ → Store
 without_table store name = remove_entry (bytes_eq name) store
 
--- the table with these rows last
+-- the table with these rows appended
 abbrev pub with_lines : List Row → Table → Table
 with_lines rows table = record { headers = table.headers; rows = table.rows ++ rows }
 
--- the reply and the store after a statement that isn't refused, with what is said to it: by its file, or how many units its condition reads
+-- the reply and the store after a statement that isn't refused, given what its file tells it or the units its condition reads
 abbrev pub carried_out : Store → Content → StatementTree → Reply × Store
 carried_out store said (create_table name columns) = (Done, store ++ (name, record { headers = map header_of columns; rows = [] }) ∷ [])
 carried_out store said (drop_table name) = (Done, without_table store name)
@@ -58,12 +58,12 @@ refused_or (Some refusal) store done = (Refused refusal, store)
 abbrev pub outcome_of : Store → Content → StatementTree → Reply × Store
 outcome_of store said statement = refused_or (first_that_holds (tests_of store said statement)) store (carried_out store said statement)
 
--- a statement may want memory, and then changes nothing, where it isn't refused for a reason that needs no file
+-- a statement may run out of memory, and then changes nothing, unless it is refused for a reason that needs no file
 pub record WantsMemory (store : Store) (statement : StatementTree) (reply : Reply) (after : Store) : Type 0 where
   pub accepted : refused_early store statement ≡ None
   pub says : reply ≡ Refused OutOfMemory
   pub stays : after ≡ store
 
--- A statement may take the store to `after` with this reply: that of its outcome, or that memory is wanting.
+-- A statement may take the store to `after` with this reply: that of its outcome, or that it ran out of memory.
 abbrev pub Step : Store → Content → StatementTree → Reply → Store → Type 0
 Step store said statement reply after = WantsMemory store statement reply after ⊎ (◌≡◌ {A = Reply × Store} (reply, after) (outcome_of store said statement))

@@ -1,16 +1,16 @@
--- What a store holds: tables in the order in which they were made, each with its columns and its rows (SQL-92, tables).
+-- The content of a store: tables in the order of their creation, each with its columns and its rows (SQL-92, tables).
 use Rattle.std.specs.Prelude.{ℕ, ℤ, List, [], ◌∷◌, Option, Some, None, map, position, slice_get, slice_index_or, if◌then◌else◌}
 use Rattle.std.specs.Str.{bytes_eq}
--- the most columns and rows of a table
+-- the greatest number of columns and of rows of a table
 pub use Rattle.bw_code.specs.Headers.{column_limit, row_limit}
 use Rattle.bw_code.specs.Types.{types_of}
 use Rattle.bw_code.specs.declared.kind.ColumnType.{ColumnType}
 use Rattle.bw_code.specs.declared.kind.ColumnType.TheVariants.{Integer}
 use Rattle.bw_code.specs.declared.kind.Kind.TheVariants.{Offset}
 use Rattle.bw_code.specs.declared.kind.Layout.TheVariants.{V}
--- no name stands twice in the list
+-- no name occurs twice in the list
 pub use Rattle.bw_sql.specs.Names.{are_distinct}
--- a column's name, type, layout and kind; 1 to 64 of them, each with a name of its own and a layout that holds its type
+-- a column's name, type, layout and kind; 1 to 64 of them, with distinct names, each with a layout that holds its type
 pub use Rattle.bw_file.specs.Table.{AreHeaders, Header}
 use Rattle.bw_sql.specs.declared.tree.ColumnDefinition.{ColumnDefinition}
 use Rattle.bw_model.specs.Words.{kind_or, layout_or, type_of}
@@ -35,16 +35,16 @@ names headers = map (λ h. h.name) headers
 abbrev pub table_limit : ℕ
 table_limit = 64
 
--- the table of this name
+-- the table with this name
 abbrev pub table_of : Store → List ℕ → Option Table
 table_of [] name = None
 table_of (entry ∷ store) name = if bytes_eq name entry.0 then Some entry.1 else table_of store name
 
--- the place of the column of this name
+-- the index of the column with this name
 abbrev pub place_of : List Header → List ℕ → Option ℕ
 place_of headers name = position (λ header. bytes_eq name header.name) headers
 
--- the column that a definition makes: in layout V and of kind OFFSET where it says none
+-- the column that a definition makes: in layout V and of kind OFFSET if it states none
 abbrev pub header_of : ColumnDefinition → Header
 header_of definition = record {
   name = definition.name;
@@ -53,12 +53,12 @@ header_of definition = record {
   kind = kind_or definition.kind Offset;
 }
 
--- the type of the column at this place; where there is none, any
+-- the type of the column at this index; unspecified if there is none
 abbrev pub type_at : List Header → Option ℕ → ColumnType
 type_at headers None = Integer
 type_at headers (Some place) = slice_index_or (types_of headers) place Integer
 
--- the type of the column of this name
+-- the type of the column with this name
 abbrev pub type_named : List Header → List ℕ → ColumnType
 type_named headers name = type_at headers (place_of headers name)
 
@@ -66,7 +66,7 @@ abbrev pub value_or_null : Option Value → Value
 value_or_null None = None
 value_or_null (Some value) = value
 
--- the value at this place of a row, or null where there is none
+-- the value at this index of a row, or null if there is none
 abbrev pub value_at : Row → ℕ → Value
 value_at row place = value_or_null (slice_get row place)
 

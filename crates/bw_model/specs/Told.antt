@@ -1,4 +1,4 @@
--- What the text of replies tells of them (this product's own).
+-- What the text of replies determines about them (this product's own).
 use Rattle.std.specs.Prelude.{◌<◌, ◌^◌, All, FitsSigned, codes, map}
 use Rattle.std.specs.Int.{w128}
 use Rattle.bw_sql.specs.Names.{IsName}
@@ -11,7 +11,7 @@ use Rattle.bw_model.specs.declared.refusal.Refusal.TheVariants as refusal
 use Rattle.bw_model.specs.declared.reply.Reply.{Reply}
 use Rattle.bw_model.specs.declared.reply.Reply.TheVariants as reply
 
--- what the text of a reply needs of it: names are names, and numbers fit
+-- what the text of a reply requires: names are valid, and numbers fit
 
 abbrev pub IsHeading : Heading → Type 0
 IsHeading (heading.Column name) = IsName name

@@ -1,4 +1,4 @@
--- What every store is that statements lead to: names are distinct, rows fit their columns, and nothing is above a limit (SQL-92, tables and columns; limits of this product's own).
+-- What every store satisfies: distinct names, rows that fit their columns, limits kept (SQL-92, tables and columns; own limits).
 use Rattle.std.specs.Prelude.{◌≤◌, List, All, IsTrue, length, map}
 use Rattle.bw_code.specs.Types.{IsRowOf, types_of}
 use Rattle.bw_model.specs.Store.{AreHeaders, Header, Row, Store, Table, are_distinct, row_limit, table_limit}

@@ -1,4 +1,4 @@
--- The types, layouts and kinds that the words of a statement spell.
+-- The types, layouts and kinds that the keywords of a statement stand for.
 use Rattle.std.specs.Prelude.{None, Option, Some}
 use Rattle.bw_code.specs.declared.kind.ColumnType.{ColumnType}
 use Rattle.bw_code.specs.declared.kind.ColumnType.TheVariants.{BigInt, Integer}
@@ -27,12 +27,12 @@ abbrev pub kind_of : KindWord → Kind
 kind_of kind.Offset = Offset
 kind_of kind.Dictionary = Dictionary
 
--- the layout that is said, or what stands where none is
+-- the layout that is given, or the default if none is
 abbrev pub layout_or : Option LayoutWord → Layout → Layout
 layout_or None otherwise = otherwise
 layout_or (Some word) otherwise = layout_of word
 
--- the kind that is said, or what stands where none is
+-- the kind that is given, or the default if none is
 abbrev pub kind_or : Option KindWord → Kind → Kind
 kind_or None otherwise = otherwise
 kind_or (Some word) otherwise = kind_of word

@@ -1,4 +1,4 @@
-//! The rows that a statement answers.
+//! The rows that a statement returns.
 
 ghost use Rattle.std.specs.Prelude.{◌≡◌, ◌*◌, ◌<◌, ℕ, length};
 ghost use Rattle.bw_model.specs.Answers.{AreWholeLines, lines_of};
@@ -7,7 +7,7 @@ ghost use Rattle.bw_model.specs.Cells.{cells_in, cells_kept, shown_all};
 use bw_sql::{Name, Value};
 use std::marker::Model;
 
-/// What stands above a column of an answer.
+/// The heading of a column of an answer.
 #[derive(Debug, Drop)]
 pub enum Heading {
     Column(Name),
@@ -26,7 +26,7 @@ pub enum Heading {
     Rows,
 }
 
-/// A place of an answer.
+/// A cell of an answer.
 #[derive(Debug, Drop)]
 pub enum Cell {
     Null,
@@ -34,24 +34,24 @@ pub enum Cell {
     Name(Name),
 }
 
-/// The cells of an answer, line after line, as they are lent.
+/// The cells of an answer, line by line, as they are lent.
 #[derive(Clone, Copy, Debug)]
 pub enum Cells<'a> {
-    /// Each shows a value.
+    /// All of them values.
     Values(&'a [Value]),
-    /// Of any kind.
+    /// Cells of any kind.
     Mixed(&'a [Cell]),
 }
 
-/// The cells of an answer, line after line. Values take half the room that cells of any kind do.
+/// The cells of an answer, line by line. Values take half as much memory as cells of any kind.
 #[derive(Debug, Drop)]
 enum Kept {
     Values(Vec<Value>),
     Mixed(Vec<Cell>),
 }
 
-/// Headings, one at least, and lines of as many cells. The lines lie flat in one buffer. A contract
-/// sees the headings and the list of the lines.
+/// At least one heading, and lines with one cell for each heading. The lines are stored flat in one buffer. Contracts
+/// see the headings and the list of the lines.
 #[derive(Debug, Drop)]
 pub struct Answer {
     headings: Vec<Heading>,
@@ -73,7 +73,7 @@ impl Model for Answer {
 }
 
 impl Answer {
-    /// The answer of these cells, line after line.
+    /// The answer with these cells, line by line.
     pub fn new(headings: Vec<Heading>, cells: Vec<Cell>) -> Answer
         requires { AreWholeLines (length headings.items) cells.items }
         ensures headings { result.headings ≡ headings.items }
@@ -85,7 +85,7 @@ impl Answer {
         }
     }
 
-    /// The answer that shows these values, line after line.
+    /// The answer that shows these values, line by line.
     pub fn of_values(headings: Vec<Heading>, values: Vec<Value>) -> Answer
         requires { AreWholeLines (length headings.items) (shown_all values.items) }
         ensures headings { result.headings ≡ headings.items }
@@ -104,7 +104,7 @@ impl Answer {
         self.headings.as_slice()
     }
 
-    /// How many cells there are.
+    /// The number of cells.
     fn cell_count(&self) -> usize
         ensures count { result ≡ length self.now.lines * length self.now.headings }
         ensures some { 0 < length self.now.headings }
@@ -115,14 +115,14 @@ impl Answer {
         }
     }
 
-    /// How many lines there are.
+    /// The number of lines.
     pub fn line_count(&self) -> usize
         ensures { result ≡ length self.now.lines }
     {
         self.cell_count() / self.headings.as_slice().len()
     }
 
-    /// The cells of all lines, line after line.
+    /// The cells of all lines, line by line.
     pub fn cells(&self) -> Cells<'_>
         ensures whole { AreWholeLines (length self.now.headings) (cells_in result) }
         ensures lines { lines_of (length self.now.headings) (cells_in result) ≡ self.now.lines }

@@ -1,4 +1,4 @@
-//! What a condition says of a row.
+//! The truth of a condition at a row.
 
 ghost use Rattle.std.specs.Prelude.{◌≡◌, IfOk, map, option_map};
 ghost use Rattle.bw_model.specs.Condition.{compared, found_rows, is_found, is_one_of, lies_between, order_meets, truth_at, truth_of_word, value_of};
@@ -11,7 +11,7 @@ use bw_sql::{CompareOp, Condition, Name, Operand, TruthWord, Value};
 use std::alloc::{AllocError, Global};
 use std::cmp::Ordering;
 
-/// Whether numbers that stand in this order compare so.
+/// Whether numbers in this order satisfy the comparison.
 fn order_meets(op: CompareOp, order: Ordering) -> bool
     ensures { result ≡ order_meets op order }
 {
@@ -25,7 +25,7 @@ fn order_meets(op: CompareOp, order: Ordering) -> bool
     }
 }
 
-/// A comparison with NULL on a side is unknown.
+/// A comparison with NULL on either side is unknown.
 fn compared(op: CompareOp, left: Value, right: Value) -> TruthValue
     ensures { result ≡ compared op left right }
 {
@@ -74,7 +74,7 @@ fn is_one_of(value: Value, entries: &[Value]) -> TruthValue
     found
 }
 
-/// What a condition says of a row of these columns.
+/// The truth of a condition at a row of these columns.
 #[tactic(auto, using(bw_mask::proofs::Tables::and_of_assoc, bw_mask::proofs::Tables::or_of_assoc, bw_mask::proofs::Tables::and_of_True, bw_mask::proofs::Tables::or_of_False))]
 pub fn truth_at(headers: &[Header<Name>], row: &Row, condition: &Condition) -> TruthValue
     ensures { result ≡ truth_at headers.now row.now (condition_of condition.now) }

@@ -1,25 +1,25 @@
-//! What is said to a statement from outside the store.
+//! What a statement is told from outside the store.
 
 use crate::store::{RowList, Table};
 use bw_csvload::CsvFault;
 
-/// What is said to a statement from outside the store: by its file, or how many units its condition reads.
+/// What a statement is told from outside the store: the content of its file, or how many units its condition reads.
 #[derive(Debug, Drop)]
 pub enum Content {
-    /// No file is asked for.
+    /// The statement uses no file.
     Nothing,
-    /// No file is asked for, and the condition reads so many units.
+    /// The statement uses no file, and its condition reads this many units.
     Counted(u64),
-    /// There is no file, or it can't be read.
+    /// The file doesn't exist, or can't be read.
     Missing,
     /// The file is longer than a file may be.
     TooLarge,
-    /// It spells these rows.
+    /// The file contains these rows.
     Lines(RowList),
-    /// It spells no rows, for this reason.
+    /// The file is not valid CSV, for this reason.
     Fault(CsvFault),
-    /// It spells this table.
+    /// The file contains this table.
     Held(Table),
-    /// It spells no table.
+    /// The file is not a valid table file.
     NotTable,
 }

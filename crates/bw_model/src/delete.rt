@@ -1,4 +1,4 @@
-//! What a DELETE makes of a table.
+//! The effect of a DELETE on a table.
 
 ghost use Rattle.std.specs.Prelude.{◌≡◌, IfOk, MatchOption, OnErr, filter, length, not, option_map};
 ghost use Rattle.bw_model.specs.Changes.{without_found};
@@ -14,7 +14,7 @@ use crate::store::{Row, Table};
 use bw_sql::Condition;
 use std::alloc::{AllocError, Global};
 
-/// Takes the found rows out of this table.
+/// Removes the found rows from this table.
 pub(crate) fn delete_rows(
     alloc: Global,
     table: &mut Table,

@@ -1,4 +1,4 @@
-//! How long the file of a table is.
+//! The length of a table's file.
 
 ghost use Rattle.std.specs.Prelude.{◌≡◌, ◌≤◌, ◌+◌, ◌*◌, ◌^◌, IfOk, length, nat_lt};
 ghost use Rattle.std.specs.List.{sum_by};
@@ -13,7 +13,7 @@ use bw_code::{Header, Offset};
 use bw_sql::{Name, Value};
 use std::alloc::{AllocError, Global};
 
-/// The most bytes of a file that is read or written.
+/// The greatest length in bytes of a file that is read or written.
 pub const FILE_LIMIT: usize = 268_435_456;
 
 /// Whether the file of a table is longer than a file may be.
@@ -22,7 +22,7 @@ pub(crate) fn is_too_long(alloc: Global, table: &Table) -> Result<bool, AllocErr
 {
     let headers = table.headers();
     let rows = table.rows();
-    // A column has a bit for each row, and there is a column.
+    // A column has a bit for each row, and there is at least one column.
     if rows.len() > 8 * FILE_LIMIT {
         return Ok(true);
     }
@@ -55,7 +55,7 @@ fn column_size(alloc: Global, rows: &[Row], k: usize) -> Result<u128, AllocError
     Ok(9 + (width as u128 + 1) * (rows.len() as u128).div_ceil(8))
 }
 
-/// The values of a column, downward.
+/// The values of a column, in the order of the rows.
 fn column_of(alloc: Global, rows: &[Row], k: usize) -> Result<Vec<Value>, AllocError>
     ensures { IfOk result (λ cells. cells.items ≡ column_of rows.now k) }
 {

@@ -12,7 +12,7 @@ use bw_sql::Value;
 use std::alloc::{AllocError, Global};
 use std::marker::Model;
 
-/// Rows whose values in a column are the same, and that value. A contract sees the rows as lists of values.
+/// The rows whose values in a column are the same, and that value. Contracts see the rows as lists of values.
 #[derive(Drop)]
 pub(crate) struct Group<'a> {
     pub(crate) value: Value,
@@ -45,7 +45,7 @@ fn has_null(values: &[Value]) -> bool
     values.iter().any(|value| value.is_none())
 }
 
-/// The numbers, each once, in ascending order.
+/// The distinct numbers, in ascending order.
 fn distinct(alloc: Global, values: &[Value]) -> Result<Vec<i64>, AllocError>
     ensures { IfOk result (λ numbers. numbers.items ≡ dedup int_eq (sorted (known values.now))) }
 {
@@ -54,7 +54,7 @@ fn distinct(alloc: Global, values: &[Value]) -> Result<Vec<i64>, AllocError>
     Ok(numbers)
 }
 
-/// Each value once, in ascending order, and NULL last.
+/// The distinct values, in ascending order, with NULL last.
 fn group_values(alloc: Global, values: &[Value]) -> Result<Vec<Value>, AllocError>
     ensures { IfOk result (λ list. list.items ≡ group_values values.now) }
 {
@@ -68,7 +68,7 @@ fn group_values(alloc: Global, values: &[Value]) -> Result<Vec<Value>, AllocErro
     Ok(list)
 }
 
-/// The rows whose value at this place is this.
+/// The rows that have this value at this index.
 fn rows_having<'a>(
     alloc: Global,
     place: Option<usize>,
@@ -86,7 +86,7 @@ fn rows_having<'a>(
     Ok(found)
 }
 
-/// The groups of rows by the value at this place.
+/// The groups of rows by the value at this index.
 pub(crate) fn groups_by<'a>(
     alloc: Global,
     place: Option<usize>,

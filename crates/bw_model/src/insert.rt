@@ -10,7 +10,7 @@ use bw_code::{ColumnType, Header};
 use bw_sql::{Name, NameList, Value, ValueRows};
 use std::alloc::{AllocError, Global};
 
-/// The columns that the values are for: where none is listed, all of them in order.
+/// The columns that the values are for: if none is listed, all of them in order.
 pub(crate) fn target_columns(
     alloc: Global,
     headers: &[Header<Name>],
@@ -24,7 +24,7 @@ pub(crate) fn target_columns(
     }
 }
 
-/// The same names.
+/// A copy of the names.
 pub(crate) fn copied(alloc: Global, names: &[Name]) -> Result<Vec<Name>, AllocError>
     ensures { IfOk result (λ list. list.items ≡ names.now) }
 {
@@ -35,7 +35,7 @@ pub(crate) fn copied(alloc: Global, names: &[Name]) -> Result<Vec<Name>, AllocEr
     Ok(list)
 }
 
-/// The types of the columns of these names.
+/// The types of the columns with these names.
 pub(crate) fn types_named(
     alloc: Global,
     headers: &[Header<Name>],
@@ -64,14 +64,14 @@ fn row_for(
         .collect(alloc)
 }
 
-/// The place of this name in the list.
+/// The index of this name in the list.
 fn place_among(list: &[Name], name: &Name) -> Option<usize>
     ensures { result ≡ position (bytes_eq name.now) list.now }
 {
     list.iter().position(|other| name == other)
 }
 
-/// The rows of these values, in order.
+/// The rows with these values, in order.
 pub(crate) fn rows_for(
     alloc: Global,
     headers: &[Header<Name>],

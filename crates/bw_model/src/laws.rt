@@ -25,26 +25,27 @@ pub fn refusals_change_nothing()
     ensures { (store after : Store) (said : AnyContent) (statement : StatementTree) (refusal : AnyRefusal) → Step store said statement (Refused refusal) after → after ≡ store }
 {}
 
-/// A statement that is to be refused whatever its file says is refused for its first reason, also where memory is
-/// wanting.
+/// A statement that is refused whatever its file contains is refused for its first reason, also where it runs out of
+/// memory.
 pub fn refusals_need_no_memory()
     ensures { (store after : Store) (said : AnyContent) (statement : StatementTree) (reply : AnyReply) (refusal : AnyRefusal) → refused_early store statement ≡ Some refusal → Step store said statement reply after → (reply ≡ Refused refusal) × (after ≡ store) }
 {}
 
-/// A store without tables is well formed, and every statement leaves a well-formed store so, whatever its file says.
+/// A store without tables is well formed, and every statement keeps a well-formed store well formed, whatever its file
+/// contains.
 pub fn stores_stay_well_formed()
     ensures empty { IsStore [] }
     ensures kept { (store after : Store) (said : AnyContent) (statement : StatementTree) (reply : AnyReply) → IsStore store → MayBeSaid store statement said → Step store said statement reply after → IsStore after }
 {}
 
-/// The bytes of replies, one after the other, tell where each ends and which it is, but that the
-/// headings `COLUMNS` and `ROWS` of a list of tables read like columns of these names.
+/// The concatenated bytes of replies determine where each reply ends and which one it is, except that the headings
+/// `COLUMNS` and `ROWS` of a list of tables read like columns of these names.
 pub fn texts_tell_replies()
     ensures { (a b : List AnyReply) → All IsReply a → All IsReply b → flat_map reply_text a ≡ flat_map reply_text b → map as_read a ≡ map as_read b }
 {}
 
-/// Over a well-formed store whose names are names, each reply of a step is one that its text tells; and
-/// names stay names, where a statement brings in no others. No text says a statement that does
+/// Over a well-formed store whose names are valid, each reply of a step is determined by its text; and names stay valid
+/// as long as statements bring in only valid names. No text parses to a statement that brings in others
 /// (`names_are_names`).
 pub fn replies_are_told()
     ensures empty { AreNamed [] }
@@ -52,14 +53,14 @@ pub fn replies_are_told()
     ensures told { (store after : Store) (said : AnyContent) (statement : StatementTree) (reply : AnyReply) → IsStore store → AreNamed store → MayBeSaid store statement said → Step store said statement reply after → IsReply reply }
 {}
 
-/// Bytes hold one table at most, whatever the version of the format, and by a version one list of bytes holds a table:
-/// what is opened is what was saved.
+/// Bytes hold at most one table, whatever the version of the format, and in a version exactly one list of bytes holds a
+/// table: what is opened is what was saved.
 pub fn one_table_a_file()
     ensures tables { (bytes : List ℕ) (table other : AnyTable) → Holds bytes table → Holds bytes other → table ≡ other }
     ensures bytes { (version : AnyVersion) (bytes others : List ℕ) (table : AnyTable) → HoldsBy version bytes table → HoldsBy version others table → bytes ≡ others }
 {}
 
-/// A file says one thing to a statement.
+/// A file tells a statement one thing only.
 pub fn one_content()
     ensures { (store : Store) (statement : StatementTree) (file : Option (List ℕ)) (said other : AnyContent) → IsSaid store statement file said → IsSaid store statement file other → said ≡ other }
 {}

@@ -1,4 +1,4 @@
-//! The meaning of the product: tables as lists of rows, and what each statement answers over them.
+//! The semantics of the product: tables as lists of rows, and what each statement returns over them.
 #![tactic(auto)]
 
 mod answer;

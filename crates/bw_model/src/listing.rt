@@ -1,4 +1,4 @@
-//! What TABLES answers.
+//! The reply to TABLES.
 
 ghost use Rattle.std.specs.Prelude.{◌≡◌, IfOk, map};
 ghost use Rattle.bw_model.specs.Listing.{listing, table_line};
@@ -9,8 +9,7 @@ use crate::store::Table;
 use bw_sql::Name;
 use std::alloc::{AllocError, Global};
 
-/// A line for each table, in the order of the tables: its name, how many columns it has and how many
-/// rows.
+/// One line for each table, in the order of the tables: its name, its number of columns and its number of rows.
 pub(crate) fn listing_of(alloc: Global, tables: &[(Name, Table)]) -> Result<Answer, AllocError>
     ensures { IfOk result (λ shows. shows ≡ listing tables.now) }
 {
@@ -19,7 +18,7 @@ pub(crate) fn listing_of(alloc: Global, tables: &[(Name, Table)]) -> Result<Answ
     Ok(Answer::new(headings, cells))
 }
 
-/// The lines, one after the other.
+/// The cells of all lines, line by line.
 fn table_cells(alloc: Global, tables: &[(Name, Table)]) -> Result<Vec<Cell>, AllocError>
     ensures { IfOk result (λ cells. cells.items ≡ joined (map table_line tables.now)) }
 {

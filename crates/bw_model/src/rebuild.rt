@@ -1,4 +1,4 @@
-//! What a REBUILD makes of a table.
+//! The effect of a REBUILD on a table.
 
 ghost use Rattle.std.specs.Prelude.{◌≡◌, IfOk, MatchOption, OnErr, map};
 ghost use Rattle.bw_model.specs.Changes.{chosen_header, with_choices};
@@ -13,7 +13,7 @@ use bw_code::Header;
 use bw_sql::{LayoutChoice, Name};
 use std::alloc::{AllocError, Global};
 
-/// Lays columns of this table anew.
+/// Changes the layouts and kinds of columns of this table.
 pub(crate) fn rebuild_columns(
     alloc: Global,
     table: &mut Table,
@@ -33,7 +33,7 @@ pub(crate) fn rebuild_columns(
     Ok(Reply::Done)
 }
 
-/// The columns that are to be laid anew.
+/// The columns that are to be rebuilt.
 fn chosen_columns(alloc: Global, choices: &[LayoutChoice]) -> Result<Vec<Name>, AllocError>
     ensures { IfOk result (λ columns. columns.items ≡ chosen_columns choices.now) }
 {
@@ -44,7 +44,7 @@ fn chosen_columns(alloc: Global, choices: &[LayoutChoice]) -> Result<Vec<Name>, 
     Ok(columns)
 }
 
-/// The columns as they are chosen to lie.
+/// The columns with the layouts and kinds chosen for them.
 fn headers_chosen(
     alloc: Global,
     headers: &[Header<Name>],
@@ -59,7 +59,7 @@ fn headers_chosen(
     Ok(chosen)
 }
 
-/// The column as it is chosen to lie. Its type stays, and its kind where none is said.
+/// The column with the layout and kind chosen for it. Its type stays, and its kind where none is given.
 fn chosen_header(
     alloc: Global,
     header: &Header<Name>,

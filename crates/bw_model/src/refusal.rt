@@ -8,16 +8,16 @@ use bw_csvload::CsvFault;
 use bw_sql::SqlFault;
 use std::alloc::{AllocError, AllocFailed};
 
-/// Why a statement is refused. It changes nothing then.
+/// Why a statement is refused. A refused statement changes nothing.
 #[derive(Clone, Copy, Debug, PartialEq, Eq, Drop)]
 pub enum Refusal {
-    /// Error 10: no statement, or one that no `;` closes.
+    /// Error 10: no statement, or one without a closing `;`.
     Syntax,
     /// Error 11: more than 65,536 bytes.
     StatementTooLong,
     /// Error 12: more than 64 parentheses deep.
     NestedTooDeeply,
-    /// Error 13: a number that 64 bits don't hold.
+    /// Error 13: a number that doesn't fit 64 bits.
     NumberTooLarge,
     /// Error 20.
     NoSuchTable,
@@ -29,21 +29,21 @@ pub enum Refusal {
     ColumnNamedTwice,
     /// Error 24: too many columns, tables or IN entries.
     OverLimit,
-    /// Error 25: a row of VALUES that hasn't one value for each column.
+    /// Error 25: a row of VALUES that doesn't have one value for each column.
     WrongNumberOfValues,
     /// Error 26: a value outside its column's type.
     OutOfRange,
     /// Error 27: columns and set functions in one list.
     MixedItems,
-    /// Error 28: more rows than a table holds.
+    /// Error 28: more rows than a table may have.
     TableFull,
     /// Error 40.
     UnreadableFile,
     /// Error 41.
     UnwritableFile,
-    /// Error 42: a record, counted from 1, with another number of fields than the table's columns.
+    /// Error 42: a record (counted from 1) whose number of fields isn't the number of the table's columns.
     WrongNumberOfFields { record: u64 },
-    /// Error 43: a field, counted from 1, that is neither null nor an integer.
+    /// Error 43: a field (counted from 1) that is neither null nor an integer.
     NotInteger { record: u64, field: u64 },
     /// Error 44.
     NotTableFile,
@@ -51,7 +51,7 @@ pub enum Refusal {
     FileTooLarge,
     /// Error 60: a BIGINT column in layout H, whose codes have at most 32 bits.
     LayoutTooNarrow,
-    /// Error 90: a growth was refused.
+    /// Error 90: an allocation failed.
     OutOfMemory,
 }
 

@@ -19,22 +19,22 @@ use bw_code::{ColumnType, Header};
 use bw_sql::{Condition, LayoutChoice, Name, Operand, SetClause, Value};
 use std::alloc::{AllocError, Global};
 
-/// The most columns that a table has.
+/// The greatest number of columns of a table.
 const COLUMN_LIMIT: usize = 64;
 
-/// The most tables that a store holds.
+/// The greatest number of tables in a store.
 const TABLE_LIMIT: usize = 64;
 
-/// The most rows that a table holds.
+/// The greatest number of rows of a table.
 const ROW_LIMIT: usize = 16_777_216;
 
-/// The most entries of an IN list.
+/// The greatest number of entries in an IN list.
 const ENTRY_LIMIT: usize = 1_000;
 
-/// A refusal, and whether it holds.
+/// A refusal, and whether it applies.
 pub(crate) type Test = (Refusal, bool);
 
-/// The first refusal that holds.
+/// The first refusal that applies.
 pub(crate) fn first_that_holds(tests: &[Test]) -> Option<Refusal>
     ensures { result ≡ first_that_holds tests.now }
 {
@@ -60,7 +60,7 @@ fn operand_is_missing(headers: &[Header<Name>], operand: &Operand) -> bool
     }
 }
 
-/// Whether the condition names a column that isn't there.
+/// Whether the condition names a column that doesn't exist.
 fn names_missing(headers: &[Header<Name>], condition: &Condition) -> bool
     ensures { result ≡ names_missing headers.now (condition_of condition.now) }
 {
@@ -135,7 +135,7 @@ fn is_null_or_of_type(column_type: ColumnType, value: Value) -> bool
     }
 }
 
-/// Whether a layout is said that doesn't hold the column's type.
+/// Whether a layout is given that can't hold the column's type.
 fn is_too_narrow(header: &Header<Name>) -> bool
     ensures { result ≡ is_too_narrow header.now }
 {
@@ -148,7 +148,7 @@ fn any_is_too_narrow(headers: &[Header<Name>]) -> bool
     headers.iter().any(is_too_narrow)
 }
 
-/// The tests of CREATE TABLE, of which these are the names of the columns.
+/// The tests of CREATE TABLE; these are the names of the columns.
 pub(crate) fn create_tests(
     names: &[Name],
     columns: &[Header<Name>],
@@ -169,14 +169,14 @@ pub(crate) fn create_tests(
     ]
 }
 
-/// Whether so many columns are none or too many, or another table is one too many.
+/// Whether there is no column or too many, or one more table would be too many.
 fn is_over_limit(columns: usize, tables: usize) -> bool
     ensures { result ≡ (columns == 0 || nat_lt column_limit columns || nat_le table_limit tables) }
 {
     columns == 0 || columns > COLUMN_LIMIT || tables >= TABLE_LIMIT
 }
 
-/// The tests of INSERT over a table, of which these are the types of the columns that the values are for.
+/// The tests of INSERT over a table; these are the types of the columns that the values are for.
 pub(crate) fn insert_tests(
     columns: &[Name],
     types: &[ColumnType],
@@ -197,7 +197,7 @@ pub(crate) fn insert_tests(
     ]
 }
 
-/// The tests of UPDATE of a table of these columns that look at no row, and the columns that it sets.
+/// The tests of UPDATE that read no row, and the columns that it sets, for a table of these columns.
 pub(crate) fn set_tests(
     columns: &[Name],
     headers: &[Header<Name>],
@@ -217,7 +217,7 @@ pub(crate) fn set_tests(
     ]
 }
 
-/// Whether a right side is a column that isn't there.
+/// Whether a right side is a column that doesn't exist.
 fn misses_source(headers: &[Header<Name>], sets: &[SetClause]) -> bool
     ensures { result ≡ list_any (λ set. operand_is_missing headers.now set.source) sets.now }
 {
@@ -231,7 +231,8 @@ fn may_all_be_set(headers: &[Header<Name>], sets: &[SetClause]) -> bool
     sets.iter().all(|set| may_be_set(type_named(headers, &set.column), &set.source))
 }
 
-/// Whether a column of a type may be set to this, as far as no row is looked at: a literal has to be of the type.
+/// Whether a column of a type may be set to this, as far as it can be decided without reading a row: a literal has to
+/// be of the type.
 fn may_be_set(column_type: ColumnType, source: &Operand) -> bool
     ensures { result ≡ may_be_set column_type source.now }
 {
@@ -241,7 +242,7 @@ fn may_be_set(column_type: ColumnType, source: &Operand) -> bool
     }
 }
 
-/// Whether what each column is set to in a row is of its type.
+/// Whether the value that each column is set to in a row is of its type.
 fn fits_in(headers: &[Header<Name>], sets: &[SetClause], row: &Row) -> bool
     ensures { result ≡ fits_in headers.now sets.now row.now }
 {
@@ -253,7 +254,7 @@ fn fits_in(headers: &[Header<Name>], sets: &[SetClause], row: &Row) -> bool
     })
 }
 
-/// The test of UPDATE over a table that looks at the found rows.
+/// The test of UPDATE over a table that reads the found rows.
 pub(crate) fn copy_test(headers: &[Header<Name>], sets: &[SetClause], found: &[&Row]) -> Test
     ensures { (table : AnyTable) (condition : Option ConditionTree) → headers.now ≡ table.headers → map (λ row. row.now) found.now ≡ found_rows table condition
         → result ≡ copy_test sets.now condition table }
@@ -281,8 +282,8 @@ pub(crate) fn delete_tests(condition: &Option<Condition>, table: &Table) -> [Tes
     ]
 }
 
-/// The tests of REBUILD over a table, of which these columns are to be laid anew, and these are all as they are chosen
-/// to lie.
+/// The tests of REBUILD over a table: these columns are to be rebuilt, and these are all columns with the layouts and
+/// kinds chosen for them.
 pub(crate) fn rebuild_tests(
     columns: &[Name],
     chosen: &[Header<Name>],
@@ -318,7 +319,7 @@ fn all_are_of_types(types: &[ColumnType], rows: &[Row]) -> bool
     rows.iter().all(|row| are_of_types(types, row.values()))
 }
 
-/// Whether each value of a row is of its column's type, as far as both go.
+/// Whether each value of a row is of its column's type, up to the end of the shorter list.
 fn are_of_types(types: &[ColumnType], values: &[Value]) -> bool
     ensures { result ≡ are_of_types types.now values.now }
 {
@@ -333,7 +334,7 @@ fn are_of_types(types: &[ColumnType], values: &[Value]) -> bool
     }
 }
 
-/// Whether there is no file, or none that can be read.
+/// Whether the file doesn't exist or can't be read.
 fn is_missing_file(said: &Content) -> bool
     ensures { result ≡ is_missing_file said.now }
 {
@@ -347,14 +348,14 @@ fn is_too_large(said: &Content) -> bool
     matches!(said, Content::TooLarge)
 }
 
-/// Whether the file spells no table.
+/// Whether the file is not a valid table file.
 fn is_no_table(said: &Content) -> bool
     ensures { result ≡ is_no_table said.now }
 {
     !matches!(said, Content::Held(_))
 }
 
-/// The fault of a CSV file, where it has one.
+/// The fault of a CSV file, if it has one.
 fn fault_test(said: &Content) -> Test
     ensures { result ≡ fault_test said.now }
 {
@@ -374,7 +375,7 @@ pub(crate) fn units_in(said: &Content) -> u64
     }
 }
 
-/// The rows that a CSV file spells.
+/// The rows that a CSV file contains.
 pub(crate) fn lines_in(said: &Content) -> &[Row]
     ensures { result.now ≡ lines_in said.now }
 {
@@ -384,7 +385,7 @@ pub(crate) fn lines_in(said: &Content) -> &[Row]
     }
 }
 
-/// The tests of LOAD over a table, with what the file says.
+/// The tests of LOAD over a table, with the content of its file.
 pub(crate) fn load_tests(said: &Content, table: &Table) -> [Test; 4]
     ensures { result ≡ load_tests said.now table.now }
 {
@@ -397,7 +398,7 @@ pub(crate) fn load_tests(said: &Content, table: &Table) -> [Test; 4]
     ]
 }
 
-/// The tests of OPEN, with what the file says.
+/// The tests of OPEN, with the content of its file.
 pub(crate) fn open_tests(name: &Name, tables: &[(Name, Table)], said: &Content) -> [Test; 5]
     ensures { result ≡ open_tests name.now tables.now said.now }
 {

@@ -1,19 +1,19 @@
-//! What a statement is answered.
+//! The reply to a statement.
 
 use crate::answer::Answer;
 use crate::refusal::Refusal;
 
-/// What a statement is answered.
+/// The reply to a statement.
 #[derive(Debug, Drop)]
 pub enum Reply {
-    /// It is done, and there is nothing to count.
+    /// The statement is done, and there is nothing to count.
     Done,
-    /// So many rows were added, changed, deleted, saved or opened.
+    /// The number of rows added, changed, deleted, saved or opened.
     Count(u64),
-    /// So many units are read.
+    /// The number of units read.
     Units(u64),
-    /// These are the rows.
+    /// The rows returned.
     Rows(Answer),
-    /// It is refused, and nothing has changed.
+    /// The statement is refused, and nothing has changed.
     Refused(Refusal),
 }

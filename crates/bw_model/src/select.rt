@@ -1,4 +1,4 @@
-//! What a SELECT answers.
+//! What a SELECT returns.
 
 ghost use Rattle.std.specs.Prelude.{◌≡◌, ◌<◌, [], ◌∷◌, ◌++◌, IfOk, OnOk, length, map};
 ghost use Rattle.bw_model.specs.Answers.{AreWholeLines};
@@ -16,7 +16,7 @@ use bw_code::Header;
 use bw_sql::{Name, Select, SelectItem, SelectItems, SetFunction, Value};
 use std::alloc::{AllocError, Global};
 
-/// The items that are shown: `*` is all columns in order.
+/// The items that are shown: `*` stands for all columns in order.
 pub(crate) fn shown_items(
     alloc: Global,
     headers: &[Header<Name>],
@@ -43,7 +43,7 @@ fn columns_shown(alloc: Global, list: Vec<Name>) -> Result<Vec<SelectItem>, Allo
     Ok(items)
 }
 
-/// The same items.
+/// A copy of the items.
 fn copied(alloc: Global, items: &[SelectItem]) -> Result<Vec<SelectItem>, AllocError>
     ensures { IfOk result (λ list. list.items ≡ items.now) }
 {
@@ -66,7 +66,7 @@ fn copied_item(alloc: Global, item: &SelectItem) -> Result<SelectItem, AllocErro
     })
 }
 
-/// Puts the column that an item names last.
+/// Appends the column that an item names.
 fn put_column(alloc: Global, columns: &mut Vec<Name>, item: &SelectItem) -> Result<(), AllocError>
     ensures { OnOk result (columns.new.items ≡ columns.old.items ++ columns_in (item.now ∷ [])) }
 {
@@ -126,7 +126,7 @@ fn line_of(
         .collect(alloc)
 }
 
-/// The lines of these rows, one after the other.
+/// The lines of these rows, in order.
 fn lines_of(
     alloc: Global,
     headers: &[Header<Name>],
@@ -143,7 +143,7 @@ fn lines_of(
     Ok(cells)
 }
 
-/// What an item says of these rows.
+/// The value of an item for these rows.
 fn said_of(
     alloc: Global,
     headers: &[Header<Name>],
@@ -161,7 +161,7 @@ fn said_of(
     }
 }
 
-/// What each item says of these rows.
+/// The values of all items for these rows.
 fn said_of_each(
     alloc: Global,
     headers: &[Header<Name>],
@@ -177,7 +177,7 @@ fn said_of_each(
     Ok(cells)
 }
 
-/// What an item says of a group.
+/// The value of an item for a group.
 fn said_in(
     alloc: Global,
     headers: &[Header<Name>],
@@ -194,7 +194,7 @@ fn said_in(
     }
 }
 
-/// What each item says of a group.
+/// The values of all items for a group.
 fn said_in_each(
     alloc: Global,
     headers: &[Header<Name>],
@@ -210,7 +210,7 @@ fn said_in_each(
     Ok(cells)
 }
 
-/// What the items say of each group, line after line.
+/// The values of the items for each group, line by line.
 fn lines_in(
     alloc: Global,
     headers: &[Header<Name>],
@@ -227,7 +227,7 @@ fn lines_in(
     Ok(cells)
 }
 
-/// What the items show of these rows, line after line.
+/// The cells that the items show of these rows, line by line.
 fn cells_for(
     alloc: Global,
     headers: &[Header<Name>],
@@ -250,7 +250,7 @@ fn cells_for(
     }
 }
 
-/// The heading of a set function of a column.
+/// The heading for a set function of a column.
 fn function_heading(function: SetFunction, name: Name) -> Heading
     ensures { result ≡ function_heading function name }
 {
@@ -285,8 +285,8 @@ fn headings_of(alloc: Global, list: Vec<SelectItem>) -> Result<Vec<Heading>, All
     Ok(headings)
 }
 
-/// With groups a line for each; without them a line for each found row, in the order of the rows, or one line of set
-/// functions of them.
+/// With groups one line for each; without them one line for each found row, in the order of the rows, or one line of
+/// set functions over them.
 pub fn answer_of(alloc: Global, table: &Table, query: &Select) -> Result<Answer, AllocError>
     ensures { IfOk result (λ shows. shows ≡ answer table.now (select_of query.now)) }
 {

@@ -16,7 +16,7 @@ use bw_code::Header;
 use bw_sql::{Name, Select, SelectItem, SelectItems};
 use std::alloc::{AllocError, Global};
 
-/// Whether columns are asked for beside set functions.
+/// Whether both columns and set functions are asked for.
 fn is_mixed(list: &[SelectItem]) -> bool
     ensures { result ≡ is_mixed list.now }
 {
@@ -29,7 +29,7 @@ fn has_columns(list: &[SelectItem]) -> bool
     list.iter().any(is_column)
 }
 
-/// Whether an item is another column than that of the groups.
+/// Whether an item is a column other than the grouping column.
 fn is_other_column(name: &Name, item: &SelectItem) -> bool
     ensures { result ≡ is_other_column name.now item.now }
 {
@@ -45,7 +45,7 @@ fn has_other_column(name: &Name, list: &[SelectItem]) -> bool
     list.iter().any(|item| is_other_column(name, item))
 }
 
-/// Whether what is asked for can't stand in one line.
+/// Whether the items can't be shown in one line.
 fn shows_mixed(grouping: &Option<Name>, items: &SelectItems) -> bool
     ensures { result ≡ shows_mixed grouping.now (items_of items.now) }
 {
@@ -66,7 +66,7 @@ fn grouping_is_missing(headers: &[Header<Name>], grouping: &Option<Name>) -> boo
     }
 }
 
-/// The tests of a SELECT of a table of these columns, whose items name the columns of `shown`.
+/// The tests of a SELECT over a table of these columns, whose items name the columns in `shown`.
 fn select_tests(query: &Select, shown: &[Name], headers: &[Header<Name>]) -> [Test; 5]
     requires { shown.now ≡ columns_in (shown_items headers.now (items_of query.now.items)) }
     ensures { result ≡ select_tests (select_of query.now) headers.now }
@@ -89,7 +89,7 @@ fn select_tests(query: &Select, shown: &[Name], headers: &[Header<Name>]) -> [Te
     ]
 }
 
-/// Why a SELECT of this table is refused, also where STATS stands before it.
+/// Why a SELECT over this table is refused, also where STATS precedes it.
 pub(crate) fn refused_query(
     alloc: Global,
     table: &Table,

@@ -1,4 +1,4 @@
-//! What a statement does.
+//! The effect of a statement.
 
 ghost use Rattle.std.specs.Prelude.{◌≡◌, IfOk, MatchOption, OnErr, length, map, position};
 ghost use Rattle.std.specs.Str.{bytes_eq};
@@ -35,8 +35,8 @@ use bw_sql::{
 };
 use std::alloc::{AllocError, Global};
 
-/// The reply to a statement over this store, with what its file says to it. The store is left as the
-/// statement leaves it. Without memory it stays as it was.
+/// The reply to a statement over this store, given what its file tells it. The store becomes what the statement makes
+/// of it. Where it runs out of memory it stays as it was.
 pub fn step(
     alloc: Global,
     store: &mut Store,
@@ -119,7 +119,7 @@ fn insert(alloc: Global, tables: &mut [(Name, Table)], insert: &Insert) -> Resul
     insert_rows(alloc, &mut tables[place].1, &insert.columns, &rows)
 }
 
-/// Puts rows last in this table.
+/// Appends rows to this table.
 fn insert_rows(
     alloc: Global,
     table: &mut Table,
@@ -220,7 +220,7 @@ fn load(
     load_lines(alloc, &mut tables[place].1, said)
 }
 
-/// Puts the rows of a CSV file last in this table.
+/// Appends the rows of a CSV file to this table.
 fn load_lines(alloc: Global, table: &mut Table, said: &Content) -> Result<Reply, AllocError>
     ensures outcome { IfOk result (λ reply. MatchOption (first_that_holds (load_tests said.now table.old))
         ((reply ≡ Count (length (lines_in said.now))) × (table.new ≡ with_lines (lines_in said.now) table.old))

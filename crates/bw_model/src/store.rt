@@ -1,4 +1,4 @@
-//! What a store holds, as lists: tables in the order in which they were made, each with its rows.
+//! The content of a store, as lists: tables in the order of their creation, each with its rows.
 
 ghost use Rattle.std.specs.Prelude.{◌≡◌, ◌<◌, [], ◌++◌, IfOk, OnOk, OnErr, length, position};
 ghost use Rattle.std.specs.List.{list_any};
@@ -12,7 +12,7 @@ use bw_sql::{ColumnDefinition, Name, Value};
 use std::alloc::{AllocError, Global};
 use std::marker::Model;
 
-/// A row: its values, in the order of the columns. A contract sees the list of them.
+/// A row: its values, in the order of the columns. Contracts see the list of them.
 #[derive(Debug, Drop)]
 pub struct Row {
     values: Vec<Value>,
@@ -34,7 +34,7 @@ impl Row {
         Row { values }
     }
 
-    /// A second row of the same values.
+    /// A copy of the row.
     pub fn try_clone(&self, alloc: Global) -> Result<Row, AllocError>
         ensures { IfOk result (λ row. row ≡ self.now) }
     {
@@ -49,7 +49,7 @@ impl Row {
     }
 }
 
-/// Rows. A contract sees the list of them.
+/// Rows. Contracts see the list of them.
 #[derive(Debug, Drop)]
 pub struct RowList {
     rows: Vec<Row>,
@@ -80,7 +80,7 @@ impl RowList {
     }
 }
 
-/// Columns, one at least, and rows. A contract sees the lists of them.
+/// At least one column, and rows. Contracts see the lists of them.
 #[derive(Debug, Drop)]
 pub struct Table {
     headers: Vec<Header<Name>>,
@@ -118,7 +118,7 @@ impl Table {
         Table { headers, rows }
     }
 
-    /// A second table of the same columns and rows.
+    /// A copy of the table.
     pub fn try_clone(&self, alloc: Global) -> Result<Table, AllocError>
         ensures { IfOk result (λ table. table ≡ self.now) }
     {
@@ -143,14 +143,14 @@ impl Table {
         self.rows.as_slice()
     }
 
-    /// Puts these rows in place of all rows.
+    /// Replaces all rows by these.
     pub fn replace_rows(&mut self, rows: Vec<Row>)
         ensures { self.new ≡ record { headers = self.old.headers; rows = rows.items } }
     {
         self.rows = rows;
     }
 
-    /// Puts these columns in place of all columns.
+    /// Replaces all columns by these.
     pub fn replace_headers(&mut self, headers: Vec<Header<Name>>)
         requires { 0 < length headers.items }
         ensures { self.new ≡ record { headers = headers.items; rows = self.old.rows } }
@@ -158,7 +158,7 @@ impl Table {
         self.headers = headers;
     }
 
-    /// Puts these rows last.
+    /// Appends these rows.
     pub fn append(&mut self, mut rows: Vec<Row>) -> Result<(), AllocError>
         ensures ok { OnOk result (self.new ≡ record { headers = self.old.headers; rows = self.old.rows ++ rows.items }) }
         ensures err { OnErr result (self.new ≡ self.old) }
@@ -167,7 +167,7 @@ impl Table {
     }
 }
 
-/// Tables with their names, in the order in which they were made. A contract sees the list of them.
+/// Tables with their names, in the order of their creation. Contracts see the list of them.
 #[derive(Drop)]
 pub struct Store {
     pub(crate) tables: Vec<(Name, Table)>,
@@ -191,7 +191,7 @@ impl Store {
         }
     }
 
-    /// The table of this name.
+    /// The table with this name.
     pub fn table(&self, name: &Name) -> Option<&Table>
         ensures { option_copied result ≡ table_of self.now name.now }
     {
@@ -199,7 +199,7 @@ impl Store {
     }
 }
 
-/// The column that a definition makes: in layout V and of kind OFFSET where it says none.
+/// The column that a definition makes: in layout V and of kind OFFSET if it states none.
 pub fn header_of(alloc: Global, definition: &ColumnDefinition) -> Result<Header<Name>, AllocError>
     ensures { IfOk result (λ header. header ≡ header_of definition.now) }
 {
@@ -211,7 +211,7 @@ pub fn header_of(alloc: Global, definition: &ColumnDefinition) -> Result<Header<
     })
 }
 
-/// The same column.
+/// A copy of the column.
 pub(crate) fn same_header(alloc: Global, header: &Header<Name>) -> Result<Header<Name>, AllocError>
     ensures { IfOk result (λ same. same ≡ header.now) }
 {
@@ -223,7 +223,7 @@ pub(crate) fn same_header(alloc: Global, header: &Header<Name>) -> Result<Header
     })
 }
 
-/// The same columns.
+/// A copy of the columns.
 fn same_headers(alloc: Global, headers: &[Header<Name>]) -> Result<Vec<Header<Name>>, AllocError>
     ensures { IfOk result (λ list. list.items ≡ headers.now) }
 {
@@ -234,7 +234,7 @@ fn same_headers(alloc: Global, headers: &[Header<Name>]) -> Result<Vec<Header<Na
     Ok(list)
 }
 
-/// The same rows.
+/// A copy of the rows.
 pub(crate) fn same_rows(alloc: Global, rows: &[Row]) -> Result<Vec<Row>, AllocError>
     ensures { IfOk result (λ list. list.items ≡ rows.now) }
 {
@@ -263,7 +263,7 @@ fn is_among(name: &Name, list: &[Name]) -> bool
     list.iter().any(|other| name == other)
 }
 
-/// Whether no name stands twice in the list.
+/// Whether no name occurs twice in the list.
 pub(crate) fn are_distinct(names: &[Name]) -> bool
     ensures { result ≡ are_distinct names.now }
 {
@@ -273,7 +273,7 @@ pub(crate) fn are_distinct(names: &[Name]) -> bool
     }
 }
 
-/// The table of this name.
+/// The table with this name.
 pub(crate) fn table_of<'a>(tables: &'a [(Name, Table)], name: &Name) -> Option<&'a Table>
     ensures { option_copied result ≡ table_of tables.now name.now }
 {
@@ -285,21 +285,21 @@ pub(crate) fn table_of<'a>(tables: &'a [(Name, Table)], name: &Name) -> Option<&
     None
 }
 
-/// The place of the table of this name.
+/// The index of the table with this name.
 pub(crate) fn place_of_table(tables: &[(Name, Table)], name: &Name) -> Option<usize>
     ensures { result ≡ position (λ entry. bytes_eq name.now entry.0) tables.now }
 {
     tables.iter().position(|(other, _)| name == other)
 }
 
-/// The place of the column of this name.
+/// The index of the column with this name.
 pub(crate) fn place_of(headers: &[Header<Name>], name: &Name) -> Option<usize>
     ensures { result ≡ place_of headers.now name.now }
 {
     headers.iter().position(|header| name == &header.name)
 }
 
-/// The type of the column of this name; of a name that no column has, any.
+/// The type of the column with this name; unspecified if no column has it.
 pub(crate) fn type_named(headers: &[Header<Name>], name: &Name) -> ColumnType
     ensures { result ≡ type_named headers.now name.now }
 {
@@ -309,14 +309,14 @@ pub(crate) fn type_named(headers: &[Header<Name>], name: &Name) -> ColumnType
     }
 }
 
-/// The value at this place of a row, or NULL where there is none.
+/// The value at this index of a row, or NULL if there is none.
 pub(crate) fn value_at(row: &[Value], place: usize) -> Value
     ensures { result ≡ value_at row.now place }
 {
     row.get(place).copied().unwrap_or(None)
 }
 
-/// The value at this place, or NULL where there is no place.
+/// The value at this index, or NULL if there is no index.
 pub(crate) fn value_from(row: &[Value], place: Option<usize>) -> Value
     ensures { result ≡ value_from row.now place }
 {

@@ -28,7 +28,7 @@ pub fn reply_text(alloc: Global, reply: &Reply) -> Result<Vec<u8>, AllocError>
     }
 }
 
-/// A set function over a column.
+/// The text of a set function over a column.
 fn call_text(alloc: Global, function: &[u8], column: &Name) -> Result<Vec<u8>, AllocError>
     ensures { IfOk result (λ text. text.items ≡ call_text function.now column.now) }
 {
@@ -66,7 +66,7 @@ fn cell_text(alloc: Global, cell: &Cell) -> Result<Vec<u8>, AllocError>
     }
 }
 
-/// The headings with a comma between each two.
+/// The headings, separated by commas.
 fn headings_text(alloc: Global, headings: &[Heading]) -> Result<Vec<u8>, AllocError>
     ensures { IfOk result (λ text. text.items ≡ with_commas heading_text headings.now) }
 {
@@ -81,7 +81,7 @@ fn headings_text(alloc: Global, headings: &[Heading]) -> Result<Vec<u8>, AllocEr
     Ok(text)
 }
 
-/// The cells of a line with a comma between each two.
+/// The cells of a line, separated by commas.
 fn cells_text(alloc: Global, cells: &[Cell]) -> Result<Vec<u8>, AllocError>
     ensures { IfOk result (λ text. text.items ≡ with_commas cell_text cells.now) }
 {
@@ -96,7 +96,7 @@ fn cells_text(alloc: Global, cells: &[Cell]) -> Result<Vec<u8>, AllocError>
     Ok(text)
 }
 
-/// The lines of this width.
+/// The lines of this width, as text.
 fn lines_text(alloc: Global, cells: &[Cell], width: usize) -> Result<Vec<u8>, AllocError>
     requires { AreWholeLines width cells.now }
     ensures { IfOk result (λ text. text.items ≡ lines_text (lines_of width cells.now)) }
@@ -119,7 +119,7 @@ fn shown_cells(alloc: Global, values: &[Value]) -> Result<Vec<Cell>, AllocError>
     values.iter().map(|value| shown(*value)).collect(alloc)
 }
 
-/// The lines of this width of the cells.
+/// The lines of this width of the cells, as text.
 fn answer_lines(alloc: Global, cells: Cells<'_>, width: usize) -> Result<Vec<u8>, AllocError>
     requires { AreWholeLines width (cells_in cells) }
     ensures { IfOk result (λ text. text.items ≡ lines_text (lines_of width (cells_in cells.entry))) }
@@ -133,7 +133,7 @@ fn answer_lines(alloc: Global, cells: Cells<'_>, width: usize) -> Result<Vec<u8>
     }
 }
 
-/// The headings, the lines, and how many lines there are.
+/// The headings, the lines, and the number of lines.
 fn answer_text(alloc: Global, answer: &Answer) -> Result<Vec<u8>, AllocError>
     ensures { IfOk result (λ text. text.items ≡ answer_text answer.now) }
 {

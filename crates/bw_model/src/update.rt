@@ -1,4 +1,4 @@
-//! What an UPDATE makes of a table.
+//! The effect of an UPDATE on a table.
 
 ghost use Rattle.std.specs.Prelude.{◌≡◌, IfOk, MatchOption, OnErr, length, map, option_map};
 ghost use Rattle.bw_model.specs.Changes.{source_for, updated_if_found, updated_row, with_updates};
@@ -15,7 +15,7 @@ use bw_code::Header;
 use bw_sql::{Condition, Name, SetClause, Value};
 use std::alloc::{AllocError, Global};
 
-/// Updates the found rows of this table, each in its place.
+/// Updates the found rows of this table in place.
 pub(crate) fn update_rows(
     alloc: Global,
     table: &mut Table,
@@ -58,7 +58,7 @@ fn set_columns(alloc: Global, sets: &[SetClause]) -> Result<Vec<Name>, AllocErro
     Ok(columns)
 }
 
-/// The rows, each that is found updated.
+/// The rows, with each found one updated.
 fn rows_updated(
     alloc: Global,
     table: &Table,
@@ -90,7 +90,7 @@ fn updated_if_found(
     }
 }
 
-/// The row with its columns set, all of them from the row as it was.
+/// The row with its columns set, all of them computed from the row before.
 fn updated_row(
     alloc: Global,
     headers: &[Header<Name>],

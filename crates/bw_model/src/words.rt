@@ -1,4 +1,4 @@
-//! The types, layouts and kinds that the words of a statement spell.
+//! The types, layouts and kinds that the keywords of a statement stand for.
 
 ghost use Rattle.std.specs.Prelude.{◌≡◌};
 ghost use Rattle.bw_model.specs.Words.{kind_of, kind_or, layout_of, layout_or, type_of};
@@ -6,7 +6,7 @@ ghost use Rattle.bw_model.specs.Words.{kind_of, kind_or, layout_of, layout_or, t
 use bw_code::{ColumnType, Kind, Layout};
 use bw_sql::{KindWord, LayoutWord, TypeWord};
 
-/// The type that a word spells.
+/// The type that a keyword stands for.
 pub(crate) fn type_of(word: TypeWord) -> ColumnType
     ensures { result ≡ type_of word }
 {
@@ -16,7 +16,7 @@ pub(crate) fn type_of(word: TypeWord) -> ColumnType
     }
 }
 
-/// The layout that a word spells.
+/// The layout that a keyword stands for.
 pub(crate) fn layout_of(word: LayoutWord) -> Layout
     ensures { result ≡ layout_of word }
 {
@@ -28,7 +28,7 @@ pub(crate) fn layout_of(word: LayoutWord) -> Layout
     }
 }
 
-/// The kind that a word spells.
+/// The kind that a keyword stands for.
 fn kind_of(word: KindWord) -> Kind
     ensures { result ≡ kind_of word }
 {
@@ -38,7 +38,7 @@ fn kind_of(word: KindWord) -> Kind
     }
 }
 
-/// The layout that a word spells, or another where there is no word.
+/// The layout that a keyword stands for, or another if there is no keyword.
 pub(crate) fn layout_or(word: Option<LayoutWord>, otherwise: Layout) -> Layout
     ensures { result ≡ layout_or word otherwise }
 {
@@ -48,7 +48,7 @@ pub(crate) fn layout_or(word: Option<LayoutWord>, otherwise: Layout) -> Layout
     }
 }
 
-/// The kind that a word spells, or another where there is no word.
+/// The kind that a keyword stands for, or another if there is no keyword.
 pub(crate) fn kind_or(word: Option<KindWord>, otherwise: Kind) -> Kind
     ensures { result ≡ kind_or word otherwise }
 {

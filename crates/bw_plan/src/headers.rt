@@ -72,7 +72,7 @@ impl<'a> Headers<'a> {
         }
     }
 
-    /// The type of the column of this name. Unspecified if there is no such column.
+    /// The type of the column of this name, or INTEGER if there is no such column.
     pub fn type_named(&self, name: &Name) -> ColumnType
         ensures { result ≡ type_named self.now name.now }
     {

@@ -1,4 +1,4 @@
-//! Ranks with how often each of the distinct numbers stands.
+//! Ranks, and how often each of the distinct numbers occurs.
 
 ghost use Rattle.std.specs.Prelude.{All, IfOk, List, length, ℕ, ◌<◌, ◌≤◌, ◌^◌};
 ghost use Rattle.bw_rank.specs.Ranks.{AreRanked, AreRanks};
@@ -7,7 +7,7 @@ use crate::ranked::Ranked;
 use crate::table::counts_below;
 use std::alloc::{AllocError, Global};
 
-/// Counts how often each of the distinct numbers stands.
+/// Counts how often each of the distinct numbers occurs.
 pub(crate) fn with_times(
     alloc: Global,
     entries: Vec<u64>,

@@ -1,4 +1,4 @@
-//! Numbers by their ranks among the distinct ones.
+//! Ranks of numbers among the distinct ones.
 #![tactic(auto)]
 
 mod counted;

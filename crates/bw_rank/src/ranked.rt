@@ -1,4 +1,4 @@
-//! Ranks with how often each of the distinct numbers stands, and which way they are found.
+//! Ranks, and how often each of the distinct numbers occurs; and the choice of the algorithm.
 
 ghost use Rattle.std.specs.Prelude.{All, IfOk, length, ◌^◌, ◌≤◌};
 ghost use Rattle.bw_rank.specs.Ranks.{AreRanked};
@@ -9,26 +9,27 @@ use crate::table::ranked_by_table;
 use crate::widths::{narrowed, widened};
 use std::alloc::{AllocError, Global};
 
-/// The distinct ones of some numbers, how often each stands, and of each of the numbers its place among these.
+/// The distinct ones of some numbers, how often each occurs, and for each of the numbers its index among the distinct
+/// ones.
 #[derive(Debug, Drop)]
 pub struct Ranked {
     /// The distinct numbers, ascending.
     pub entries: Vec<u64>,
-    /// How often each of them stands among the numbers.
+    /// How often each of them occurs among the numbers.
     pub times: Vec<u32>,
-    /// For each of the numbers its place among the distinct ones.
+    /// For each of the numbers its index among the distinct ones.
     pub ranks: Vec<u32>,
 }
 
-/// The least number that is too great for a table of counts, where so many numbers are ranked.
+/// The least number that is too great for a table of counts when `count` numbers are ranked.
 fn table_limit(count: usize) -> u64
     ensures { result ≤ 2 ^ 17 }
 {
     (count as u64 / 2).min(1 << 17)
 }
 
-/// Ranks numbers and counts how often each stands: by a table of counts where the greatest number is small, and else as
-/// `rank` does.
+/// Ranks numbers and counts how often each occurs: by a table of counts if the greatest number is small, else as `rank`
+/// does.
 pub fn rank_counted(alloc: Global, numbers: &[u64]) -> Result<Ranked, AllocError>
     requires { length numbers.now ≤ 2 ^ 24 }
     ensures { IfOk result (AreRanked numbers.now) }
@@ -41,7 +42,7 @@ pub fn rank_counted(alloc: Global, numbers: &[u64]) -> Result<Ranked, AllocError
     with_times(alloc, entries, ranks)
 }
 
-/// The same of numbers of 32 bits. By a table they take no more memory: the ranks stand where the numbers stood.
+/// The same for 32-bit numbers. By a table they take no more memory: the ranks replace the numbers in place.
 pub fn rank_narrow(alloc: Global, numbers: Vec<u32>) -> Result<Ranked, AllocError>
     requires { length numbers.items ≤ 2 ^ 24 }
     ensures { IfOk result (AreRanked numbers.items) }
@@ -55,7 +56,7 @@ pub fn rank_narrow(alloc: Global, numbers: Vec<u32>) -> Result<Ranked, AllocErro
     rank_counted(alloc, &wide)
 }
 
-/// The greatest of some numbers of 32 bits, and 0 of none.
+/// The greatest of some 32-bit numbers; 0 for an empty list.
 fn greatest_narrow(numbers: &[u32]) -> u32
     ensures { All (λ n. n ≤ result) numbers.now }
 {

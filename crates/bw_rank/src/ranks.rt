@@ -1,4 +1,4 @@
-//! Ranks, and which way they are found.
+//! Ranks, and the choice of the algorithm.
 
 ghost use Rattle.std.specs.Prelude.{All, IfOk, length, ◌^◌, ◌≤◌};
 ghost use Rattle.bw_rank.specs.Ranks.{AreRanks};
@@ -7,17 +7,17 @@ use crate::marks::ranks_by_marks;
 use crate::packed::ranks_by_packed_sort;
 use std::alloc::{AllocError, Global};
 
-/// The distinct ones of some numbers, and of each of the numbers its place among these.
+/// The distinct ones of some numbers, and for each of the numbers its index among the distinct ones.
 #[derive(Debug, Drop)]
 pub struct Ranks {
     /// The distinct numbers, ascending.
     pub entries: Vec<u64>,
-    /// For each of the numbers its place among the distinct ones.
+    /// For each of the numbers its index among the distinct ones.
     pub ranks: Vec<u32>,
 }
 
-/// Ranks numbers: by a bit for each number up to the greatest where that is small enough, and else by a sort of the
-/// numbers with their places, in words of 64 bits if they fit.
+/// Ranks numbers: by a bitmap up to the greatest number if that is small enough, else by sorting the numbers with their
+/// indices, in words of 64 bits if they fit.
 pub fn rank(alloc: Global, numbers: &[u64]) -> Result<Ranks, AllocError>
     requires { length numbers.now ≤ 2 ^ 24 }
     ensures { IfOk result (λ ranks. AreRanks numbers.now ranks.entries.items ranks.ranks.items) }
@@ -32,7 +32,7 @@ pub fn rank(alloc: Global, numbers: &[u64]) -> Result<Ranks, AllocError>
     }
 }
 
-/// The greatest of some numbers, and 0 of none.
+/// The greatest of some numbers; 0 for an empty list.
 pub(crate) fn greatest_of(numbers: &[u64]) -> u64
     ensures { All (λ n. n ≤ result) numbers.now }
 {

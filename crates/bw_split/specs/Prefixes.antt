@@ -1,11 +1,11 @@
 -- What is kept of a part.
 use Rattle.std.specs.Prelude.{◌≡◌, ℕ, Bool, nat_lt, List, length, take}
 
--- the most bytes of a part that are kept
+-- the greatest number of bytes of a part that are kept
 abbrev pub longest_part : ℕ
 longest_part = 65536
 
--- the bytes that are kept, and whether the part has more
+-- the kept bytes, and whether the part has more
 pub record Prefix : Type 0 where
   pub bytes : List ℕ
   pub is_longer : Bool

@@ -1,4 +1,4 @@
--- What a splitter has of a part, and what its calls answer and leave.
+-- What a splitter keeps of a part, and what its calls return and leave.
 use Rattle.std.specs.Prelude.{◌≡◌, ℕ, Bool, true, false, List, drop, Option, Some, None}
 use Rattle.bw_split.specs.declared.progress.Progress.{Progress}
 use Rattle.bw_split.specs.declared.progress.Stage.{Stage}
@@ -6,7 +6,7 @@ use Rattle.bw_split.specs.declared.progress.Stage.TheVariants as stage
 use Rattle.bw_split.specs.Prefixes.{Prefix, Holds}
 use Rattle.bw_split.specs.Splitting.{closes, fed, goes_on, progress_of}
 
--- how a splitter is seen: what it keeps of the part, where the part ends, and what was done with it
+-- how contracts see a splitter: what it keeps of the part, the state after the part's bytes, and the part's stage
 pub record Splitting : Type 0 where
   pub prefix : Prefix
   pub progress : Progress
@@ -17,24 +17,25 @@ pub record Keeps (s : Splitting) (part : List ℕ) : Type 0 where
   pub prefix : Holds s.prefix part
   pub progress : s.progress ≡ progress_of part
 
--- this part is begun, and nothing stands
+-- this part is open, not complete
 abbrev pub Begun : Splitting → List ℕ → Type 0
 Begun s part = Keeps s part × (s.stage ≡ stage.Begun)
 
--- this part stands
+-- this part is complete
 abbrev pub Stands : Splitting → List ℕ → Type 0
 Stands s part = Keeps s part × (s.stage ≡ stage.Standing)
 
--- the script is at its end, and no rest stands
+-- the script has ended, and no part is left
 abbrev pub IsFinished : Splitting → Type 0
 IsFinished s = s.stage ≡ stage.Finished
 
--- What `feed` answers and leaves, where this part was begun: either the part goes on with the whole piece, or after these bytes of the piece one stands.
+-- What `feed` returns and leaves, if this part was open: either the part continues with the whole piece, or after these bytes of
+-- the piece one is complete.
 abbrev pub Feeds : List ℕ → List ℕ → Option ℕ → Splitting → Type 0
 Feeds part piece None s = (next : List ℕ) × (fed part piece ≡ goes_on next) × Begun s next
 Feeds part piece (Some n) s = (next : List ℕ) × (fed part piece ≡ closes next (drop n piece)) × Stands s next
 
--- whether the rest stands, as `finish` answers
+-- whether the rest is a part, as `finish` returns
 abbrev pub StandsIf : Bool → Splitting → List ℕ → Type 0
 StandsIf true s part = Stands s part
 StandsIf false s part = IsFinished s

@@ -1,4 +1,4 @@
-//! Runs of bytes that are looked at sixteen at a time.
+//! Runs of bytes that are scanned sixteen at a time.
 
 ghost use Rattle.std.specs.Prelude.{◌≡◌, ◌≤◌};
 ghost use Rattle.std.specs.Simd.Lanes.{mask_l, zip2};
@@ -9,7 +9,7 @@ use std::simd::prelude::*;
 
 const LANES: usize = 16;
 
-// Bit i is 1 where byte i, before the byte `next[i]`, begins a text, a cut or a comment.
+// Bit i is 1 where byte i, given the byte `next[i]` after it, begins a text, a cut or a comment.
 fn special(bytes: u8x16, next: u8x16) -> u64
     ensures { result ≡ mask_l (zip2 (λ b n. begins_before n b) bytes next) }
 {
@@ -31,8 +31,8 @@ fn plain_one_by_one(bytes: &[u8]) -> usize
     bytes.iter().take_while(|b| is_plain(**b)).count()
 }
 
-/// A number of bytes that begin no text, cut or comment: all before the first that does, but for a few
-/// at the end.
+/// A number of leading bytes that begin no text, cut or comment: all before the first that does, except for a few at
+/// the end.
 pub(crate) fn ordinary_len(bytes: &[u8]) -> usize
     ensures { result ≤ ordinary_len bytes.now }
 {

@@ -1,4 +1,4 @@
-//! A script in pieces, however it is cut: its parts, one after the other.
+//! A script in pieces, however it is split: its parts, one after another.
 #![tactic(auto)]
 
 mod lanes;

@@ -1,4 +1,4 @@
-//! The first bytes of a part, as many as are kept.
+//! The kept prefix of a part.
 
 ghost use Rattle.std.specs.Prelude.{◌≡◌, ◌+◌, ◌++◌, ◌<◌, ◌≤◌, [], IfOk, List, MatchResult, length, nat_le, take, vec_capacity, ℕ};
 ghost use Rattle.bw_lex.specs.declared.fault.SqlFault.TheVariants.{TooLong};
@@ -9,10 +9,10 @@ use bw_lex::SqlFault;
 use std::alloc::{AllocError, Global};
 use std::marker::Model;
 
-/// The most bytes of a part that are kept. A longer one is too long to be a statement.
+/// The greatest number of bytes of a part that are kept. A longer part is too long to be a statement.
 pub const LONGEST_PART: usize = 65_536;
 
-/// The first bytes of a part, up to the longest, and whether the part goes on after them.
+/// The first bytes of a part, up to the greatest length, and whether the part continues after them.
 #[derive(Drop)]
 pub(crate) struct PartPrefix {
     bytes: Vec<u8>,
@@ -30,7 +30,7 @@ impl Model for PartPrefix {
     ghost invariant = { λ k. (length k.bytes.items ≤ longest_part) × (longest_part ≤ vec_capacity k.bytes) };
 }
 
-// Adds the bytes as far as there is room. Whether they all fit.
+// Appends the bytes as far as there is room. Returns whether they all fit.
 fn keep(prefix: &mut Vec<u8>, bytes: &[u8]) -> bool
     requires short { length prefix.old.items ≤ longest_part }
     requires room { longest_part ≤ vec_capacity prefix.old }
@@ -46,7 +46,7 @@ fn keep(prefix: &mut Vec<u8>, bytes: &[u8]) -> bool
 }
 
 impl PartPrefix {
-    /// Nothing, with room for the longest part.
+    /// Empty, with room for the longest part.
     pub(crate) fn new(alloc: Global) -> Result<PartPrefix, AllocError>
         ensures { IfOk result (λ prefix. Holds prefix []) }
     {
@@ -56,7 +56,7 @@ impl PartPrefix {
         })
     }
 
-    /// Drops the part.
+    /// Clears the part.
     pub(crate) fn clear(&mut self)
         ensures { Holds self.new [] }
     {
@@ -64,7 +64,7 @@ impl PartPrefix {
         self.is_longer = false;
     }
 
-    /// Drops the part if a new one starts after some bytes of the piece.
+    /// Clears the part if a new one starts after some bytes of the piece.
     pub(crate) fn carry(&mut self, start: usize)
         ensures { (part : List ℕ) → Holds self.old part → Holds self.new (carried start part) }
     {
@@ -73,7 +73,7 @@ impl PartPrefix {
         }
     }
 
-    /// Adds bytes to the part.
+    /// Appends bytes to the part.
     pub(crate) fn add(&mut self, bytes: &[u8])
         ensures { (part : List ℕ) → Holds self.old part → Holds self.new (part ++ bytes.now) }
     {

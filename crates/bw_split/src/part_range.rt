@@ -7,9 +7,8 @@ ghost use Rattle.bw_split.specs.Stretches.{IsFound};
 use crate::progress::Progress;
 use crate::stretch::up_to_cut;
 
-/// The bytes of a piece that belong to a part, and where the part ends with them. The part is the one
-/// begun where they start at 0, and else a new one after the cut of a blank part. A cut comes next,
-/// or the end of the piece.
+/// The bytes of a piece that belong to a part, and where the part ends with them. It is the open part if they start at
+/// 0, else a new one after the cut of a blank part. Next comes a cut or the end of the piece.
 #[derive(Clone, Copy)]
 pub(crate) struct PartRange {
     pub(crate) start: usize,
@@ -17,7 +16,7 @@ pub(crate) struct PartRange {
     pub(crate) progress: Progress,
 }
 
-/// The part that is the first not to be dropped, where the part begun ends at this progress.
+/// The first part that is not dropped, given the progress of the open part.
 pub(crate) fn find_part(progress: Progress, piece: &[u8]) -> PartRange
     ensures ordered { result.start ≤ result.end }
     ensures within { result.end ≤ length piece.now }

@@ -1,36 +1,35 @@
-//! How far a part of a script has come.
+//! The progress within a part of a script.
 
 ghost use Rattle.std.specs.Prelude.{◌≡◌};
 ghost use Rattle.bw_lex.specs.Spellings.{is_blank};
 ghost use Rattle.bw_split.specs.Splitting.{at_first, is_all_blank, is_cut, keeps_blank, next_state, opened_by, step};
 
-/// Where the bytes of a part end.
+/// The lexical state after the bytes of a part.
 #[derive(Clone, Copy, Debug, PartialEq, Eq)]
 pub(crate) enum LexicalState {
     /// Outside texts and comments.
     Outside,
     /// The same, just after a `-`.
     Dash,
-    /// In a comment, which goes on to the end of its line.
+    /// In a comment, which extends to the end of its line.
     Comment,
-    /// In a text, which goes on to the next quote.
+    /// In a text, which extends to the next quote.
     Text,
 }
 
-/// Where the bytes of a part end, and whether nothing but blanks and comments stands before, up to a
-/// `-` at the end.
+/// The state after the bytes of a part, and whether they are only blanks and comments, up to a `-` at the end.
 #[derive(Clone, Copy, Debug, PartialEq, Eq)]
 pub(crate) struct Progress {
     pub(crate) state: LexicalState,
     pub(crate) is_blank: bool,
 }
 
-/// What was done with a part.
+/// The stage of a part.
 #[derive(Clone, Copy, Debug, PartialEq, Eq)]
 pub(crate) enum Stage {
     /// Its bytes are still coming.
     Begun,
-    /// It is whole, and not blank.
+    /// It is complete, and not blank.
     Standing,
     /// It was the rest of the script, and blank.
     Finished,
@@ -68,7 +67,7 @@ fn next_state(state: LexicalState, b: u8) -> LexicalState
     }
 }
 
-// What a `-` is shows at the byte after it: there it begins a comment or not.
+// Whether a `-` begins a comment is decided at the byte after it.
 fn keeps_blank(state: LexicalState, b: u8) -> bool
     ensures { result ≡ keeps_blank state b }
 {
@@ -81,7 +80,7 @@ fn keeps_blank(state: LexicalState, b: u8) -> bool
 }
 
 impl Progress {
-    /// Where a part of no bytes ends.
+    /// The progress of an empty part.
     pub(crate) fn at_first() -> Progress
         ensures { result ≡ at_first }
     {
@@ -91,7 +90,7 @@ impl Progress {
         }
     }
 
-    /// One byte on.
+    /// One byte further.
     pub(crate) fn step(self, b: u8) -> Progress
         ensures { result ≡ step self b }
     {
@@ -111,7 +110,7 @@ impl Progress {
         }
     }
 
-    /// Whether nothing but blanks and comments stands before.
+    /// Whether there are only blanks and comments so far.
     pub(crate) fn is_all_blank(self) -> bool
         ensures { result ≡ is_all_blank self }
     {

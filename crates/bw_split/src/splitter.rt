@@ -1,4 +1,4 @@
-//! A script in pieces: what belongs to the part that is read is kept, up to the longest that is used.
+//! A script in pieces: the bytes of the part being read are kept, up to the greatest length that is used.
 
 ghost use Rattle.std.specs.Prelude.{◌≡◌, ◌⊎◌, ◌<◌, ◌≤◌, [], IfOk, IfSome, List, MatchBool, MatchOption, MatchResult, length, not, ℕ};
 ghost use Rattle.bw_lex.specs.declared.fault.SqlFault.TheVariants.{TooLong};
@@ -14,9 +14,8 @@ use bw_lex::SqlFault;
 use std::alloc::{AllocError, Global};
 use std::marker::Model;
 
-/// Splits a script that comes in pieces into its parts: what stands between its cuts and isn't
-/// blank, and the rest after the last cut where that isn't blank. A cut is a `;` outside texts and
-/// comments. It takes memory once, when it is made.
+/// Splits a script that comes in pieces into its parts: what is between its cuts and isn't blank, and the rest after
+/// the last cut if it isn't blank. A cut is a `;` outside texts and comments. It takes memory only when it is created.
 #[derive(Drop)]
 pub struct Splitter {
     prefix: PartPrefix,
@@ -44,9 +43,8 @@ impl Splitter {
         })
     }
 
-    /// Takes the next bytes of the script, up to the cut that closes a part or the whole piece. Where
-    /// a part stands now, the answer says how many bytes were taken: give the others again once the
-    /// part was used and cleared.
+    /// Takes the next bytes of the script, up to the cut that closes a part, or the whole piece. Where a part is
+    /// complete now, returns how many bytes were taken: pass the others again after the part was used and cleared.
     pub fn feed(&mut self, piece: &[u8]) -> Option<usize>
         requires { self.old.stage ≡ stage.Begun }
         ensures within { IfSome result (λ n. (0 < n) × (n ≤ length piece.now)) }
@@ -64,7 +62,7 @@ impl Splitter {
         Some(found.end + 1)
     }
 
-    /// Ends the script. Whether a rest stands: there is none where it is blank.
+    /// Ends the script. Returns whether there is a last part: there is none if the rest is blank.
     pub fn finish(&mut self) -> bool
         requires { self.old.stage ≡ stage.Begun }
         ensures stage { MatchBool result (self.new.stage ≡ stage.Standing) (self.new.stage ≡ stage.Finished) }
@@ -80,8 +78,7 @@ impl Splitter {
         stands
     }
 
-    /// The bytes of the part that stands, without the `;`. It is `TooLong` where there are more than
-    /// `LONGEST_PART`.
+    /// The bytes of the complete part, without the `;`. It is `TooLong` where there are more than `LONGEST_PART`.
     pub fn text(&self) -> Result<&[u8], SqlFault>
         requires { self.now.stage ≡ stage.Standing }
         ensures { (part : List ℕ) → Stands self.now part → MatchResult result (λ text. (length part ≤ longest_part) × (text.now ≡ part)) (λ fault. (longest_part < length part) × (fault ≡ TooLong)) }
@@ -89,7 +86,7 @@ impl Splitter {
         self.prefix.text()
     }
 
-    /// Begins the next part, once a part stands or the script is at its end.
+    /// Begins the next part, after a part is complete or the script has ended.
     pub fn clear(&mut self)
         requires { (self.old.stage ≡ stage.Standing) ⊎ (self.old.stage ≡ stage.Finished) }
         ensures { Begun self.new [] }

@@ -10,21 +10,21 @@ use crate::lanes::ordinary_len;
 use crate::progress::{LexicalState, Progress, is_blank, opened_by};
 use memchr::memchr;
 
-/// Bytes without a cut: how many, and where they end.
+/// Bytes without a cut: how many, and the state after them.
 #[derive(Clone, Copy)]
 pub(crate) struct Stretch {
     pub(crate) len: usize,
     pub(crate) progress: Progress,
 }
 
-// How many bytes come before the first that is this one.
+// How many bytes come before the first occurrence of this one.
 fn len_before(byte: u8, bytes: &[u8]) -> usize
     ensures { result ≡ prefix_len (λ b. not (b == byte)) bytes.now }
 {
     memchr(byte, bytes).unwrap_or(bytes.len())
 }
 
-// How many blanks come first.
+// The number of leading blanks.
 fn blank_len(bytes: &[u8]) -> usize
     ensures { result ≡ prefix_len is_blank bytes.now }
 {
@@ -65,7 +65,7 @@ fn outside(bytes: &[u8]) -> Stretch
     }
 }
 
-// Many bytes at once, of which none is a cut. There may be none.
+// Many bytes at once, none of which is a cut. There may be none.
 fn next_stretch(progress: Progress, bytes: &[u8]) -> Stretch
     ensures { IsStretch progress bytes.now result }
 {

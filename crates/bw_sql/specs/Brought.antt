@@ -2,7 +2,7 @@
 use Rattle.std.specs.Prelude.{ℕ, List, [], ◌∷◌, map}
 use Rattle.bw_sql.specs.Tree.{StatementTree, create_table, delete, drop_table, insert, list_tables, load, open_table, rebuild, save, select, stats, update}
 
--- those of a new table and of its columns; of a table that a file holds, its name alone
+-- the names of a new table and of its columns; for a table that comes from a file, the table's name alone
 abbrev pub names_brought : StatementTree → List (List ℕ)
 names_brought (create_table name columns) = name ∷ map (λ c. c.name) columns
 names_brought (drop_table name) = []

@@ -1,4 +1,4 @@
--- Names of files: what a text says (SQL-92, <character string literal>).
+-- File names: the content of a text (SQL-92, <character string literal>).
 use Rattle.std.specs.Prelude.{ℕ, List, IsTrue}
 use Rattle.bw_lex.specs.Spellings.{is_good_text}
 

@@ -121,12 +121,12 @@ pub data TruthPart : List Terminal → TruthWord → List Terminal → Type 0 wh
   false_word : {rest : List Terminal} → TruthPart (t.Keyword k.False ∷ rest) False rest
   unknown_word : {rest : List Terminal} → TruthPart (t.Keyword k.Unknown ∷ rest) Unknown rest
 
--- one part is itself, two or more are one run of OR
+-- one part is itself, two or more are a chain of OR
 abbrev pub any_of : List ConditionTree → ConditionTree
 any_of (c ∷ []) = c
 any_of cs = some_of (trees_of cs)
 
--- one part is itself, two or more are one run of AND
+-- one part is itself, two or more are a chain of AND
 abbrev pub all_of : List ConditionTree → ConditionTree
 all_of (c ∷ []) = c
 all_of cs = each_of (trees_of cs)

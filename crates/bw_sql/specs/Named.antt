@@ -1,4 +1,4 @@
--- The files that a statement names, each as a text says it (SQL-92, <character string literal>).
+-- The files that a statement names, each by the content of a text (SQL-92, <character string literal>).
 use Rattle.std.specs.Prelude.{ℕ, List, [], ◌∷◌}
 use Rattle.bw_sql.specs.Tree.{StatementTree, create_table, delete, drop_table, insert, list_tables, load, open_table, rebuild, save, select, stats, update}
 

@@ -19,12 +19,12 @@ reserved_words =
     ∷ (codes "TO", k.To) ∷ (codes "TRUE", k.True) ∷ (codes "UNKNOWN", k.Unknown) ∷ (codes "UPDATE", k.Update)
     ∷ (codes "USING", k.Using) ∷ (codes "VALUES", k.Values) ∷ (codes "WHERE", k.Where) ∷ (codes "WITH", k.With) ∷ []
 
--- the reserved word among these that is spelled so
+-- the reserved word among these with this spelling
 abbrev pub spelled_among : List (List ℕ × Keyword) → List ℕ → Option Keyword
 spelled_among [] word = None
 spelled_among (entry ∷ entries) word = if bytes_eq word entry.0 then Some entry.1 else spelled_among entries word
 
--- the reserved word that is spelled so, in upper case
+-- the reserved word with this spelling, in upper case
 unfoldable pub keyword_of : List ℕ → Option Keyword
 keyword_of word = spelled_among reserved_words word
 
@@ -36,14 +36,14 @@ abbrev pub begins_with_letter : List ℕ → Bool
 begins_with_letter [] = false
 begins_with_letter (b ∷ bytes) = is_ascii_uppercase b
 
--- whether these bytes are a name, in upper case
+-- whether these bytes are a valid name, in upper case
 unfoldable pub is_name : List ℕ → Bool
 is_name bytes = begins_with_letter bytes && list_all is_name_byte bytes && nat_le (length bytes) 128 && is_none (keyword_of bytes)
 
 abbrev pub IsName : List ℕ → Type 0
 IsName bytes = IsTrue (is_name bytes)
 
--- no name stands twice in the list
+-- no name occurs twice in the list
 abbrev pub are_distinct : List (List ℕ) → Bool
 are_distinct [] = true
 are_distinct (name ∷ rest) = not (list_any (bytes_eq name) rest) && are_distinct rest

@@ -1,4 +1,4 @@
--- Reading terminals from the left: the grammar as functions, which the parser's private functions cite.
+-- Parsing terminals from left to right: the grammar as functions, which the parser's private functions cite.
 use Rattle.std.specs.Prelude.{◌≡◌, ℕ, ℤ, ◌^◌, ◌<◌, zero, suc, pos, neg_ℤ, nat_lt, nat_le, if◌then◌else◌, List, [], ◌∷◌, ◌++◌, length, Option, Some, None, Result, Ok, Err}
 use Rattle.std.specs.Option.{option_and_then}
 use Rattle.bw_lex.specs.declared.fault.SqlFault.{SqlFault}
@@ -31,7 +31,7 @@ use Rattle.bw_sql.specs.declared.tree.FirstRecord.TheVariants.{Row}
 use Rattle.bw_sql.specs.Words.{first_record_of, function_of, kind_of, layout_of, statement_word_of}
 use Rattle.bw_sql.specs.Tree.{ConditionTree, among, between, comparison, negated, null, tested, ItemsTree, all_columns, listed, StatementTree, create_table, delete, drop_table, insert, list_tables, load, open_table, rebuild, save, SelectTree, select, stats, update}
 
--- what is read, and the terminals after it; none is a syntax error
+-- what is parsed, and the terminals after it; `None` is a syntax error
 abbrev pub Read : Type 0 → Type 0
 Read A = Option (A × List Terminal)
 
@@ -39,7 +39,7 @@ infixl 10 ◌>>=◌
 abbrev pub ◌>>=◌ : {A B : Type 0} → Option A → (A → Option B) → Option B
 o >>= f = option_and_then f o
 
--- What a function returned, and the terminals that it left, are what reading gives, unless memory ran out.
+-- What a function returned, and the terminals that it left, are what parsing yields, unless memory ran out.
 abbrev pub Fails : {A : Type 0} → SqlFault → Option A → Type 0
 Fails faults.Memory read = Unit {0}
 Fails faults.Syntax read = read ≡ None
@@ -51,7 +51,7 @@ abbrev pub Gives : {X A : Type 0} → (X → A) → Result X SqlFault → List T
 Gives view (Ok x) rest read = read ≡ Some (view x, rest)
 Gives view (Err e) rest read = Fails e read
 
--- the same of a whole statement, after which nothing is left
+-- the same for a whole statement, after which nothing is left
 abbrev pub GivesAll : {X A : Type 0} → (X → A) → Result X SqlFault → Option A → Type 0
 GivesAll view (Ok x) read = read ≡ Some (view x)
 GivesAll view (Err e) read = Fails e read
@@ -127,11 +127,11 @@ abbrev pub after_equals : List Terminal → Option (List Terminal)
 after_equals (t.Symbol (s.Compare Eq) ∷ ts) = Some ts
 after_equals _ = None
 
--- with one more value first
+-- with one more value at the beginning
 abbrev pub with_first : {A : Type 0} → A → Read (List A) → Read (List A)
 with_first x read = read >>= λ y. Some (x ∷ y.0, y.1)
 
--- with more values first
+-- with more values at the beginning
 abbrev pub with_front : {A : Type 0} → List A → Read (List A) → Read (List A)
 with_front xs read = read >>= λ y. Some (xs ++ y.0, y.1)
 
@@ -140,7 +140,7 @@ abbrev pub go_on : {A : Type 0} → (List Terminal → Read A) → (List Termina
 go_on read more rest None = Some ([], rest)
 go_on read more rest (Some ts) = read ts >>= λ x. with_first x.0 (more x.1)
 
--- values with a separator before each, n at most
+-- values with a separator before each, at most n
 unfoldable pub more_at : {A : Type 0} → (List Terminal → Option (List Terminal)) → (List Terminal → Read A) → ℕ → List Terminal → Read (List A)
 more_at after read zero ts = None
 more_at after read (suc n) ts = go_on read (more_at after read n) ts (after ts)
@@ -152,12 +152,12 @@ parts_at after read n ts = read ts >>= λ x. with_first x.0 (more_at after read 
 abbrev pub map_first : {A B : Type 0} → (A → B) → Read A → Read B
 map_first f read = read >>= λ x. Some (f x.0, x.1)
 
--- a value, where there is one, and the rest
+-- a value, if there is one, and the rest
 abbrev pub with_rest : {A : Type 0} → Option A → List Terminal → Read A
 with_rest None rest = None
 with_rest (Some x) rest = Some (x, rest)
 
--- a value, where something that is wanted stood before the rest
+-- a value, if the terminal expected after it came before the rest
 abbrev pub closed : {A : Type 0} → A → Option (List Terminal) → Read A
 closed x None = None
 closed x (Some rest) = Some (x, rest)
@@ -173,7 +173,7 @@ unfoldable pub number_at : List Terminal → Read ℕ
 number_at (t.Number n ∷ ts) = Some (n, ts)
 number_at _ = None
 
--- the number with a sign, where 64 bits hold it
+-- the number with a plus sign, if it fits 64 bits
 unfoldable pub positive : ℕ → Option ℤ
 positive n = if nat_lt n (2 ^ 63) then Some (pos n) else None
 
@@ -213,7 +213,7 @@ unfoldable pub using_at : List Terminal → Read (Option LayoutWord)
 using_at (t.Keyword k.Using ∷ ts) = map_first Some (layout_at ts)
 using_at ts = Some (None, ts)
 
--- a kind is taken where there is one
+-- a kind is taken if there is one
 abbrev pub kind_taken : Option KindWord → List Terminal → List Terminal → Option KindWord × List Terminal
 kind_taken None before after = (None, before)
 kind_taken (Some word) before after = (Some word, after)
@@ -257,7 +257,7 @@ unfoldable pub function_at : List Terminal → Read SetFunction
 function_at (t.Keyword word ∷ ts) = with_rest (function_of word) ts
 function_at _ = None
 
--- what a set function is of
+-- the argument of a set function
 unfoldable pub argument_at : SetFunction → List Terminal → Read SelectItem
 argument_at Count (t.Symbol s.Star ∷ ts) = Some (items.CountRows, ts)
 argument_at f ts = map_first (items.Function f) (name_at ts)
@@ -318,7 +318,7 @@ unfoldable pub is_at : ConditionTree → List Terminal → Read ConditionTree
 is_at c (t.Keyword k.Not ∷ ts) = map_first (λ word. negated (tested c word)) (truth_at ts)
 is_at c ts = map_first (tested c) (truth_at ts)
 
--- the IS test after a condition, where there is one
+-- the IS test after a condition, if there is one
 unfoldable pub tested_at : ConditionTree → List Terminal → Read ConditionTree
 tested_at c (t.Keyword k.Is ∷ ts) = is_at c ts
 tested_at c ts = Some (c, ts)
@@ -395,7 +395,7 @@ choice_list_at n ts = Some ([], ts)
 unfoldable pub rebuild_at : ℕ → List Terminal → Read StatementTree
 rebuild_at n ts = name_at ts >>= λ table. map_first (rebuild table.0) (choice_list_at n table.1)
 
--- what stands in a text
+-- the content of a text
 unfoldable pub text_at : List Terminal → Read (List ℕ)
 text_at (t.Text says ∷ ts) = Some (says, ts)
 text_at _ = None

@@ -1,6 +1,6 @@
--- Statements as the language has them (SQL-92: table definition, drop table statement, insert statement, searched update and delete statements, query specification,
--- search condition and predicates; beyond it, statements that go between a table and a file), without where they lie in memory. A name is its bytes, of a
--- table, a column or a file, a value a number or none.
+-- Statement trees of the language (SQL-92: table definition, drop table statement, insert statement, searched update and delete
+-- statements, query specification, search condition and predicates; beyond it, statements that exchange a table with a file),
+-- independent of memory layout. A name of a table, a column or a file is its bytes, a value is a number or none.
 use Rattle.std.specs.Prelude.{ℕ, ℤ, List, [], ◌∷◌, map, Option, option_map}
 use Rattle.std.specs.Global.{Vec}
 use Rattle.bw_lex.specs.declared.token.CompareOp.{CompareOp}
@@ -64,7 +64,7 @@ pub data StatementTree : Type 0 where
   save : (table : List ℕ) → (file : List ℕ) → StatementTree
   open_table : (table : List ℕ) → (file : List ℕ) → StatementTree
 
--- one level of a Rust condition, with trees in the places of its parts
+-- one level of a Rust condition, with trees in place of its parts
 abbrev pub condition_step : Condition-F ConditionTree → ConditionTree
 condition_step (Condition-F.And parts) = each_of (trees_of parts.items)
 condition_step (Condition-F.Or parts) = some_of (trees_of parts.items)

@@ -1,4 +1,4 @@
--- Words that are names, and stand for a layout, a kind, a statement or a file's first record where the grammar has one.
+-- Words that are names, but stand for a layout, a kind, a statement or a file's first record where the grammar expects one.
 use Rattle.std.specs.Prelude.{ℕ, List, codes, Option, Some, None, if◌then◌else◌}
 use Rattle.std.specs.Str.{bytes_eq}
 use Rattle.bw_sql.specs.declared.terminal.StatementWord.{StatementWord}
@@ -26,7 +26,7 @@ abbrev pub kind_spelling : KindWord → List ℕ
 kind_spelling Offset = codes "OFFSET"
 kind_spelling Dictionary = codes "DICTIONARY"
 
--- how a name is spelled that begins a statement
+-- how a name that begins a statement is spelled
 abbrev pub statement_spelling : StatementWord → List ℕ
 statement_spelling Tables = codes "TABLES"
 statement_spelling Rebuild = codes "REBUILD"
@@ -52,7 +52,7 @@ statement_word_of word =
     else (if bytes_eq word (codes "SAVE") then Some Save
     else (if bytes_eq word (codes "STATS") then Some Stats else None))))
 
--- what the word after WITH says of a file's first record
+-- what the word after WITH states about a file's first record
 unfoldable pub first_record_of : List ℕ → Option FirstRecord
 first_record_of word = if bytes_eq word (codes "HEADER") then Some Header else None
 

@@ -1,4 +1,4 @@
-//! Conditions out of terminals, read from the left.
+//! Parsing conditions from terminals, left to right.
 
 ghost use Rattle.std.specs.Prelude.{◌≡◌, ◌<◌, ◌≤◌, ◌∷◌, ℕ, IfOk, List, MatchOption, MatchResult, OnOk, length};
 ghost use Rattle.bw_lex.specs.declared.token.CompareOp.{CompareOp as AnyCompareOp};
@@ -211,7 +211,7 @@ impl<'a> Parser<'a> {
         }
     }
 
-    // Takes the next terminal where it is a comparison.
+    // Takes the next terminal if it is a comparison.
     fn eat_comparison(&mut self) -> Option<CompareOp>
         ensures { MatchOption result
             ((self.new.rest.now ≡ self.old.rest.now) × ((op : AnyCompareOp) (ts : List Terminal) → self.old.rest.now ≡ Terminal.Symbol (Symbol.Compare op) ∷ ts → ⊥))
@@ -306,7 +306,7 @@ impl<'a> Parser<'a> {
     }
 }
 
-// One part is itself, two or more are one run of OR.
+// One part is itself, two or more are a chain of OR.
 fn any_of(mut parts: Vec<Condition>) -> Condition
     requires { 0 < length parts.items }
     ensures { condition_of result ≡ grammar.any_of (conditions_in parts) }
@@ -318,7 +318,7 @@ fn any_of(mut parts: Vec<Condition>) -> Condition
     }
 }
 
-// One part is itself, two or more are one run of AND.
+// One part is itself, two or more are a chain of AND.
 fn all_of(mut parts: Vec<Condition>) -> Condition
     requires { 0 < length parts.items }
     ensures { condition_of result ≡ grammar.all_of (conditions_in parts) }

@@ -1,4 +1,4 @@
-//! CREATE TABLE, out of terminals.
+//! Parsing CREATE TABLE from terminals.
 
 ghost use Rattle.std.specs.Prelude.{◌≡◌, ◌<◌, ◌≤◌, ℕ, OnOk, length};
 ghost use Rattle.bw_sql.specs.Reading as reading;

@@ -1,4 +1,4 @@
-//! DELETE, out of terminals.
+//! Parsing DELETE from terminals.
 
 ghost use Rattle.std.specs.Prelude.{◌≡◌, ◌<◌, ℕ, OnOk, length};
 ghost use Rattle.bw_sql.specs.Reading as reading;

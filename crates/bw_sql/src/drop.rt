@@ -1,4 +1,4 @@
-//! DROP TABLE, out of terminals.
+//! Parsing DROP TABLE from terminals.
 
 ghost use Rattle.std.specs.Prelude.{◌≡◌, ◌<◌, OnOk, length};
 ghost use Rattle.bw_sql.specs.Reading as reading;

@@ -1,4 +1,4 @@
-//! Names of files.
+//! File names.
 
 ghost use Rattle.std.specs.Prelude.{◌≡◌, IfOk};
 ghost use Rattle.bw_lex.specs.Spellings.{IsSpelled, quoted};
@@ -9,8 +9,7 @@ use bw_lex::text_says;
 use std::alloc::{AllocError, Global};
 use std::marker::Model;
 
-/// A name of a file, as a text says it: 1 to 255 bytes of UTF-8 without the byte 0. A contract sees
-/// it as its bytes.
+/// A file name, the content of a text token: 1 to 255 bytes of UTF-8 without the byte 0. Contracts see its bytes.
 #[derive(Debug, Drop)]
 pub struct FileName {
     name: String,
@@ -29,8 +28,7 @@ impl Model for FileName {
 }
 
 impl FileName {
-    /// The name that a text token says: the token is that name in quotes, each quote of its own
-    /// doubled.
+    /// The file name that a text token contains: the token is that name in quotes, with each quote inside it doubled.
     pub fn from_text(alloc: Global, token: &[u8]) -> Result<FileName, AllocError>
         requires { IsSpelled Text token.now }
         ensures { IfOk result (λ name. token.now ≡ quoted name) }
@@ -40,7 +38,7 @@ impl FileName {
         Ok(FileName { name })
     }
 
-    /// A second name of the same bytes.
+    /// A copy of the name.
     pub fn try_clone(&self, alloc: Global) -> Result<FileName, AllocError>
         ensures { IfOk result (λ name. name ≡ self.now) }
     {
@@ -48,7 +46,7 @@ impl FileName {
         Ok(FileName { name })
     }
 
-    /// The name as a text.
+    /// The name as a `str`.
     pub fn as_str(&self) -> &str
         ensures value { result.now ≡ self.now }
         ensures valid { IsFileName self.now }

@@ -1,4 +1,4 @@
-//! INSERT, out of terminals.
+//! Parsing INSERT from terminals.
 
 ghost use Rattle.std.specs.Prelude.{◌≡◌, ◌<◌, ◌≤◌, ℕ, OnOk, length};
 ghost use Rattle.bw_sql.specs.Reading as reading;
@@ -29,7 +29,7 @@ impl<'a> Parser<'a> {
         }
     }
 
-    // ( value {, value} ): the values go after those that are there; gives how many they are
+    // ( value {, value} ): appends the values to the given ones; returns how many were appended
     #[tactic(auto, unfolding(crate::specs::Reading::row_at))]
     fn row(&mut self, values: &mut Vec<Value>) -> Result<usize, SqlFault>
         ensures shorter { OnOk result (length self.new.rest.now < length self.old.rest.now) }

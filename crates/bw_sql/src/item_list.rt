@@ -5,7 +5,7 @@ ghost use Rattle.std.specs.Prelude.{◌≡◌, ◌<◌, length};
 use crate::tree::SelectItem;
 use std::marker::Model;
 
-/// The items that a SELECT lists, one at least. A contract sees the list of them.
+/// The items that a SELECT lists, at least one. Contracts see the list of them.
 #[derive(Debug, Drop)]
 pub struct ItemList {
     items: Vec<SelectItem>,
@@ -23,7 +23,7 @@ impl Model for ItemList {
 }
 
 impl ItemList {
-    /// These items.
+    /// The list of these items.
     pub fn new(items: Vec<SelectItem>) -> ItemList
         requires { 0 < length items.items }
         ensures { result ≡ items.items }
@@ -39,7 +39,7 @@ impl ItemList {
         self.items.as_slice()
     }
 
-    /// The items, in order, to take over.
+    /// The items, in order, by value.
     pub fn into_vec(self) -> Vec<SelectItem>
         ensures { result.items ≡ self }
     {

@@ -87,7 +87,7 @@ const SPELLINGS: [(&[u8], Keyword); 36] = [
     (b"WITH", Keyword::With),
 ];
 
-// Whether each byte of the word is, in upper case, the one of the spelling.
+// Whether the bytes of the word, in upper case, are those of the spelling.
 fn agree(word: &[u8], spelling: &[u8]) -> bool
     ensures { result ≡ list_all (λ p. to_ascii_uppercase p.0 == p.1) (zip word.now spelling.now) }
 {
@@ -103,7 +103,7 @@ pub(crate) fn spells(word: &[u8], spelling: &[u8]) -> bool
     word.len() == spelling.len() && agree(word, spelling)
 }
 
-// The first of the entries whose spelling the word is, in any case.
+// The first of the entries whose spelling is the word, in any case.
 fn found_among(entries: &[(&[u8], Keyword)], word: &[u8]) -> Option<Keyword>
     ensures { result ≡ spelled_among (map (λ entry. (entry.0.now, entry.1)) entries.now) (map to_ascii_uppercase word.now) }
 {
@@ -115,7 +115,7 @@ fn found_among(entries: &[(&[u8], Keyword)], word: &[u8]) -> Option<Keyword>
     None
 }
 
-/// The reserved word that a word in any case spells.
+/// The reserved word that a word spells, in any case.
 #[tactic(auto, unfolding(crate::specs::Names::keyword_of, crate::specs::Names::reserved_words))]
 pub(crate) fn reserved_word(word: &[u8]) -> Option<Keyword>
     ensures { result ≡ keyword_of (map to_ascii_uppercase word.now) }

@@ -1,5 +1,5 @@
-//! The language: the statement that a text says. The parts of a script and the tokens of a text come
-//! from the lexical layer and are passed on.
+//! The language: the statement that a text encodes. The parts of a script and the tokens of a text come from the
+//! lexical layer and are re-exported.
 #![tactic(auto)]
 
 mod condition;

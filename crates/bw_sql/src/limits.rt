@@ -1,4 +1,4 @@
-//! What the grammar sees of a text, and the two limits on tokens.
+//! The terminals of a text, and the two limits on tokens.
 
 ghost use Rattle.std.specs.Prelude.{◌≡◌, ◌+◌, ◌-◌, ◌*◌, ◌^◌, ◌<◌, ◌≤◌, [], All, IfErr, IfOk, IsTrue, MatchResult, None, OnOk, Some, SomeIff, if◌then◌else◌, length, map};
 ghost use Rattle.std.specs.Char.{is_ascii_digit, to_ascii_uppercase};
@@ -13,7 +13,7 @@ use crate::terminal::{NameWord, Terminal, TextToken};
 use bw_lex::{Piece, SqlFault, Symbol, TokenKind, first_piece};
 use std::alloc::Global;
 
-// How many `(` and `)` stood before, and whether a `-` came last.
+// How many `(` and `)` were seen, and whether a `-` came last.
 #[derive(Clone, Copy)]
 struct Limits {
     opened: usize,
@@ -32,7 +32,7 @@ impl Limits {
         }
     }
 
-    // Notes the next terminal, unless it is a `(` too deep.
+    // Records the next terminal, unless it is a `(` nested too deeply.
     fn admit(&mut self, terminal: &Terminal) -> Result<(), SqlFault>
         requires opened { self.old.opened < 2 ^ 63 }
         requires closed { self.old.closed < 2 ^ 63 }
@@ -59,7 +59,7 @@ impl Limits {
     }
 }
 
-// The most digits that a number may have without being too large for 64 bits.
+// The greatest number of digits that fit 64 bits whatever they are.
 const FEW_DIGITS: usize = 19;
 
 // The number that a few digits spell.
@@ -75,7 +75,7 @@ fn short_number(digits: &[u8]) -> u64
     n
 }
 
-// The number with one more digit after it, where 64 bits hold it.
+// The number with one more digit appended, if it fits 64 bits.
 fn with_digit(n: u64, digit: u8) -> Option<u64>
     requires { IsTrue (is_ascii_digit digit) }
     ensures { SomeIff result (10 * n + (digit - 48) < 2 ^ 64) (10 * n + (digit - 48)) }
@@ -86,7 +86,7 @@ fn with_digit(n: u64, digit: u8) -> Option<u64>
     }
 }
 
-// The number that many digits spell, where 64 bits hold it. The first ones may all be zeros.
+// The number that many digits spell, if it fits 64 bits. There may be leading zeros.
 fn long_number(digits: &[u8]) -> Option<u64>
     requires { IsTrue (list_all is_ascii_digit digits.now) }
     ensures { SomeIff result (number_value digits.now < 2 ^ 64) (number_value digits.now) }
@@ -103,7 +103,7 @@ fn long_number(digits: &[u8]) -> Option<u64>
     Some(n)
 }
 
-// The number that digits spell, where 64 bits hold it.
+// The number that digits spell, if it fits 64 bits.
 fn number(digits: &[u8]) -> Option<u64>
     requires { IsTrue (list_all is_ascii_digit digits.now) }
     ensures { SomeIff result (number_value digits.now < 2 ^ 64) (number_value digits.now) }
@@ -126,7 +126,7 @@ fn word<'a>(bytes: &'a [u8]) -> Terminal<'a>
     }
 }
 
-// What the grammar sees of the bytes of a token, unless they are a number above the largest.
+// The terminal for the bytes of a token, unless they are a number above the largest allowed.
 fn terminal<'a>(kind: TokenKind, bytes: &'a [u8], largest: u64) -> Result<Terminal<'a>, SqlFault>
     requires spelled { IsSpelled kind bytes.now }
     requires bound { largest < 2 ^ 64 }
@@ -145,7 +145,7 @@ fn terminal<'a>(kind: TokenKind, bytes: &'a [u8], largest: u64) -> Result<Termin
     }
 }
 
-/// What the grammar sees of a text, or the fault of its first token that is bad or over a limit.
+/// The terminals of a text, or the fault of its first token that is bad or over a limit.
 pub(crate) fn terminals<'a>(alloc: Global, text: &'a [u8]) -> Result<Vec<Terminal<'a>>, SqlFault>
     requires { length text.now < 2 ^ 63 }
     ensures found { IfOk result (λ terminals. AreTerminals text.entry.now terminals.items) }

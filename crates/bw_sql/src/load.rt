@@ -1,4 +1,4 @@
-//! LOAD, out of terminals.
+//! Parsing LOAD from terminals.
 
 ghost use Rattle.std.specs.Prelude.{◌≡◌, ◌<◌, ◌≤◌, OnOk, length};
 ghost use Rattle.bw_sql.specs.Reading as reading;

@@ -16,8 +16,8 @@ use std::fmt;
 use std::hash::{Hash, Hasher};
 use std::marker::Model;
 
-/// A name of a table or a column: a letter and then letters, digits and `_`, in upper case, at
-/// most 128 bytes, and no reserved word. A contract sees it as its bytes.
+/// A name of a table or a column: a letter and then letters, digits and `_`, in upper case, at most 128 bytes, and not
+/// a reserved word. Contracts see its bytes.
 #[derive(Drop)]
 pub struct Name {
     bytes: Vec<u8>,
@@ -34,7 +34,7 @@ impl Model for Name {
     ghost invariant = { λ name. IsName name.bytes.items };
 }
 
-/// Whether these bytes are a name as it stands, in upper case.
+/// Whether these bytes are a valid name in upper case.
 #[tactic(auto, unfolding(crate::specs::Names::is_name), using(crate::proofs::NameLemmas::name_is_upper))]
 pub fn is_name(word: &[u8]) -> bool
     ensures { result ≡ is_name word.now }
@@ -63,7 +63,7 @@ fn all_name_bytes(word: &[u8]) -> bool
 }
 
 impl Name {
-    /// The name that these bytes are.
+    /// The name with these bytes.
     pub fn from_bytes(alloc: Global, bytes: &[u8]) -> Result<Name, AllocError>
         requires { IsName bytes.now }
         ensures { IfOk result (λ name. name ≡ bytes.now) }
@@ -72,7 +72,7 @@ impl Name {
         Ok(Name { bytes })
     }
 
-    /// The name that a word in any case spells.
+    /// The name that a word spells, in any case.
     pub fn from_word(alloc: Global, word: &[u8]) -> Result<Name, AllocError>
         requires { IsName (map to_ascii_uppercase word.now) }
         ensures { IfOk result (λ name. name ≡ map to_ascii_uppercase word.now) }
@@ -82,7 +82,7 @@ impl Name {
         Ok(Name { bytes })
     }
 
-    /// A second name of the same bytes.
+    /// A copy of the name.
     pub fn try_clone(&self, alloc: Global) -> Result<Name, AllocError>
         ensures { IfOk result (λ name. name ≡ self.now) }
     {

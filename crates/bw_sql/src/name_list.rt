@@ -5,7 +5,7 @@ ghost use Rattle.std.specs.Prelude.{◌≡◌, ◌<◌, length};
 use crate::name::Name;
 use std::marker::Model;
 
-/// The names that a statement lists, one at least. A contract sees the list of them.
+/// The names that a statement lists, at least one. Contracts see the list of them.
 #[derive(Debug, Drop)]
 pub struct NameList {
     names: Vec<Name>,
@@ -22,7 +22,7 @@ impl Model for NameList {
 }
 
 impl NameList {
-    /// These names.
+    /// The list of these names.
     pub fn new(names: Vec<Name>) -> NameList
         requires { 0 < length names.items }
         ensures { result ≡ names.items }
@@ -38,7 +38,7 @@ impl NameList {
         self.names.as_slice()
     }
 
-    /// The names, in order, to take over.
+    /// The names, in order, by value.
     pub fn into_vec(self) -> Vec<Name>
         ensures { result.items ≡ self }
     {

@@ -1,4 +1,4 @@
-//! OPEN, out of terminals.
+//! Parsing OPEN from terminals.
 
 ghost use Rattle.std.specs.Prelude.{◌≡◌, ◌<◌, OnOk, length};
 ghost use Rattle.bw_sql.specs.Reading as reading;

@@ -1,5 +1,5 @@
-//! Statements out of terminals, read from the left: the steps that several statements share, and which statement it is. Each
-//! statement has a file of its own.
+//! Parsing statements from terminals, left to right: the steps that several statements share, and the dispatch to each
+//! statement. Each statement has its own file.
 
 ghost use Rattle.std.specs.Prelude.{◌≡◌, ◌<◌, ◌≤◌, ◌∷◌, ℕ, IfErr, IfOk, List, MatchBool, MatchResult, OnOk, length, option_map};
 ghost use Rattle.bw_sql.specs.declared.terminal.Terminal.{Terminal};
@@ -18,7 +18,7 @@ use crate::tree::{Condition, KindWord, LayoutWord, Statement, Value};
 use bw_lex::{SqlFault, Symbol};
 use std::alloc::Global;
 
-/// What is left of the terminals.
+/// The terminals that are not parsed yet.
 #[derive(Drop)]
 pub(crate) struct Parser<'a> {
     pub(crate) rest: &'a [Terminal<'a>],
@@ -26,7 +26,7 @@ pub(crate) struct Parser<'a> {
 }
 
 impl<'a> Parser<'a> {
-    // Takes the next terminal where it is this symbol.
+    // Takes the next terminal if it is this symbol.
     pub(crate) fn eat(&mut self, symbol: Symbol) -> bool
         ensures { MatchBool result
             (self.old.rest.now ≡ Terminal.Symbol symbol ∷ self.new.rest.now)
@@ -44,7 +44,7 @@ impl<'a> Parser<'a> {
         }
     }
 
-    // Takes the next terminal where it is this reserved word.
+    // Takes the next terminal if it is this reserved word.
     pub(crate) fn eat_word(&mut self, keyword: Keyword) -> bool
         ensures { MatchBool result
             (self.old.rest.now ≡ Terminal.Keyword keyword ∷ self.new.rest.now)
@@ -62,7 +62,7 @@ impl<'a> Parser<'a> {
         }
     }
 
-    // Takes this symbol, which has to be next.
+    // Takes this symbol, which must be next.
     pub(crate) fn take(&mut self, symbol: Symbol) -> Result<(), SqlFault>
         ensures { MatchResult result
             (λ _. self.old.rest.now ≡ Terminal.Symbol symbol ∷ self.new.rest.now)
@@ -75,7 +75,7 @@ impl<'a> Parser<'a> {
         }
     }
 
-    // Takes this reserved word, which has to be next.
+    // Takes this reserved word, which must be next.
     pub(crate) fn take_word(&mut self, keyword: Keyword) -> Result<(), SqlFault>
         ensures { MatchResult result
             (λ _. self.old.rest.now ≡ Terminal.Keyword keyword ∷ self.new.rest.now)
@@ -157,7 +157,7 @@ impl<'a> Parser<'a> {
         }
     }
 
-    // value = literal | NULL. A number without a sign is looked for first, since it is the most common.
+    // value = literal | NULL. A number without a sign is tried first, since it is the most common.
     #[tactic(auto, unfolding(crate::specs::Reading::value_at, crate::specs::Reading::literal_at, crate::specs::Reading::number_at))]
     pub(crate) fn value(&mut self) -> Result<Value, SqlFault>
         ensures shorter { OnOk result (length self.new.rest.now < length self.old.rest.now) }
@@ -335,7 +335,7 @@ impl<'a> Parser<'a> {
     }
 }
 
-// The number with a sign, where 64 bits hold it.
+// The number with a plus sign, if it fits 64 bits.
 #[tactic(auto, unfolding(crate::specs::Reading::positive))]
 fn positive(n: u64) -> Option<i64>
     ensures { result ≡ reading.positive n }

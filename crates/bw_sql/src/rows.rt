@@ -6,8 +6,8 @@ ghost use Rattle.bw_sql.specs.Rows.{joined, rows_of};
 use crate::tree::Value;
 use std::marker::Model;
 
-/// Rows of values, each of a length of its own. They lie flat in one buffer, beside the lengths of
-/// the rows. A contract sees the list of the rows.
+/// Rows of values, each with its own length. They are stored flat in one buffer, together with the lengths of the rows.
+/// Contracts see the list of the rows.
 #[derive(Debug, Drop)]
 pub struct ValueRows {
     values: Vec<Value>,
@@ -26,7 +26,7 @@ impl Model for ValueRows {
 }
 
 impl ValueRows {
-    /// The rows of these widths, one after the other in the values.
+    /// The rows with these widths, one after another in the values.
     pub fn new(values: Vec<Value>, widths: Vec<usize>) -> ValueRows
         requires { sum widths.items ≡ length values.items }
         ensures { result ≡ rows_of widths.items values.items }
@@ -34,14 +34,14 @@ impl ValueRows {
         ValueRows { values, widths }
     }
 
-    /// How many rows there are.
+    /// The number of rows.
     pub fn len(&self) -> usize
         ensures { result ≡ length self.now }
     {
         self.widths.as_slice().len()
     }
 
-    /// How many values each row has, in order.
+    /// The number of values of each row, in order.
     pub fn widths(&self) -> &[usize]
         ensures { result.now ≡ map length self.now }
     {
@@ -55,14 +55,14 @@ impl ValueRows {
         are_all(self.widths.as_slice(), width)
     }
 
-    /// The values of all rows, one row after the other.
+    /// The values of all rows, row by row.
     pub fn values(&self) -> &[Value]
         ensures { result.now ≡ joined self.now }
     {
         self.values.as_slice()
     }
 
-    /// The values of all rows, one row after the other, taken over.
+    /// The values of all rows, row by row, by value.
     pub fn into_values(self) -> Vec<Value>
         ensures { result.items ≡ joined self }
     {

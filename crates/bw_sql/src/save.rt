@@ -1,4 +1,4 @@
-//! SAVE, out of terminals.
+//! Parsing SAVE from terminals.
 
 ghost use Rattle.std.specs.Prelude.{◌≡◌, ◌<◌, OnOk, length};
 ghost use Rattle.bw_sql.specs.Reading as reading;

@@ -1,4 +1,4 @@
-//! SELECT and STATS, out of terminals.
+//! Parsing SELECT and STATS from terminals.
 
 ghost use Rattle.std.specs.Prelude.{◌≡◌, ◌<◌, ◌≤◌, ℕ, OnOk, length};
 ghost use Rattle.bw_sql.specs.Reading as reading;
@@ -48,7 +48,7 @@ impl<'a> Parser<'a> {
         }
     }
 
-    // what a set function is of: * of COUNT alone, or a name
+    // the argument of a set function: * for COUNT only, or a name
     #[tactic(auto, unfolding(crate::specs::Reading::argument_at))]
     fn argument(&mut self, function: SetFunction) -> Result<SelectItem, SqlFault>
         ensures shorter { OnOk result (length self.new.rest.now < length self.old.rest.now) }

@@ -1,4 +1,4 @@
-//! The statement that a text says.
+//! The statement that a text encodes.
 
 ghost use Rattle.std.specs.Prelude.{◌≡◌, ◌≢◌, ◌<◌, ◌≤◌, ℕ, All, IfErr, IfOk, List, length};
 ghost use Rattle.bw_sql.specs.Brought.{names_brought};
@@ -15,13 +15,13 @@ use crate::tree::Statement;
 use bw_lex::SqlFault;
 use std::alloc::Global;
 
-/// How many bytes a statement may have.
+/// The greatest number of bytes of a statement.
 pub const LONGEST_STATEMENT: usize = 65_536;
 
-/// The statement that a text says.
+/// The statement that a text encodes.
 ///
-/// The fault of a text of at most `LONGEST_STATEMENT` bytes is that of its first token that is bad
-/// or over a limit. Where there is no such token, it is `Syntax` if the tokens spell no statement.
+/// The fault of a text of at most `LONGEST_STATEMENT` bytes is that of its first token that is bad or over a limit. If
+/// there is no such token, it is `Syntax` where the tokens spell no statement.
 pub fn statement(alloc: Global, text: &[u8]) -> Result<Statement, SqlFault>
     ensures found { IfOk result (λ statement. Says text.now (statement_of statement)) }
     ensures fault { IfErr result (λ fault. IsStatementFault fault text.now) }
@@ -42,19 +42,20 @@ fn short_statement(alloc: Global, text: &[u8]) -> Result<Statement, SqlFault>
     parse(alloc, &terminals)
 }
 
-/// A text says one statement at most, and none where it has a fault other than `Memory`. It has one such fault at most.
+/// A text encodes at most one statement, and none where it has a fault other than `Memory`. It has at most one such
+/// fault.
 pub fn one_statement()
     ensures same { (text : List ℕ) (a b : StatementTree) → Says text a → Says text b → a ≡ b }
     ensures no_fault { (text : List ℕ) (a : StatementTree) (fault : AnyFault) → Says text a → IsStatementFault fault text → fault ≡ SqlFault.Memory }
     ensures one_fault { (text : List ℕ) (a b : AnyFault) → IsStatementFault a text → IsStatementFault b text → a ≢ SqlFault.Memory → b ≢ SqlFault.Memory → a ≡ b }
 {}
 
-/// The names that a statement brings into a store are names.
+/// The names that a statement brings into a store are valid names.
 pub fn names_are_names()
     ensures { (text : List ℕ) (statement : StatementTree) → Says text statement → All IsName (names_brought statement) }
 {}
 
-/// The files that a statement names have names of files.
+/// The files that a statement names have valid file names.
 pub fn files_are_files()
     ensures { (text : List ℕ) (statement : StatementTree) → Says text statement → All IsFileName (files_named statement) }
 {}

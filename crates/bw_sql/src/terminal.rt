@@ -16,7 +16,7 @@ use bw_lex::Symbol;
 use std::alloc::{AllocError, Global};
 use std::marker::Model;
 
-/// A name that begins a statement where one may begin.
+/// A name that begins a statement, where a statement may begin.
 #[derive(Clone, Copy, Debug, PartialEq, Eq)]
 pub(crate) enum StatementWord {
     Tables,
@@ -26,7 +26,7 @@ pub(crate) enum StatementWord {
     Stats,
 }
 
-/// A word that is a name, in any case. A contract sees the name.
+/// A word that is a name, in any case. Contracts see the name.
 #[derive(Debug, Drop)]
 pub(crate) struct NameWord<'a> {
     bytes: &'a [u8],
@@ -45,7 +45,7 @@ impl<'a> Model for NameWord<'a> {
 }
 
 impl<'a> NameWord<'a> {
-    /// The word of these bytes.
+    /// The word with these bytes.
     pub(crate) fn new(bytes: &'a [u8]) -> NameWord<'a>
         requires { IsName (map to_ascii_uppercase bytes.now) }
         ensures { result ≡ map to_ascii_uppercase bytes.entry.now }
@@ -53,7 +53,7 @@ impl<'a> NameWord<'a> {
         NameWord { bytes }
     }
 
-    /// The name, in a buffer of its own.
+    /// The name, in an owned buffer.
     pub(crate) fn to_name(&self, alloc: Global) -> Result<Name, AllocError>
         ensures { IfOk result (λ name. name ≡ self.now) }
     {
@@ -81,7 +81,7 @@ impl<'a> NameWord<'a> {
         kind_word(self.bytes)
     }
 
-    /// What it says of a file's first record after WITH.
+    /// What it states about a file's first record, after WITH.
     pub(crate) fn first_record(&self) -> Option<FirstRecord>
         ensures { result ≡ first_record_of self.now }
     {
@@ -149,7 +149,7 @@ fn first_record_word(word: &[u8]) -> Option<FirstRecord>
     }
 }
 
-/// A text, with its quotes. A contract sees what it says.
+/// A text, with its quotes. Contracts see its content.
 #[derive(Debug, Drop)]
 pub(crate) struct TextToken<'a> {
     bytes: &'a [u8],
@@ -169,7 +169,7 @@ impl<'a> Model for TextToken<'a> {
 }
 
 impl<'a> TextToken<'a> {
-    /// The text of these bytes.
+    /// The text with these bytes.
     pub(crate) fn new(bytes: &'a [u8]) -> TextToken<'a>
         requires { IsSpelled kinds.Text bytes.now }
         ensures { result ≡ text_says bytes.entry.now }
@@ -177,7 +177,7 @@ impl<'a> TextToken<'a> {
         TextToken { bytes }
     }
 
-    /// The name of a file that it says, in a buffer of its own.
+    /// The file name that it contains, in an owned buffer.
     pub(crate) fn to_file_name(&self, alloc: Global) -> Result<FileName, AllocError>
         ensures { IfOk result (λ file. file ≡ self.now) }
     {

@@ -46,7 +46,7 @@ pub struct ColumnDefinition {
     pub kind: Option<KindWord>,
 }
 
-/// Which integers a column takes, as it is spelled: INT is another spelling of INTEGER.
+/// Which integers a column holds, as it is spelled: INT is another spelling of INTEGER.
 #[derive(Clone, Copy, Debug, PartialEq, Eq)]
 pub enum TypeWord {
     Integer,
@@ -85,7 +85,7 @@ pub struct Update {
     pub condition: Option<Condition>,
 }
 
-/// `column = source`. A source that is a column is read from the row as it was.
+/// `column = source`. A source that is a column is read from the row before the update.
 #[derive(Debug, Drop)]
 pub struct SetClause {
     pub column: Name,
@@ -103,7 +103,7 @@ pub struct Delete {
 #[derive(Debug, Drop)]
 pub struct Rebuild {
     pub table: Name,
-    /// None without a list.
+    /// Empty without a list.
     pub choices: Vec<LayoutChoice>,
 }
 
@@ -137,7 +137,7 @@ pub struct Load {
 pub enum FirstRecord {
     /// A row like the others.
     Row,
-    /// A header, which is left out.
+    /// A header, which is skipped.
     Header,
 }
 
@@ -148,7 +148,7 @@ pub struct Save {
     pub file: FileName,
 }
 
-/// `OPEN table FROM file`: the table is new.
+/// `OPEN table FROM file`: creates the table.
 #[derive(Debug, Drop)]
 pub struct Open {
     pub table: Name,
@@ -173,7 +173,7 @@ pub enum SelectItem {
     Function(SetFunction, Name),
 }
 
-/// A function of the values of a column that are not NULL, in the found rows.
+/// A function of the non-NULL values of a column in the found rows.
 #[derive(Clone, Copy, Debug, PartialEq, Eq)]
 pub enum SetFunction {
     Count,
@@ -183,7 +183,7 @@ pub enum SetFunction {
     Median,
 }
 
-/// A condition on a row. A run of AND or of OR is one list.
+/// A condition on a row. A chain of AND or of OR is one list.
 #[derive(Debug, Drop)]
 pub enum Condition {
     And(Vec<Condition>),
@@ -208,7 +208,7 @@ pub enum TruthWord {
     Unknown,
 }
 
-/// What a predicate looks at, or a column is set to.
+/// What a predicate compares, or a column is set to.
 #[derive(Debug, Drop)]
 pub enum Operand {
     Column(Name),

@@ -1,4 +1,4 @@
-//! UPDATE, out of terminals.
+//! Parsing UPDATE from terminals.
 
 ghost use Rattle.std.specs.Prelude.{◌≡◌, ◌<◌, ℕ, OnOk, length};
 ghost use Rattle.bw_sql.specs.Reading as reading;

@@ -1,4 +1,4 @@
--- Rows of one word of each plane are put anew.
+-- Rows of one word of each plane are overwritten.
 use Rattle.std.proofs.Common.{Bool, List, ap, arith, bit_and, false, if◌then◌else◌, inl, inr, length, not, refl, sym, true, ℕ, ◌%◌, ◌&&◌, ◌*◌, ◌+◌, ◌-◌, ◌/◌, ◌<◌, ◌^◌, ◌||◌, ◌≡◌, ◌≤◌, ◌∙◌}
 use mathlib.Core.Logic.{◌≢◌}
 use Rattle.std.proofs.lemmas.Bool.{both_ways, cases_Bool, cases_lt}

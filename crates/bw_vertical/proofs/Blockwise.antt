@@ -1,4 +1,4 @@
--- Rows of one word of a plane are put behind the others.
+-- Rows of one word of a plane are appended.
 use Rattle.std.proofs.Common.{Bool, List, true, ap, arith, bit_or, false, get_or, inl, inr, length, refl, sym, ℕ, ◌%◌, ◌*◌, ◌+◌, ◌-◌, ◌/◌, ◌<◌, ◌^◌, ◌||◌, ◌≡◌, ◌≤◌, ◌∙◌}
 use mathlib.Core.Logic.{◌≢◌}
 use Rattle.std.proofs.lemmas.Bool.{cases_eq}

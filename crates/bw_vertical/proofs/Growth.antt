@@ -1,4 +1,4 @@
--- Planes behind the others.
+-- Planes appended to others.
 use Rattle.std.proofs.Common.{List, [], ◌∷◌, ◌++◌, Vec, Global, ap, arith, get_or, inl, inr, length, refl, replicate, set, sym, ℕ, ◌%◌, ◌*◌, ◌+◌, ◌-◌, ◌/◌, ◌<◌, ◌≡◌, ◌≤◌, ◌∙◌}
 use Rattle.std.proofs.Math.Seq.{map-set_same}
 use Rattle.std.proofs.lemmas.Bool.{cases_eq, cases_lt}

@@ -104,14 +104,14 @@ held_past k first m gs run held n h =
     let unit : first + (m + n) ≡ first + m + n = omega arith in
     get_or-take (length run - m) (drop m run) n [] low ∙ get_or-drop m run n [] ∙ held (m + n) (omega (arith, low)) ∙ ap (λ v. plane_at k gs (v / k) (v % k)) unit
 
--- row j is put anew
+-- row j is overwritten
 module _ (k n j code : ℕ) (old new : List (List (List ℕ))) (small : code < 2 ^ k) (low : j < n)
     (same : (i : ℕ) → i < k → is_set k new i j ≡ bit_of code (k - 1 - i))
     (other : (i r : ℕ) → i < k → r ≢ j → is_set k new i r ≡ is_set k old i r) where
   pub codes_set : codes_of k new n ≡ set (codes_of k old n) j code
   codes_set = made_set n (code_of k old) (code_of k new) j code low (code_is k j code new small same) (λ r h d. code_same k r new old (λ i l. other i r l d))
 
--- codes behind the others
+-- codes appended to the others
 module _ (k n : ℕ) (codes : List ℕ) (old new : List (List (List ℕ)))
     (fit : (r : ℕ) → r < length codes → get_or codes r 0 < 2 ^ k)
     (kept : (i j : ℕ) → i < k → j < n → is_set k new i j ≡ is_set k old i j)
@@ -126,7 +126,7 @@ module _ (k n : ℕ) (codes : List ℕ) (old new : List (List (List ℕ)))
 pub lists_len : (vs : List (Vec (List ℕ) Global)) → length (lists vs) ≡ length vs
 lists_len vs = length-map vs (λ (x : Vec (List ℕ) Global). x.items)
 
--- rows are put anew
+-- rows are overwritten
 pub held_set : (k n : ℕ) (new old : List (Vec (List ℕ) Global)) → AreGroups k (lists old) n → KeepsSizes new old
     → ((i j : ℕ) → i < k → n ≤ j → is_set k (lists new) i j ≡ is_set k (lists old) i j) → AreGroups k (lists new) n
 held_set k n new old held keeps rest = record {
@@ -138,7 +138,7 @@ held_set k n new old held keeps rest = record {
   clean = λ i j h l. rest i j h l ∙ held.clean i j h l;
 }
 
--- rows are put behind the others
+-- rows are appended
 pub held_more : (k n m : ℕ) (new mid old : List (Vec (List ℕ) Global)) → AreGroups k (lists old) n → m ≤ 2 ^ 24 → segments_of 256 m ≡ n / 256 + 1 → length mid ≡ length old
     → ((g : ℕ) → 4 * g < k → length (get_or (lists mid) g []) ≡ (n / 256 + 1) * planes_in k g) → KeepsSizes new mid
     → ((i j : ℕ) → i < k → m ≤ j → is_set k (lists new) i j ≡ false) → AreGroups k (lists new) m

@@ -1,4 +1,4 @@
--- What is known of some codes, and of those of the rows behind theirs.
+-- The ends of some codes, and of those of the rows after theirs.
 use Rattle.std.proofs.Common.{Bool, ap, arith, false, inl, inr, max, min, not, refl, sym, true, ℕ, ◌+◌, ◌-◌, ◌<◌, ◌≡◌, ◌≤◌, ◌∙◌}
 use Rattle.std.proofs.lemmas.Bool.{cases_lt}
 use Rattle.bw_vertical.specs.Descents.{AreCodeEnds}

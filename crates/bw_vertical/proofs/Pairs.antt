@@ -20,7 +20,7 @@ module _ (k q : ℕ) (units others : List (List ℕ)) (need : List ℕ) (there :
   abbrev bits : ℕ → ℕ → Bool
   bits i j = rows_of_unit k q i others j
 
-  -- the masks behind the first i planes
+  -- the masks after the first i planes
   abbrev pub PairMasks : List ℕ → List ℕ → ℕ → Type 0
   PairMasks lt eq i = AreSidesCompared 256 2 k (row_in need) (λ j. code_in k units (256 * q + j)) (λ j. code_in k others (256 * q + j)) (row_in lt) (row_in eq) i
 

@@ -23,7 +23,7 @@ unfolding least_below
 least_if most zero f s h each = h
 least_if most (suc n) f s h each = omega (arith, least_if most n f s h (λ g l. each g (omega arith)), each n (omega arith))
 
--- there is room for the segment of the row behind n rows
+-- there is room for the segment of the row after n rows
 pub room_at : (k n : ℕ) (caps : List ℕ) → n < room_of k caps → (g : ℕ) → 4 * g < k → (n / 256 + 1) * planes_in k g ≤ get_or caps g 0
 room_at k n caps h g l =
     let per = λ (g : ℕ). get_or caps g 0 / planes_in k g in

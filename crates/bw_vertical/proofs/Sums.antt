@@ -182,7 +182,7 @@ exchanged_less x y lift = grind (arith, nat_tests)
 pub exchanged_differs : (x y lift : ℕ) → not (y + lift == x) ≡ not (x + 0 == y + lift)
 exchanged_differs x y lift = grind (arith, nat_tests)
 
--- the needed rows that compare so, by those that are below and those that differ
+-- the needed rows that satisfy the comparison, by those that are below and those that differ
 pub by_sums : (op : CmpOp) (need : Bool) (x y : ℕ) → by_masks op need (need && nat_lt x y) (need && not (not (x == y))) ≡ (need && code_compares op x y)
 by_sums Eq true x y = grind (arith, nat_tests)
 by_sums Ne true x y = grind (arith, nat_tests)

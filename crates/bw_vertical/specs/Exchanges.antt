@@ -1,8 +1,8 @@
--- Bits of two words that change places.
+-- Exchanging bits of two words.
 use Rattle.std.specs.Prelude.{not, true, ℕ, ◌-◌, ◌<◌, ◌≡◌, ◌≤◌}
 use Rattle.bw_mask.specs.Masks.{bit_of}
 
--- the mask chooses the bits that have another s places higher, and leaves out those that have one s places lower
+-- the mask selects the bits that have a partner s positions higher, and leaves out those that have one s positions lower
 pub record Exchanges (s mask : ℕ) : Type 0 where
   pub small : s < 64
   pub first : (r : ℕ) → r < s → bit_of mask r ≡ true

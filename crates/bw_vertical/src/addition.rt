@@ -1,5 +1,6 @@
-//! Columns of kind OFFSET with different bases, compared without fetching a value: what the higher base is above the other is
-//! added to its codes, and the sums are compared with the codes of the other, plane by plane from the lowest up.
+//! Comparing columns of kind OFFSET with different bases without fetching values: the difference of the bases is added
+//! to the codes of the column with the higher base, and the sums are compared with the codes of the other, plane by
+//! plane from the lowest up.
 
 ghost use Rattle.std.specs.Prelude.{if◌then◌else◌, length, min, nat_le, nat_lt, not, pos, ℕ, ◌&&◌, ◌*◌, ◌+◌, ◌+ℤ◌, ◌-◌, ◌<◌, ◌==◌, ◌^◌, ◌≡◌, ◌≤◌, ◌⊎◌};
 ghost use Rattle.bw_mask.specs.Masks.{SameShape, bit_of, len, row_at, row_in};
@@ -16,8 +17,8 @@ use bw_code::{CmpOp, Offset, Source};
 use bw_lane::{add_const_step, low_first_step};
 use bw_mask::{Mask, has_bit};
 
-/// What is added to the codes of two columns so that the sums compare as the values do: of each base what it is above
-/// the lower one.
+/// What is added to the codes of two columns so that the sums compare as the values do: to each, the amount by which
+/// its base is above the lower one.
 #[derive(Clone, Copy)]
 struct Lifts {
     left: u64,
@@ -37,7 +38,7 @@ impl Lifts {
     }
 }
 
-/// Whether a number has a bit above its n lowest ones.
+/// Whether a number has a bit set above its n lowest bits.
 fn is_longer(number: u64, n: usize) -> bool
     requires { n ≤ 64 }
     ensures { result ≡ nat_le (2 ^ n) number }
@@ -45,10 +46,10 @@ fn is_longer(number: u64, n: usize) -> bool
     n < 64 && number >> n != 0
 }
 
-/// How sums compare with other numbers in 256 rows by their lowest bits alone.
+/// How sums compare with other numbers in 256 rows, by their lowest bits alone.
 #[derive(Clone, Copy)]
 struct LowBits {
-    /// Where the bits that were added carry over.
+    /// Where the addition carries out of these bits.
     carry: [u64; 4],
     /// Where the sum is below the other number.
     lt: [u64; 4],
@@ -57,7 +58,7 @@ struct LowBits {
 }
 
 impl LowBits {
-    /// By no bit, by which all are equal.
+    /// By no bits: all are equal.
     fn none() -> LowBits
         ensures { (j x lift y : ℕ) → j < 256 → AreCompared x lift y 0 (row_in result.carry j) (row_in result.lt j) (row_in result.differ j) }
     {
@@ -68,8 +69,8 @@ impl LowBits {
         }
     }
 
-    /// By bit n, too: `a` and `b` are its planes, and `bit` is that of what is added to the numbers of `a`.
-    // A call left in place would keep the three masks in memory.
+    /// Includes bit n: `a` and `b` are its planes, and `bit` is that bit of what is added to the numbers of `a`.
+    // If not inlined, each call would keep the three masks in memory.
     #[inline(always)]
     fn and_plane(self, a: &[u64; 4], bit: bool, b: &[u64; 4]) -> LowBits
         ensures { (j x lift y n : ℕ) → j < 256 → row_in a.now j ≡ bit_of x n → bit ≡ bit_of lift n → row_in b.now j ≡ bit_of y n
@@ -83,7 +84,7 @@ impl LowBits {
         LowBits { carry, lt, differ }
     }
 
-    /// Where a sum of a number of n bits has a bit above those, by which it is compared.
+    /// Where the sum with a number of n bits, which have been compared, has a bit above those.
     fn past(self, lift: u64, n: usize) -> [u64; 4]
         requires few { n ≤ 64 }
         ensures { (j x y : ℕ) → j < 256 → x < 2 ^ n → AreCompared x lift y n (row_in self.carry j) (row_in self.lt j) (row_in self.differ j)
@@ -96,8 +97,8 @@ impl LowBits {
         }
     }
 
-    /// Where the whole sums are below the other numbers, and where the two differ. The numbers are of n bits, by which they are
-    /// compared.
+    /// Where the whole sums are below the other numbers, and where the two differ. The numbers are of n bits, all of
+    /// which have been compared.
     fn whole(self, lift: u64, n: usize) -> ([u64; 4], [u64; 4])
         requires few { n ≤ 64 }
         ensures less { (j x y : ℕ) → j < 256 → x < 2 ^ n → y < 2 ^ n → AreCompared x lift y n (row_in self.carry j) (row_in self.lt j) (row_in self.differ j)
@@ -110,8 +111,8 @@ impl LowBits {
     }
 }
 
-/// Plane n, counted from the lowest, of the codes of segment q. No row has a bit for which the codes are too narrow, and nothing is
-/// read for it.
+/// Plane n, counted from the lowest, of the codes of segment q. For a bit above the width of the codes all rows are 0,
+/// and nothing is read.
 #[inline(always)]
 fn low_plane<S: Source<[u64; 4]>>(source: &mut S, k: usize, q: usize, n: usize) -> [u64; 4]
     requires narrow { k ≤ 64 }
@@ -129,8 +130,8 @@ fn low_plane<S: Source<[u64; 4]>>(source: &mut S, k: usize, q: usize, n: usize) 
     }
 }
 
-/// The planes of bits n to n + 3, counted from the lowest, of the codes of segment q. Planes are quickest read from the highest
-/// down, so four of them are read so and handed on the other way round.
+/// The planes of bits n to n + 3, counted from the lowest, of the codes of segment q. Planes are read fastest from the
+/// highest down, so four are read in that order and returned in the opposite one.
 #[inline(always)]
 fn low_planes<S: Source<[u64; 4]>>(
     source: &mut S,
@@ -204,8 +205,8 @@ fn compare_lifted<A: Source<[u64; 4]>, B: Source<[u64; 4]>>(
     low.whole(lift, 4 * groups)
 }
 
-/// The rows of segment q whose first sum is below the second one, and those where the sums differ. To one of the two columns
-/// nothing is added, so that its planes are compared as they are.
+/// The rows of segment q whose first sum is below the second one, and those where the sums differ. One of the two
+/// columns has nothing added, so its planes are compared as they are.
 fn compare_sums<A: Source<[u64; 4]>, B: Source<[u64; 4]>>(
     a: &mut A,
     width: usize,
@@ -239,7 +240,8 @@ fn compare_sums<A: Source<[u64; 4]>, B: Source<[u64; 4]>>(
     }
 }
 
-/// The needed rows that compare so, by those whose first sum is below the second one, and those where the sums differ.
+/// The needed rows that satisfy the comparison, by those whose first sum is below the second one, and those where the
+/// sums differ.
 fn chosen_of_sums(op: CmpOp, need: &[u64; 4], lt: &[u64; 4], differ: &[u64; 4]) -> [u64; 4]
     ensures { (j : ℕ) → j < 256 → row_in result j ≡ by_masks op (row_in need.now j) (row_in need.now j && row_in lt.now j) (row_in need.now j && not (row_in differ.now j)) }
 {
@@ -247,8 +249,8 @@ fn chosen_of_sums(op: CmpOp, need: &[u64; 4], lt: &[u64; 4], differ: &[u64; 4]) 
 }
 
 /// Compares the values of two columns of kind OFFSET over their planes: `out` becomes the needed rows where the first
-/// base plus the first code compares so with the second base plus the second code. Where a row is needed, each unit of
-/// both is read once, and else none. Unit q * width + i is plane i of segment q.
+/// base plus the first code compares as `op` says with the second base plus the second code. If any row is needed, each
+/// unit of both is read once, else none. Unit q * width + i is plane i of segment q.
 pub fn add_from<A: Source<[u64; 4]>, B: Source<[u64; 4]>>(
     a: &mut A,
     left: Offset,

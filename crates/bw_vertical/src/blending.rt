@@ -1,9 +1,9 @@
-//! Some rows of a word of each plane put anew.
+//! Overwriting some rows of a word of each plane.
 
 ghost use Rattle.std.specs.Prelude.{[], length, slice_index, slice_index_or, vec_capacity, vec_len, ℕ, ◌*◌, ◌+◌, ◌-◌, ◌/◌, ◌%◌, ◌<◌, ◌^◌, ◌≡◌, ◌≢◌, ◌≤◌, ◌⊎◌};
 ghost use Rattle.bw_vertical.specs.Storage.{HasSegment, KeepsSizes, blended, groups_of, lists, planes_in, word_of};
 
-/// These rows of a lane of m planes side by side become those of the words from `top` downwards.
+/// The chosen rows of a lane of m adjacent planes become those of the words from `top` downwards.
 fn blend_in_group(
     group: &mut Vec<[u64; 4]>,
     from: usize,
@@ -31,7 +31,7 @@ fn blend_in_group(
     }
 }
 
-/// These rows of word w of the planes of group g, of which there are m, become those of the word of the plane's bit.
+/// The chosen rows of word w of the m planes of group g become those of the word for the plane's bit.
 fn blend_group(
     groups: &mut Vec<Vec<[u64; 4]>>,
     k: usize,
@@ -56,7 +56,7 @@ fn blend_group(
     blend_in_group(group, w / 4 * m, m, w % 4, words, k - 1 - 4 * g, rows);
 }
 
-/// These rows of word w of each plane become those of the word of the plane's bit.
+/// The chosen rows of word w of each plane become those of the word for the plane's bit.
 pub(crate) fn blend_words(
     groups: &mut Vec<Vec<[u64; 4]>>,
     k: usize,
@@ -73,7 +73,7 @@ pub(crate) fn blend_words(
     ensures put { (i : ℕ) → i < k → word_of k (lists groups.new.items) i w ≡ blended rows (slice_index words.now (k - 1 - i)) (word_of k (lists groups.old.items) i w) }
     ensures other { (i v : ℕ) → i < k → v ≢ w → word_of k (lists groups.new.items) i v ≡ word_of k (lists groups.old.items) i v }
 {
-    // Most groups are whole, and quicker where their size is known.
+    // Most groups have four planes, and are handled faster where their size is known.
     'whole: for g in 0..k / 4 {
         blend_group(groups, k, g, 4, w, words, rows);
     }

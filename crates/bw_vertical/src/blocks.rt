@@ -1,4 +1,4 @@
-//! Codes of the rows of a word, all at once.
+//! Reading and writing the codes of all rows of a word at once.
 
 ghost use Rattle.std.specs.Prelude.{All, [], cond, false, length, slice_index, slice_index_or, vec_len, ℕ, ◌%◌, ◌*◌, ◌+◌, ◌-◌, ◌/◌, ◌<◌, ◌^◌, ◌≡◌, ◌≤◌};
 ghost use Rattle.bw_mask.specs.Masks.{bit_of};
@@ -7,7 +7,7 @@ ghost use Rattle.bw_vertical.specs.Storage.{HasSegment, KeepsSizes, code_of, gro
 use crate::bytes::{codes_of_words, halves_of_words, put_codes};
 use crate::storage::{add_words, take_planes};
 
-/// The codes of rows 64 w to 64 w + 63, of at most 32 bits.
+/// The codes, of at most 32 bits, of rows 64 w to 64 w + 63.
 fn block_at(groups: &[Vec<[u64; 4]>], k: usize, w: usize) -> [u32; 64]
     requires narrow { k ≤ 32 }
     requires small { w < 2 ^ 32 }
@@ -20,7 +20,7 @@ fn block_at(groups: &[Vec<[u64; 4]>], k: usize, w: usize) -> [u32; 64]
     codes_of_words(&words, k)
 }
 
-/// The codes of rows 64 w to 64 w + 63, of more than 32 bits: the 32 lowest bits of each, and those above them.
+/// The codes, of more than 32 bits, of rows 64 w to 64 w + 63: the 32 lowest bits of each, and the bits above those.
 fn halves_at(groups: &[Vec<[u64; 4]>], k: usize, w: usize) -> ([u32; 64], [u32; 64])
     requires wide { 32 ≤ k }
     requires narrow { k ≤ 64 }
@@ -34,7 +34,7 @@ fn halves_at(groups: &[Vec<[u64; 4]>], k: usize, w: usize) -> ([u32; 64], [u32; 
     halves_of_words(&words, k)
 }
 
-/// Copies n numbers from a place of a block to a place of `out`.
+/// Copies n numbers of a block, from index `from` on, to `out`, from index `at` on.
 fn copy_run(block: &[u32], from: usize, n: usize, out: &mut [u64], at: usize)
     requires block { from + n ≤ length block.now }
     requires out { at + n ≤ length out.old }
@@ -47,7 +47,7 @@ fn copy_run(block: &[u32], from: usize, n: usize, out: &mut [u64], at: usize)
     }
 }
 
-/// Copies n numbers of 64 bits, in halves, from a place of a block to a place of `out`.
+/// Copies n 64-bit numbers, given in halves, from index `from` of a block on, to `out`, from index `at` on.
 fn copy_halves(low: &[u32], high: &[u32], from: usize, n: usize, out: &mut [u64], at: usize)
     requires low { from + n ≤ length low.now }
     requires high { from + n ≤ length high.now }
@@ -109,7 +109,7 @@ pub(crate) fn read_codes(groups: &[Vec<[u64; 4]>], k: usize, at: usize, out: &mu
     ensures long { length out.new ≡ length out.old }
     ensures codes { (i : ℕ) → i < length out.old → slice_index out.new i ≡ code_of k (lists groups.now) (at + i) }
 {
-    // A loop for each, since one that chooses at each block is slower.
+    // Two loops, since one that branches at each block is slower.
     if k <= 32 {
         read_narrow(groups, k, at, out);
     } else {
@@ -117,7 +117,7 @@ pub(crate) fn read_codes(groups: &[Vec<[u64; 4]>], k: usize, at: usize, out: &mu
     }
 }
 
-/// 32 bits of each code, from bit `down` on, go to the first n places of a block.
+/// The 32 bits of each code from bit `down` on become the first n numbers of a block.
 fn narrow(codes: &[u64], down: u32, n: usize, block: &mut [u32; 64])
     requires all { n ≡ length codes.now }
     requires few { n ≤ 64 }
@@ -130,14 +130,14 @@ fn narrow(codes: &[u64], down: u32, n: usize, block: &mut [u32; 64])
     }
 }
 
-/// 32 bits of each code, from bit `down` on, and zeros behind them.
+/// The 32 bits of each code from bit `down` on, padded with zeros.
 fn narrowed(codes: &[u64], down: u32) -> [u32; 64]
     requires few { length codes.now ≤ 64 }
     requires down { down < 64 }
     ensures { (r : ℕ) → slice_index result r ≡ slice_index codes.now r / 2 ^ down % 2 ^ 32 }
 {
     let mut block = [0; 64];
-    // Most come by whole words, and quicker where the length is known.
+    // Most calls have 64 codes, and are faster where the length is known.
     if codes.len() == 64 {
         narrow(codes, down, 64, &mut block);
     } else {
@@ -146,8 +146,8 @@ fn narrowed(codes: &[u64], down: u32) -> [u32; 64]
     block
 }
 
-/// The words of the planes of at most 32 bits: bit r of word b is bit b of code r, and not set where there is no such code. What
-/// the words from k on hold is of no account.
+/// The words of the planes of codes of at most 32 bits: bit r of word b is bit b of code r, and 0 where there is no
+/// such code. The words from k on are unspecified.
 pub fn plane_words(codes: &[u64], k: usize) -> [u64; 32]
     requires few { length codes.now ≤ 64 }
     requires narrow { k ≤ 32 }
@@ -158,7 +158,7 @@ pub fn plane_words(codes: &[u64], k: usize) -> [u64; 32]
     words
 }
 
-/// The same of at most 64 bits. Half as many words are quicker to make where they are enough.
+/// The same for codes of at most 64 bits. Where 32 words are enough, `plane_words` is faster.
 pub fn wide_plane_words(codes: &[u64], k: usize) -> [u64; 64]
     requires few { length codes.now ≤ 64 }
     requires narrow { k ≤ 64 }
@@ -172,8 +172,8 @@ pub fn wide_plane_words(codes: &[u64], k: usize) -> [u64; 64]
     words
 }
 
-/// Adds n rows from row `at` on, so few that they lie in one word, by the words of their planes: word b has bit b of each, and
-/// no bit past the rows. From `at` on no row was set.
+/// Appends n rows from row `at` on, which lie in one word, by the words of their planes: word b has bit b of each code,
+/// and no bit after the rows. Before, no row from `at` on was set.
 #[tactic(auto, using(crate::proofs::Settings::word_there))]
 pub(crate) fn put_planes(
     groups: &mut Vec<Vec<[u64; 4]>>,
@@ -197,8 +197,8 @@ pub(crate) fn put_planes(
     add_words(groups, k, at / 64, words, at % 64);
 }
 
-/// The codes of rows `at`, `at + 1`, .. become those of which these are the words of the planes, so few that they lie in one word.
-/// From `at` on no row was set. The clauses alone name the codes.
+/// The codes of rows `at`, `at + 1`, .. become those whose planes have these words. The rows lie in one word. Before,
+/// no row from `at` on was set. The codes are named only in the clauses.
 #[tactic(auto, using(crate::proofs::Settings::word_there))]
 fn put_rows(groups: &mut Vec<Vec<[u64; 4]>>, k: usize, at: usize, codes: &[u64], words: &[u64])
     requires narrow { k ≤ 64 }
@@ -217,8 +217,7 @@ fn put_rows(groups: &mut Vec<Vec<[u64; 4]>>, k: usize, at: usize, codes: &[u64],
     add_words(groups, k, at / 64, words, at % 64);
 }
 
-/// The codes of rows `at`, `at + 1`, .. become these, so few that they lie in one word. From `at` on
-/// no row was set.
+/// The codes of rows `at`, `at + 1`, .., which lie in one word, become these. Before, no row from `at` on was set.
 pub(crate) fn put_block(groups: &mut Vec<Vec<[u64; 4]>>, k: usize, at: usize, codes: &[u64])
     requires narrow { k ≤ 64 }
     requires small { at < 2 ^ 32 }

@@ -1,7 +1,7 @@
-//! Codes of 64 rows and the words of their planes. Word b holds bit b of each code.
+//! Converting between the codes of 64 rows and the words of their planes. Word b holds bit b of each code.
 //!
-//! Between them stand the bytes of the codes, 64 at once: four times as many rows of bytes lie in a
-//! vector as of whole codes.
+//! The intermediate form is the bytes of the codes, 64 at once: a vector holds bytes of four times as many rows as
+//! whole codes.
 
 ghost use Rattle.std.specs.Prelude.{[], cond, false, length, not, slice_index, slice_index_or, true, ℕ, ◌%◌, ◌*◌, ◌+◌, ◌-◌, ◌/◌, ◌<◌, ◌^◌, ◌≡◌, ◌≤◌};
 ghost use Rattle.bw_mask.specs.Masks.{bit_of};
@@ -21,7 +21,7 @@ fn byte_of_each(codes: &[u32; 64], j: usize) -> [u8; 64]
     bytes
 }
 
-/// Bit r says whether byte r has bit i.
+/// Bit r says whether byte r has bit i set.
 fn rows_with_bit(bytes: &[u8; 64], i: u32) -> u64
     requires { i < 8 }
     ensures { (r : ℕ) → r < 64 → bit_of result r ≡ bit_of (slice_index bytes.now r) i }
@@ -31,7 +31,7 @@ fn rows_with_bit(bytes: &[u8; 64], i: u32) -> u64
         .to_bitmask()
 }
 
-/// The words of the eight planes of these bytes go to the words from `at` on.
+/// The words from `at` on become those of the eight planes of these bytes.
 fn put_words(words: &mut [u64], at: usize, bytes: &[u8; 64])
     requires room { at + 8 ≤ length words.old }
     ensures long { length words.new ≡ length words.old }
@@ -56,8 +56,8 @@ pub(crate) fn put_codes(codes: &[u32; 64], k: usize, words: &mut [u64], at: usiz
     }
 }
 
-/// The bits of `low` that the mask leaves out change places with the bits of `high` that stand s
-/// places lower, which the mask chooses.
+/// Exchanges the bits of `low` that the mask leaves out with the bits of `high` that are s positions lower, which the
+/// mask selects.
 fn exchanged(low: u64, high: u64, s: u32, mask: u64) -> (u64, u64)
     requires { Exchanges s mask }
     ensures low { (r : ℕ) → r < 64 → bit_of result.0 r ≡ cond (bit_of mask r) (bit_of low r) (bit_of high (r - s)) }
@@ -67,9 +67,8 @@ fn exchanged(low: u64, high: u64, s: u32, mask: u64) -> (u64, u64)
     (low ^ differ << s, high ^ differ)
 }
 
-/// Bits of the first four words change places with bits of the next four, and then the words are
-/// laid in turn: the first, the fifth, the second, .. So one bit of the word's number becomes one of
-/// the place in the word, and the other way round.
+/// Exchanges bits of the first four words with bits of the next four, and then interleaves the words: the first, the
+/// fifth, the second, .. This swaps one bit of the index of the word with one bit of the index in the word.
 fn exchange(words: &[u64], s: u32, mask: u64) -> [u64; 8]
     requires long { 8 ≤ length words.now }
     requires mask { Exchanges s mask }
@@ -84,13 +83,13 @@ fn exchange(words: &[u64], s: u32, mask: u64) -> [u64; 8]
     next
 }
 
-/// Eight rows in each word, a byte for each: bit t of a row is its bit of word t.
+/// Eight rows in each word, one byte for each row: bit t of it is the row's bit of word t.
 fn by_rows(words: &[u64]) -> [u64; 8]
     requires { 8 ≤ length words.now }
     ensures { (q r : ℕ) → q < 8 → r < 64 → bit_of (slice_index result q) r ≡ bit_of (slice_index words.now (r % 8)) (8 * q + r / 8) }
 {
-    // The three bits of a row's place in its byte change places with those of the word's number, and
-    // then with those of the byte's number.
+    // The three bits of a row's index in its byte are exchanged with those of the word's index, and then with those of
+    // the byte's index.
     let words = exchange(words, 4, 0x0f0f_0f0f_0f0f_0f0f);
     let words = exchange(&words, 2, 0x3333_3333_3333_3333);
     let words = exchange(&words, 1, 0x5555_5555_5555_5555);
@@ -99,7 +98,7 @@ fn by_rows(words: &[u64]) -> [u64; 8]
     exchange(&words, 8, 0x00ff_00ff_00ff_00ff)
 }
 
-/// The bytes of eight words, the lowest of each first.
+/// The bytes of eight words, the lowest byte of each word first.
 fn bytes_in(words: &[u64]) -> u8x64
     requires { 8 ≤ length words.now }
     ensures { (q i : ℕ) → q < 8 → i < 8 → slice_index result (8 * q + i) ≡ slice_index words.now q / (2 ^ 8) ^ i % 2 ^ 8 }
@@ -107,7 +106,7 @@ fn bytes_in(words: &[u64]) -> u8x64
     u64x8::from_slice(words).to_le_bytes()
 }
 
-/// A byte for each row: bit t of it is the row's bit of word t.
+/// One byte for each row: bit t of it is the row's bit of word t.
 fn bytes_of_words(words: &[u64]) -> [u8; 64]
     requires { 8 ≤ length words.now }
     ensures bits { (r t : ℕ) → r < 64 → t < 8 → bit_of (slice_index result r) t ≡ bit_of (slice_index words.now t) r }
@@ -116,7 +115,7 @@ fn bytes_of_words(words: &[u64]) -> [u8; 64]
     bytes_in(&by_rows(words)).to_array()
 }
 
-/// Numbers of one byte.
+/// The bytes as 32-bit numbers.
 fn widened(bytes: &[u8; 64]) -> [u32; 64]
     ensures { (r : ℕ) → r < 64 → slice_index result r ≡ slice_index bytes.now r }
 {
@@ -127,7 +126,7 @@ fn widened(bytes: &[u8; 64]) -> [u32; 64]
     numbers
 }
 
-/// Numbers of two bytes.
+/// Numbers made of two bytes each.
 fn pairs(low: &[u8; 64], high: &[u8; 64]) -> [u16; 64]
     ensures { (r : ℕ) → r < 64 → slice_index result r ≡ slice_index low.now r + 2 ^ 8 * slice_index high.now r }
 {
@@ -138,7 +137,7 @@ fn pairs(low: &[u8; 64], high: &[u8; 64]) -> [u16; 64]
     numbers
 }
 
-/// Numbers of four bytes, the lowest first.
+/// Numbers made of four bytes each, the lowest first.
 fn joined(bytes: &[[u8; 64]; 4]) -> [u32; 64]
     ensures { (r : ℕ) → r < 64 → slice_index result r
         ≡ slice_index (slice_index_or bytes.now 0 []) r + 2 ^ 8 * slice_index (slice_index_or bytes.now 1 []) r
@@ -153,7 +152,7 @@ fn joined(bytes: &[[u8; 64]; 4]) -> [u32; 64]
     numbers
 }
 
-/// The codes of at most 8 bits of which these are the words.
+/// The codes of at most 8 bits whose planes have these words.
 fn codes_of_byte(words: &[u64; 32]) -> [u32; 64]
     requires { (b : ℕ) → 8 ≤ b → b < 32 → slice_index words.now b ≡ 0 }
     ensures bits { (r b : ℕ) → r < 64 → b < 32 → bit_of (slice_index result r) b ≡ bit_of (slice_index words.now b) r }
@@ -162,7 +161,7 @@ fn codes_of_byte(words: &[u64; 32]) -> [u32; 64]
     widened(&bytes_of_words(words))
 }
 
-/// The codes of k bits of which these are the words. They are quicker to turn where their number is known.
+/// The codes of k bits whose planes have these words. The conversion is faster where the number of bytes is known.
 pub fn codes_of_words(words: &[u64; 32], k: usize) -> [u32; 64]
     requires narrow { k ≤ 32 }
     requires rest { (b : ℕ) → k ≤ b → b < 32 → slice_index words.now b ≡ 0 }
@@ -179,7 +178,8 @@ pub fn codes_of_words(words: &[u64; 32], k: usize) -> [u32; 64]
     joined(&bytes)
 }
 
-/// The codes of k bits of which these are the words, in halves: the 32 lowest bits of each code, and those above them.
+/// The codes of k bits whose planes have these words, in halves: the 32 lowest bits of each code, and the bits above
+/// those.
 pub fn halves_of_words(words: &[u64; 64], k: usize) -> ([u32; 64], [u32; 64])
     requires wide { 32 ≤ k }
     requires narrow { k ≤ 64 }

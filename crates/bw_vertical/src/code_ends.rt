@@ -1,19 +1,19 @@
-//! What is known of codes: the least and the greatest of them.
+//! The least and the greatest of some codes.
 
 ghost use Rattle.std.specs.Prelude.{Bool, false, ℕ, ◌+◌, ◌<◌, ◌≡◌};
 ghost use Rattle.bw_vertical.specs.Descents.{AreCodeEnds};
 
-/// What is known of some codes.
+/// The least and the greatest of some codes.
 #[derive(Clone, Copy)]
 pub struct CodeEnds {
-    /// Whether there is any.
+    /// Whether there is any code.
     pub any: bool,
     pub least: u64,
     pub greatest: u64,
 }
 
 impl CodeEnds {
-    /// Of no codes.
+    /// The ends of no codes.
     pub fn none() -> CodeEnds
         ensures { (has : ℕ → Bool) (code : ℕ → ℕ) (n : ℕ) → ((i : ℕ) → i < n → has i ≡ false) → AreCodeEnds has code n result }
     {
@@ -24,7 +24,7 @@ impl CodeEnds {
         }
     }
 
-    /// Of these codes, and of those of the rows behind theirs.
+    /// The ends of these codes and of those of the rows after theirs.
     pub fn with(self, more: CodeEnds) -> CodeEnds
         ensures { (has f : ℕ → Bool) (code g : ℕ → ℕ) (n m : ℕ) → ((r : ℕ) → r < m → has (n + r) ≡ f r) → ((r : ℕ) → r < m → code (n + r) ≡ g r)
             → AreCodeEnds has code n self → AreCodeEnds f g m more → AreCodeEnds has code (n + m) result }

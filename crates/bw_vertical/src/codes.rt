@@ -1,4 +1,4 @@
-//! Single codes in planes.
+//! Reading and writing single codes in planes.
 
 ghost use Rattle.std.specs.Prelude.{length, vec_len, ℕ, ◌-◌, ◌/◌, ◌<◌, ◌^◌, ◌≡◌, ◌≢◌, ◌≤◌};
 ghost use Rattle.bw_mask.specs.Masks.{SameShape, bit_of, len as mask_len, row_at};
@@ -24,7 +24,7 @@ pub(crate) fn code_at(groups: &[Vec<[u64; 4]>], k: usize, j: usize) -> u64
     code
 }
 
-/// The word with bit r put so.
+/// The word with bit r set to `bit`.
 fn with_bit(word: u64, r: usize, bit: bool) -> u64
     requires { r < 64 }
     ensures same { bit_of result r ≡ bit }
@@ -51,7 +51,7 @@ pub(crate) fn put_code(groups: &mut Vec<Vec<[u64; 4]>>, k: usize, j: usize, code
     }
 }
 
-/// `out` becomes the rows whose code has bit i. Bit 0 is the lowest.
+/// `out` becomes the rows whose code has bit i set. Bit 0 is the lowest.
 pub(crate) fn put_plane(groups: &[Vec<[u64; 4]>], k: usize, i: usize, len: usize, out: &mut Mask)
     requires planes { AreGroups k (lists groups.now) len }
     requires bit { i < k }

@@ -23,8 +23,8 @@ use bw_mask::Mask;
 use std::alloc::{AllocError, Global};
 use std::marker::Model;
 
-/// Codes of at most 64 bits as planes, each of one bit of every code (BitWeaving/V: Li and Patel,
-/// SIGMOD 2013). Plane 0 holds the highest bits.
+/// Codes of at most 64 bits as planes, each of which holds one bit of every code (BitWeaving/V: Li and Patel, SIGMOD
+/// 2013). Plane 0 holds the highest bits.
 #[derive(Drop)]
 pub struct VerticalColumn {
     width: u32,
@@ -44,9 +44,9 @@ impl Model for VerticalColumn {
 }
 
 impl VerticalColumn {
-    /// Group g: planes 4 g to 4 g + 3, as far as there are such planes. Of m planes in the group,
-    /// plane 4 g + i of segment q is at q * m + i. A segment is 256 rows; row j of it is bit j % 64 of
-    /// word j / 64. Rows past the last are not set.
+    /// Group g: planes 4 g to 4 g + 3, as far as they exist. With m planes in the group, plane 4 g + i of segment q is
+    /// at index q * m + i. A segment is 256 rows; row j of it is bit j % 64 of word j / 64. Bits past the last row are
+    /// 0.
     #[tactic(auto, using(crate::proofs::Holding::codes_len))]
     pub fn group(&self, g: usize) -> &[[u64; 4]]
         requires { g < groups_of self.now.width }
@@ -74,7 +74,7 @@ impl VerticalColumn {
         PlaneSource::new(&self.groups, self.width, self.len)
     }
 
-    /// Word b becomes that of bit b of the codes of rows 64 w to 64 w + 63. Rows past the last have code 0. The words from the
+    /// Word b becomes bit b of the codes of rows 64 w to 64 w + 63. Rows past the last have code 0. The words from the
     /// width on stay.
     #[tactic(auto, using(crate::proofs::Holding::codes_len))]
     pub fn read_words(&self, w: usize, words: &mut [u64; 64])
@@ -84,8 +84,8 @@ impl VerticalColumn {
         take_planes(&self.groups, self.width as usize, w, words);
     }
 
-    /// Adds n rows at the end, within the room, so few that they lie in one word, by the words of their planes: word b has bit
-    /// b of each code, and no bit past the rows.
+    /// Appends n rows, which lie in one word, within the room, by the words of their planes: word b has bit b of each
+    /// code, and no bit after the rows.
     #[tactic(auto, using(crate::proofs::Holding::codes_len))]
     pub fn extend_words(&mut self, words: &[u64; 64], n: usize)
         requires some { 0 < n }
@@ -102,8 +102,8 @@ impl VerticalColumn {
         self.len += n;
     }
 
-    /// Puts codes at some of n rows from row `at` on, which is the first of a word's: at row at + i, where bit i of the word is
-    /// set, the code of which word b has bit b.
+    /// Writes codes to some of n rows from row `at` on, the first row of a word: row at + i, where bit i of `rows` is
+    /// set, takes the code of which word b has bit b.
     #[tactic(auto, using(crate::proofs::Holding::codes_len))]
     pub fn put_words(&mut self, at: usize, n: usize, rows: u64, words: &[u64; 64])
         requires word { at % 64 ≡ 0 }
@@ -118,8 +118,7 @@ impl VerticalColumn {
         }
     }
 
-    /// Counts the code of each of the rows from another base. Each of them then is a code of the column's width, too. Takes no
-    /// memory.
+    /// Rebases the code of each of the rows. Each rebased code fits the column's width, too. Takes no memory.
     pub fn shift(&mut self, rows: &Mask, from: i64, to: i64)
         requires rows { len rows.now ≡ count self.old }
         requires fit { (i : ℕ) → i < count self.old → StaysBelow (2 ^ self.old.width) (shifted (from -ℤ to) (row_at rows.now i) (code_at self.old i)) }
@@ -131,7 +130,7 @@ impl VerticalColumn {
         shift_codes(&mut self.groups, k, self.len, rows, word_between(from, to));
     }
 
-    /// Adds codes at the end, within the room, so few that their rows lie in one word.
+    /// Appends codes, whose rows lie in one word, within the room.
     #[tactic(auto, using(crate::proofs::Holding::codes_len))]
     fn append(&mut self, codes: &[u64])
         requires some { 0 < length codes.now }

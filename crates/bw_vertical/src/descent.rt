@@ -1,4 +1,4 @@
-//! The least and the greatest code of 64 rows, by a descent over the words of their planes.
+//! The least and the greatest code of 64 rows, found by a descent over the words of their planes.
 
 ghost use Rattle.std.specs.Prelude.{Bool, cond, false, true, ℕ, ◌*◌, ◌+◌, ◌<◌, ◌^◌, ◌≡◌, ◌≤◌};
 ghost use Rattle.bw_mask.specs.Masks.{bit_of};
@@ -15,7 +15,7 @@ struct Reached {
 }
 
 impl Reached {
-    /// The least with one plane more, of which these are the bits.
+    /// The least with one more plane, whose bits are `plane`.
     fn less(self, plane: u64) -> Reached
         requires { self.number < 2 ^ 63 }
         ensures least { (has : ℕ → Bool) (code next : ℕ → ℕ) → ((r : ℕ) → has r ≡ true → next r ≡ cond (bit_of plane r) 1 0 + 2 * code r) → IsLeastSoFar has code self → IsLeastSoFar has next result }
@@ -35,7 +35,7 @@ impl Reached {
         }
     }
 
-    /// The greatest with one plane more, of which these are the bits.
+    /// The greatest with one more plane, whose bits are `plane`.
     fn greater(self, plane: u64) -> Reached
         requires { self.number < 2 ^ 63 }
         ensures greatest { (has : ℕ → Bool) (code next : ℕ → ℕ) → ((r : ℕ) → has r ≡ true → next r ≡ cond (bit_of plane r) 1 0 + 2 * code r) → IsGreatestSoFar has code self → IsGreatestSoFar has next result }
@@ -56,7 +56,8 @@ impl Reached {
     }
 }
 
-/// What is known of the numbers of k bits of those of so many rows that are there. Word b has bit b of each.
+/// The ends of the k-bit numbers of those of the first `count` rows whose bit in `there` is set. Word b has bit b of
+/// each.
 pub fn word_ends(words: &[u64; 64], k: usize, count: usize, there: u64) -> CodeEnds
     requires narrow { k ≤ 64 }
     requires few { count ≤ 64 }

@@ -1,4 +1,4 @@
-//! More planes behind the others.
+//! Appending planes.
 
 ghost use Rattle.std.specs.Prelude.{[], IfOk, OnOk, length, slice_index, slice_index_or, vec_capacity, vec_len, ℕ, ◌*◌, ◌+◌, ◌/◌, ◌<◌, ◌^◌, ◌≡◌, ◌≤◌};
 ghost use Rattle.bw_vertical.specs.Storage.{AreGroups, capacities, groups_of, lists, planes_in, room_of, word_of};
@@ -6,7 +6,7 @@ ghost use Rattle.bw_vertical.specs.Storage.{AreGroups, capacities, groups_of, li
 use crate::storage::planes_in;
 use std::alloc::{AllocError, Global};
 
-/// So many groups without planes.
+/// `count` groups without planes.
 #[tactic(auto, using(crate::proofs::Growth::empty_more))]
 pub(crate) fn empty_groups(alloc: Global, count: usize) -> Result<Vec<Vec<[u64; 4]>>, AllocError>
     ensures count { IfOk result (λ groups. vec_len groups ≡ count) }
@@ -19,7 +19,7 @@ pub(crate) fn empty_groups(alloc: Global, count: usize) -> Result<Vec<Vec<[u64; 
     Ok(groups)
 }
 
-/// Makes room for the planes of so many segments more.
+/// Makes room for the planes of `more` further segments.
 pub(crate) fn reserve_segments(
     groups: &mut Vec<Vec<[u64; 4]>>,
     k: usize,
@@ -42,7 +42,7 @@ pub(crate) fn reserve_segments(
     Ok(())
 }
 
-/// Puts so many planes behind the others, within the capacity. None of their rows is set.
+/// Appends m planes, within the capacity. None of their rows is set.
 fn push_planes(group: &mut Vec<[u64; 4]>, m: usize)
     requires small { m ≤ 4 }
     requires room { vec_len group.old + m ≤ vec_capacity group.old }
@@ -56,7 +56,7 @@ fn push_planes(group: &mut Vec<[u64; 4]>, m: usize)
     };
 }
 
-/// Puts a segment behind the others, within the capacity. None of its rows is set.
+/// Appends a segment, within the capacity. None of its rows is set.
 pub(crate) fn push_segment(groups: &mut Vec<Vec<[u64; 4]>>, k: usize)
     requires narrow { k ≤ 64 }
     requires count { vec_len groups.old ≡ groups_of k }
@@ -73,8 +73,7 @@ pub(crate) fn push_segment(groups: &mut Vec<Vec<[u64; 4]>>, k: usize)
     }
 }
 
-/// Puts a segment behind the others, within the room, where the row behind `len` rows begins one.
-/// None of its rows is set.
+/// Appends a segment, within the room, if the row after the first `len` rows begins one. None of its rows is set.
 pub(crate) fn begin_segment(groups: &mut Vec<Vec<[u64; 4]>>, k: usize, len: usize)
     requires planes { AreGroups k (lists groups.old.items) len }
     requires room { len < room_of k (capacities groups.old.items) }

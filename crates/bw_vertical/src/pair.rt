@@ -1,4 +1,4 @@
-//! Scans of two columns of planes side by side, from the highest planes down, as far as a needed row is equal in both
+//! Scans of two columns of planes side by side, from the highest planes down, as long as a needed row is equal in both
 //! (BitWeaving/V: Li and Patel, SIGMOD 2013).
 
 ghost use Rattle.std.specs.Prelude.{[], if◌then◌else◌, length, nat_lt, not, true, slice_index_or, ℕ, ◌&&◌, ◌*◌, ◌+◌, ◌<◌, ◌==◌, ◌^◌, ◌||◌, ◌≡◌, ◌≤◌};
@@ -13,9 +13,9 @@ use bw_code::{CmpOp, Source};
 use bw_lane::plane_pair_step;
 use bw_mask::Mask;
 
-/// Compares the rows of segment q of two columns by plane i more, below those that were compared. `lt` are the rows where
-/// the first is below the second so far, and `eq` those where they are equal so far.
-// As with scans of one column, a call left in place would keep both masks in memory.
+/// Compares the rows of segment q of two columns by plane i, the next lower one. `lt` are the rows where the first is
+/// below the second so far, and `eq` those where they are equal so far.
+// As for scans of one column: if not inlined, each call would keep both masks in memory.
 #[inline(always)]
 fn compare_planes<A: Source<[u64; 4]>, B: Source<[u64; 4]>>(
     a: &mut A,
@@ -87,7 +87,7 @@ fn compare<A: Source<[u64; 4]>, B: Source<[u64; 4]>>(
     (lt, eq)
 }
 
-/// The needed rows of segment q whose codes compare so.
+/// The needed rows of segment q whose codes satisfy the comparison.
 fn segment<A: Source<[u64; 4]>, B: Source<[u64; 4]>>(
     a: &mut A,
     b: &mut B,
@@ -119,10 +119,10 @@ fn segment<A: Source<[u64; 4]>, B: Source<[u64; 4]>>(
     chosen(op, need, &lt, &eq)
 }
 
-/// Scans planes of two columns of codes of `width` bits side by side: `out` becomes the needed rows whose codes compare so,
-/// that of `a` on the left, and of the units of each so many are read as `side_units` says: none of a segment of 256 rows
-/// in which no row is needed, and of each other one as many groups of four planes as it takes until no needed row is left
-/// whose codes might be equal. Unit q * width + i is plane i of segment q.
+/// Scans planes of two columns of codes of `width` bits side by side: `out` becomes the needed rows whose codes satisfy
+/// the comparison, that of `a` on the left. The number of units read of each is `side_units`: none of a segment of 256
+/// rows in which no row is needed, and of each other segment as many groups of four planes as it takes until no needed
+/// row is left whose codes might be equal. Unit q * width + i is plane i of segment q.
 pub fn pair_from<A: Source<[u64; 4]>, B: Source<[u64; 4]>>(
     a: &mut A,
     b: &mut B,

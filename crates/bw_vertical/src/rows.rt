@@ -7,14 +7,14 @@ ghost use Rattle.bw_code.specs.Units.{some_below};
 use bw_mask::Mask;
 use std::simd::prelude::*;
 
-/// Word i, and 0 past the last.
+/// Word i; 0 past the last.
 fn word_at(words: &[u64], i: usize) -> u64
     ensures { result ≡ slice_index words.now i }
 {
     if i < words.len() { words[i] } else { 0 }
 }
 
-/// Rows 256 q to 256 q + 255. Four words that are there are taken by one load.
+/// Rows 256 q to 256 q + 255. Where all four words exist, they are read by one load.
 pub(crate) fn lanes_at(words: &[u64], q: usize) -> [u64; 4]
     requires { q < 2 ^ 32 }
     ensures { (j : ℕ) → j < 256 → row_in result j ≡ row_in words.now (256 * q + j) }
@@ -31,7 +31,7 @@ pub(crate) fn lanes_at(words: &[u64], q: usize) -> [u64; 4]
     }
 }
 
-/// Rows 256 q to 256 q + 255 become these, as far as there are such rows.
+/// Rows 256 q to 256 q + 255 become these, as far as they exist.
 pub(crate) fn put_lanes(out: &mut Mask, q: usize, lanes: &[u64; 4])
     requires { q < 2 ^ 32 }
     ensures shape { SameShape out.new out.old }
@@ -48,21 +48,21 @@ pub(crate) fn is_empty(lanes: &[u64]) -> bool
     lanes[0] | lanes[1] | lanes[2] | lanes[3] == 0
 }
 
-/// The rows of either.
+/// The rows that are in either.
 pub(crate) fn either(a: &[u64; 4], b: &[u64; 4]) -> [u64; 4]
     ensures { (j : ℕ) → j < 256 → row_in result j ≡ (row_in a.now j || row_in b.now j) }
 {
     (u64x4::from_array(*a) | u64x4::from_array(*b)).to_array()
 }
 
-/// The rows of both.
+/// The rows that are in both.
 pub(crate) fn both(a: &[u64; 4], b: &[u64; 4]) -> [u64; 4]
     ensures { (j : ℕ) → j < 256 → row_in result j ≡ (row_in a.now j && row_in b.now j) }
 {
     (u64x4::from_array(*a) & u64x4::from_array(*b)).to_array()
 }
 
-/// The rows of one of the two alone.
+/// The rows that are in exactly one of the two.
 pub(crate) fn differing(a: &[u64; 4], b: &[u64; 4]) -> [u64; 4]
     ensures { (j : ℕ) → j < 256 → row_in result j ≡ not (if row_in a.now j then row_in b.now j else not (row_in b.now j)) }
 {

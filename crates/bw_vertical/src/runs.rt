@@ -1,4 +1,4 @@
-//! Codes put at some rows of a word, all at once.
+//! Writing codes to some rows of a word, all at once.
 
 ghost use Rattle.std.specs.Prelude.{[], if◌then◌else◌, length, slice_index, slice_index_or, true, vec_len, ℕ, ◌%◌, ◌*◌, ◌+◌, ◌-◌, ◌/◌, ◌<◌, ◌^◌, ◌≡◌, ◌≢◌, ◌≤◌};
 ghost use Rattle.bw_mask.specs.Masks.{bit_of};
@@ -8,7 +8,8 @@ use crate::blending::blend_words;
 use crate::blocks::{plane_words, wide_plane_words};
 use crate::shifting::rows_where;
 
-/// The codes of these rows of word w become those of which these are the words of the planes. The clauses alone name the codes.
+/// The codes of these rows of word w become those whose planes have these words. The codes are named only in the
+/// clauses.
 fn put_words(
     groups: &mut Vec<Vec<[u64; 4]>>,
     k: usize,
@@ -31,7 +32,7 @@ fn put_words(
     blend_words(groups, k, w, words, rows);
 }
 
-/// The codes of these rows of word w become those that stand at their places.
+/// In word w, row r takes code r where bit r of `rows` is set.
 pub(crate) fn put_chosen(
     groups: &mut Vec<Vec<[u64; 4]>>,
     k: usize,
@@ -56,8 +57,8 @@ pub(crate) fn put_chosen(
     }
 }
 
-/// The words of the planes of k bits at these rows, where each of them has the same code. What the words from k on hold is of no
-/// account.
+/// The words of the planes of k bits at these rows, where each of them has the same code. The words from k on are
+/// unspecified.
 fn equal_words(rows: u64, code: u64, k: usize) -> [u64; 64]
     requires narrow { k ≤ 64 }
     ensures { (b r : ℕ) → b < k → r < 64 → bit_of rows r ≡ true → bit_of (slice_index result b) r ≡ bit_of code b }

@@ -1,4 +1,5 @@
-//! Scans of planes from the highest down, as far as a needed row is left (BitWeaving/V: Li and Patel, SIGMOD 2013).
+//! Scans of planes from the highest down, as long as a needed row is undecided (BitWeaving/V: Li and Patel, SIGMOD
+//! 2013).
 
 ghost use Rattle.std.specs.Prelude.{[], if◌then◌else◌, length, max, nat_le, nat_lt, not, true, slice_index_or, ℕ, ◌%◌, ◌&&◌, ◌*◌, ◌+◌, ◌-◌, ◌<◌, ◌==◌, ◌^◌, ◌||◌, ◌≡◌, ◌≤◌};
 ghost use Rattle.bw_mask.specs.Masks.{SameShape, bit_of, len, row_at, row_in};
@@ -12,7 +13,7 @@ use bw_code::{CmpOp, CodeTest, Source};
 use bw_lane::plane_step;
 use bw_mask::Mask;
 
-/// The needed rows that compare so, by those that are below and those that are equal.
+/// The needed rows that satisfy the comparison, by those that are below and those that are equal.
 pub(crate) fn chosen(op: CmpOp, need: &[u64; 4], lt: &[u64; 4], eq: &[u64; 4]) -> [u64; 4]
     ensures { (j : ℕ) → j < 256 → row_in result j ≡ by_masks op (row_in need.now j) (row_in lt.now j) (row_in eq.now j) }
 {
@@ -26,10 +27,9 @@ pub(crate) fn chosen(op: CmpOp, need: &[u64; 4], lt: &[u64; 4], eq: &[u64; 4]) -
     }
 }
 
-/// Compares the rows of segment q with a constant by plane i more, below those that were compared. `lt` are the rows below
-/// the constant so far, and `eq` those that are equal to it so far. The constant's bit is bit `at` of the bits, and the plane
-/// is unit `unit`.
-// A scan calls it for each plane, and a call left in place would keep both masks in memory.
+/// Compares the rows of segment q with a constant by plane i, the next lower one. `lt` are the rows below the constant
+/// so far, and `eq` those equal to it so far. The constant's bit is bit `at` of the bits, and the plane is unit `unit`.
+// A scan calls it for each plane: if not inlined, each call would keep both masks in memory.
 #[inline(always)]
 fn compare_plane<S: Source<[u64; 4]>>(
     source: &mut S,
@@ -79,7 +79,7 @@ fn compare<S: Source<[u64; 4]>>(
 {
     let (mut lt, mut eq) = ([0; 4], *need);
     for g in 0..k / 4 {
-        // The four bits of a group are taken by one shift.
+        // One shift yields the four bits of a group.
         let bits = constant >> (k - 4 - 4 * g);
         let unit = q * k + 4 * g;
         compare_plane(source, k, q, 4 * g, unit, bits, 3, &mut lt, &mut eq);
@@ -113,8 +113,9 @@ struct Side {
     eq: [u64; 4],
 }
 
-/// Compares the rows of segment q with both ends of a range by plane i more, which is unit `unit`. The ends' bits are bits `at`.
-// As for `compare_plane`: a call left in place would keep the four masks in memory.
+/// Compares the rows of segment q with both ends of a range by plane i, the next lower one, which is unit `unit`. The
+/// bits of the ends are bits `at`.
+// As for `compare_plane`: if not inlined, each call would keep the four masks in memory.
 #[inline(always)]
 fn between_plane<S: Source<[u64; 4]>>(
     source: &mut S,
@@ -146,14 +147,14 @@ fn between_plane<S: Source<[u64; 4]>>(
     plane_step(&mut high.lt, &mut high.eq, &plane, ends.1 >> at & 1 == 1);
 }
 
-/// The rows that are not below the low end, and below the high end or equal to it.
+/// The rows that are not below the low end, and are below or equal to the high end.
 fn inside(below: &[u64; 4], high: &Side) -> [u64; 4]
     ensures { (j : ℕ) → j < 256 → row_in result j ≡ ((row_in high.now.lt j || row_in high.now.eq j) && not (row_in below.now j)) }
 {
     without(&either(&high.lt, &high.eq), below)
 }
 
-/// The needed rows of segment q that are within the two constants, both in.
+/// The needed rows of segment q that lie between the two constants, both inclusive.
 fn between<S: Source<[u64; 4]>>(
     source: &mut S,
     k: usize,
@@ -241,8 +242,8 @@ fn segment<S: Source<[u64; 4]>>(
     }
 }
 
-/// Scans planes: `out` becomes the needed rows whose code meets the test, and of the units so many
-/// are read as `scan_units` says. Unit q * width + i is plane i of segment q.
+/// Scans planes: `out` becomes the needed rows whose code meets the test. The number of units read is `scan_units`.
+/// Unit q * width + i is plane i of segment q.
 pub fn scan_from<S: Source<[u64; 4]>>(
     source: &mut S,
     width: u32,

@@ -1,5 +1,4 @@
-//! Codes counted from another base where they lie: a constant is added to those of some rows, plane by plane from the
-//! lowest up.
+//! Rebasing codes in place: a constant is added to those of some rows, plane by plane from the lowest up.
 
 ghost use Rattle.std.specs.Int.{bit_at};
 ghost use Rattle.std.specs.Prelude.{if◌then◌else◌, slice_index, vec_len, ℕ, ◌%◌, ◌*◌, ◌+◌, ◌-◌, ◌/◌, ◌<◌, ◌^◌, ◌≡◌, ◌≢◌, ◌≤◌};
@@ -10,8 +9,8 @@ ghost use Rattle.bw_vertical.specs.Storage.{AreGroups, HasSegment, KeepsSizes, c
 use crate::storage::{put_word, word_at};
 use bw_mask::Mask;
 
-/// Adds two bits in each of 64 rows, and what is carried from the plane below: the bits of the sums, and what is
-/// carried to the plane above.
+/// Adds two bits and the carry from the plane below in each of 64 rows: returns the bits of the sums, and the carry to
+/// the plane above.
 fn add_bits(a: u64, b: u64, carry: u64) -> (u64, u64)
     ensures { (r : ℕ) → r < 64 → bit_at result.0 r + 2 * bit_at result.1 r ≡ bit_at a r + bit_at b r + bit_at carry r }
 {
@@ -19,7 +18,7 @@ fn add_bits(a: u64, b: u64, carry: u64) -> (u64, u64)
     (either ^ carry, a & b | either & carry)
 }
 
-/// The rows, if bit n of the number is set, and else none.
+/// The rows if bit n of the number is set, else none.
 pub(crate) fn rows_where(rows: u64, number: u64, n: usize) -> u64
     requires { n < 64 }
     ensures { (r : ℕ) → r < 64 → bit_at result r ≡ bit_at (if bit_of rows r then number else 0) n }
@@ -27,7 +26,7 @@ pub(crate) fn rows_where(rows: u64, number: u64, n: usize) -> u64
     if number >> n & 1 == 1 { rows } else { 0 }
 }
 
-/// Adds so much to the codes of these rows of word w, modulo 2^k.
+/// Adds `by` to the codes of these rows of word w, modulo 2^k.
 pub(crate) fn shift_word(groups: &mut Vec<Vec<[u64; 4]>>, k: usize, w: usize, rows: u64, by: u64)
     requires narrow { k ≤ 64 }
     requires small { w < 2 ^ 32 }
@@ -48,8 +47,8 @@ pub(crate) fn shift_word(groups: &mut Vec<Vec<[u64; 4]>>, k: usize, w: usize, ro
     }
 }
 
-/// Words of which word b holds bit b of a number below 2^`own` in each of 64 rows come to hold the k lowest bits of it, once so
-/// much is added in these rows.
+/// Word b holds bit b of a number below 2^`own` in each of 64 rows. Afterwards the words hold the k lowest bits of the
+/// numbers, with `by` added in these rows. What words from `k` on hold afterwards is not told.
 pub fn shift_words(words: &mut [u64; 64], own: usize, k: usize, rows: u64, by: u64)
     requires narrow { k ≤ 64 }
     ensures { (b r : ℕ) → b < k → r < 64 → bit_of (slice_index words.new b) r ≡ bit_of (code_by own words.old r + (if bit_of rows r then by else 0)) b }
@@ -63,7 +62,7 @@ pub fn shift_words(words: &mut [u64; 64], own: usize, k: usize, rows: u64, by: u
     }
 }
 
-/// Adds so much to the code of each of the rows, modulo 2^k.
+/// Adds `by` to the code of each of the rows, modulo 2^k.
 pub(crate) fn shift_codes(
     groups: &mut Vec<Vec<[u64; 4]>>,
     k: usize,

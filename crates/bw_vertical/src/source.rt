@@ -7,7 +7,8 @@ use crate::storage::planes_in;
 use bw_code::Source;
 use std::marker::Model;
 
-/// The segment of unit i and its first unit, by those of another unit: of the same segment without a division.
+/// The segment of unit i and the first unit of that segment, given those of another unit; within the same segment
+/// without a division.
 fn place(segment: usize, start: usize, k: usize, i: usize) -> (usize, usize)
     requires some { 0 < k }
     requires start { start ≡ segment * k }
@@ -21,8 +22,8 @@ fn place(segment: usize, start: usize, k: usize, i: usize) -> (usize, usize)
     }
 }
 
-/// Where a source stands: a segment and its first unit, how many of its planes are in the groups that were not taken from, those
-/// groups, and what is left of the last one that was taken from, from unit `next` on.
+/// The position of a source: a segment and its first unit, how many of its planes are in groups that were not read from
+/// yet, those groups, and the rest of the group that was read from last, from unit `next` on.
 #[derive(Clone, Copy)]
 struct Standing<'a> {
     segment: usize,
@@ -33,7 +34,7 @@ struct Standing<'a> {
     next: usize,
 }
 
-/// In front of the next group of the segment, which begins with unit i.
+/// The position before the next group of the segment, which begins with unit i.
 fn next_group<'a>(
     groups: &'a [Vec<[u64; 4]>],
     k: usize,
@@ -64,7 +65,7 @@ fn next_group<'a>(
     }
 }
 
-/// In front of group g of a segment.
+/// The position before group g of a segment.
 fn at_group<'a>(
     groups: &'a [Vec<[u64; 4]>],
     k: usize,
@@ -94,7 +95,7 @@ fn at_group<'a>(
     next_group(groups, k, from, next)
 }
 
-/// In front of unit i, which may be any, by a segment and its first unit.
+/// The position before unit i, which may be any, given its segment and the segment's first unit.
 #[inline(always)]
 fn jumped<'a>(
     groups: &'a [Vec<[u64; 4]>],
@@ -122,7 +123,8 @@ fn jumped<'a>(
     }
 }
 
-/// In front of unit i, the first one behind what was taken: that of the next group of the segment, or of the next segment.
+/// The position before unit i, the first one after those read: the first unit of the next group of the segment, or of
+/// the next segment.
 #[inline(always)]
 fn stepped<'a>(groups: &'a [Vec<[u64; 4]>], k: usize, from: Standing<'a>, i: usize) -> Standing<'a>
     requires some { 0 < k }
@@ -143,7 +145,8 @@ fn stepped<'a>(groups: &'a [Vec<[u64; 4]>], k: usize, from: Standing<'a>, i: usi
     at_group(groups, k, from.segment + 1, i, 0)
 }
 
-/// In front of unit i, which may be any. The first of the next segment, and those of this one, are found without a division.
+/// The position before unit i, which may be any. The first unit of the next segment, and units of this one, are found
+/// without a division.
 #[inline(always)]
 fn moved<'a>(groups: &'a [Vec<[u64; 4]>], k: usize, from: Standing<'a>, i: usize) -> Standing<'a>
     requires some { 0 < k }
@@ -162,8 +165,8 @@ fn moved<'a>(groups: &'a [Vec<[u64; 4]>], k: usize, from: Standing<'a>, i: usize
     jumped(groups, k, from.segment, from.start, i)
 }
 
-/// The planes of a column, read one at a time: unit q * width + i is plane i of segment q. What is left of the group read from
-/// last is kept, so that a read of the next unit need only see whether a plane is left.
+/// The planes of a column, read one at a time: unit q * width + i is plane i of segment q. The rest of the group that
+/// was read from last is kept, so that a read of the next unit need only check whether a plane is left.
 #[derive(Drop)]
 pub struct PlaneSource<'a> {
     groups: &'a [Vec<[u64; 4]>],
@@ -185,7 +188,7 @@ impl<'a> Model for PlaneSource<'a> {
 }
 
 impl<'a> PlaneSource<'a> {
-    /// The planes of so many rows, none of them read yet.
+    /// The planes of `len` rows, none of them read yet.
     pub(crate) fn new(groups: &'a [Vec<[u64; 4]>], width: u32, len: usize) -> PlaneSource<'a>
         requires { AreGroups width (lists groups.now) len }
         ensures units { result.units ≡ units_of width (lists groups.now) len }
@@ -213,11 +216,11 @@ impl<'a> Source<[u64; 4]> for PlaneSource<'a> {
 
     ghost reads = { λ s. s.reads };
 
-    // A call left in place would keep the source in memory.
+    // If not inlined, each call would keep the source in memory.
     #[inline(always)]
     fn read(&mut self, i: usize) -> [u64; 4] {
         self.reads += 1;
-        // Where units are read in turn, that i is the next one is known, and only the second test is left.
+        // Where units are read in order, i is known to be the next one, and only the second test is left.
         let mut at = self.standing;
         if i != at.next {
             at = moved(self.groups, self.width, at, i);

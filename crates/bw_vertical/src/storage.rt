@@ -38,7 +38,7 @@ pub(crate) fn word_at(groups: &[Vec<[u64; 4]>], k: usize, i: usize, w: usize) ->
     plane_at(groups, k, w / 4, i)[w % 4]
 }
 
-/// Lane `lane` of the plane at this place becomes the word.
+/// Lane `lane` of the plane at this index becomes the word.
 fn put_in_group(group: &mut Vec<[u64; 4]>, at: usize, lane: usize, word: u64)
     requires plane { at < vec_len group.old }
     requires lane { lane < 4 }
@@ -68,7 +68,7 @@ pub(crate) fn put_word(groups: &mut Vec<Vec<[u64; 4]>>, k: usize, i: usize, w: u
     put_in_group(group, w / 4 * m + i % 4, w % 4, word);
 }
 
-/// A lane of m planes side by side goes to the words from `top` downwards.
+/// A lane of m adjacent planes is copied to the words from `top` downwards.
 fn take_words(group: &[[u64; 4]], from: usize, m: usize, lane: usize, words: &mut [u64], top: usize)
     requires planes { from + m ≤ length group.now }
     requires lane { lane < 4 }
@@ -83,7 +83,7 @@ fn take_words(group: &[[u64; 4]], from: usize, m: usize, lane: usize, words: &mu
     }
 }
 
-/// Word w of the planes of group g, of which there are m: word b becomes that of the plane of bit b.
+/// Word w of the m planes of group g: word b becomes that of the plane of bit b.
 fn take_group(groups: &[Vec<[u64; 4]>], k: usize, g: usize, m: usize, w: usize, words: &mut [u64])
     requires narrow { k ≤ 64 }
     requires small { w < 2 ^ 32 }
@@ -110,7 +110,7 @@ pub(crate) fn take_planes(groups: &[Vec<[u64; 4]>], k: usize, w: usize, words: &
     ensures planes { (i : ℕ) → i < k → slice_index words.new (k - 1 - i) ≡ word_of k (lists groups.now) i w }
     ensures rest { (b : ℕ) → k ≤ b → slice_index words.new b ≡ slice_index words.old b }
 {
-    // Most groups are whole, and quicker where their size is known.
+    // Most groups have four planes, and are handled faster where their size is known.
     'whole: for g in 0..k / 4 {
         take_group(groups, k, g, 4, w, words);
     }
@@ -119,8 +119,7 @@ pub(crate) fn take_planes(groups: &[Vec<[u64; 4]>], k: usize, w: usize, words: &
     }
 }
 
-/// Rows are added to a lane of m planes side by side: those of the words from `top` downwards, moved
-/// up by so many.
+/// Adds rows to a lane of m adjacent planes: those of the words from `top` downwards, shifted left.
 fn add_to_group(
     group: &mut Vec<[u64; 4]>,
     from: usize,
@@ -149,8 +148,7 @@ fn add_to_group(
     }
 }
 
-/// Rows are added to word w of the planes of group g, of which there are m: those of the plane's bit,
-/// moved up by so many.
+/// Adds rows to word w of the m planes of group g: those of the word for the plane's bit, shifted left.
 fn add_group(
     groups: &mut Vec<Vec<[u64; 4]>>,
     k: usize,
@@ -176,7 +174,7 @@ fn add_group(
     add_to_group(group, w / 4 * m, m, w % 4, words, k - 1 - 4 * g, up);
 }
 
-/// Rows are added to word w of each plane: those of the plane's bit, moved up by so many.
+/// Adds rows to word w of each plane: those of the word for the plane's bit, shifted left.
 pub(crate) fn add_words(
     groups: &mut Vec<Vec<[u64; 4]>>,
     k: usize,

@@ -1,5 +1,5 @@
-//! Encodings and tests on codes: the worked tables of dictionaries and offsets, the ends of i64, and each call that may
-//! want memory, seen answering.
+//! Encodings and tests on codes: the worked tables of dictionaries and offsets, the ends of i64, and a successful run
+//! of each call that may run out of memory.
 
 use crate::seen::{see, see_at};
 use bw_code::CmpOp::{Eq, Ge, Gt, Le, Lt, Ne};
@@ -12,7 +12,7 @@ const ALL: CodeTest = CodeTest::All;
 
 const OPERATORS: [CmpOp; 6] = [Eq, Ne, Lt, Le, Gt, Ge];
 
-/// Values, and the entries and the bits of their dictionary. Five places need three bits, and four need two.
+/// Values, and the entries and the width of their dictionary. Five entries need three bits, and four need two.
 const DICTIONARIES: [(&[i64], &[i64], u32); 5] = [
     (&[5, 4, 1, 4], &[1, 4, 5], 2),
     (&[], &[], 1),
@@ -21,7 +21,7 @@ const DICTIONARIES: [(&[i64], &[i64], u32); 5] = [
     (&[1, 2, 3, 9], &[1, 2, 3, 9], 2),
 ];
 
-/// Values, and the base and the bits of their offset.
+/// Values, and the base and the width of their offset.
 const OFFSETS: [(&[i64], i64, u32); 5] = [
     (&[3, 1, 2], 1, 2),
     (&[], 0, 1),
@@ -30,7 +30,7 @@ const OFFSETS: [(&[i64], i64, u32); 5] = [
     (&[i64::MAX - 2, i64::MAX], i64::MAX - 2, 2),
 ];
 
-/// An operator, and its test against 0, 1, 2, 4, 5 and 6 by the dictionary of 1, 4, 5.
+/// An operator, and its test against 0, 1, 2, 4, 5 and 6 in the dictionary of 1, 4, 5.
 const DICTIONARY_TESTS: [(CmpOp, [CodeTest; 6]); 6] = [
     (
         Eq,
@@ -100,7 +100,7 @@ const DICTIONARY_TESTS: [(CmpOp, [CodeTest; 6]); 6] = [
     ),
 ];
 
-/// A low and a high end, and their test by the dictionary of 1, 4, 5.
+/// A low and a high end, and their test in the dictionary of 1, 4, 5.
 const DICTIONARY_RANGES: [(i64, i64, CodeTest); 7] = [
     (2, 4, CodeTest::Range(1, 1)),
     (0, 4, CodeTest::Range(0, 1)),
@@ -111,7 +111,7 @@ const DICTIONARY_RANGES: [(i64, i64, CodeTest); 7] = [
     (5, 1, NONE),
 ];
 
-/// An operator, and its test against 0, 1, 4 and 5 by the offset of base 1 and width 2, whose top is 4.
+/// An operator, and its test against 0, 1, 4 and 5 in the offset of base 1 and width 2, whose top is 4.
 const OFFSET_TESTS: [(CmpOp, [CodeTest; 4]); 6] = [
     (Eq, [NONE, CodeTest::Cmp(Eq, 0), CodeTest::Cmp(Eq, 3), NONE]),
     (Ne, [ALL, CodeTest::Cmp(Ne, 0), CodeTest::Cmp(Ne, 3), ALL]),
@@ -121,7 +121,7 @@ const OFFSET_TESTS: [(CmpOp, [CodeTest; 4]); 6] = [
     (Ge, [ALL, CodeTest::Cmp(Ge, 0), CodeTest::Cmp(Ge, 3), NONE]),
 ];
 
-/// A low and a high end, and their test by the offset of base 1 and width 2.
+/// A low and a high end, and their test in the offset of base 1 and width 2.
 const OFFSET_RANGES: [(i64, i64, CodeTest); 8] = [
     (1, 3, CodeTest::Range(0, 2)),
     (2, 9, CodeTest::Range(1, 3)),
@@ -133,7 +133,7 @@ const OFFSET_RANGES: [(i64, i64, CodeTest); 8] = [
     (4, 4, CodeTest::Range(3, 3)),
 ];
 
-/// An operator, and its test by a dictionary of nothing.
+/// An operator, and its test in an empty dictionary.
 const EMPTY_TESTS: [(CmpOp, CodeTest); 6] = [
     (Eq, NONE),
     (Ne, ALL),
@@ -150,7 +150,7 @@ fn fitted<R: Abort + AllocGlobal>(rt: &R, values: &[i64], kind: Kind) -> Encodin
     fit(rt.alloc(), values, kind).expect(rt, "memory")
 }
 
-/// The value that the code of a value stands for.
+/// The value that the code of a value decodes to.
 fn back(encoding: &Encoding, x: i64) -> Option<i64> {
     match encoding.encode(x) {
         Some(code) => Some(encoding.decode(code)),
@@ -158,7 +158,7 @@ fn back(encoding: &Encoding, x: i64) -> Option<i64> {
     }
 }
 
-/// A dictionary's entries, or none by an offset.
+/// A dictionary's entries; `None` for an offset.
 fn entries_of(encoding: &Encoding) -> Option<&[i64]> {
     match encoding {
         Encoding::Offset(_) => None,
@@ -174,7 +174,7 @@ fn span_of(encoding: &Encoding) -> Option<(i64, u32)> {
     }
 }
 
-/// Sees the entries and the bits of the dictionary that fits these values.
+/// Checks the entries and the width of the dictionary that fits these values.
 fn check_dictionary<R: Abort + AllocGlobal>(rt: &R, values: &[i64], entries: &[i64], bits: u32) {
     let dictionary = fitted(rt, values, Kind::Dictionary);
     assert_eq!(rt; entries_of(&dictionary), Some(entries));
@@ -185,7 +185,7 @@ fn check_dictionary<R: Abort + AllocGlobal>(rt: &R, values: &[i64], entries: &[i
     );
 }
 
-/// Sees the base and the bits of the offset that fits these values.
+/// Checks the base and the width of the offset that fits these values.
 fn check_offset<R: Abort + AllocGlobal>(rt: &R, values: &[i64], base: i64, bits: u32) {
     let offset = fitted(rt, values, Kind::Offset);
     see(rt, span_of(&offset), Some((base, bits)));
@@ -206,14 +206,14 @@ fn bases_and_bits_of_offsets(rt: HostRuntime) {
     }
 }
 
-/// Sees the codes of these values, each by itself, where it has one.
+/// Checks the codes of these values, one by one, where they have one.
 fn check_encode<R: Abort>(rt: &R, encoding: &Encoding, wants: &[(i64, Option<u64>)]) {
     for (x, want) in wants {
         see_at(rt, *x, encoding.encode(*x), *want);
     }
 }
 
-/// Sees that the tests of one operator against these constants are these.
+/// Checks the tests of one operator against these constants.
 fn check_tests<R: Abort>(
     rt: &R,
     encoding: &Encoding,
@@ -226,7 +226,7 @@ fn check_tests<R: Abort>(
     }
 }
 
-/// Sees that the tests for these ranges are these.
+/// Checks the tests for these ranges.
 fn check_ranges<R: Abort>(rt: &R, encoding: &Encoding, wants: &[(i64, i64, CodeTest)]) {
     for (low, high, want) in wants {
         see_at(rt, (*low, *high), encoding.range(*low, *high), *want);
@@ -285,7 +285,7 @@ fn tests_by_a_dictionary_of_no_values(rt: HostRuntime) {
     check_ranges(&rt, &dictionary, &[(0, 9, NONE)]);
 }
 
-/// The offset that reaches from one end of i64 to the other.
+/// The offset that spans all of i64.
 fn whole<R: Abort + AllocGlobal>(rt: &R) -> Encoding {
     fitted(rt, &[i64::MAX, i64::MIN], Kind::Offset)
 }
@@ -325,7 +325,7 @@ fn the_greatest_i64_by_a_top_above_it(rt: HostRuntime) {
     }
 }
 
-/// Sees what the codes of both ends of i64 stand for: of the greatest for itself, and of the least for this.
+/// Checks what the codes of both ends of i64 decode to: that of the greatest to itself, and that of the least to this.
 fn check_ends<R: Abort>(rt: &R, encoding: &Encoding, least: Option<i64>) {
     see(rt, back(encoding, i64::MIN), least);
     see(rt, back(encoding, i64::MAX), Some(i64::MAX));
@@ -339,7 +339,7 @@ fn the_ends_of_i64_there_and_back(rt: HostRuntime) {
     check_ends(&rt, &both, Some(i64::MIN));
 }
 
-/// Sees that the codes of these values by an encoding that fits them are these, of this many bits.
+/// Checks the codes of these values, of this width, in an encoding that fits them.
 fn check_codes<R: Abort + AllocGlobal>(rt: &R, kind: Kind, wants: [u64; 4], bits: u32) {
     let encoding = fitted(rt, &MANY_VALUES, kind);
     let mut codes = [0; 4];

@@ -1,5 +1,5 @@
-//! Worked examples as tests of masks and codes: truth tables, encodings, columns and the units of scans, and each call that
-//! may run out of memory, seen answering.
+//! Worked examples as tests of masks and codes: truth tables, encodings, columns and the units of scans, and a
+//! successful run of each call that may run out of memory.
 #![tactic(auto)]
 
 #[cfg(test)]

@@ -1,4 +1,4 @@
-//! Masks and truths: the truth tables of SQL-92, and each call that may run out of memory, seen answering.
+//! Masks and truths: the truth tables of SQL-92, and a successful run of each call that may run out of memory.
 
 ghost use Rattle.std.specs.Prelude.{◌≡◌};
 ghost use Rattle.bw_mask.specs.Masks.{len};
@@ -28,18 +28,18 @@ const TESTS: [(TruthValue, TruthValue, bool, bool, bool); 3] = [
     (Unknown, Unknown, false, false, true),
 ];
 
-/// So many rows of one truth.
+/// The given number of rows with one truth.
 fn rows_of<R: Abort + AllocGlobal>(rt: &R, truth: TruthValue) -> Truth {
     Truth::filled(rt.alloc(), 70, truth).expect(rt, "memory")
 }
 
-/// So many rows, all in or all out.
+/// The given number of rows, all set or all clear.
 fn mask_of<R: Abort + AllocGlobal>(rt: &R, rows: usize, bit: bool) -> Mask {
     assert!(rt; rows < 1000);
     Mask::filled(rt.alloc(), rows, bit).expect(rt, "memory")
 }
 
-/// The truth at a row, where there is such a row.
+/// The truth at a row, if the row exists.
 fn at_row(truths: &Truth, row: usize) -> Option<TruthValue> {
     if row < truths.len() {
         Some(truths.get(row))
@@ -48,7 +48,7 @@ fn at_row(truths: &Truth, row: usize) -> Option<TruthValue> {
     }
 }
 
-/// What is made of two truths or of two masks.
+/// The operations on two truths or two masks.
 #[derive(Clone, Copy)]
 enum Pairing {
     And,
@@ -77,7 +77,7 @@ fn of_rows<R: Abort + AllocGlobal>(
     at_row(&truths, 69)
 }
 
-/// IS FALSE, or where negated IS NOT FALSE, at a row of 70, where the first alone is needed.
+/// IS FALSE, or where negated IS NOT FALSE, at a row of 70, where only the first is needed.
 fn is_false_of_rows<R: Abort + AllocGlobal>(
     rt: &R,
     truth: TruthValue,
@@ -209,7 +209,7 @@ fn four_rows<R: Abort + AllocGlobal>(rt: &R, bits: u64) -> Mask
     copy
 }
 
-/// What is made of two masks of four rows.
+/// The result of an operation on two masks of four rows.
 fn of_masks<R: Abort + AllocGlobal>(rt: &R, pairing: Pairing, left: u64, right: u64) -> u64 {
     let mut mask = four_rows(rt, left);
     let other = four_rows(rt, right);

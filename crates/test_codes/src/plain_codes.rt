@@ -1,5 +1,5 @@
-//! Plain columns of codes, by what every column of codes promises: each call seen answering, and scans compared with a plain
-//! loop, at each width.
+//! Plain columns of codes, by the contract of every column of codes: a successful run of each call, and scans compared
+//! with a plain loop, at each width.
 
 ghost use Rattle.std.specs.Prelude.{length, ◌<◌, ◌^◌, ◌≡◌, ◌≤◌};
 ghost use Rattle.bw_mask.specs.Masks.{len};
@@ -19,13 +19,13 @@ const OPERATORS: [CmpOp; 6] = [
     CmpOp::Ge,
 ];
 
-/// A code that many rows have, as far as the bits go.
+/// A code that many rows have, as far as its bits fit the width.
 const FREQUENT: u64 = 0x9c3e_71d5_0b55_aa51;
 
-/// What codes are compared with; it is cut to their width.
+/// What codes are compared with, truncated to their width.
 const CONSTANTS: [u64; 4] = [FREQUENT, 0, 1, u64::MAX];
 
-/// Other tests on codes; their ends are cut to the width of the codes.
+/// Other tests on codes, their ends truncated to the width of the codes.
 const TESTS: [CodeTest; 6] = [
     CodeTest::None,
     CodeTest::All,
@@ -35,7 +35,7 @@ const TESTS: [CodeTest; 6] = [
     CodeTest::Range(0, u64::MAX),
 ];
 
-/// Whether a code meets a test, said once more.
+/// Whether a code meets a test, defined a second time.
 fn plainly_meets(test: CodeTest, code: u64) -> bool {
     let (low, high, is_inside) = match test {
         CodeTest::None => (0, u64::MAX, false),
@@ -51,7 +51,7 @@ fn plainly_meets(test: CodeTest, code: u64) -> bool {
     (low..=high).contains(&code) == is_inside
 }
 
-/// So many of the lowest bits of a number.
+/// The `width` lowest bits of a number.
 fn cut(number: u64, width: u32) -> u64
     requires { width ≤ 64 }
     ensures { result < 2 ^ width }
@@ -63,7 +63,7 @@ fn cut(number: u64, width: u32) -> u64
     }
 }
 
-/// The code whose highest bit alone is set.
+/// The code with only its highest bit set.
 fn top_bit(width: u32) -> u64
     requires some { 1 ≤ width }
     requires narrow { width ≤ 64 }
@@ -72,7 +72,7 @@ fn top_bit(width: u32) -> u64
     cut(1 << (width - 1), width)
 }
 
-/// The test, of codes of this many bits.
+/// The test, for codes of this width.
 fn fitted(test: CodeTest, width: u32) -> CodeTest
     requires { width ≤ 64 }
     ensures { TestFits width result }
@@ -84,7 +84,7 @@ fn fitted(test: CodeTest, width: u32) -> CodeTest
     }
 }
 
-/// Codes of all sizes: the frequent one, all ones, 0, the highest bit alone, all ones but it, and more.
+/// Codes of all sizes: the frequent one, all ones, 0, only the highest bit, all ones but it, and more.
 fn code_at(width: u32, row: usize) -> u64
     requires some { 1 ≤ width }
     requires narrow { width ≤ 64 }
@@ -119,7 +119,7 @@ fn column_of<C: CodeColumn + Drop, R: Abort + AllocGlobal>(rt: &R, width: u32, r
     column
 }
 
-/// So many rows, of which each of three but one is needed.
+/// The given number of rows, of which two of three are needed.
 fn two_of_three<R: Abort + AllocGlobal>(rt: &R, rows: usize) -> Mask
     requires { rows < 1000 }
     ensures { len result ≡ rows }
@@ -131,7 +131,7 @@ fn two_of_three<R: Abort + AllocGlobal>(rt: &R, rows: usize) -> Mask
     need
 }
 
-/// The rows that a scan finds of those, in a mask in which all rows were in.
+/// The needed rows that a scan finds, into a mask in which all rows were set.
 fn scanned<C: CodeColumn + Drop, R: Abort + AllocGlobal>(rt: &R, column: &C, test: CodeTest) -> Mask
     requires few { length (C.seen column.now).codes < 1000 }
     requires test { TestFits (C.seen column.now).width test }
@@ -143,7 +143,7 @@ fn scanned<C: CodeColumn + Drop, R: Abort + AllocGlobal>(rt: &R, column: &C, tes
     out
 }
 
-/// Sees the needed rows that the scan of a column finds.
+/// Checks the needed rows that the scan of a column finds.
 fn check_scan<C: CodeColumn + Drop, R: Abort + AllocGlobal>(
     rt: &R,
     width: u32,
@@ -197,7 +197,7 @@ fn check_scans<C: CodeColumn + Drop, R: Abort + AllocGlobal>(rt: &R, width: u32,
     check_comparisons(rt, width, &column, top_bit(width));
 }
 
-/// Codes put by each call: all ones, the highest bit alone, that once more, and 0.
+/// Codes written by each call: all ones, only the highest bit, that once more, and 0.
 fn check_calls<C: CodeColumn + Drop, R: Abort + AllocGlobal>(rt: &R, width: u32)
     requires some { 1 ≤ width }
     requires narrow { width ≤ 64 }
@@ -211,7 +211,7 @@ fn check_calls<C: CodeColumn + Drop, R: Abort + AllocGlobal>(rt: &R, width: u32)
     see_four(rt, width, &column);
 }
 
-/// Sees those codes, and their highest plane.
+/// Checks those codes, and their highest plane.
 fn see_four<C: CodeColumn + Drop, R: Abort + AllocGlobal>(rt: &R, width: u32, column: &C)
     requires some { 1 ≤ width }
     requires narrow { width ≤ 64 }
@@ -261,7 +261,7 @@ fn eight<R: Abort + AllocGlobal>(rt: &R) -> PlainColumn
     column
 }
 
-/// The rows that a scan of a plain column finds, of eight needed rows but the last, and its units.
+/// The rows that a scan of a plain column finds, with all of eight rows but the last needed, and its units.
 fn found_and_units<R: Abort + AllocGlobal>(rt: &R, test: CodeTest) -> (u64, u64)
     requires { TestFits 9 test }
 {

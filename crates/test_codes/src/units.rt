@@ -1,4 +1,4 @@
-//! Units of scans by a plain program, which computes the definitions row by row.
+//! Units of scans, computed by a plain program that evaluates the definitions row by row.
 
 ghost use Rattle.std.specs.Prelude.{IfOk, length, slice_index, vec_len, if◌then◌else◌, max, ℕ, ◌*◌, ◌+◌, ◌<◌, ◌^◌, ◌≡◌, ◌≤◌};
 ghost use Rattle.bw_mask.specs.Masks.{len, row_at};
@@ -9,7 +9,7 @@ use bw_code::{CodeTest, Layout};
 use bw_mask::Mask;
 use std::alloc::{AllocError, Global};
 
-/// In how many leading digits of this many two numbers are equal.
+/// How many leading digits of two numbers are equal, of this many.
 fn agreement(base: u128, digits: u32, x: u128, y: u128) -> u64
     requires { 0 < base }
     ensures agreement { result ≡ agreement base digits x y }
@@ -81,7 +81,7 @@ fn is_needed(need: &Mask, row: usize) -> bool
     row < need.len() && need.get(row)
 }
 
-/// The agreement of a row, where it is needed.
+/// The agreement of a row, if it is needed.
 fn agreed_at(agreed: &[u64], row: usize, is_needed: bool) -> u64
     requires { length agreed.now < 2 ^ 62 }
     ensures { result ≡ (if is_needed then slice_index agreed.now row else 0) }
@@ -138,7 +138,7 @@ fn column_units(layout: Layout, width: u32, need: &Mask, agreed: &[u64]) -> u64
     units
 }
 
-/// The agreements of codes with a constant, or with either of two.
+/// The agreements of codes with a constant, or with the closer of two.
 fn agreements(
     alloc: Global,
     layout: Layout,
@@ -244,7 +244,7 @@ pub(crate) fn pair_units(
     Ok(2 * column_units(layout, width, need, &agreed))
 }
 
-/// Whether a row is needed at all.
+/// Whether any row is needed.
 fn is_some_needed(need: &Mask) -> bool
     ensures { result ≡ some_below (len need.now) (row_at need.now) }
 {

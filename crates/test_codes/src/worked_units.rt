@@ -1,4 +1,4 @@
-//! The units of the plain program, compared with worked figures.
+//! The units of the plain program, compared with worked numbers.
 
 ghost use Rattle.std.specs.Prelude.{◌≡◌};
 ghost use Rattle.bw_mask.specs.Masks.{len};
@@ -15,7 +15,7 @@ const ENDS: [u64; 33] = [
     248, 249, 250, 251, 252, 253, 254, 255, 128,
 ];
 
-/// So many rows, of which those are needed whose bits are set.
+/// The given number of rows, of which those are needed whose bits are set.
 fn needed<R: Abort + AllocGlobal>(rt: &R, rows: usize, bits: u64) -> Mask
     ensures { len result ≡ rows }
 {
@@ -40,7 +40,7 @@ fn units_of<R: Abort + AllocGlobal>(
     scan_units(rt.alloc(), layout, width, test, &need, codes).expect(rt, "memory")
 }
 
-// Segments whose first digits settle all rows stop there; those with a row that agrees farther go on.
+// Segments whose first digits decide all rows stop there; those with a row that agrees further go on.
 #[test]
 fn units_of_one_scan(rt: HostRuntime) {
     let below = CodeTest::Cmp(CmpOp::Lt, 256);
@@ -74,8 +74,8 @@ fn units_with_a_row_that_agrees_farther(rt: HostRuntime) {
 /// A test, and the planes and the slices that it reads.
 type Scan = (CodeTest, u64, u64);
 
-/// A width, the one code of a column, and scans of it. They read up to the group of four bits, or to the byte, in which the code
-/// first differs from the numbers of the test. In 33 bits all ones lie as the bytes ff ff ff ff 80.
+/// A width, the one code of a column, and scans of it. They read up to the group of four bits, or to the byte, in which
+/// the code first differs from the numbers of the test. With 33 bits all ones are stored as the bytes ff ff ff ff 80.
 const WIDE_SCANS: [(u32, u64, &[Scan]); 3] = [
     (
         40,
@@ -120,7 +120,7 @@ fn units_of_wide_scans(rt: HostRuntime) {
     }
 }
 
-// Of the codes without 128: the first 16 rows, the last 16, all but that of the code 3, all, none.
+// Of the codes without 128: the first 16 rows, the last 16, all but the row with code 3, all, none.
 #[test]
 fn units_by_needed_rows(rt: HostRuntime) {
     for (test, bits, units) in [
@@ -154,7 +154,7 @@ fn units_of_two<R: Abort + AllocGlobal>(
 /// Two codes of 40 bits.
 const WIDE: [u64; 2] = [0x96_0000_00a5, 0x90_0000_0000];
 
-/// Codes that agree with those in 21 leading bits, of which two whole bytes, and in four.
+/// Codes that agree with those in 21 leading bits, two whole bytes among them, and in four.
 const OTHERS: [u64; 2] = [0x96_0004_00a5, 0x98_0000_0000];
 
 #[test]

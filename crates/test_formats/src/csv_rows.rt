@@ -1,4 +1,4 @@
-//! Files of comma-separated values, and the rows that they spell or their first fault.
+//! Files of comma-separated values, and their rows or their first fault.
 
 use crate::seen::{see, see_at};
 use bw_code::ColumnType;
@@ -21,7 +21,7 @@ const TWO_INTEGERS: [ColumnType; 2] = [Integer, Integer];
 
 const BIGINT_AND_INTEGER: [ColumnType; 2] = [BigInt, Integer];
 
-/// Sees that the file spells this many rows, with these cells, row after row.
+/// Checks that the file contains this many rows, with these cells, row by row.
 fn see_rows<R: Abort + AllocGlobal>(
     rt: &R,
     file: &[u8],
@@ -35,7 +35,7 @@ fn see_rows<R: Abort + AllocGlobal>(
     see(rt, found.cells(), cells);
 }
 
-/// Sees that this is the fault of a file.
+/// Checks that this is the fault of a file.
 fn see_fault<R: Abort + AllocGlobal>(
     rt: &R,
     file: &[u8],
@@ -78,7 +78,7 @@ fn a_header_is_left_out(rt: HostRuntime) {
         2,
         Integers(&last_two),
     );
-    // Neither its fields nor their number are looked at.
+    // Neither its fields nor their number are checked.
     see_rows(
         &rt,
         TWO_RECORDS,
@@ -94,7 +94,7 @@ fn a_header_is_left_out(rt: HostRuntime) {
 #[test]
 fn a_header_is_a_record(rt: HostRuntime) {
     see_fault(&rt, TWO_RECORDS, &TWO_INTEGERS, Row, CsvFault::Fields(1));
-    // It is record 1 all the same.
+    // It is still record 1.
     see_fault(
         &rt,
         b"a,b\n1,x\n",
@@ -118,12 +118,13 @@ const FAULTS: [(&[u8], CsvFault); 8] = [
         CsvFault::NotInteger(3, 1),
     ),
     (b"\xEF\xBB\xBF\"7\",\r\n9\r\n+5,08\r\n", CsvFault::Fields(2)),
-    // The number of fields comes before them, an earlier record before a later one, and an earlier field before a later.
+    // The number of fields comes before them, an earlier record before a later one, and an earlier field before a later
+    // one.
     (b"1,2\nx,2,3\n", CsvFault::Fields(2)),
     (b"1,x\n1\n", CsvFault::NotInteger(1, 2)),
     (b"2147483648,x\n", CsvFault::Range),
     (b"x,2147483648\n", CsvFault::NotInteger(1, 1)),
-    // An empty line is no record, and has no number.
+    // An empty line is not a record, and has no number.
     (b"\n\n1,2\n\r\n\n1,x\n", CsvFault::NotInteger(2, 2)),
     (b"1,2\n\"\"\n", CsvFault::Fields(2)),
 ];
@@ -135,7 +136,7 @@ fn the_first_fault(rt: HostRuntime) {
     }
 }
 
-/// A byte order mark or none, and empty lines.
+/// With or without a byte order mark, and empty lines.
 const NO_ROWS: [&[u8]; 3] = [b"", b"\xEF\xBB\xBF", b"\n\r\n\n"];
 
 #[test]
@@ -150,7 +151,7 @@ fn files_without_rows(rt: HostRuntime) {
 
 #[test]
 fn marks(rt: HostRuntime) {
-    // A second mark goes with the first, and a third is text.
+    // A second mark is dropped with the first, and a third is text.
     let two_marks = b"\xEF\xBB\xBF\xEF\xBB\xBF4";
     see_rows(&rt, two_marks, &ONE_INTEGER, Row, 1, Integers(&[Some(4)]));
     let third_mark = b"\xEF\xBB\xBF\xEF\xBB\xBF\xEF\xBB\xBF4";
@@ -171,7 +172,7 @@ fn marks(rt: HostRuntime) {
     );
 }
 
-/// Files of one cell of a column of INTEGER.
+/// Files of one cell of an INTEGER column.
 const INTEGER_CELLS: [(&[u8], Option<i32>); 9] = [
     (b"nUlL", None),
     (b"\"nUlL\"", None),
@@ -202,7 +203,7 @@ fn cells_of_one_integer_column(rt: HostRuntime) {
     }
 }
 
-/// Files of one cell of a column of BIGINT.
+/// Files of one cell of a BIGINT column.
 const BIGINT_CELLS: [(&[u8], Option<i64>); 9] = [
     (b"null", None),
     (b"2147483648", Some(2_147_483_648)),
@@ -210,7 +211,7 @@ const BIGINT_CELLS: [(&[u8], Option<i64>); 9] = [
     (b"-9223372036854775808", Some(i64::MIN)),
     (b"9223372036854775807", Some(i64::MAX)),
     (b"\"+9223372036854775807\"\r\n", Some(i64::MAX)),
-    // Forty digits, of which the first are zeros.
+    // Forty digits, the first of them zeros.
     (b"-0000000000000000000009223372036854775808", Some(i64::MIN)),
     (b"0000000000000000000000000000000000000000", Some(0)),
     (b"-7", Some(-7)),
@@ -231,7 +232,7 @@ fn cells_of_one_bigint_column(rt: HostRuntime) {
     }
 }
 
-/// Files of one field that is no integer.
+/// Files of one field that is not an integer.
 const NO_INTEGERS: [&[u8]; 12] = [
     b"+", b"-", b"--1", b"+-1", b"1.0", b" 7", b"7 ", b" ", b" NULL", b"NULLS", b"+NULL", b"\xFF",
 ];
@@ -246,14 +247,14 @@ fn fields_that_are_no_integer(rt: HostRuntime) {
 
 #[test]
 fn digits_before_a_letter(rt: HostRuntime) {
-    // The digits before the last are outside both types by themselves.
+    // The digits before the last are outside both types already.
     let mut long = [b'9'; 100];
     long[99] = b'x';
     see_fault(&rt, &long, &ONE_INTEGER, Row, CsvFault::NotInteger(1, 1));
     see_fault(&rt, &long, &ONE_BIGINT, Row, CsvFault::NotInteger(1, 1));
 }
 
-/// Files of one number outside INTEGER, though BIGINT has it.
+/// Files of one number outside INTEGER, but within BIGINT.
 const OUTSIDE_INTEGER: [&[u8]; 4] = [
     b"2147483648",
     b"-2147483649",

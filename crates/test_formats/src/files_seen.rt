@@ -1,4 +1,4 @@
-//! What a table file holds, as tests see it: headers, cells, and the least and the greatest integer of each column.
+//! The content of a table file, as tests see it: headers, cells, and the least and the greatest integer of each column.
 
 ghost use Rattle.std.specs.Prelude.{length, ◌+◌, ◌≡◌, ◌≤◌};
 
@@ -17,7 +17,7 @@ pub(crate) fn check_no_table<R: Abort + AllocGlobal>(rt: &R, bytes: &[u8]) {
     );
 }
 
-// Sees that this is how a table is written, and how long it is then.
+// Checks that a table is written as these bytes, and the length of them.
 pub(crate) fn check_written<R: Abort + AllocGlobal>(rt: &R, table: &TableFile<'_>, bytes: &[u8]) {
     let written = encode(rt.alloc(), table.headers(), table.rows(), table.columns());
     see(rt, written.expect(rt, "bytes").as_slice(), bytes);
@@ -25,7 +25,7 @@ pub(crate) fn check_written<R: Abort + AllocGlobal>(rt: &R, table: &TableFile<'_
     see(rt, length, bytes.len() as u64);
 }
 
-// The table of this many rows and columns that these bytes spell.
+// The table of this many rows and columns that these bytes encode.
 pub(crate) fn table_of<'a, R: Abort + AllocGlobal>(
     rt: &R,
     bytes: &'a [u8],
@@ -40,7 +40,7 @@ pub(crate) fn table_of<'a, R: Abort + AllocGlobal>(
     table
 }
 
-// Sees that these are the cells of the column from a row on.
+// Checks that these are the cells of the column from a row on.
 fn see_run<R: Abort>(rt: &R, column: &FileColumn<'_>, at: usize, cells: &[Option<i64>])
     requires { at + length cells.now ≤ length column.now }
 {
@@ -51,7 +51,7 @@ fn see_run<R: Abort>(rt: &R, column: &FileColumn<'_>, at: usize, cells: &[Option
     see(rt, &*run, cells);
 }
 
-// Sees that these are the cells of the column, read all at once and in two runs.
+// Checks that these are the cells of the column, read all at once and in two blocks.
 fn check_cells<R: Abort>(rt: &R, column: &FileColumn<'_>, cells: &[Option<i64>]) {
     assert!(rt; column.rows() == cells.len());
     see_run(rt, column, 0, cells);
@@ -94,7 +94,7 @@ fn check_column<R: Abort>(
     check_cells(rt, column, wanted.cells);
 }
 
-// Sees that these are the headers and the cells of these columns.
+// Checks that these are the headers and the cells of these columns.
 fn check_columns<R: Abort>(
     rt: &R,
     headers: &[Header<Name>],
@@ -107,7 +107,7 @@ fn check_columns<R: Abort>(
     }
 }
 
-// Sees that a table has these columns.
+// Checks that a table has these columns.
 pub(crate) fn check_table<R: Abort>(rt: &R, table: TableFile<'_>, wanted: &[Column<'_>]) {
     let (headers, columns) = table.into_headers_and_columns();
     check_columns(rt, &headers, &columns, wanted);

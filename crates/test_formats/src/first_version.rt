@@ -1,4 +1,4 @@
-//! Table files of version 1: they still open, and are written by version 2.
+//! Table files of version 1: they can still be opened, and are written in version 2.
 
 use crate::files_seen::{check_no_table, check_table, check_written, ends_of, table_of};
 use crate::seen::{see, see_at};
@@ -31,7 +31,7 @@ const FIRST_NINE_ROWS: [u8; 100] = [
     0xff, 0xff, 0xff, 0x7f,
 ];
 
-// The example with another byte in one place.
+// The example with another byte at one index.
 fn changed(at: usize, byte: u8) -> [u8; 31] {
     let mut bytes = FIRST_EXAMPLE;
     if at < bytes.len() {
@@ -52,7 +52,7 @@ fn a_part_of_the_first_example_is_no_table(rt: HostRuntime) {
     for end in 0..31 {
         check_no_table(&rt, &FIRST_EXAMPLE[..end]);
     }
-    // Nor is the example with a byte more.
+    // Nor is the example with one more byte.
     let mut longer = [0; 32];
     longer[..31].copy_from_slice(&FIRST_EXAMPLE);
     check_no_table(&rt, &longer);
@@ -68,7 +68,7 @@ fn a_wrong_byte_of_the_first_example_is_no_table(rt: HostRuntime) {
     check_no_table(&rt, &changed(17, 0x02));
 }
 
-// Whether the bytes spell a table, which then is written by version 2 and read again as a table that is written so.
+// Whether the bytes encode a table, which then is written in version 2 and read again as the table with that encoding.
 fn opens<R: Abort + AllocGlobal>(rt: &R, bytes: &[u8]) -> bool {
     match decode(rt.alloc(), bytes) {
         Ok(table) => {
@@ -95,8 +95,9 @@ fn each_byte_in_each_place_of_the_first_example(rt: HostRuntime) {
             }
         }
     }
-    // The name can be each of 26 letters, the layout each of 4, the kind each of 2, each byte of the two numbers any, and the
-    // presence bits 05 or 07, since 0 stands where the null is. Each of the other 19 bytes can only be what it is.
+    // The name can be each of 26 letters, the layout each of 4, the kind each of 2, each byte of the two numbers any,
+    // and the presence bits 05 or 07, since the word of the null is 0. Each of the other 19 bytes can only be what it
+    // is.
     see(&rt, tables, 26 + 4 + 2 + 8 * 256 + 2 + 19);
 }
 
@@ -131,7 +132,7 @@ fn all_layouts_and_kinds_of_the_first_version(rt: HostRuntime) {
     }
 }
 
-// A table of no rows.
+// A table without rows.
 #[test]
 fn no_rows_of_the_first_version(rt: HostRuntime) {
     let bytes = [

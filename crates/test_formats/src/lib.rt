@@ -1,4 +1,4 @@
-//! Worked examples as tests of the formats in which tables and scripts come and go, and of the texts of SELECTs.
+//! Worked examples as tests of the formats of tables and scripts, and of the texts of SELECTs.
 #![tactic(auto)]
 
 #[cfg(test)]

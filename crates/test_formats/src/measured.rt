@@ -1,4 +1,4 @@
-//! How far cells lie above a base: cells in memory, and those of a table file.
+//! Distances of cells from a base: cells in memory, and those of a table file.
 
 use crate::files_seen::table_of;
 use crate::seen::see_at;
@@ -6,7 +6,7 @@ use crate::table_files::NINE_ROWS;
 use bw_cells::Measured;
 use std::process::Abort;
 
-// Sees how far each of the cells lies above the base, and which of them are integers.
+// Checks the distance of each of the cells from the base, and which of them are integers.
 fn check_distances<R: Abort, C: Measured>(
     rt: &R,
     cells: &C,
@@ -21,7 +21,7 @@ fn check_distances<R: Abort, C: Measured>(
     see_at(rt, base, &*run, distances);
 }
 
-// Those below the base lie 2^64 less above it.
+// For a cell below the base the distance wraps around: 2^64 minus the difference.
 #[test]
 fn distances_in_memory(rt: HostRuntime) {
     let cells: &[Option<i64>] = &[Some(5), None, Some(-3), Some(i64::MAX), Some(i64::MIN)];

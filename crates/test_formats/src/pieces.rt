@@ -1,4 +1,4 @@
-//! Scripts in pieces: what stands, however they are cut, and parts as long as may be.
+//! Scripts in pieces: which parts are complete, however they are split, and parts of the greatest length.
 
 ghost use Rattle.std.specs.Prelude.{length, ◌≡◌, ◌≤◌};
 ghost use Rattle.bw_split.specs.declared.progress.Stage.TheVariants as stage;
@@ -9,7 +9,7 @@ use bw_split::{LONGEST_PART, Splitter};
 use std::fmt::Debug;
 use std::process::Abort;
 
-// Scripts, and their parts by the definition: each with a `;` after it where a cut closes it, else with a `|`.
+// Scripts, and their parts by the definition: each with a `;` after it if a cut closes it, else with a `|`.
 const SCRIPTS: [(&[u8], &[u8]); 8] = [
     (b"", b""),
     (b" ;\t;; -- nothing; here", b""),
@@ -40,7 +40,7 @@ fn add<R: Abort + AllocGlobal>(
     given.push(mark).expect(rt, "memory");
 }
 
-// Feeds the bytes, and adds each part that stands.
+// Feeds the bytes, and appends each complete part.
 fn feed_all<R: Abort + AllocGlobal>(
     rt: &R,
     splitter: &mut Splitter,
@@ -104,7 +104,7 @@ fn given_singly<R: Abort + AllocGlobal>(rt: &R, script: &[u8]) -> Vec<u8> {
     given
 }
 
-// What the whole script gives at once.
+// The parts of the whole script at once.
 fn given_by_parts<R: Abort + AllocGlobal>(rt: &R, script: &[u8]) -> Vec<u8> {
     let mut given = Vec::new(rt.alloc());
     let parts = parts(rt.alloc(), script).expect(rt, "memory");
@@ -122,7 +122,7 @@ fn given_by_parts<R: Abort + AllocGlobal>(rt: &R, script: &[u8]) -> Vec<u8> {
     given
 }
 
-// Sees that this is what a script gives, cut in this way.
+// Checks that these are the parts of a script, split in this way.
 fn see_given<C: Debug + Copy, R: Abort>(rt: &R, cut: C, given: Vec<u8>, want: &[u8]) {
     see_at(rt, cut, given.as_slice() == want, true);
 }
@@ -152,7 +152,7 @@ fn goes_on<R: Abort>(rt: &R, splitter: &mut Splitter, piece: &[u8])
     }
 }
 
-// Feeds a piece of which this many bytes are taken, and where this part stands then.
+// Feeds a piece of which this many bytes are taken, and after which this part is complete.
 fn stands<R: Abort>(rt: &R, splitter: &mut Splitter, piece: &[u8], want: usize, text: &[u8])
     requires { splitter.old.stage ≡ stage.Begun }
 {

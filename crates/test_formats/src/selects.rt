@@ -1,4 +1,4 @@
-//! What a SELECT, and STATS with one, are read as; and texts near them that are no statement.
+//! How a SELECT, and STATS with one, are parsed; and similar texts that are no statement.
 
 use crate::seen::see_at;
 use bw_sql::{Select, SelectItems, SqlFault, Statement, statement};
@@ -13,7 +13,7 @@ struct Asked {
     grouping: Option<&'static str>,
 }
 
-// Texts of SELECTs, each with and without a WHERE and a GROUP BY, some with tables and columns that are called STATS.
+// Texts of SELECTs, each with and without a WHERE and a GROUP BY, some with tables and columns named STATS.
 const SELECTS: [(&str, Asked); 8] = [
     (
         "SELECT * FROM t",
@@ -151,7 +151,7 @@ fn stats_is_a_name_elsewhere(rt: HostRuntime) {
     }
 }
 
-// Texts near these that are no statement.
+// Similar texts that are no statement.
 const NOT_SPELLED: [&str; 33] = [
     "STATS",
     "STATS TABLES",

@@ -1,4 +1,4 @@
-//! Tables as the bytes of table files, version 2: examples byte by byte, and bytes that spell no table.
+//! Tables as the bytes of table files, version 2: examples byte by byte, and bytes that encode no table.
 
 ghost use Rattle.std.specs.Prelude.{All, IsTrue, List, Option, [], length, ℤ, ◌<◌, ◌≡◌, ◌∷◌};
 ghost use Rattle.std.specs.List.{AllZip};
@@ -13,7 +13,7 @@ use bw_file::{FileColumn, FileFault, decode, encode, file_length};
 use bw_sql::{Name, is_name};
 use std::process::Abort;
 
-// One column A, an INTEGER in layout V, OFFSET, of three rows: 3, NULL, -1. The codes are 4 and 0 above -1.
+// One column A, an INTEGER in layout V, OFFSET, of three rows: 3, NULL, -1. The codes, with base -1, are 4 and 0.
 pub(crate) const EXAMPLE: [u8; 32] = [
     0x42, 0x49, 0x54, 0x43, 0x4f, 0x4c, 0x02, 0x00, 0x01, 0x00, 0x03, 0x00, 0x00, 0x00, 0x01, 0x41,
     0x00, 0x01, 0x00, 0x05, 0xff, 0xff, 0xff, 0xff, 0xff, 0xff, 0xff, 0xff, 0x03, 0x01, 0x00, 0x00,
@@ -88,7 +88,7 @@ pub(crate) const NINE_ROWS_COLUMNS: [Column<'static>; 2] = [
     },
 ];
 
-// The example with another byte in one place.
+// The example with another byte at one index.
 fn changed(at: usize, byte: u8) -> [u8; 32] {
     let mut bytes = EXAMPLE;
     if at < bytes.len() {
@@ -140,7 +140,7 @@ fn a_part_of_the_example_is_no_table(rt: HostRuntime) {
     for end in 0..32 {
         check_no_table(&rt, &EXAMPLE[..end]);
     }
-    // Nor is the example with a byte more.
+    // Nor is the example with one more byte.
     let mut longer = [0; 33];
     longer[..32].copy_from_slice(&EXAMPLE);
     check_no_table(&rt, &longer);
@@ -156,11 +156,11 @@ fn a_wrong_byte_is_no_table(rt: HostRuntime) {
     check_no_table(&rt, &changed(19, 0x0d));
     // A value that is no INTEGER.
     check_no_table(&rt, &changed(27, 0x00));
-    // A plane that isn't there.
+    // A plane that doesn't exist.
     check_no_table(&rt, &changed(28, 0x04));
-    // No code has the highest bit.
+    // No code has the highest bit set.
     check_no_table(&rt, &changed(29, 0x00));
-    // A bit at a NULL.
+    // A bit set at a NULL.
     check_no_table(&rt, &changed(29, 0x03));
     // No code is 0.
     check_no_table(&rt, &changed(31, 0x04));
@@ -179,7 +179,7 @@ fn wrong_bytes_are_no_table(rt: HostRuntime) {
     check_no_table(&rt, &wider);
 }
 
-// Whether the bytes spell a table, which then is the one that is spelled so.
+// Whether the bytes encode a table, which then is the one with that encoding.
 fn spells_table<R: Abort + AllocGlobal>(rt: &R, bytes: &[u8]) -> bool {
     match decode(rt.alloc(), bytes) {
         Ok(table) => {
@@ -193,7 +193,7 @@ fn spells_table<R: Abort + AllocGlobal>(rt: &R, bytes: &[u8]) -> bool {
     }
 }
 
-// With any byte in any place, the bytes spell no table or the one that is spelled so.
+// With any byte at any index, the bytes encode no table or the one with that encoding.
 #[test]
 fn each_byte_in_each_place(rt: HostRuntime) {
     let mut tables: u32 = 0;
@@ -204,11 +204,11 @@ fn each_byte_in_each_place(rt: HostRuntime) {
             }
         }
     }
-    // There can be 3 to 8 rows: more are NULL. The name can be each of 26 letters, the type each of 2, the layout each of 4, the
-    // kind each of 2. The bits of the rows are 05, 07 with a second row of code 0, or 03 with that and no third. The three lowest
-    // bytes of the base are any, and the next has its highest bit, as an INTEGER below 0 has. The first plane has the bit of the
-    // first row or that of the third; each other plane has none or that of the first row. Each of the other 19 bytes can only be
-    // what it is.
+    // There can be 3 to 8 rows: the further ones are NULL. The name can be each of 26 letters, the type each of 2, the
+    // layout each of 4, the kind each of 2. The bits of the rows are 05, 07 with a second row of code 0, or 03 with
+    // that and no third. The three lowest bytes of the base are any, and the next has its highest bit set, as for an
+    // INTEGER below 0. The first plane has the bit of the first row or that of the third; each other plane has none or
+    // that of the first row. Each of the other 19 bytes can only be what it is.
     see(
         &rt,
         tables,
@@ -266,7 +266,7 @@ fn a_name_twice_and_a_reserved_word(rt: HostRuntime) {
     check_no_table(&rt, &bytes);
 }
 
-// Of no rows the base is 0 and the width 1.
+// Without rows the base is 0 and the width 1.
 #[test]
 fn no_rows(rt: HostRuntime) {
     let bytes = [
@@ -277,7 +277,7 @@ fn no_rows(rt: HostRuntime) {
     check_written(&rt, &table, &bytes);
 }
 
-// The widest codes: the least BIGINT, NULL, the greatest. Row 2 has all 64 bits.
+// The widest codes: the least BIGINT, NULL, the greatest. Row 2 has all 64 bits set.
 fn widest() -> [u8; 93] {
     let mut bytes = [0x04; 93];
     bytes[..14].copy_from_slice(&EXAMPLE[..14]);
@@ -304,14 +304,14 @@ fn the_widest_codes(rt: HostRuntime) {
         ends: Some((-9_223_372_036_854_775_808, 9_223_372_036_854_775_807)),
     };
     check_table(&rt, table, &[wanted]);
-    // A width of 65, with a plane more.
+    // A width of 65, with one more plane.
     let mut wider = [0x04; 94];
     wider[..93].copy_from_slice(&bytes);
     wider[28] = 0x41;
     check_no_table(&rt, &wider);
 }
 
-// Row i of a column of many rows: each third cell is null.
+// Row i of a column of many rows: every third cell is null.
 pub(crate) fn many_rows_cell(i: u32) -> Option<i64> {
     if i % 3 == 1 {
         None
@@ -320,7 +320,7 @@ pub(crate) fn many_rows_cell(i: u32) -> Option<i64> {
     }
 }
 
-// How far row i of many rows lies above the first, which has the least; 0 at a null.
+// The distance of row i of many rows from the first, which is the least; 0 for a null.
 fn many_rows_code(i: u32) -> u32
     requires { i < 2_056 }
 {
@@ -381,7 +381,7 @@ pub(crate) fn many_rows<R: Abort + AllocGlobal>(rt: &R) -> Vec<u8> {
     bytes
 }
 
-// Sees the cells of many rows in runs of seven.
+// Checks the cells of many rows in blocks of seven.
 pub(crate) fn check_many_cells<R: Abort>(rt: &R, column: &FileColumn<'_>)
     requires { length column.now ≡ 2_051 }
 {
@@ -395,8 +395,8 @@ pub(crate) fn check_many_cells<R: Abort>(rt: &R, column: &FileColumn<'_>)
     }
 }
 
-// More rows than are written in one run, the last of them not a whole byte of bits. The first row has the least, the last but
-// one the greatest: the last is null.
+// More rows than are written in one block, the last of them not a whole byte of bits. The first row is the least, the
+// last but one the greatest: the last is null.
 #[test]
 fn rows_in_runs(rt: HostRuntime) {
     let bytes = many_rows(&rt);
@@ -429,7 +429,7 @@ fn no_ends_of_nulls(rt: HostRuntime) {
     check_table(&rt, table, &[wanted]);
 }
 
-// The least is in the last of three runs of 64, the greatest in the first.
+// The least is in the last of three blocks of 64, the greatest in the first.
 #[test]
 fn ends_of_a_list(rt: HostRuntime) {
     let mut cells = [None; 130];

@@ -1,4 +1,5 @@
-//! Columns in each layout compared with plain columns of the same codes, at lengths round the seams of words and segments.
+//! Columns in each layout compared with plain columns of the same codes, at lengths around the boundaries of words and
+//! segments.
 
 ghost use Rattle.std.specs.Prelude.{length, ◌+◌, ◌<◌, ◌^◌, ◌≡◌, ◌≤◌};
 ghost use Rattle.bw_code.specs.Tests.{TestFits};
@@ -15,10 +16,10 @@ use bw_mask::Mask;
 use bw_vertical::VerticalColumn;
 use std::process::Abort;
 
-/// What codes are compared with; it is cut to their width.
+/// What codes are compared with, truncated to their width.
 const CONSTANTS: [u64; 4] = [FREQUENT, 0, 1, u64::MAX];
 
-/// Other tests on codes; their ends are cut to the width of the codes.
+/// Other tests on codes, their ends truncated to the width of the codes.
 const TESTS: [CodeTest; 6] = [
     CodeTest::None,
     CodeTest::All,
@@ -28,7 +29,7 @@ const TESTS: [CodeTest; 6] = [
     CodeTest::Range(u64::MAX, 0),
 ];
 
-/// The rows that a scan finds, into a mask in which all rows were in.
+/// The rows that a scan finds, into a mask in which all rows were set.
 fn found<C: CodeColumn, R: Abort + AllocGlobal>(rt: &R, column: &C, test: CodeTest) -> Mask
     requires test { TestFits (C.seen column.now).width test }
     requires few { length (C.seen column.now).codes ≤ 2000 }
@@ -39,7 +40,7 @@ fn found<C: CodeColumn, R: Abort + AllocGlobal>(rt: &R, column: &C, test: CodeTe
     out
 }
 
-/// A scan finds the rows that it finds of plain codes.
+/// A scan finds the same rows as in plain codes.
 fn check_scan<C: CodeColumn, R: Abort + AllocGlobal>(
     rt: &R,
     column: &C,
@@ -56,7 +57,7 @@ fn check_scan<C: CodeColumn, R: Abort + AllocGlobal>(
     see_at(rt, test, rows.words(), wanted.words());
 }
 
-/// Each comparison with a constant finds the rows that it finds of plain codes.
+/// Each comparison with a constant finds the same rows as in plain codes.
 fn check_comparisons<C: CodeColumn, R: Abort + AllocGlobal>(
     rt: &R,
     column: &C,
@@ -104,7 +105,7 @@ fn codes_from<C: CodeColumn, R: Abort + AllocGlobal>(rt: &R, column: &C, at: usi
     codes
 }
 
-/// `get` and `read` answer what plain codes answer.
+/// `get` and `read` return the same as for plain codes.
 fn check_codes<C: CodeColumn, R: Abort + AllocGlobal>(rt: &R, column: &C, plain: &PlainColumn)
     requires { length plain.now.codes ≡ length (C.seen column.now).codes }
 {
@@ -121,7 +122,7 @@ fn check_codes<C: CodeColumn, R: Abort + AllocGlobal>(rt: &R, column: &C, plain:
     );
 }
 
-/// The rows with a bit, into a mask in which all rows were in.
+/// The rows with a bit set, into a mask in which all rows were set.
 fn plane_of<C: CodeColumn, R: Abort + AllocGlobal>(rt: &R, column: &C, bit: u32) -> Mask
     requires bit { bit < (C.seen column.now).width }
     requires few { length (C.seen column.now).codes ≤ 2000 }
@@ -131,7 +132,7 @@ fn plane_of<C: CodeColumn, R: Abort + AllocGlobal>(rt: &R, column: &C, bit: u32)
     plane
 }
 
-/// The rows with a bit are those of plain codes.
+/// The rows with a bit set are those of plain codes.
 fn check_plane<C: CodeColumn, R: Abort + AllocGlobal>(
     rt: &R,
     column: &C,
@@ -176,7 +177,7 @@ fn change<C: CodeColumn>(column: &mut C, code: u64)
     }
 }
 
-/// One code more at the end.
+/// One more code at the end.
 fn push_last<C: CodeColumn, R: Abort>(rt: &R, column: &mut C, code: u64)
     requires fits { code < 2 ^ (C.seen column.old).width }
     requires few { length (C.seen column.old).codes ≤ 1000 }
@@ -187,7 +188,7 @@ fn push_last<C: CodeColumn, R: Abort>(rt: &R, column: &mut C, code: u64)
     column.push(code);
 }
 
-/// A column of this many codes, of which the last was put by itself, and that in the middle in place of another.
+/// A column of this many codes, the last of which was appended separately, and the middle one overwritten.
 fn changed_column<C: CodeColumn + Drop, R: Abort + AllocGlobal>(
     rt: &R,
     width: u32,
@@ -208,7 +209,7 @@ fn changed_column<C: CodeColumn + Drop, R: Abort + AllocGlobal>(
     column
 }
 
-/// Every call answers what it answers of plain codes.
+/// Every call returns the same as for plain codes.
 fn check_calls<C: CodeColumn + Drop, R: Abort + AllocGlobal>(rt: &R, width: u32, rows: usize)
     requires some { 1 ≤ width }
     requires narrow { width ≤ 64 }
@@ -251,7 +252,7 @@ fn words(rt: HostRuntime) {
     }
 }
 
-/// The greatest width is this one, as the contracts name it and as the program does.
+/// The greatest width is this one, both in the contracts and in the program.
 fn check_widest<C: CodeColumn, R: Abort>(rt: &R, widest: u32)
     requires { C.WIDEST ≡ widest }
 {

@@ -18,7 +18,7 @@ pub(crate) const OPERATORS: [CmpOp; 6] = [
     CmpOp::Ge,
 ];
 
-/// Whether two numbers compare so, in the words of the operators.
+/// Whether two numbers satisfy the comparison, by Rust's operators.
 pub(crate) fn holds(op: CmpOp, x: i128, y: i128) -> bool {
     match op {
         CmpOp::Eq => x == y,
@@ -30,10 +30,10 @@ pub(crate) fn holds(op: CmpOp, x: i128, y: i128) -> bool {
     }
 }
 
-/// A code that many rows have, as far as the bits go.
+/// A code that many rows have, as far as its bits fit the width.
 pub(crate) const FREQUENT: u64 = 0x9c3e_71d5_0b55_aa51;
 
-/// So many of the lowest bits of a number.
+/// The `width` lowest bits of a number.
 pub(crate) fn cut(number: u64, width: u32) -> u64
     requires { width ≤ 64 }
     ensures { result < 2 ^ width }
@@ -45,7 +45,7 @@ pub(crate) fn cut(number: u64, width: u32) -> u64
     }
 }
 
-/// The code whose highest bit alone is set.
+/// The code with only its highest bit set.
 pub(crate) fn top_bit(width: u32) -> u64
     requires some { 1 ≤ width }
     requires narrow { width ≤ 64 }
@@ -54,7 +54,7 @@ pub(crate) fn top_bit(width: u32) -> u64
     cut(1 << (width - 1), width)
 }
 
-/// Codes of all sizes: the frequent one, all ones, 0, the highest bit alone, all ones but it, 1, and more.
+/// Codes of all sizes: the frequent one, all ones, 0, only the highest bit, all ones but it, 1, and more.
 pub(crate) fn code_at(width: u32, row: usize) -> u64
     requires some { 1 ≤ width }
     requires narrow { width ≤ 64 }
@@ -74,8 +74,8 @@ pub(crate) fn code_at(width: u32, row: usize) -> u64
     cut(code, width)
 }
 
-/// In a row the same code as that of `code_at`, one that may differ in its lowest bit, or that of another row. In 196 rows each
-/// of the seven kinds of codes meets each.
+/// For each row the same code as that of `code_at`, one that may differ in its lowest bit, or that of another row. In
+/// 196 rows each of the seven kinds of codes meets each.
 fn other_code_at(width: u32, row: usize) -> u64
     requires some { 1 ≤ width }
     requires narrow { width ≤ 64 }
@@ -115,7 +115,7 @@ pub(crate) fn other_codes<R: Abort + AllocGlobal>(rt: &R, width: u32, rows: usiz
     codes
 }
 
-/// Adds codes at the end, in two parts.
+/// Appends codes, in two parts.
 fn extend<C: CodeColumn>(column: &mut C, codes: &[u64])
     requires fit { Fit (C.seen column.old).width codes.now }
     requires few { length (C.seen column.old).codes + length codes.now ≤ 1000 }
@@ -128,7 +128,7 @@ fn extend<C: CodeColumn>(column: &mut C, codes: &[u64])
     column.extend(rest);
 }
 
-/// A column of these codes, put in two parts.
+/// A column of these codes, appended in two parts.
 pub(crate) fn column_of<C: CodeColumn + Drop, R: Abort + AllocGlobal>(
     rt: &R,
     width: u32,
@@ -147,7 +147,7 @@ pub(crate) fn column_of<C: CodeColumn + Drop, R: Abort + AllocGlobal>(
     column
 }
 
-/// The test, of codes of this many bits.
+/// The test, for codes of this width.
 pub(crate) fn fitted(test: CodeTest, width: u32) -> CodeTest
     requires { width ≤ 64 }
     ensures { TestFits width result }
@@ -159,7 +159,7 @@ pub(crate) fn fitted(test: CodeTest, width: u32) -> CodeTest
     }
 }
 
-/// So many rows, all of them in or all out.
+/// The given number of rows, all set or all clear.
 pub(crate) fn filled<R: Abort + AllocGlobal>(rt: &R, rows: usize, bit: bool) -> Mask
     requires { rows ≤ 2000 }
     ensures { len result ≡ rows }
@@ -179,7 +179,7 @@ pub(crate) fn need_of<R: Abort + AllocGlobal>(rt: &R, rows: usize) -> Mask
     need
 }
 
-/// How many rows a segment of words has, of codes of this many bits.
+/// How many rows a segment of words has, for codes of this width.
 pub(crate) fn segment_rows(width: u32) -> usize
     requires some { 1 ≤ width }
     requires narrow { width ≤ 32 }

@@ -43,7 +43,7 @@ fn a_slice_of_bytes(rt: HostRuntime) {
     see(&rt, (lt, eq), (0x0000_ffff, 0x0001_0000));
 }
 
-// Of the first four rows the code has the bit, as the constant has.
+// The first four rows have the bit set in their code, as in the constant.
 #[test]
 fn a_plane_of_bits(rt: HostRuntime) {
     let (mut lt, mut eq) = ([0; 4], [u64::MAX; 4]);

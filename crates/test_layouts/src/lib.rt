@@ -1,4 +1,4 @@
-//! The layouts as tests: worked examples of what a column keeps and what a scan reads, and every call compared with
+//! Tests of the layouts: worked examples of what a column stores and what a scan reads, and every call compared with
 //! plain codes.
 #![tactic(auto)]
 

@@ -15,7 +15,7 @@ use bw_mask::Mask;
 use bw_vertical::VerticalColumn;
 use std::process::Abort;
 
-/// The needed rows that a scan found are those whose codes compare so.
+/// The needed rows that a scan found are those whose codes satisfy the comparison.
 fn check_found<R: Abort + AllocGlobal>(
     rt: &R,
     op: CmpOp,
@@ -34,7 +34,7 @@ fn check_found<R: Abort + AllocGlobal>(
     }
 }
 
-/// Fills `found` with the needed rows whose codes compare so, and returns how many units that read.
+/// Fills `found` with the needed rows whose codes satisfy the comparison, and returns how many units that read.
 fn units_of_scan<C: CodeColumn + Drop, R: Abort + AllocGlobal>(
     rt: &R,
     width: u32,
@@ -121,7 +121,7 @@ fn words_against_their_codes(rt: HostRuntime) {
     }
 }
 
-/// The rows where 0, 3 is below 3, 0, and the units that are read to decide.
+/// The rows where 0, 3 is below 3, 0, and the units read to decide it.
 fn units_of_two_rows<C: CodeColumn + Drop, R: Abort + AllocGlobal>(rt: &R) -> (u64, u64)
     requires { 2 ≤ C.WIDEST }
 {
@@ -131,7 +131,7 @@ fn units_of_two_rows<C: CodeColumn + Drop, R: Abort + AllocGlobal>(rt: &R) -> (u
     (found.bits(0, 2), units)
 }
 
-// Of each column two codes, two planes, the three words of a segment, or one slice.
+// For each column two codes, two planes, the three words of a segment, or one slice.
 #[test]
 fn units_of_a_pair(rt: HostRuntime) {
     let found = 0b01;
@@ -145,7 +145,7 @@ fn units_of_a_pair(rt: HostRuntime) {
     see(&rt, units_of_two_rows::<SliceColumn, _>(&rt), (found, 2));
 }
 
-/// The same of two rows of 40 bits: in the first the codes agree in their 21 highest bits, and in the second in 4.
+/// The same for two rows of 40 bits: in the first the codes agree in their 21 highest bits, and in the second in 4.
 fn units_of_two_wide_rows<C: CodeColumn + Drop, R: Abort + AllocGlobal>(rt: &R) -> (u64, u64)
     requires { 40 ≤ C.WIDEST }
 {
@@ -157,8 +157,8 @@ fn units_of_two_wide_rows<C: CodeColumn + Drop, R: Abort + AllocGlobal>(rt: &R) 
     (found.bits(0, 2), units)
 }
 
-// Of each column two codes, the first six groups of four planes, which end with the plane that settles the first row, or the
-// first three slices.
+// For each column two codes, the first six groups of four planes, which end with the plane that decides the first row,
+// or the first three slices.
 #[test]
 fn units_of_a_wide_pair(rt: HostRuntime) {
     let found = 0b11;

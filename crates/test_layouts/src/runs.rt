@@ -1,4 +1,4 @@
-//! Codes put at some of 64 rows, word by word, compared with a plain list.
+//! Codes written to some of 64 rows, word by word, compared with a plain list.
 
 ghost use Rattle.std.specs.Prelude.{length, vec_len, ◌%◌, ◌+◌, ◌<◌, ◌^◌, ◌≡◌, ◌≤◌};
 ghost use Rattle.bw_mask.specs.Masks.{len};
@@ -16,8 +16,8 @@ use std::process::Abort;
 /// Four whole words, and a part of one: 44 rows.
 const ROWS: usize = 300;
 
-/// Whether a row takes a code. Of the words one takes them in no row, one in all, one in its first and its last, and the others
-/// in some.
+/// Whether a row takes a code. One of the words takes them in no row, one in all, one in its first and its last, and
+/// the others in some.
 fn is_chosen(row: usize) -> bool {
     match row / 64 {
         0 => row % 5 == 2 || row % 7 == 1,
@@ -38,7 +38,7 @@ fn chosen_rows<R: Abort + AllocGlobal>(rt: &R) -> Mask
     chosen
 }
 
-/// Puts n codes of a list at the chosen rows, from row `at` on.
+/// Writes n codes of a list to the chosen rows, from row `at` on.
 fn put_run<C: CodeColumn>(column: &mut C, chosen: &Mask, codes: &[u64], at: usize, n: usize)
     requires word { at % 64 ≡ 0 }
     requires few { n ≤ 64 }
@@ -51,7 +51,7 @@ fn put_run<C: CodeColumn>(column: &mut C, chosen: &Mask, codes: &[u64], at: usiz
     column.put_run(at, chosen.bits(at, n), &codes[at..at + n]);
 }
 
-/// Puts one code at the chosen rows of a word.
+/// Writes one code to the chosen rows of a word.
 fn fill_run<C: CodeColumn>(column: &mut C, chosen: &Mask, at: usize, code: u64)
     requires word { at % 64 ≡ 0 }
     requires inside { at ≤ length (C.seen column.old).codes }
@@ -63,7 +63,7 @@ fn fill_run<C: CodeColumn>(column: &mut C, chosen: &Mask, at: usize, code: u64)
     column.fill_run(at, chosen.bits(at, 64), code);
 }
 
-/// Puts the codes of a list at the chosen rows, word by word.
+/// Writes the codes of a list to the chosen rows, word by word.
 fn put_chosen<C: CodeColumn>(column: &mut C, chosen: &Mask, codes: &[u64])
     requires list { length codes.now ≡ 300 }
     requires count { length (C.seen column.old).codes ≡ 300 }
@@ -77,7 +77,7 @@ fn put_chosen<C: CodeColumn>(column: &mut C, chosen: &Mask, codes: &[u64])
     put_run(column, chosen, codes, 256, 44);
 }
 
-/// Puts a code of its own at the chosen rows of each word.
+/// Writes a separate code for each word to its chosen rows.
 fn fill_chosen<C: CodeColumn>(column: &mut C, chosen: &Mask, width: u32)
     requires some { 1 ≤ width }
     requires narrow { width ≤ 64 }
@@ -139,7 +139,7 @@ fn fillings<R: Abort + AllocGlobal>(rt: &R, width: u32) -> Vec<u64>
     codes
 }
 
-/// Codes put at the chosen rows stand there, and the others stay.
+/// Codes written to the chosen rows are found there, and the others stay.
 fn check_put<C: CodeColumn + Drop, R: Abort + AllocGlobal>(rt: &R, width: u32)
     requires some { 1 ≤ width }
     requires narrow { width ≤ 64 }
@@ -157,7 +157,7 @@ fn check_put<C: CodeColumn + Drop, R: Abort + AllocGlobal>(rt: &R, width: u32)
     );
 }
 
-/// The same of one code a word.
+/// The same for one code per word.
 fn check_fill<C: CodeColumn + Drop, R: Abort + AllocGlobal>(rt: &R, width: u32)
     requires some { 1 ≤ width }
     requires narrow { width ≤ 64 }

@@ -1,4 +1,4 @@
-//! Codes counted from another base, in the columns that have such a call, against plain sums.
+//! Rebased codes, in the columns that have such a call, compared with plain sums.
 
 ghost use Rattle.std.specs.Prelude.{length, slice_index, vec_len, ℕ, ◌-ℤ◌, ◌<◌, ◌^◌, ◌↔◌, ◌≡◌, ◌≤◌};
 ghost use Rattle.bw_mask.specs.Masks.{len, row_at};
@@ -15,7 +15,7 @@ use std::process::Abort;
 // More than one segment, and rows past its last word.
 const ROWS: usize = 300;
 
-/// Bits of the codes before and after, a low and a high code, and the bases that codes are counted from before and after.
+/// Widths of the codes before and after, a low and a high code, and the bases before and after.
 const MOVES: [(u32, u32, (u64, u64), (i64, i64)); 18] = [
     (5, 5, (3, 30), (10, 9)),
     (32, 32, (1, 0xffff_ffff), (i64::MIN, i64::MIN + 1)),
@@ -57,7 +57,7 @@ const MOVES: [(u32, u32, (u64, u64), (i64, i64)); 18] = [
     (64, 64, (u64::MAX, u64::MAX), (i64::MIN, i64::MAX)),
 ];
 
-/// Codes to be moved: 0 in the rows that stay, and else a low code, a high one, or one between them.
+/// Codes to be rebased: 0 in the rows that stay, else a low code, a high one, or one between them.
 fn codes_between<R: Abort + AllocGlobal>(rt: &R, width: u32, low: u64, high: u64) -> Vec<u64>
     requires { width ≤ 64 }
     ensures count { vec_len result ≡ 300 }
@@ -76,7 +76,7 @@ fn codes_between<R: Abort + AllocGlobal>(rt: &R, width: u32, low: u64, high: u64
     list
 }
 
-/// A code counted from another base where it moves, as a plain sum.
+/// A code, rebased where it moves, as a plain sum.
 fn moved(code: u64, moves: bool, from: i64, to: i64) -> i128
     ensures { result ≡ shifted (from -ℤ to) moves code }
 {
@@ -87,7 +87,7 @@ fn moved(code: u64, moves: bool, from: i64, to: i64) -> i128
     }
 }
 
-/// Stops the test where a moved code would have more than this many bits.
+/// Stops the test where a rebased code would have more than this many bits.
 fn check_fit<R: Abort>(rt: &R, width: u32, codes: &[u64], rows: &Mask, from: i64, to: i64)
     requires narrow { width ≤ 64 }
     requires rows { len rows.now ≡ length codes.now }
@@ -100,7 +100,7 @@ fn check_fit<R: Abort>(rt: &R, width: u32, codes: &[u64], rows: &Mask, from: i64
     }
 }
 
-/// A column that is known to keep these codes.
+/// A column that is known to hold these codes.
 fn column_with<C: CodeColumn + Drop, R: Abort + AllocGlobal>(rt: &R, width: u32, codes: &[u64]) -> C
     requires some { 1 ≤ width }
     requires narrow { width ≤ C.WIDEST }
@@ -115,7 +115,7 @@ fn column_with<C: CodeColumn + Drop, R: Abort + AllocGlobal>(rt: &R, width: u32,
     column
 }
 
-/// Sees the moved codes of a column.
+/// Checks the rebased codes of a column.
 fn check_moved<C: CodeColumn + Drop, R: Abort>(
     rt: &R,
     codes: &[u64],
@@ -178,7 +178,7 @@ fn check_plain<R: Abort + AllocGlobal>(
     check_moved(rt, codes, rows, from, to, column);
 }
 
-/// Planes keep their number.
+/// Planes keep their width.
 #[test]
 fn shifted_planes(rt: HostRuntime) {
     let rows = need_of(&rt, ROWS);
@@ -191,7 +191,7 @@ fn shifted_planes(rt: HostRuntime) {
     }
 }
 
-/// So many bits, as far as codes of them take as many bytes as those of another width.
+/// The width `after`, clamped so that its codes take as many bytes as codes of `width`.
 fn bits_after(width: u32, after: u32) -> u32
     ensures some { 1 ≤ result }
     ensures narrow { result ≤ 64 }

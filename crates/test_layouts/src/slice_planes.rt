@@ -23,7 +23,7 @@ fn check_plane<R: Abort>(rt: &R, column: &SliceColumn, plane: &[u64; 4], q: usiz
     }
 }
 
-/// A plane by the number of its unit.
+/// A plane by the index of its unit.
 fn check_unit<R: Abort>(rt: &R, column: &SliceColumn, plane: &[u64; 4], unit: usize)
     requires { unit < 1000 }
 {

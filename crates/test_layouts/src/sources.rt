@@ -1,4 +1,4 @@
-//! Scans of planes that lie in a list of the test's own: what is found, and how often the list was read.
+//! Scans of planes that are stored in a list defined by the test: what is found, and how often the list was read.
 
 ghost use Rattle.std.specs.Prelude.{length, ◌≤◌};
 ghost use Rattle.bw_code.specs.Tests.{TestFits};
@@ -31,7 +31,8 @@ impl Source<[u64; 4]> for PlaneList {
     }
 }
 
-/// Scans the codes of this many rows of one segment. The rows that are found, of the first 64, and how often a plane was read.
+/// Scans the codes of this many rows of one segment. Returns the rows that are found, of the first 64, and how often a
+/// plane was read.
 fn scanned<R: Abort + AllocGlobal>(
     rt: &R,
     planes: &[[u64; 4]],
@@ -66,7 +67,7 @@ const SIXTEENS: [[u64; 4]; 8] = [
     [0xaaaa_aaaa, 0, 0, 0],
 ];
 
-// Four planes settle the comparison with 128 for all rows, until a row of that code comes after them.
+// Four planes decide the comparison with 128 for all rows, until a row with that code is added.
 #[test]
 fn a_scan_stops_after_four_planes(rt: HostRuntime) {
     let below_128 = CodeTest::Cmp(CmpOp::Lt, 128);

@@ -1,4 +1,4 @@
-//! What columns of a few codes keep, bit by bit.
+//! What columns of a few codes store, bit by bit.
 
 ghost use Rattle.std.specs.Prelude.{length, ◌≡◌, ◌≤◌};
 ghost use Rattle.bw_byteslice.specs.Slices.{slices_of};
@@ -44,8 +44,9 @@ fn words_of_two_codes(rt: HostRuntime) {
 /// Three codes of 40 bits.
 const WIDE: [u64; 3] = [0x96_0000_00a5, 0x0f_8000_0001, 0xff_ffff_ffff];
 
-/// Their planes, of which group g is digit g of each code in base 16, from its highest bit to its lowest. The digits are 9 6 0 0 0 0
-/// 0 0 a 5, then 0 f 8 0 0 0 0 0 0 1, and then f alone. In a word the first code is bit 0, the second bit 1 and the third bit 2.
+/// Their planes, of which group g is digit g of each code in base 16, from its highest bit to its lowest. The digits
+/// are 9 6 0 0 0 0 0 0 a 5, then 0 f 8 0 0 0 0 0 0 1, and then only f. In a word the first code is bit 0, the second
+/// bit 1 and the third bit 2.
 const WIDE_PLANES: [[u64; 4]; 10] = [
     [0b101, 0b100, 0b100, 0b101],
     [0b110, 0b111, 0b111, 0b110],
@@ -83,7 +84,7 @@ fn words_of_three_wide_codes(rt: HostRuntime) {
     }
 }
 
-/// In nine bits 300 is 1001 0110 0, 511 is 1111 1111 1, and 1 is the last bit alone.
+/// In nine bits 300 is 1001 0110 0, 511 is 1111 1111 1, and 1 is only the last bit.
 #[test]
 fn bytes_of_three_codes(rt: HostRuntime) {
     let column: SliceColumn = column_of(&rt, 9, &[300, 511, 1]);
@@ -96,7 +97,7 @@ fn bytes_of_three_codes(rt: HostRuntime) {
     );
 }
 
-/// Sees the first four bytes of each slice.
+/// Checks the first four bytes of each slice.
 fn check_slices<R: Abort>(rt: &R, column: &SliceColumn, slices: &[[u8; 4]])
     requires some { 1 ≤ length column.now.codes }
     requires slices { length slices.now ≤ slices_of column.now.width }
@@ -119,7 +120,7 @@ fn bytes_of_three_wide_codes(rt: HostRuntime) {
     check_slices(&rt, &column_of(&rt, 40, &WIDE), &slices);
 }
 
-/// All ones, the highest bit alone, and 1: in 33 bits shifted up by seven, and in 63 by one.
+/// All ones, only the highest bit, and 1: in 33 bits shifted left by seven, and in 63 by one.
 #[test]
 fn bytes_at_the_ends(rt: HostRuntime) {
     let mut slices = [[0xff, 0x00, 0x00, 0x00]; 8];

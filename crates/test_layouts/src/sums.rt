@@ -1,5 +1,5 @@
-//! Two columns with different bases, compared over their planes, against a plain comparison of their values, which are
-//! integers of 128 bits.
+//! Two columns with different bases, compared over their planes, checked against a plain comparison of their values,
+//! which are integers of 128 bits.
 
 ghost use Rattle.std.specs.Prelude.{length, ◌<◌, ◌≡◌, ◌≤◌};
 ghost use Rattle.bw_mask.specs.Masks.{len};
@@ -55,7 +55,7 @@ fn reads_of(
     (planes.reads(), others.reads())
 }
 
-/// The same of the values of two sides.
+/// The same for the values of two sides.
 fn compared<R: Abort + AllocGlobal>(
     rt: &R,
     left: &Side<'_>,
@@ -79,8 +79,8 @@ fn compared<R: Abort + AllocGlobal>(
     reads_of(&column, left.offset, &other, right.offset, op, need, out)
 }
 
-/// 10, 12, 17 by the base 10 in 3 bits, compared with 11, 11, 20 by the base 11 in 4: the first is below the second in rows 0
-/// and 2, and each plane is read once.
+/// 10, 12, 17 with base 10 in 3 bits, compared with 11, 11, 20 with base 11 in 4: the first is below the second in rows
+/// 0 and 2, and each plane is read once.
 #[test]
 fn other_bases(rt: HostRuntime) {
     let left = Side {
@@ -98,7 +98,7 @@ fn other_bases(rt: HostRuntime) {
     see(&rt, reads, (3, 4));
 }
 
-/// The needed rows that were found are those whose values compare so.
+/// The needed rows that were found are those whose values satisfy the comparison.
 fn check_found<R: Abort>(
     rt: &R,
     op: CmpOp,
@@ -118,7 +118,7 @@ fn check_found<R: Abort>(
     }
 }
 
-/// The rows that are needed of more than one segment.
+/// The needed rows of more than one segment.
 fn need_of_segments<R: Abort + AllocGlobal>(rt: &R) -> Mask
     ensures { len result ≡ 300 }
 {
@@ -127,7 +127,7 @@ fn need_of_segments<R: Abort + AllocGlobal>(rt: &R) -> Mask
     need
 }
 
-/// Compares values over several segments, and each plane is read once for it.
+/// Compares values over several segments, reading each plane once.
 fn check_comparison<R: Abort + AllocGlobal>(rt: &R, left: &Side<'_>, right: &Side<'_>, op: CmpOp)
     requires narrow { left.now.offset.width ≤ 64 }
     requires other_narrow { right.now.offset.width ≤ 64 }
@@ -176,8 +176,8 @@ fn check_both_ways<R: Abort + AllocGlobal>(rt: &R, left: Offset, right: Offset)
     check_addition(rt, right, left);
 }
 
-/// Bases that are near, that are the same, that are apart by as much as codes of some widths reach or more, and that lie at the
-/// ends of i64, where they are apart by 2^64 - 1.
+/// Bases that are near, that are the same, that are apart by as much as codes of some widths reach or more, and that
+/// are the ends of i64, which are apart by 2^64 - 1.
 const BASES: [(i64, i64); 12] = [
     (-3, -1),
     (-3, -3),
@@ -193,7 +193,7 @@ const BASES: [(i64, i64); 12] = [
     (i64::MIN, i64::MAX),
 ];
 
-/// Compares values by two bases, of codes of many widths each.
+/// Compares values with two bases, for codes of many widths each.
 fn check_bases<R: Abort + AllocGlobal>(rt: &R, left: i64, right: i64) {
     for width in [1, 3, 13, 32, 33, 40, 63, 64] {
         for other in [1, 31, 33, 40, 64] {

@@ -13,7 +13,7 @@ use bw_mask::Mask;
 use bw_vertical::VerticalColumn;
 use std::process::Abort;
 
-/// How many rows a scan finds, in a mask in which all rows were in, and the units that it reads.
+/// How many rows a scan finds, into a mask in which all rows were set, and the units that it reads.
 fn scanned<C: CodeColumn, R: Abort + AllocGlobal>(
     rt: &R,
     column: &C,
@@ -30,7 +30,7 @@ fn scanned<C: CodeColumn, R: Abort + AllocGlobal>(
     (out.count(), meter.units())
 }
 
-/// Sees the units of scans in which all rows are needed.
+/// Checks the units of scans in which all rows are needed.
 fn check_units<C: CodeColumn, R: Abort + AllocGlobal>(
     rt: &R,
     column: &C,
@@ -65,7 +65,7 @@ fn planes(rt: HostRuntime) {
     );
 }
 
-/// Those codes, and a code 128 after them.
+/// The same codes, and a code 128 after them.
 #[test]
 fn planes_with_a_code_after_them(rt: HostRuntime) {
     let mut five: VerticalColumn = column_of(&rt, 8, &[3; 4]);
@@ -111,7 +111,7 @@ fn slices(rt: HostRuntime) {
     );
 }
 
-/// Two of 64 rows, or one where they are the same.
+/// Two of 64 rows, or one if they are the same.
 fn two_of_64<R: Abort + AllocGlobal>(rt: &R, first: usize, last: usize) -> Mask
     ensures { len result ≡ 64 }
 {
@@ -145,8 +145,8 @@ fn words(rt: HostRuntime) {
     check_two_of_64(&rt, &column, 5, 63, 6);
 }
 
-/// Tests of the code 0x96_0000_00a5 of 40 bits, which is 1001 0110, twenty-four zeros and 1010 0101, and the planes that are
-/// read: the groups of four up to that of the first bit in which the two differ.
+/// Tests for the code 0x96_0000_00a5 of 40 bits, which is 1001 0110, twenty-four zeros and 1010 0101, and the planes
+/// that are read: the groups of four up to that of the first bit in which the two differ.
 const PLANES_OF_40: [(CodeTest, u64); 9] = [
     (CodeTest::Cmp(CmpOp::Lt, 0x16_0000_00a5), 4),
     (CodeTest::Cmp(CmpOp::Lt, 0x80_0000_0000), 4),
@@ -159,7 +159,7 @@ const PLANES_OF_40: [(CodeTest, u64); 9] = [
     (CodeTest::Range(0x90_0000_0000, 0x96_0000_0100), 32),
 ];
 
-/// The same of 33 ones, whose last plane is a group by itself.
+/// The same for 33 ones, whose last plane is a group by itself.
 const PLANES_OF_33: [(CodeTest, u64); 4] = [
     (CodeTest::Cmp(CmpOp::Lt, 0x1_0000_0000), 4),
     (CodeTest::Cmp(CmpOp::Gt, 0x1_ffff_fffd), 32),
@@ -167,7 +167,7 @@ const PLANES_OF_33: [(CodeTest, u64); 4] = [
     (CodeTest::Cmp(CmpOp::Eq, 0x1_ffff_ffff), 33),
 ];
 
-/// The same of 64 ones.
+/// The same for 64 ones.
 const PLANES_OF_64: [(CodeTest, u64); 4] = [
     (CodeTest::Cmp(CmpOp::Lt, 0x8000_0000_0000_0000), 4),
     (CodeTest::Cmp(CmpOp::Gt, 0xffff_ffff_0000_0000), 36),
@@ -175,8 +175,8 @@ const PLANES_OF_64: [(CodeTest, u64); 4] = [
     (CodeTest::Cmp(CmpOp::Eq, u64::MAX), 64),
 ];
 
-/// Tests of the code 0x96_0000_00a5 of 40 bits, whose bytes are 96 00 00 00 a5, and the slices that are read: up to the first
-/// byte in which the two differ.
+/// Tests for the code 0x96_0000_00a5 of 40 bits, whose bytes are 96 00 00 00 a5, and the slices that are read: up to
+/// the first byte in which the two differ.
 const SLICES_OF_40: [(CodeTest, u64); 6] = [
     (CodeTest::Cmp(CmpOp::Lt, 0x97_0000_0000), 1),
     (CodeTest::Cmp(CmpOp::Ge, 0x96_8000_0000), 2),
@@ -186,7 +186,7 @@ const SLICES_OF_40: [(CodeTest, u64); 6] = [
     (CodeTest::Cmp(CmpOp::Eq, 0x96_0000_00a5), 5),
 ];
 
-/// The same of 33 ones, which lie as the bytes ff ff ff ff 80.
+/// The same for 33 ones, which are stored as the bytes ff ff ff ff 80.
 const SLICES_OF_33: [(CodeTest, u64); 4] = [
     (CodeTest::Cmp(CmpOp::Lt, 0x1_0000_0000), 1),
     (CodeTest::Cmp(CmpOp::Gt, 0x1_ffff_fffd), 4),
@@ -194,7 +194,7 @@ const SLICES_OF_33: [(CodeTest, u64); 4] = [
     (CodeTest::Cmp(CmpOp::Eq, 0x1_ffff_ffff), 5),
 ];
 
-/// The same of 64 ones.
+/// The same for 64 ones.
 const SLICES_OF_64: [(CodeTest, u64); 4] = [
     (CodeTest::Cmp(CmpOp::Lt, 0x8000_0000_0000_0000), 1),
     (CodeTest::Cmp(CmpOp::Gt, 0xffff_ffff_0000_0000), 5),
@@ -202,7 +202,7 @@ const SLICES_OF_64: [(CodeTest, u64); 4] = [
     (CodeTest::Cmp(CmpOp::Eq, u64::MAX), 8),
 ];
 
-/// Sees the units of scans of four rows, all of one code.
+/// Checks the units of scans of four rows, all with one code.
 fn check_four<C: CodeColumn + Drop, R: Abort + AllocGlobal>(
     rt: &R,
     width: u32,

@@ -1,5 +1,5 @@
-//! Ranks of numbers: rows that were worked by hand, random numbers compared with a sort of std, and as many numbers as there
-//! may be.
+//! Ranks of numbers: lists worked by hand, random numbers compared with a sort of std, and the greatest number of
+//! numbers.
 #![tactic(auto)]
 
 #[cfg(test)]

@@ -1,4 +1,4 @@
-//! As many numbers as there may be.
+//! The greatest number of numbers.
 
 use crate::seen::{see, see_at};
 use bw_rank::{Ranked, rank_counted};
@@ -7,21 +7,21 @@ use std::process::Abort;
 
 const MOST: u64 = 1 << 24;
 
-/// Numbers of which a power of two are distinct: those from 0 up, each moved up by some bits.
+/// Numbers of which a power of two are distinct: those from 0 on, each shifted left by some bits.
 #[derive(Clone, Copy)]
 struct Shape {
-    /// One less than how many are distinct.
+    /// The number of distinct numbers minus one.
     last: u64,
     up: u32,
 }
 
 impl Shape {
-    /// The rank of the number in a place. Each stands equally often, since the factor is odd.
+    /// The rank of the number at an index. Each occurs equally often, since the factor is odd.
     fn rank(self, place: u64) -> u64 {
         place.wrapping_mul(0x9e37_79b1) & self.last
     }
 
-    /// The number of a rank.
+    /// The number with a rank.
     fn number(self, rank: u64) -> u64 {
         rank.wrapping_shl(self.up)
     }

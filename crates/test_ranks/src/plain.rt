@@ -13,7 +13,7 @@ fn distinct(alloc: Global, numbers: &[u64]) -> Result<Vec<u64>, AllocError> {
     Ok(entries)
 }
 
-/// Sees that each of the numbers has its place among the entries as its rank.
+/// Checks that the rank of each of the numbers is its index among the entries.
 fn check_ranks<R: Abort>(rt: &R, numbers: &[u64], entries: &[u64], ranks: &[u32]) {
     see(rt, ranks.len(), numbers.len());
     for (number, rank) in numbers.iter().zip(ranks) {
@@ -26,7 +26,7 @@ fn check_ranks<R: Abort>(rt: &R, numbers: &[u64], entries: &[u64], ranks: &[u32]
     }
 }
 
-/// Sees how often each entry stands among the numbers.
+/// Checks how often each entry occurs among the numbers.
 fn check_times<R: Abort>(rt: &R, numbers: &[u64], entries: &[u64], times: &[u32]) {
     see(rt, times.len(), entries.len());
     for (entry, count) in entries.iter().zip(times) {
@@ -35,7 +35,7 @@ fn check_times<R: Abort>(rt: &R, numbers: &[u64], entries: &[u64], times: &[u32]
     }
 }
 
-/// Sees that these numbers are ranked, and counted, as the plain definition does.
+/// Checks that these numbers are ranked and counted as by the plain definition.
 pub(crate) fn check<R: Abort + AllocGlobal>(rt: &R, numbers: &[u64]) {
     assert!(rt; numbers.len() <= 1 << 24);
     let entries = distinct(rt.alloc(), numbers).expect(rt, "memory");

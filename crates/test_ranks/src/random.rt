@@ -11,7 +11,7 @@ struct Random {
 }
 
 impl Random {
-    /// The same numbers each time.
+    /// The same sequence each time.
     fn new() -> Random {
         Random {
             state: 0x9e37_79b9_7f4a_7c15,
@@ -26,7 +26,7 @@ impl Random {
     }
 }
 
-/// So many random numbers with these bits alone.
+/// The given number of random numbers, with only these bits.
 fn drawn(
     alloc: Global,
     random: &mut Random,
@@ -40,7 +40,7 @@ fn drawn(
     Ok(numbers)
 }
 
-/// Sees random numbers with these bits, of each count.
+/// Checks random numbers with these bits, for each count.
 fn check_bits<R: Abort + AllocGlobal>(rt: &R, bits: u64, counts: &[usize]) {
     let mut random = Random::new();
     for count in counts {

@@ -1,10 +1,10 @@
-//! Rows that were worked by hand.
+//! Lists worked by hand.
 
 use crate::seen::see;
 use bw_rank::{rank, rank_counted};
 use std::process::Abort;
 
-/// Numbers, the distinct ones, how often each of these stands, and the rank of each number.
+/// Numbers, the distinct ones, how often each of these occurs, and the rank of each number.
 type Worked = (
     &'static [u64],
     &'static [u64],
@@ -30,7 +30,7 @@ const SMALL: [Worked; 8] = [
         &[1, 2, 1, 1, 1, 2],
         &[5, 1, 3, 1, 2, 5, 0, 4],
     ),
-    // one short of where another way begins, and there
+    // just below the limit where another algorithm begins, and at the limit
     (
         &[65_536, 65_535, 131_072, 131_071, 65_535],
         &[65_535, 65_536, 131_071, 131_072],
@@ -106,7 +106,7 @@ const WIDE: [Worked; 4] = [
     ),
 ];
 
-/// Sees the ranks of numbers that were worked by hand, without times and with them.
+/// Checks the ranks of numbers that were worked by hand, without counts and with them.
 fn check_worked<R: Abort + AllocGlobal>(rt: &R, worked: Worked) {
     let (numbers, entries, times, ranks) = worked;
     assert!(rt; numbers.len() <= 1 << 24);

@@ -2,7 +2,7 @@ use Rattle.std.proofs.Common.{get_or, if◌then◌else◌, length, ℕ, ◌<◌,
 use Rattle.bw_mask.specs.Masks.{bit_of}
 use Rattle.bw_column.proofs.copying.keep_rows.Given as goal
 
--- the codes so far, and those behind them as they were
+-- the codes so far, and those after them unchanged
 abbrev pub invariant-loop-i : goal.invariant-loop-i
 invariant-loop-i l = record {
   long : length l.codes ≡ length l.fn.codes;

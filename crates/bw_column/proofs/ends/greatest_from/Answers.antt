@@ -1,5 +1,6 @@
-use Rattle.std.proofs.Common.{arith, get_or, sym, ap, max, ◌∙◌}
+use Rattle.std.proofs.Common.{arith, true, ℕ, ◌<◌, ◌≡◌, get_or, sym, ap, max, ◌∙◌}
 use Rattle.bw_mask.specs.Masks.{bit_of}
+use Rattle.bw_column.proofs.Full.{full}
 use Rattle.bw_column.proofs.Extremes.{greatest_seen, greatest_skipped}
 use Rattle.bw_column.proofs.ends.greatest_from.Goals as goal
 use Rattle.bw_column.proofs.ends.greatest_from.Goals.{then-has_bit, else-has_bit}
@@ -11,3 +12,8 @@ loop-i-preserved c =
       | then-has_bit w ↦ greatest_seen c.args.start c.loop-i.i (bit_of c.args.present) (λ i. get_or c.args.codes.now i 0) old c.max-greatest.result c.loop-i.invariant (sym c.has_bit.ensures ∙ w.if-has_bit.true) (c.max-greatest.ensures ∙ ap (max old) w.code-is)
       | else-has_bit w ↦ greatest_skipped c.args.start c.loop-i.i (bit_of c.args.present) (λ i. get_or c.args.codes.now i 0) old c.max-greatest.result c.loop-i.invariant (sym c.has_bit.ensures ∙ w.if-has_bit.false) (omega (arith, c.max-greatest.ensures, w.code-is))
     ]
+
+pub returns-then-present-eq18446744073709551615 : goal.returns-then-present-eq18446744073709551615
+returns-then-present-eq18446744073709551615 c =
+    let set : (i : ℕ) → i < 64 → bit_of c.args.present i ≡ true = λ i h. ap (λ w. bit_of w i) c.if-present-eq18446744073709551615.true ∙ full i h in
+    c.greatest_of.ensures (bit_of c.args.present) (λ i h. set i (omega (arith, h, c.requires)))

@@ -27,12 +27,12 @@ loop-q-init g c = record {
 pub segment-found-requires-clause-there : goal.segment-found-requires-clause-there
 segment-found-requires-clause-there g c =
     let count = c.div_ceil-segments.ensures ∙ ap (λ n. div_ceil n (segment_rows c.args.width)) c.len.ensures.rows in
-    rw (c.new-masks.ensures, c.loop-q.invariant.units, c.requires.units.count) (mul-le-mul_right (c.args.width + 1) (omega (arith, count, c.loop-q-test.true)))
+    rw (c.loop-q.invariant.units, c.requires.units.count) (mul-le-mul_right (c.args.width + 1) (omega (arith, count, c.loop-q-test.true)))
 
 pub segment-found-requires-clause-few : goal.segment-found-requires-clause-few
 segment-found-requires-clause-few g c =
     let below = begins_below c.len.result (segment_rows c.args.width) c.loop-q.q (rows_pos c.args.width c.requires.narrow) (omega (arith, c.div_ceil-segments.ensures, c.loop-q-test.true)) in
-    omega (arith, below, c.len.ensures.rows, c.requires.few, c.loop-q.invariant.most, c.requires.reads, c.new-masks.ensures, c.requires.narrow)
+    omega (arith, below, c.len.ensures.rows, c.requires.few, c.loop-q.invariant.most, c.requires.reads, c.requires.narrow)
 
 pub loop-q-preserved : goal.loop-q-preserved
 loop-q-preserved g c =
@@ -41,16 +41,16 @@ loop-q-preserved g c =
     let test = c.args.test in
     let code = λ (j : ℕ). code_in k (g.S.Source.units c.args.source.now) j in
     let need = λ (j : ℕ). row_at c.args.need.now j in
-    let here : (r : ℕ) → r < segment_rows k → on c.bits.result r ≡ need (segment_rows k * q + r) = λ r h. c.bits.ensures r ∙ rw (lt-ltb r (segment_rows k) h) (ap need (omega arith)) in
-    let reads = rw c.new-masks.ensures at c.segment-found.ensures.reads in
-    let cost = cost_by_need k test (on c.bits.result) (λ r. need (segment_rows k * q + r)) (code_at k (g.S.Source.units c.loop-q.source) q) (λ r. code (segment_rows k * q + r)) here in
-    let found = rw (c.new-masks.ensures, c.loop-q.invariant.units) at c.segment-found.ensures.rows in
+    let here : (r : ℕ) → r < segment_rows k → on c.bits-here.result r ≡ need (segment_rows k * q + r) = λ r h. c.bits-here.ensures r ∙ rw (lt-ltb r (segment_rows k) h) (ap need (omega arith)) in
+    let reads = c.segment-found.ensures.reads in
+    let cost = cost_by_need k test (on c.bits-here.result) (λ r. need (segment_rows k * q + r)) (code_at k (g.S.Source.units c.loop-q.source) q) (λ r. code (segment_rows k * q + r)) here in
+    let found = rw c.loop-q.invariant.units at c.segment-found.ensures.rows in
     let out_len = c.loop-q.invariant.shape.0 ∙ c.requires.out in
-    let rows = c.gather-rest.ensures.rows (λ j. need j && meets test (code j)) c.loop-q.invariant.rows (λ r h. found r h ∙ rw (c.bits.ensures r, lt-ltb r (segment_rows k) h, code_here k (g.S.Source.units c.args.source.now) q r h) refl) in
+    let rows = c.gather-rest.ensures.rows (λ j. need j && meets test (code j)) c.loop-q.invariant.rows (λ r h. found r h ∙ rw (c.bits-here.ensures r, lt-ltb r (segment_rows k) h, code_here k (g.S.Source.units c.args.source.now) q r h) refl) in
     record {
       units = c.segment-found.ensures.units ∙ c.loop-q.invariant.units;
       reads = omega (arith, reads, cost, c.loop-q.invariant.reads, sum_more q (λ p. segment_units (by_words k) test (λ j. need (segment_rows k * p + j)) (λ j. code (segment_rows k * p + j))));
-      most = omega (arith, reads, c.loop-q.invariant.most, cost_most k test (on c.bits.result) (code_at k (g.S.Source.units c.loop-q.source) q), c.requires.narrow);
+      most = omega (arith, reads, c.loop-q.invariant.most, cost_most k test (on c.bits-here.result) (code_at k (g.S.Source.units c.loop-q.source) q), c.requires.narrow);
       shape = (c.gather-rest.ensures.shape.0 ∙ c.loop-q.invariant.shape.0, c.gather-rest.ensures.shape.1 ∙ c.loop-q.invariant.shape.1);
       rows = subst (λ at. AreGathered c.gather-rest.new.out at c.gather-rest.result (λ j. need j && meets test (code j))) (omega arith) rows;
     }

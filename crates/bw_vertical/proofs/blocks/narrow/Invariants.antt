@@ -1,7 +1,7 @@
 use Rattle.std.proofs.Common.{get_or, length, ℕ, ◌%◌, ◌/◌, ◌<◌, ◌^◌, ◌≡◌, ◌≤◌}
 use Rattle.bw_vertical.proofs.blocks.narrow.Given as goal
 
--- the codes so far, and what stood behind them
+-- the codes so far, and what was after them
 abbrev pub invariant-loop-r : goal.invariant-loop-r
 invariant-loop-r l = record {
   long : length l.block ≡ 64;

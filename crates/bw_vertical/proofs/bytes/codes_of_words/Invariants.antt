@@ -2,7 +2,7 @@ use Rattle.std.proofs.Common.{[], get_or, length, ℕ, ◌*◌, ◌%◌, ◌/◌
 use Rattle.bw_mask.specs.Masks.{bit_of}
 use Rattle.bw_vertical.proofs.bytes.codes_of_words.Given as goal
 
--- the bytes so far, and zeros behind them
+-- the bytes so far, and zeros after them
 abbrev pub invariant-loop-j : goal.invariant-loop-j
 invariant-loop-j l = record {
   long : length l.bytes ≡ 4;

@@ -1,7 +1,7 @@
 use Rattle.std.proofs.Common.{drop, length, ◌++◌, ◌-◌, ◌≡◌, ◌≤◌}
 use Rattle.bw_column.proofs.column.Column.extend_ranked.Given as goal
 
--- the values so far, and the cells that are left behind them
+-- the values so far, and the cells left after them
 abbrev pub invariant-loop-at : goal.invariant-loop-at
 invariant-loop-at g l = record {
   at : l.at ≤ length (g.C.Cells.cells l.cells);

@@ -2,7 +2,7 @@ use Rattle.std.proofs.Common.{length, ◌++◌, ◌≡◌}
 use Rattle.bw_code.specs.Columns.{Fit, KeepsShape}
 use Rattle.bw_vertical.proofs.column.VerticalColumnCodeColumn.extend.Given as goal
 
--- the codes so far, and the rest behind them
+-- the codes so far, and the rest after them
 abbrev pub invariant-parts : goal.invariant-parts
 invariant-parts l = record {
   codes : l.self.codes ++ l.rest ≡ l.fn.self.codes ++ l.codes;
