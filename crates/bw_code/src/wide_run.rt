@@ -13,10 +13,11 @@ fn put_chosen(kept: &mut [u64], rows: u64, codes: &[u64])
     ensures long { length kept.new ≡ length kept.old }
     ensures each { (i : ℕ) → i < length kept.old → slice_index kept.new i ≡ (if bit_of rows i then slice_index codes.now i else slice_index kept.old i) }
 {
-    // No branch per code, so that the loop can be vectorized.
+    // Both codes are read before the choice, so that no branch per code is left and the loop can be vectorized.
     for i in 0..kept.len() {
         let own = kept[i];
-        kept[i] = if has_bit(rows, i) { codes[i] } else { own };
+        let code = codes[i];
+        kept[i] = if has_bit(rows, i) { code } else { own };
     }
 }
 

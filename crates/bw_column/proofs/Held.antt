@@ -1,5 +1,5 @@
 -- What a layout holds is an integer of 64 bits, and every layout holds an INTEGER.
-use Rattle.std.proofs.Common.{List, None, Option, Some, arith, ℤ}
+use Rattle.std.proofs.Common.{List, None, Option, Some, arith, refl, subst, ℤ, ◌≡◌}
 use Rattle.std.specs.List.{All}
 use Rattle.std.proofs.lemmas.Int.{ints}
 use Rattle.bw_code.specs.declared.kind.Layout.{Layout}
@@ -39,3 +39,15 @@ plain (Some x) h = h
 
 pub all_plain : (l : Layout) (values : List (Option ℤ)) → All (IsNullOrHeld l) values → All (IsNullOrHeld layouts.P) values
 all_plain l values all k d h = plain _ (storable l _ (all k d h))
+
+held_by : (l other : Layout) → (l ≡ layouts.H → other ≡ layouts.H) → (value : Option ℤ) → IsNullOrHeld other value → IsNullOrHeld l value
+held_by layouts.P other as value h = plain value (storable other value h)
+held_by layouts.V other as None h = tt
+held_by layouts.V other as (Some x) h = held_storable other x h
+held_by layouts.H other as value h = subst (λ o. IsNullOrHeld o value) (as refl) h
+held_by layouts.S other as None h = tt
+held_by layouts.S other as (Some x) h = held_storable other x h
+
+-- what a layout holds is held by any other but BitWeaving/H, and by that if the first is it, too
+pub all_held_by : (l other : Layout) (values : List (Option ℤ)) → (l ≡ layouts.H → other ≡ layouts.H) → All (IsNullOrHeld other) values → All (IsNullOrHeld l) values
+all_held_by l other values as all k d h = held_by l other as _ (all k d h)

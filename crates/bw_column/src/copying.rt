@@ -225,7 +225,7 @@ impl Column {
 
     /// Whether each value of another column has a code in this one. Both are of kind OFFSET. Bases and widths may
     /// decide it without reading values; else the least and greatest value do.
-    fn has_codes_of(&self, other: &Column) -> bool
+    pub(crate) fn has_codes_of(&self, other: &Column) -> bool
         requires own { kind_of self.now.encoding ≡ kind.Offset }
         requires kind { kind_of other.now.encoding ≡ kind.Offset }
         ensures { IsTrue result ↔ All (IsCoded self.now.encoding) other.now.values }
@@ -294,7 +294,7 @@ impl Column {
     }
 
     /// Writes the values of a copy to the set places, a word of rows at a time.
-    fn copy_runs(&mut self, offset: Offset, places: &Mask, copy: &Column)
+    pub(crate) fn copy_runs(&mut self, offset: Offset, places: &Mask, copy: &Column)
         requires encoding { self.old.encoding ≡ by.Offset offset }
         requires coded { All (IsCoded self.old.encoding) copy.now.values }
         requires held { All (IsNullOrHeld self.old.layout) copy.now.values }

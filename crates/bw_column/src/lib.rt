@@ -10,6 +10,7 @@ mod column_planes;
 mod compare;
 mod compare_anew;
 mod copying;
+mod direct_copy;
 mod distances;
 mod ended;
 mod ends;
