@@ -41,13 +41,13 @@ pub all_plain : (l : Layout) (values : List (Option ℤ)) → All (IsNullOrHeld 
 all_plain l values all k d h = plain _ (storable l _ (all k d h))
 
 held_by : (l other : Layout) → (l ≡ layouts.H → other ≡ layouts.H) → (value : Option ℤ) → IsNullOrHeld other value → IsNullOrHeld l value
-held_by layouts.P other as value h = plain value (storable other value h)
-held_by layouts.V other as None h = tt
-held_by layouts.V other as (Some x) h = held_storable other x h
-held_by layouts.H other as value h = subst (λ o. IsNullOrHeld o value) (as refl) h
-held_by layouts.S other as None h = tt
-held_by layouts.S other as (Some x) h = held_storable other x h
+held_by layouts.P other narrow value h = plain value (storable other value h)
+held_by layouts.V other narrow None h = tt
+held_by layouts.V other narrow (Some x) h = held_storable other x h
+held_by layouts.H other narrow value h = subst (λ o. IsNullOrHeld o value) (narrow refl) h
+held_by layouts.S other narrow None h = tt
+held_by layouts.S other narrow (Some x) h = held_storable other x h
 
 -- what a layout holds is held by any other but BitWeaving/H, and by that if the first is it, too
 pub all_held_by : (l other : Layout) (values : List (Option ℤ)) → (l ≡ layouts.H → other ≡ layouts.H) → All (IsNullOrHeld other) values → All (IsNullOrHeld l) values
-all_held_by l other values as all k d h = held_by l other as _ (all k d h)
+all_held_by l other values narrow all k d h = held_by l other narrow _ (all k d h)

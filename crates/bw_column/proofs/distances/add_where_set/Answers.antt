@@ -1,4 +1,4 @@
-use Rattle.std.proofs.Common.{ap, arith, true, ℕ, ◌-◌, ◌<◌, ◌==◌, ◌^◌, ◌≡◌, ◌∙◌}
+use Rattle.std.proofs.Common.{ap, arith, true, ◌≡◌, ◌∙◌}
 use Rattle.bw_mask.specs.Masks.{bit_of}
 use Rattle.bw_column.proofs.Full.{full}
 use Rattle.bw_column.proofs.distances.add_where_set.Goals as goal

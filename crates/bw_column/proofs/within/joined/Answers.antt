@@ -1,4 +1,4 @@
-use Rattle.std.proofs.Common.{arith, below_more, get_or, pow_pos, ℕ, ◌<◌, ◌^◌}
+use Rattle.std.proofs.Common.{arith, below_more, get_or, pow_pos, ◌<◌, ◌^◌}
 use Rattle.std.proofs.lemmas.Nat.{le_or_l, le_or_r, or_lt}
 use Rattle.bw_column.proofs.within.joined.Goals as goal
 

@@ -23,8 +23,7 @@ returns-then-joined-greatest c =
     let given : out ≡ map (distance_from o.base) (take (length (take n c.loop-at.list)) (drop at values)) = rw (to_z-of_z w64 o.base fits) at c.distances.ensures.distances in
     let are : out ≡ map (distance_from o.base) (take n (drop at values)) = given ∙ ap (λ k. map (distance_from o.base) (take k (drop at values))) long in
     let many : length out ≡ n = run_len o values out at n inside are in
-    let coded = run_near o values out at n inside are fits c.requires (all_storable c.args.self.now.layout values c.len-held.ensures.held) in
-    (
+    let coded = run_near o values out at n inside are fits c.requires (all_storable c.args.self.now.layout values c.len-held.ensures.held) in (
       λ f. absurd cc,
       λ all.
           let small : c.joined.result < 2 ^ o.width = (c.joined.ensures o.width).1 (λ k h. (coded k (omega (arith, h, many))).1 (all (at + k) None (omega (arith, h, many, inside)))) in
