@@ -5,6 +5,7 @@ pub mod Heads
 pub mod Held
 pub mod Inserted
 pub mod Opened
+pub mod Parted
 pub mod Picks
 pub mod Places
 pub mod Readied

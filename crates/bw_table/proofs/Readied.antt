@@ -11,6 +11,9 @@ use Rattle.bw_table.specs.Halves.{AllKept, AllMadeFrom, AreReadyBelow, IsMade}
 keeps_chain : {a b c : ColumnView} → Keeps a b → Keeps b c → Keeps a c
 keeps_chain p q = record { values = p.values ∙ q.values; layout = p.layout ∙ q.layout; encoding = p.encoding ∙ q.encoding; room = omega (arith, p.room, q.room) }
 
+pub kept_chain : {a b c : List ColumnView} → AllKept a b → AllKept b c → AllKept a c
+kept_chain p q = record { count = p.count ∙ q.count; each = λ k d. keeps_chain (p.each k d) (q.each k d) }
+
 module _ (columns old : List ColumnView) (k : ℕ) (x : ColumnView) (inside : k < length columns) (keeps : (d : ColumnView) → Keeps x (get_or columns k d)) where
   pub kept_set : AllKept columns old → AllKept (set columns k x) old
   kept_set kept = record {

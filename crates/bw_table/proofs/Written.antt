@@ -7,20 +7,27 @@ use Rattle.std.proofs.lemmas.List.Elements.{All-head, All-tail}
 use Rattle.std.proofs.lemmas.Map.Entries.{lookup_head, lookup_tail}
 use Rattle.bw_mask.specs.Masks.{MaskRows, len}
 use Rattle.bw_code.specs.Encodings.{kind_of}
+use Rattle.bw_code.proofs.Lists.{made_len}
+use Rattle.bw_column.specs.Codes.{IsCoded}
 use Rattle.bw_column.specs.Columns.{ColumnView, Keeps}
+use Rattle.bw_column.specs.Copies.{CanCopy}
 use Rattle.bw_column.specs.Preparing.{IsEncodingFor, IsPreparedFor, Preparation}
 use Rattle.bw_column.specs.declared.kept.KeptCodes.{KeptCodes}
 use Rattle.bw_column.specs.declared.step.Step.{Step}
 use Rattle.bw_column.specs.declared.step.Step.TheVariants.{Replace, Shift, Stay}
-use Rattle.bw_column.specs.Places.{overwritten}
+use Rattle.bw_column.specs.Places.{chosen_values, overwritten, put_at}
+use Rattle.bw_column.proofs.Ordered.{all_chosen}
 use Rattle.bw_table.specs.Changes.{places, set_of, value_for}
 use Rattle.bw_table.specs.Slots.{row_of}
 use Rattle.bw_table.specs.Halves.{AllKept}
-use Rattle.bw_table.specs.Sets.{gathered, taken, AllSet, AreReadyFor, FitsCopy, IsReadyFor, IsSet}
-use Rattle.bw_table.specs.declared.taking.Change.{Change}
-use Rattle.bw_table.specs.declared.taking.Taken.{Taken}
+use Rattle.bw_table.specs.Sets.{AllSet, AreReadyFor, CanApply, FitsCopy, IsCopied, IsPreparedIn, IsReady, IsSet, IsWritten, IsWrittenIn, changed, gathered, taken}
+use Rattle.bw_table.specs.declared.setting.Change.{Change}
+use Rattle.bw_table.specs.declared.setting.Change.TheVariants.{Copy, Take}
 use Rattle.bw_table.specs.declared.setting.SetTo.{SetTo}
-use Rattle.bw_table.proofs.Places.{count_places, map_alike}
+use Rattle.bw_table.specs.declared.setting.SetTo.TheVariants.{Column}
+use Rattle.bw_table.specs.declared.taking.PreparedValues.{PreparedValues}
+use Rattle.bw_table.specs.declared.taking.Taken.{Taken}
+use Rattle.bw_table.proofs.Places.{count_places, gathered_column, map_alike}
 use Rattle.bw_table.proofs.Readied.{one_less, popped}
 use Rattle.bw_table.proofs.Across.{kept_row}
 
@@ -68,23 +75,45 @@ still_ready new old values prepared keeps is = still_ready_by new old values kee
 pub fits_kept : (new old : ColumnView) (found : MaskRows) (values : Taken) → Keeps new old → FitsCopy (kind_of old.encoding) found values → FitsCopy (kind_of new.encoding) found values
 fits_kept new old found values keeps is = rw keeps.encoding is
 
+-- a column can be copied as long as both keep their lists
+can_copy_kept : (new old : ColumnView) (from from_old : ColumnView) → Keeps new old → Keeps from from_old → CanCopy old from_old → CanCopy new from
+can_copy_kept new old from from_old keeps keeps_from can = record {
+  own = rw keeps.encoding can.own;
+  kind_is = rw keeps_from.encoding can.kind_is;
+  layout = rw (keeps.layout, keeps_from.layout) can.layout;
+  coded = rw (keeps.encoding, keeps_from.values) can.coded;
+}
+
 module _ (new old : List ColumnView) (kept : AllKept new old) (found : MaskRows) where
   pub gathered_kept : (to : SetTo) → gathered new found to ≡ gathered old found to
   gathered_kept to = map_alike (λ i. value_for to (row_of new i)) (λ i. value_for to (row_of old i)) (places found) (λ k d l. ap (value_for to) (kept_row new old kept (get_or (places found) k d)))
 
-  ready_kept : (set : ℕ × SetTo) (change : Change) → IsReadyFor old found set change → IsReadyFor new found set change
-  ready_kept set change is = record {
+  prepared_kept : (set : ℕ × SetTo) (ready : PreparedValues) → IsPreparedIn old found set ready → IsPreparedIn new found set ready
+  prepared_kept set ready is = record {
     values = is.values ∙ sym (gathered_kept set.1);
-    ready = λ c. still_ready (get_or new set.0 c) (get_or old set.0 c) (taken found change.values) change.prepared (kept.each set.0 c) (is.ready c);
-    fits = λ c. fits_kept (get_or new set.0 c) (get_or old set.0 c) found change.values (kept.each set.0 c) (is.fits c);
+    ready = λ c. still_ready (get_or new set.0 c) (get_or old set.0 c) (taken found ready.values) ready.prepared (kept.each set.0 c) (is.ready c);
+    fits = λ c. fits_kept (get_or new set.0 c) (get_or old set.0 c) found ready.values (kept.each set.0 c) (is.fits c);
   }
 
+  copied_kept : (later : List (ℕ × SetTo)) (set : ℕ × SetTo) (from : ℕ) → IsCopied old later set from → IsCopied new later set from
+  copied_kept later set from is = record {
+    is = is.is;
+    there = omega (arith, is.there, kept.count);
+    apart = is.apart;
+    unset = is.unset;
+    can = λ c. can_copy_kept (get_or new set.0 c) (get_or old set.0 c) (get_or new from c) (get_or old from c) (kept.each set.0 c) (kept.each from c) (is.can c);
+  }
+
+  ready_kept : (later : List (ℕ × SetTo)) (set : ℕ × SetTo) (change : Change) → IsReady old found later set change → IsReady new found later set change
+  ready_kept later set (Take ready) is = prepared_kept set ready is
+  ready_kept later set (Copy from) is = copied_kept later set from is
+
   -- one set more is ready
-  pub more_ready : (sets : List (ℕ × SetTo)) (changes : List Change) (change : Change) (n : ℕ) → length changes ≡ n → AreReadyFor old found sets changes → ((s : ℕ × SetTo) → IsReadyFor new found (get_or sets n s) change) → AreReadyFor new found sets (changes ++ change ∷ [])
+  pub more_ready : (sets : List (ℕ × SetTo)) (changes : List Change) (change : Change) (n : ℕ) → length changes ≡ n → AreReadyFor old found sets changes → ((s : ℕ × SetTo) → IsReady new found (drop (n + 1) sets) (get_or sets n s) change) → AreReadyFor new found sets (changes ++ change ∷ [])
   more_ready sets changes change n len ready here j s d l =
       elim (cases_lt j n) [
         | inl low ↦
-            rw (get_or_append_left changes (change ∷ []) d j (omega (arith, len))) (ready_kept (get_or sets j s) (get_or changes j d) (ready j s d (omega (arith, len))))
+            rw (get_or_append_left changes (change ∷ []) d j (omega (arith, len))) (ready_kept (drop (j + 1) sets) (get_or sets j s) (get_or changes j d) (ready j s d (omega (arith, len))))
         | inr high ↦
             let e : j ≡ n = omega (arith, length_push changes change, len) in
             rw (e, get_or_push changes change d n len) (here s)
@@ -105,7 +134,7 @@ pub record Turn (found : MaskRows) (sets : List (ℕ × SetTo)) (cur old : List 
   pub named : here.0 < length cur
   pub apart : AllPairs (λ s t. s.0 ≢ t.0) sets
   pub done : AllSet found (drop (n + 1) sets) cur old
-  pub ready : IsReadyFor old found here change
+  pub ready : IsReady old found (drop (n + 1) sets) here change
 
 pub turn : (found : MaskRows) (sets : List (ℕ × SetTo)) (cur old : List ColumnView) (changes rest front : List Change) (change : Change) (m n : ℕ) (d : ℕ × SetTo) → rest ≡ take m changes → length rest ≡ m → rest ≡ front ++ change ∷ [] → n ≡ length front → m ≤ length sets → length changes ≡ length sets → All (λ set. set.0 < length old) sets → AllPairs (λ s t. s.0 ≢ t.0) sets → AreReadyFor old found sets changes → AllSet found (drop m sets) cur old → Turn found sets cur old n (get_or sets n d) change
 turn found sets cur old changes rest front change m n d of all last len few count named apart ready done =
@@ -139,38 +168,86 @@ module _ {found : MaskRows} {sets : List (ℕ × SetTo)} {cur old : List ColumnV
         | inr e ↦ lookup_tail (λ column. column == k) here (drop (n + 1) sets) e
       ]
 
-  -- the column as it stands is that for which its change is ready
-  module _ (column : ColumnView) (stands : column ≡ get_or cur here.0 column) where
-    pub keeps_here : (d : ColumnView) → Keeps column (get_or old here.0 d)
-    keeps_here d = subst (λ (c : ColumnView). Keeps c (get_or old here.0 d)) (sym (stands ∙ get_or_default cur here.0 column d t.named)) (subst (λ to. IsSet old found to (get_or cur here.0 d) (get_or old here.0 d)) free (t.done.each here.0 d))
+  -- the column of this turn stands as it was
+  pub keeps_here : (d : ColumnView) → Keeps (get_or cur here.0 d) (get_or old here.0 d)
+  keeps_here d = subst (λ to. IsSet old found to (get_or cur here.0 d) (get_or old here.0 d)) free (t.done.each here.0 d)
 
-    pub prepared_here : IsPreparedFor column (taken found change.values) false change.prepared
-    prepared_here = still_ready column (get_or old here.0 column) (taken found change.values) change.prepared (keeps_here column) (t.ready.ready column)
+  -- and so does one that no later set is of
+  keeps_unset : (k : ℕ) → All (λ s. s.0 ≢ k) (drop (n + 1) sets) → (d : ColumnView) → Keeps (get_or cur k d) (get_or old k d)
+  keeps_unset k unset d = subst (λ to. IsSet old found to (get_or cur k d) (get_or old k d)) (none_set (drop (n + 1) sets) k unset) (t.done.each k d)
 
-    pub fits_here : FitsCopy (kind_of column.encoding) found change.values
-    fits_here = fits_kept column (get_or old here.0 column) found change.values (keeps_here column) (t.ready.fits column)
-
-    -- and an overwrite does what the set says
-    pub more_set : (x : ColumnView) (values : List (Option ℤ)) → values ≡ (taken found change.values) → x.values ≡ overwritten found values column.values → x.layout ≡ column.layout → IsEncodingFor column.values column.encoding values x.encoding → AllSet found (drop n sets) (set cur here.0 x) old
-    more_set x values e is layout encoding =
-        let all : values ≡ gathered old found here.1 = e ∙ t.ready.values in
-        record {
-          count = length-set cur here.0 x ∙ t.done.count;
-          each = λ k d.
-              elim (cases_eq k here.0) [
-                | inl h ↦
-                    let keeps = keeps_here d in
-                    rw (h, get_or-set_same cur here.0 x d t.named, set_here) record {
-                      values_are = is ∙ ap (λ xs. overwritten found xs column.values) all ∙ ap (overwritten found (gathered old found here.1)) keeps.values;
-                      layout = layout ∙ keeps.layout;
-                      encoding = rw (← keeps.values, ← keeps.encoding, ← all) encoding;
-                    }
-                | inr m ↦ rw (get_or-set_other cur here.0 k x d m, set_there k m) (t.done.each k d)
-              ];
-        }
+  -- what is written there is what the set says
+  pub more_set : (next : List ColumnView) (values : List (Option ℤ)) → values ≡ gathered old found here.1 → IsWrittenIn next cur here.0 found values → AllSet found (drop n sets) next old
+  more_set next values all is = record {
+    count = is.count ∙ t.done.count;
+    each = λ k d.
+        elim (cases_eq k here.0) [
+          | inl h ↦
+              let keeps = keeps_here d in
+              let w = is.here d in
+              rw (h, set_here) record {
+                values_are = w.values_are ∙ ap (λ xs. overwritten found xs (get_or cur here.0 d).values) all ∙ ap (overwritten found (gathered old found here.1)) keeps.values;
+                layout = w.layout ∙ keeps.layout;
+                encoding = rw (← keeps.values, ← keeps.encoding, ← all) w.encoding;
+              }
+          | inr m ↦ rw (is.other k d m, set_there k m) (t.done.each k d)
+        ];
+  }
 
 pub counted : (columns : List ColumnView) (found : MaskRows) (to : SetTo) (values : List (Option ℤ)) → values ≡ gathered columns found to → count_by (λ row. row) found.rows ≡ length values
 counted columns found to values e = sym (count_places found) ∙ sym (length-map (places found) (λ i. value_for to (row_of columns i))) ∙ ap length (sym e)
+
+module _ {found : MaskRows} {sets : List (ℕ × SetTo)} {cur old : List ColumnView} {n : ℕ} {here : ℕ × SetTo} where
+  pub can_apply : (change : Change) → Turn found sets cur old n here change → CanApply cur found here.0 change
+  can_apply (Take ready) t = record {
+    prepared = λ c. still_ready (get_or cur here.0 c) (get_or old here.0 c) (taken found ready.values) ready.prepared (keeps_here t c) (t.ready.ready c);
+    count = counted old found here.1 (taken found ready.values) t.ready.values;
+    fits = λ c. fits_kept (get_or cur here.0 c) (get_or old here.0 c) found ready.values (keeps_here t c) (t.ready.fits c);
+  }
+  can_apply (Copy from) t = record {
+    there = omega (arith, t.ready.there, t.done.count);
+    apart = t.ready.apart;
+    can = λ c. can_copy_kept (get_or cur here.0 c) (get_or old here.0 c) (get_or cur from c) (get_or old from c) (keeps_here t c) (keeps_unset t from t.ready.unset c) (t.ready.can c);
+  }
+
+  -- the values of its change are those of the set
+  pub changed_is : (change : Change) → Turn found sets cur old n here change → (c : ColumnView) → changed cur found change ≡ gathered old found here.1
+  changed_is (Take ready) t c = t.ready.values
+  changed_is (Copy from) t c =
+      gathered_column cur found from c (omega (arith, t.ready.there, t.done.count))
+      ∙ ap (chosen_values found) (keeps_unset t from t.ready.unset c).values
+      ∙ sym (gathered_column old found from c t.ready.there)
+      ∙ ap (gathered old found) (sym t.ready.is)
+
+-- one column written, and no other
+pub written_set : (columns : List ColumnView) (found : MaskRows) (k : ℕ) (values : List (Option ℤ)) (x : ColumnView) → k < length columns → ((c : ColumnView) → IsWritten x (get_or columns k c) found values) → IsWrittenIn (set columns k x) columns k found values
+written_set columns found k values x inside is = record {
+  count = length-set columns k x;
+  here = λ c. rw (get_or-set_same columns k x c inside) (is c);
+  other = λ j c n. get_or-set_other columns k j x c n;
+}
+
+-- a column that took the values of another one, each of which has a code in it
+pub copied_written : (columns : List ColumnView) (found : MaskRows) (k from : ℕ) (x own other : ColumnView) → k < length columns → from < length columns → ((c : ColumnView) → own ≡ get_or columns k c) → ((c : ColumnView) → other ≡ get_or columns from c) → ((c : ColumnView) → CanCopy (get_or columns k c) (get_or columns from c)) → x.values ≡ overwritten found (chosen_values found other.values) own.values → x.layout ≡ own.layout → x.encoding ≡ own.encoding → IsWrittenIn (set columns k x) columns k found (gathered columns found (Column from))
+copied_written columns found k from x own other inside there own_is other_is can values layout encoding =
+    let is : gathered columns found (Column from) ≡ chosen_values found other.values = gathered_column columns found from other there ∙ ap (λ (c : ColumnView). chosen_values found c.values) (sym (other_is other)) in
+    let here : CanCopy own other = subst (λ (o : ColumnView). CanCopy o other) (sym (own_is own)) (subst (CanCopy (get_or columns k own)) (sym (other_is own)) (can own)) in
+    let coded : All (IsCoded own.encoding) (gathered columns found (Column from)) = rw is (all_chosen (IsCoded own.encoding) found other.values tt here.coded) in
+    let stays : IsEncodingFor own.values own.encoding (gathered columns found (Column from)) x.encoding = record { stays = λ _. encoding; anew = λ none. absurd (none coded) } in
+    let written : IsWritten x own found (gathered columns found (Column from)) = record {
+      values_are = values ∙ ap (λ vs. overwritten found vs own.values) (sym is);
+      layout = layout;
+      encoding = stays;
+    } in
+    written_set columns found k (gathered columns found (Column from)) x inside (λ c. subst (λ (o : ColumnView). IsWritten x o found (gathered columns found (Column from))) (own_is c) written)
+
+set_long : (columns : List ColumnView) (found : MaskRows) (to : Option SetTo) (new old : ColumnView) → IsSet columns found to new old → length new.values ≡ length old.values
+set_long columns found None new old is = ap length is.values
+set_long columns found (Some to) new old is = ap length is.values_are ∙ made_len (length old.values) (put_at found (gathered columns found to) old.values)
+
+-- columns that are set stay as long as they were
+pub all_long : (found : MaskRows) (sets : List (ℕ × SetTo)) (new old : List ColumnView) → AllSet found sets new old → All (λ column. length column.values ≡ len found) old → All (λ column. length column.values ≡ len found) new
+all_long found sets new old all long k d l = set_long old found (set_of sets k) (get_or new k d) (get_or old k d) (all.each k d) ∙ long k d (omega (arith, l, all.count))
 
 pub kept_as_is : (columns : List ColumnView) → AllKept columns columns
 kept_as_is columns = record { count = refl; each = λ k d. record { values = refl; layout = refl; encoding = refl; room = omega arith } }

@@ -1,22 +1,24 @@
 -- Columns that are set in the rows of a mask, in two steps, and columns rebuilt from such rows.
-use Rattle.std.specs.Prelude.{List, None, Option, Some, [], count_by, false, length, map, replicate, slice_index_or, ⊤, ℕ, ℤ, ◌<◌, ◌≡◌}
-use Rattle.std.specs.List.{filter, range_with_len}
+use Rattle.std.specs.Prelude.{List, None, Option, Some, [], count_by, drop, false, length, map, replicate, slice_index_or, ⊤, ℕ, ℤ, ◌+◌, ◌<◌, ◌≡◌, ◌≢◌}
+use Rattle.std.specs.List.{All, filter, range_with_len}
 use Rattle.bw_mask.specs.Masks.{MaskRows, bit_of}
 use Rattle.bw_code.specs.Encodings.{IsFit, kind_of}
 use Rattle.bw_code.specs.declared.header.Header.{Header}
 use Rattle.bw_column.specs.Columns.{ColumnView, Keeps}
 use Rattle.bw_code.specs.declared.kind.Kind.{Kind}
 use Rattle.bw_code.specs.declared.kind.Kind.TheVariants as kinds
-use Rattle.bw_column.specs.Copies.{IsMasked}
+use Rattle.bw_column.specs.Copies.{CanCopy, IsMasked}
 use Rattle.bw_column.specs.Places.{chosen_values, overwritten}
 use Rattle.bw_column.specs.Preparing.{IsEncodingFor, IsPreparedFor}
 use Rattle.bw_column.specs.Values.{known, value_at}
 use Rattle.bw_table.specs.Changes.{choice_of, chosen_kind, chosen_layout, places, set_of, value_for}
 use Rattle.bw_table.specs.Slots.{row_of}
 use Rattle.bw_table.specs.declared.choice.Choice.{Choice}
+use Rattle.bw_table.specs.declared.setting.Change.{Change}
+use Rattle.bw_table.specs.declared.setting.Change.TheVariants.{Copy, Take}
 use Rattle.bw_table.specs.declared.setting.SetTo.{SetTo}
 use Rattle.bw_table.specs.declared.setting.SetTo.TheVariants.{Column, Value}
-use Rattle.bw_table.specs.declared.taking.Change.{Change}
+use Rattle.bw_table.specs.declared.taking.PreparedValues.{PreparedValues}
 use Rattle.bw_table.specs.declared.taking.Taken.{Taken}
 use Rattle.bw_table.specs.declared.taking.Taken.TheVariants.{Copied, Each, Same}
 
@@ -45,20 +47,61 @@ FitsCopy kind mask (Each values) = ⊤
 FitsCopy kind mask (Same value) = ⊤
 FitsCopy kind mask (Copied copy) = (kind ≡ kinds.Offset) × (kind_of copy.encoding ≡ kinds.Offset) × IsMasked mask copy.values
 
--- the change has the values of the set, and is prepared for its column as it is
-pub record IsReadyFor (columns : List ColumnView) (found : MaskRows) (set : ℕ × SetTo) (change : Change) : Type 0 where
-  pub values : taken found change.values ≡ gathered columns found set.1
-  pub ready : (c : ColumnView) → IsPreparedFor (slice_index_or columns set.0 c) (taken found change.values) false change.prepared
-  pub fits : (c : ColumnView) → FitsCopy (kind_of (slice_index_or columns set.0 c).encoding) found change.values
+-- the values are those of the set, and the column as it is is prepared for them
+pub record IsPreparedIn (columns : List ColumnView) (found : MaskRows) (set : ℕ × SetTo) (own : PreparedValues) : Type 0 where
+  pub values : taken found own.values ≡ gathered columns found set.1
+  pub ready : (c : ColumnView) → IsPreparedFor (slice_index_or columns set.0 c) (taken found own.values) false own.prepared
+  pub fits : (c : ColumnView) → FitsCopy (kind_of (slice_index_or columns set.0 c).encoding) found own.values
+
+-- the set is to this other column, which no later set is of, and whose codes will do
+pub record IsCopied (columns : List ColumnView) (later : List (ℕ × SetTo)) (set : ℕ × SetTo) (from : ℕ) : Type 0 where
+  pub is : set.1 ≡ Column from
+  pub there : from < length columns
+  pub apart : set.0 ≢ from
+  pub unset : All (λ other. other.0 ≢ from) later
+  pub can : (c : ColumnView) → CanCopy (slice_index_or columns set.0 c) (slice_index_or columns from c)
+
+-- the change is that of the set, and its column as it is is ready for it; the sets after it are made before it
+abbrev pub IsReady : List ColumnView → MaskRows → List (ℕ × SetTo) → ℕ × SetTo → Change → Type 0
+IsReady columns found later set (Take ready) = IsPreparedIn columns found set ready
+IsReady columns found later set (Copy from) = IsCopied columns later set from
 
 abbrev pub AreReadyFor : List ColumnView → MaskRows → List (ℕ × SetTo) → List Change → Type 0
-AreReadyFor columns found sets changes = (j : ℕ) (s : ℕ × SetTo) (d : Change) → j < length changes → IsReadyFor columns found (slice_index_or sets j s) (slice_index_or changes j d)
+AreReadyFor columns found sets changes = (j : ℕ) (s : ℕ × SetTo) (d : Change) → j < length changes → IsReady columns found (drop (j + 1) sets) (slice_index_or sets j s) (slice_index_or changes j d)
+
+-- a column is ready to take these values
+pub record CanTakeIn (columns : List ColumnView) (found : MaskRows) (k : ℕ) (ready : PreparedValues) : Type 0 where
+  pub prepared : (c : ColumnView) → IsPreparedFor (slice_index_or columns k c) (taken found ready.values) false ready.prepared
+  pub count : count_by (λ row. row) found.rows ≡ length (taken found ready.values)
+  pub fits : (c : ColumnView) → FitsCopy (kind_of (slice_index_or columns k c).encoding) found ready.values
+
+-- a column is ready to take the values of another one
+pub record CanCopyIn (columns : List ColumnView) (k from : ℕ) : Type 0 where
+  pub there : from < length columns
+  pub apart : k ≢ from
+  pub can : (c : ColumnView) → CanCopy (slice_index_or columns k c) (slice_index_or columns from c)
+
+-- a change can be made of a column as all columns are
+abbrev pub CanApply : List ColumnView → MaskRows → ℕ → Change → Type 0
+CanApply columns found k (Take ready) = CanTakeIn columns found k ready
+CanApply columns found k (Copy from) = CanCopyIn columns k from
+
+-- the values of a change, in order
+abbrev pub changed : List ColumnView → MaskRows → Change → List (Option ℤ)
+changed columns found (Take ready) = taken found ready.values
+changed columns found (Copy from) = gathered columns found (Column from)
 
 -- the values are written in the found rows
 pub record IsWritten (new old : ColumnView) (found : MaskRows) (values : List (Option ℤ)) : Type 0 where
   pub values_are : new.values ≡ overwritten found values old.values
   pub layout : new.layout ≡ old.layout
   pub encoding : IsEncodingFor old.values old.encoding values new.encoding
+
+-- and no other column changes
+pub record IsWrittenIn (new old : List ColumnView) (k : ℕ) (found : MaskRows) (values : List (Option ℤ)) : Type 0 where
+  pub count : length new ≡ length old
+  pub here : (c : ColumnView) → IsWritten (slice_index_or new k c) (slice_index_or old k c) found values
+  pub other : (j : ℕ) (c : ColumnView) → j ≢ k → slice_index_or new j c ≡ slice_index_or old j c
 
 -- a column that is set has its values, and any other stays as it is
 abbrev pub IsSet : List ColumnView → MaskRows → Option SetTo → ColumnView → ColumnView → Type 0

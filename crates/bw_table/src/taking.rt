@@ -27,15 +27,15 @@ pub(crate) enum Taken {
     Copied(Column),
 }
 
-/// A change of one column: the values, and what the column has prepared for them.
+/// Values, and what a column has prepared for them.
 #[derive(Drop)]
-pub(crate) struct Change {
+pub(crate) struct PreparedValues {
     pub(crate) prepared: Prepared,
     pub(crate) values: Taken,
 }
 
-/// Whether the mask has so many of a column's rows that copying the whole column costs less than listing the values.
-fn are_many(mask: &Mask) -> bool {
+/// Whether the mask has so many of a column's rows that copying all of them costs less than listing the values.
+pub(crate) fn are_many(mask: &Mask) -> bool {
     mask.len() / 8 < mask.count()
 }
 
@@ -94,17 +94,17 @@ pub(crate) fn make_ready(
     }
 }
 
-/// Writes the values of a change to a column, in the rows of a mask. Allocates nothing.
-pub(crate) fn take(column: &mut Column, mask: &Mask, change: Change)
-    requires prepared { IsPreparedFor column.old (taken mask.now change.values) false change.prepared }
+/// Writes the values that a column is prepared for to the rows of a mask. Allocates nothing.
+pub(crate) fn take(column: &mut Column, mask: &Mask, ready: PreparedValues)
+    requires prepared { IsPreparedFor column.old (taken mask.now ready.values) false ready.prepared }
     requires mask { len mask.now ≡ length column.old.values }
-    requires count { count_by (λ row. row) mask.now.rows ≡ length (taken mask.now change.values) }
-    requires fits { FitsCopy (kind_of column.old.encoding) mask.now change.values }
-    ensures values { column.new.values ≡ overwritten mask.now (taken mask.now change.values) column.old.values }
+    requires count { count_by (λ row. row) mask.now.rows ≡ length (taken mask.now ready.values) }
+    requires fits { FitsCopy (kind_of column.old.encoding) mask.now ready.values }
+    ensures values { column.new.values ≡ overwritten mask.now (taken mask.now ready.values) column.old.values }
     ensures layout { column.new.layout ≡ column.old.layout }
-    ensures encoding { IsEncodingFor column.old.values column.old.encoding (taken mask.now change.values) column.new.encoding }
+    ensures encoding { IsEncodingFor column.old.values column.old.encoding (taken mask.now ready.values) column.new.encoding }
 {
-    let Change { prepared, values } = change;
+    let PreparedValues { prepared, values } = ready;
     match values {
         Taken::Each(list) => column.overwrite(prepared, mask, &list),
         Taken::Same(value) => column.fill(prepared, mask, value),
