@@ -1,4 +1,5 @@
 pub mod Across
+pub mod Chosen
 pub mod Copied
 pub mod Flat
 pub mod Heads

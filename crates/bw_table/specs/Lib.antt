@@ -1,4 +1,5 @@
 pub mod Changes
+pub mod Choosing
 pub mod Halves
 pub mod Opening
 pub mod Rows

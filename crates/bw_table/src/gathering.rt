@@ -13,7 +13,7 @@ use std::alloc::{AllocError, Global};
 const FEW: u32 = 8;
 
 /// Writes those of at most 64 values whose bit is set to the start of `out`, in order, and returns their number.
-fn pick(run: &[Option<i64>], rows: u64, out: &mut [Option<i64>; 64]) -> usize
+pub(crate) fn pick(run: &[Option<i64>], rows: u64, out: &mut [Option<i64>; 64]) -> usize
     requires { length run.now ≤ 64 }
     ensures few { result ≤ length run.now }
     ensures front { take result out.new ≡ picked rows run.now }

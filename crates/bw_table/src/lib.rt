@@ -3,6 +3,7 @@
 
 mod appending;
 mod choice;
+mod chosen_cells;
 mod copies;
 mod fault;
 mod gathering;
@@ -17,6 +18,7 @@ mod taking;
 
 pub use bw_code::Header;
 pub use choice::Choice;
+pub use chosen_cells::ChosenCells;
 pub use fault::TableFault;
 pub use rows::Rows;
 pub use setting::SetTo;

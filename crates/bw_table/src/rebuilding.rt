@@ -10,7 +10,7 @@ ghost use Rattle.bw_table.specs.Changes.{choice_of, chosen_kind, chosen_layout};
 ghost use Rattle.bw_table.specs.Sets.{AllBuilt};
 
 use crate::choice::{Choice, choice_of, chosen_kind, chosen_layout};
-use crate::gathering::gather;
+use crate::chosen_cells::ChosenCells;
 use bw_cells::Measured;
 use bw_column::Column;
 use bw_mask::Mask;
@@ -35,7 +35,7 @@ fn built_as<C: Measured>(
     Column::build(alloc, values, layout, kind)
 }
 
-/// Rebuilds a column from its values in the rows of a mask. If the mask has all rows, no list of the values is built.
+/// Rebuilds a column from its values in the rows of a mask. No list of the values is built.
 fn built_anew(
     alloc: Global,
     own: &Column,
@@ -55,8 +55,8 @@ fn built_anew(
         let kind = chosen_kind(choice, own.kind());
         return own.rebuild(alloc, layout, kind);
     }
-    let values = gather(own, alloc, mask)?;
-    built_as(alloc, own, choice, &values.as_slice())
+    let cells = ChosenCells::new(alloc, own, mask)?;
+    built_as(alloc, own, choice, &cells)
 }
 
 /// Rebuilds each column from its values in the rows of a mask, with the choices applied.

@@ -21,4 +21,4 @@ returns-then-count-len-clause-fits c = rw (all c) c.rebuild.ensures.fits
 pub built_as-requires-clause-held : goal.built_as-requires-clause-held
 built_as-requires-clause-held c =
     let held = all_chosen (IsNullOrHeld (chosen_layout c.args.choice c.args.own.now.layout)) c.args.mask.now c.args.own.now.values tt c.requires.held in
-    rw (c.as_slice.ensures.value, c.in_ok-values.ensures.values) held
+    rw c.in_ok-cells.ensures.cells held
