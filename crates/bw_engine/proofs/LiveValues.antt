@@ -1,12 +1,14 @@
 -- The values of a column in the live slots, with NULL for each dead one.
-use Rattle.std.proofs.Common.{◌≡◌, ◌∙◌, ℕ, ◌+◌, ◌<◌, ◌≤◌, List, [], ◌∷◌, None, Some, ap, arith, drop, get_or, if◌then◌else◌, inl, inr, length, map, refl, sym, take}
+use Rattle.std.proofs.Common.{◌≡◌, ◌∙◌, ℕ, suc, ◌+◌, ◌<◌, ◌≤◌, Bool, List, [], ◌∷◌, None, Some, ap, arith, drop, get_or, if◌then◌else◌, inl, inr, length, map, refl, sym, take}
+use Rattle.std.specs.List.{filter, range_with_len}
 use Rattle.std.proofs.lemmas.Bool.{cases_Bool}
 use Rattle.std.proofs.lemmas.List.{ext_get_or, get_or-drop, get_or-map, get_or-take, length-drop, length-map, length-take-le}
 use Rattle.bw_cells.specs.Known.{known}
 use Rattle.bw_code.proofs.Lists.{made_at, made_is, made_len}
 use Rattle.bw_column.specs.Copies.{masked}
+use Rattle.bw_column.specs.Places.{chosen_values}
 use Rattle.bw_column.specs.Values as values
-use Rattle.bw_mask.specs.Masks.{MaskRows, row_at}
+use Rattle.bw_mask.specs.Masks.{MaskRows, len, row_at}
 use Rattle.bw_table.specs.Slots.{Slot, live_slot, slot_at, slot_column}
 use Rattle.bw_model.specs.Filing.{column_of}
 use Rattle.bw_model.specs.Store.{Value, value_at}
@@ -27,6 +29,22 @@ known_alive k (slot ∷ slots) =
     elim (cases_Bool slot.live) [
       | inl e ↦ rw e (known_next (value_at slot.row k) (map (alive k) slots) (column_of (rows_in slots) k) (known_alive k slots))
       | inr e ↦ rw e (known_alive k slots)
+    ]
+
+-- the values at the indexes that pass, where those of the live slots do
+chosen_from : (k : ℕ) (slots : List Slot) (start : ℕ) (test : ℕ → Bool) (value : ℕ → Value) → ((i : ℕ) → i < length slots → test (start + i) ≡ (slot_at slots i).live) → ((i : ℕ) → i < length slots → value (start + i) ≡ value_at (slot_at slots i).row k)
+    → map value (filter test (range_with_len start (length slots))) ≡ column_of (rows_in slots) k
+chosen_from k [] start test value tests are = refl
+chosen_from k (slot ∷ slots) start test value tests are =
+    let first : start + 0 ≡ start = omega arith in
+    let next : (i : ℕ) → suc start + i ≡ start + suc i = λ i. omega arith in
+    let live : test start ≡ slot.live = ap test (sym first) ∙ tests 0 (omega arith) in
+    let here : value start ≡ value_at slot.row k = ap value (sym first) ∙ are 0 (omega arith) in
+    let rest : map value (filter test (range_with_len (suc start) (length slots))) ≡ column_of (rows_in slots) k =
+    chosen_from k slots (suc start) test value (λ i h. ap test (next i) ∙ tests (suc i) (omega (arith, h))) (λ i h. ap value (next i) ∙ are (suc i) (omega (arith, h))) in
+    elim (cases_Bool slot.live) [
+      | inl e ↦ rw (live, e) (λ j. here j ∷ rest j)
+      | inr e ↦ rw (live, e) rest
     ]
 
 module _ (slots : List Slot) (live : MaskRows) (k : ℕ) (column : List Value) (is : column ≡ slot_column slots k) (each : (i : ℕ) → i < length slots → row_at live i ≡ (slot_at slots i).live) where
@@ -50,6 +68,11 @@ module _ (slots : List Slot) (live : MaskRows) (k : ℕ) (column : List Value) (
 
   pub live_known : known (masked live column) ≡ known (column_of (rows_in slots) k)
   live_known = ap known masked_alive ∙ known_alive k slots
+
+  pub live_chosen : len live ≡ length slots → chosen_values live column ≡ column_of (rows_in slots) k
+  live_chosen long =
+      ap (λ n. map (values.value_at column) (filter (row_at live) (range_with_len 0 n))) long
+      ∙ chosen_from k slots 0 (row_at live) (values.value_at column) (λ i h. let e : 0 + i ≡ i = omega arith in ap (row_at live) e ∙ each i h) (λ i h. let e : 0 + i ≡ i = omega arith in ap (values.value_at column) e ∙ value_here i h)
 
 pub masked_long : (live : MaskRows) (cells : List Value) → length (masked live cells) ≡ length cells
 masked_long live cells = made_len (length cells) (λ i. if row_at live i then values.value_at cells i else None)

@@ -36,23 +36,6 @@ use Rattle.bw_engine.proofs.FoundLaws.{live_found, where_found}
 use Rattle.bw_engine.proofs.LiveLaws.{live_wide}
 use Rattle.bw_engine.proofs.Steps.{found_in}
 
--- one value of each row
-ones_joined : (k : ℕ) (rows : List Row) → joined (map (λ row. map (λ place. value_at row place) (k ∷ [])) rows) ≡ column_of rows k
-ones_joined k [] = refl
-ones_joined k (row ∷ rows) = ap (λ l. value_at row k ∷ l) (ones_joined k rows)
-
-all_found : (rows : List Row) → filter (is_found_by None) rows ≡ rows
-all_found [] = refl
-all_found (row ∷ rows) = ap (λ l. row ∷ l) (all_found rows)
-
--- the values of a column in the live slots
-pub live_column : (slots : List Slot) (live : MaskRows) (k : ℕ) (found : List Value) → len live ≡ length slots → ((i : ℕ) → i < length slots → row_at live i ≡ (slot_at slots i).live)
-    → found ≡ joined (map (λ row. map (λ place. value_at row place) (k ∷ [])) (rows_where (row_at live) (rows_of_slots slots))) → found ≡ column_of (rows_in slots) k
-live_column slots live k found long each is =
-    is
-    ∙ ap (λ rows. joined (map (λ row. map (λ place. value_at row place) (k ∷ [])) rows)) (where_found slots None live (live_found slots live long each) ∙ all_found (rows_in slots))
-    ∙ ones_joined k (rows_in slots)
-
 pub live_typed : (P : Value → Type 0) (slots : List Slot) (k : ℕ) → All P (slot_column slots k) → All P (column_of (rows_in slots) k)
 live_typed P [] k all = All-nil P
 live_typed P (slot ∷ slots) k all =

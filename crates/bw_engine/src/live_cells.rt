@@ -8,11 +8,11 @@ ghost use Rattle.bw_model.specs.Filing.{column_of};
 ghost use Rattle.bw_engine.specs.Saving.{saved_cells};
 ghost use Rattle.bw_engine.specs.Stores.{rows_in};
 
-use crate::shown::found_values;
 use crate::table::Table;
 use bw_cells::{Cells, Measured};
 use bw_column::Column;
 use bw_sql::Value;
+use bw_table::ChosenCells;
 use std::alloc::{AllocError, Global};
 
 /// The cells of a column in the rows of its table, without dead slots.
@@ -21,7 +21,7 @@ pub(crate) enum LiveCells<'a> {
     /// Every slot is live: the column as it is.
     Whole(&'a Column),
     /// Some slots are dead: the values of the live ones.
-    Gathered(Vec<Value>),
+    Chosen(ChosenCells<'a>),
 }
 
 impl Cells for LiveCells<'_> {
@@ -32,14 +32,14 @@ impl Cells for LiveCells<'_> {
     fn len(&self) -> usize {
         match self {
             LiveCells::Whole(column) => column.len(),
-            LiveCells::Gathered(values) => values.len(),
+            LiveCells::Chosen(cells) => cells.len(),
         }
     }
 
     fn read(&self, at: usize, out: &mut [Value]) {
         match self {
             LiveCells::Whole(column) => column.read(at, out),
-            LiveCells::Gathered(values) => values.as_slice().read(at, out),
+            LiveCells::Chosen(cells) => cells.read(at, out),
         }
     }
 }
@@ -48,7 +48,7 @@ impl Measured for LiveCells<'_> {
     fn distances(&self, at: usize, base: i64, out: &mut [u64]) -> u64 {
         match self {
             LiveCells::Whole(column) => column.distances(at, base, out),
-            LiveCells::Gathered(values) => values.as_slice().distances(at, base, out),
+            LiveCells::Chosen(cells) => cells.distances(at, base, out),
         }
     }
 
@@ -62,7 +62,7 @@ impl Measured for LiveCells<'_> {
     ) -> Option<u64> {
         match self {
             LiveCells::Whole(column) => column.planes(at, count, base, k, words),
-            LiveCells::Gathered(_) => None,
+            LiveCells::Chosen(cells) => cells.planes(at, count, base, k, words),
         }
     }
 }
@@ -95,6 +95,6 @@ fn live_column<'a>(alloc: Global, table: &'a Table, k: usize) -> Result<LiveCell
     if stored.row_count() == slots {
         return Ok(LiveCells::Whole(column));
     }
-    let values = found_values(alloc, stored, &[k], stored.live())?;
-    Ok(LiveCells::Gathered(values))
+    let cells = ChosenCells::new(alloc, column, stored.live())?;
+    Ok(LiveCells::Chosen(cells))
 }

@@ -7,7 +7,8 @@ use Rattle.bw_table.specs.Slots.{Slot, live_slots, slot_column}
 use Rattle.bw_model.specs.Filing.{column_of}
 use Rattle.bw_model.specs.Store.{Row}
 use Rattle.bw_engine.specs.Stores.{StoredTable, rows_in}
-use Rattle.bw_engine.proofs.Saved.{live_column, live_typed, whole_column}
+use Rattle.bw_engine.proofs.LiveValues.{live_chosen}
+use Rattle.bw_engine.proofs.Saved.{live_typed, whole_column}
 use Rattle.bw_engine.proofs.live_cells.live_column.Goals as goal
 
 pub returns-then-row_count-slots-clause-cells : goal.returns-then-row_count-slots-clause-cells
@@ -21,7 +22,8 @@ returns-then-row_count-slots-clause-cells c =
 pub returns-clause-cells : goal.returns-clause-cells
 returns-clause-cells c =
     let slots = c.stored-stored.result.now.slots in
-    live_column slots c.live.result.now c.args.k c.in_ok-values.values.items c.live.ensures.len c.live.ensures.rows c.in_ok-values.ensures
+    c.in_ok-cells.ensures.cells
+    ∙ live_chosen slots c.live.result.now c.args.k c.column-column.result.now.values c.column-column.ensures.values c.live.ensures.rows c.live.ensures.len
     ∙ ap (λ (table : StoredTable). column_of (rows_in table.slots) c.args.k) c.stored-stored.ensures
 
 pub returns-then-row_count-slots-clause-typed : goal.returns-then-row_count-slots-clause-typed
