@@ -37,11 +37,11 @@ chosen_from : (k : ℕ) (slots : List Slot) (start : ℕ) (test : ℕ → Bool) 
 chosen_from k [] start test value tests are = refl
 chosen_from k (slot ∷ slots) start test value tests are =
     let first : start + 0 ≡ start = omega arith in
-    let next : (i : ℕ) → suc start + i ≡ start + suc i = λ i. omega arith in
+    let next : (i : ℕ) → start + 1 + i ≡ start + suc i = λ i. omega arith in
     let live : test start ≡ slot.live = ap test (sym first) ∙ tests 0 (omega arith) in
     let here : value start ≡ value_at slot.row k = ap value (sym first) ∙ are 0 (omega arith) in
-    let rest : map value (filter test (range_with_len (suc start) (length slots))) ≡ column_of (rows_in slots) k =
-    chosen_from k slots (suc start) test value (λ i h. ap test (next i) ∙ tests (suc i) (omega (arith, h))) (λ i h. ap value (next i) ∙ are (suc i) (omega (arith, h))) in
+    let rest : map value (filter test (range_with_len (start + 1) (length slots))) ≡ column_of (rows_in slots) k =
+    chosen_from k slots (start + 1) test value (λ i h. ap test (next i) ∙ tests (suc i) (omega (arith, h))) (λ i h. ap value (next i) ∙ are (suc i) (omega (arith, h))) in
     elim (cases_Bool slot.live) [
       | inl e ↦ rw (live, e) (λ j. here j ∷ rest j)
       | inr e ↦ rw (live, e) rest
