@@ -4,8 +4,9 @@
     make_wheel.py [FOLDER]      writes it to this folder, which is made if needed; by default the working directory
 
 The program is the one that the environment variable BITCOL names, or crates/bitcol/out/bitcol. The shared library that
-BITCOL_LIBRARY names is included too; without that variable the wheel has none. pip calls build_wheel when it builds
-this folder. The same files always make the same bytes.
+BITCOL_LIBRARY names is included too; without that variable the wheel has none. So is the module in C, bitcol/_rows, if
+it was built (make -C clients rows). It is optional, so the wheel's tag is that of a wheel without it: any Python 3. pip
+calls build_wheel when it builds this folder. The same files always make the same bytes.
 """
 
 from __future__ import annotations
@@ -24,7 +25,9 @@ HERE = Path(__file__).resolve().parent
 TOP = HERE.parent.parent
 PROGRAM, FILE = 0o755, 0o644
 # The suffixes of the package's files that are included in the wheel: modules, and the parts of the page.
-SUFFIXES = (".py", ".typed", ".html", ".css", ".js", ".svg")
+SUFFIXES = (".py", ".pyi", ".typed", ".html", ".css", ".js", ".svg")
+# The suffix of the module in C, which is for any Python from 3.10 on.
+MODULE_SUFFIX = ".abi3.so"
 # A wheel's files need a time, which nobody reads: the earliest that a zip can hold.
 TIME = (1980, 1, 1, 0, 0, 0)
 
@@ -62,7 +65,7 @@ def library() -> Path | None:
 def members(version: str, tag: str) -> Iterator[Member]:
     """Yields all files of the wheel except RECORD."""
     for path in sorted((HERE / "bitcol").rglob("*")):
-        if path.suffix in SUFFIXES:
+        if path.suffix in SUFFIXES or path.name.endswith(MODULE_SUFFIX):
             yield Member(path.relative_to(HERE).as_posix(), path.read_bytes())
     yield Member("bitcol/bin/bitcol", program().read_bytes(), PROGRAM)
     shared = library()

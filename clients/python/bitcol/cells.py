@@ -7,7 +7,7 @@ import sys
 from collections.abc import Iterable, Sequence
 from dataclasses import dataclass
 from functools import cached_property
-from itertools import compress, repeat
+from itertools import chain, compress, repeat
 from operator import is_not
 from typing import Any
 
@@ -15,6 +15,7 @@ from .column_type import ColumnType
 from .door import Bytes
 from .errors import DataError, ProgrammingError
 from .optional import imported, is_numpy_array, is_pandas_series, numpy_module
+from .rows_by_c import Numbers, list_of, numbers_of, numbers_of_rows
 from .script import UNLISTED, integer
 
 _TYPECODES = {
@@ -61,6 +62,9 @@ class Cells:
 
     def to_list(self) -> list[int | None]:
         """Returns an int for each row, or None where it is NULL."""
+        made = list_of(self.presence, self.words, self.rows, self.column_type.bits // 8)
+        if made is not None:
+            return made
         cells: list[int | None] = self.numbers().tolist()  # type: ignore[assignment]
         for row in self.null_rows:
             cells[row] = None
@@ -93,15 +97,17 @@ def presence_size(rows: int) -> int:
     return (rows + 7) // 8
 
 
-def cells_of(column: Iterable[Any], column_type: ColumnType | None = None) -> Cells:
+def cells_of(column: Iterable[Any] | Numbers, column_type: ColumnType | None = None) -> Cells:
     """Makes cells from a column: a list, tuple, range or array of integers and None, another iterable of these, a numpy
-    array, masked or not, or a pandas series. If no type is given, it is INTEGER, or BIGINT if a value has more than 32
-    bits.
+    array, masked or not, a pandas series, or a column of columns_of_rows. If no type is given, it is INTEGER, or BIGINT
+    if a value has more than 32 bits.
 
     Raises ProgrammingError if a cell is neither an integer nor None, and DataError if an integer is outside of the
     type.
     """
     types = tuple(ColumnType) if column_type is None else (ColumnType(column_type),)
+    if isinstance(column, Numbers):
+        return _cells_of_numbers(column, types)
     if is_pandas_series(column):
         column = _array_of_series(column)
     if is_numpy_array(column) and column.dtype.kind != "O":  # type: ignore[attr-defined]
@@ -113,6 +119,16 @@ def cells_of(column: Iterable[Any], column_type: ColumnType | None = None) -> Ce
     except TypeError:
         raise ProgrammingError(f"a column has integers and None; this one is of type {type(column).__name__}") from None
     return _cells_of_sequence(listed, types)
+
+
+def columns_of_rows(rows: Sequence[Sequence[Any]], width: int) -> Iterable[Iterable[Any] | Numbers]:
+    """Returns the columns of rows of `width` values, each as cells_of takes it. Raises what check_widths raises."""
+    numbers = numbers_of_rows(rows, width)
+    if numbers is not None:
+        return numbers
+    check_widths(rows, width, 0)
+    cells = list(chain.from_iterable(rows))
+    return (cells[place::width] for place in range(width))
 
 
 def check_widths(rows: Sequence[Sequence[Any]], width: int, before: int) -> None:
@@ -131,6 +147,9 @@ def check_widths(rows: Sequence[Sequence[Any]], width: int, before: int) -> None
 def _cells_of_sequence(column: Sequence[Any], types: Sequence[ColumnType]) -> Cells:
     """Makes cells from a sequence, of the first type that can hold them. The constructor of the array checks each
     value, and refuses a None."""
+    numbers = numbers_of(column)
+    if numbers is not None:
+        return _cells_of_numbers(numbers, types)
     presence, found = _all_present(len(column)), _typed_array(column, types)
     if found is None:
         presence = _packed(bytes(map(is_not, column, repeat(None))))
@@ -139,6 +158,16 @@ def _cells_of_sequence(column: Sequence[Any], types: Sequence[ColumnType]) -> Ce
         raise _first_fault(column, types[-1])
     column_type, words = found
     return Cells(len(column), presence, memoryview(_with_lowest_first(words)).cast("B"), column_type)
+
+
+def _cells_of_numbers(numbers: Numbers, types: Sequence[ColumnType]) -> Cells:
+    """Makes cells of the first type that can hold the numbers."""
+    for column_type in types:
+        words = numbers.words(column_type.bits // 8)
+        if words is not None:
+            return Cells(numbers.rows, numbers.presence, words, column_type)
+    whole = Cells(numbers.rows, numbers.presence, b"".join(numbers.blocks), ColumnType.BIGINT)
+    raise _first_fault(whole.to_list(), types[-1])
 
 
 def _typed_array(column: Sequence[Any], types: Sequence[ColumnType]) -> tuple[ColumnType, array.array[int]] | None:

@@ -1,12 +1,16 @@
-"""Packages that are used if they are installed, but never required."""
+"""Packages, and a module in C of this one, that are used if they are there, but never required."""
 
 from __future__ import annotations
 
 import importlib
+import os
 import sys
+from functools import lru_cache
 from typing import Any
 
 from .errors import NotSupportedError
+
+ROWS_VARIABLE = "BITCOL_ROWS"
 
 
 def numpy_module() -> Any:
@@ -22,6 +26,18 @@ def pandas_module() -> Any:
 def imported(name: str) -> Any:
     """Returns the package of this name if it has already been imported, else None."""
     return sys.modules.get(name)
+
+
+@lru_cache(maxsize=1)
+def rows_module() -> Any:
+    """Returns the module in C that converts columns and rows (clients/python/rows), or None if it wasn't built, doesn't
+    fit this Python, or the environment variable BITCOL_ROWS was 0 when it was first wanted."""
+    if os.environ.get(ROWS_VARIABLE) == "0":
+        return None
+    try:
+        return importlib.import_module("bitcol._rows")
+    except ImportError:
+        return None
 
 
 def is_numpy_array(value: object) -> bool:

@@ -1,8 +1,8 @@
 """Columns as bit planes: the cells of table files of version 2.
 
 The code of a row is its value minus the column's least value. Plane b has bit b of each code: bit i mod 8 of byte
-i // 8 is that of row i. Blocks of rows are converted to planes, and back, by Python's integers, or, if numpy has been
-imported, by its arrays, which are faster.
+i // 8 is that of row i. Blocks of rows are converted to planes, and back, by the module in C if it is there, else by
+Python's integers, or, if numpy has been imported, by its arrays, which are faster.
 """
 
 from __future__ import annotations
@@ -15,7 +15,7 @@ from . import planes_by_integers
 from .cells import Cells
 from .column_type import ColumnType
 from .door import Bytes
-from .optional import imported
+from .optional import imported, rows_module
 from .planes_by_integers import CodesTold
 
 FRAME = struct.Struct("<qB")  # the value with code 0, and the number of bits of a code
@@ -39,10 +39,15 @@ class _Turning(Protocol):
 
 
 def _turning() -> _Turning:
-    """Returns the module that uses numpy if numpy has been imported, else the one that uses integers."""
+    """Returns the module that uses C if that is there, else the one that uses numpy if numpy has been imported, else
+    the one that uses integers."""
+    # Each of the first two imports what it uses, so it must not be imported if that isn't there.
+    if rows_module() is not None:
+        from . import planes_by_c
+
+        return planes_by_c
     if imported("numpy") is None:
         return planes_by_integers
-    # This module imports numpy, so it must not be imported if numpy isn't.
     from . import planes_by_numpy
 
     return planes_by_numpy
@@ -75,11 +80,12 @@ def cells_in_planes(presence: memoryview, base: int, planes: Sequence[memoryview
     """Makes the cells of a column of `rows` rows. The planes are given highest first, and have no fault (fault_in)."""
     size = of.bits // 8
     turning = _turning()
-    words = bytearray()
+    words: list[bytes] = []
     for start in range(0, len(presence), _BLOCK_BYTES):
         block = [plane[start : start + _BLOCK_BYTES] for plane in reversed(planes)]
-        words += turning.block_words(presence[start : start + _BLOCK_BYTES], base, block, size)
-    return Cells(rows, presence, memoryview(words)[: size * rows], of)
+        found = turning.block_words(presence[start : start + _BLOCK_BYTES], base, block, size)
+        words.append(found[: size * (rows - 8 * start)])
+    return Cells(rows, presence, b"".join(words), of)
 
 
 def fault_in(presence: memoryview, base: int, planes: Sequence[memoryview], rows: int, of: ColumnType) -> str | None:

@@ -5,14 +5,14 @@ from __future__ import annotations
 import array
 from collections.abc import Iterable, Iterator, Mapping, Sequence
 from enum import IntEnum
-from itertools import chain
 from typing import Any, TypeVar
 
-from .cells import cells_of, check_widths
+from .cells import cells_of, columns_of_rows
 from .column_type import ColumnType
 from .door import Bytes
 from .errors import DataError, ProgrammingError
 from .optional import pandas_module
+from .rows_by_c import Numbers, rows_of
 from .table_file import Column, Kind, Layout, decode, encode
 
 Choice = TypeVar("Choice", bound=IntEnum)
@@ -51,10 +51,8 @@ class Table:
         """Makes a table from rows, each with one value for each name; see `of` for the other arguments. Raises
         ProgrammingError if a row has another number of values, and what `of` raises."""
         listed = rows if isinstance(rows, (list, tuple)) else list(rows)
-        check_widths(listed, len(names), 0)
-        cells = list(chain.from_iterable(listed))
-        columns = ((name, cells[place :: len(names)]) for place, name in enumerate(names))
-        return cls([_column(name, column, layout, kind, column_type) for name, column in columns])
+        columns = columns_of_rows(listed, len(names))
+        return cls([_column(name, column, layout, kind, column_type) for name, column in zip(names, columns)])
 
     @classmethod
     def of_file(cls, data: bytes) -> Table:
@@ -80,7 +78,12 @@ class Table:
 
     def rows(self) -> Iterator[tuple[int | None, ...]]:
         """Iterates over the rows in the order of insertion."""
-        return zip(*(column.cells.to_list() for column in self.stored))
+        all_cells = [column.cells for column in self.stored]
+        if len({cells.rows for cells in all_cells}) == 1:
+            made = rows_of([(cells.presence, cells.words, cells.column_type.bits // 8) for cells in all_cells])
+            if made is not None:
+                return made
+        return zip(*(cells.to_list() for cells in all_cells))
 
     def arrays(self) -> dict[str, tuple[array.array[int], bytes]]:
         """Returns two things for each column, by its name: an array of integers of 32 bits, or of 64 if it is BIGINT,
@@ -110,7 +113,7 @@ class Table:
 
 
 def _column(
-    name: str, cells: Iterable[Any], layout: Layout, kind: Kind, column_type: ColumnType | None
+    name: str, cells: Iterable[Any] | Numbers, layout: Layout, kind: Kind, column_type: ColumnType | None
 ) -> Column:
     try:
         chosen = None if column_type is None else _chosen(ColumnType, column_type)

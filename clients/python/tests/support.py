@@ -2,10 +2,12 @@
 
 from __future__ import annotations
 
+import contextlib
 import random
 import unittest
-from collections.abc import Iterable
+from collections.abc import Iterable, Iterator
 from typing import Any, Optional
+from unittest import mock
 
 import bitcol
 
@@ -32,6 +34,15 @@ class SessionTestCase(unittest.TestCase):
             self.session.execute(statement, tuple(values))
         self.assertEqual(caught.exception.number, number)
         return caught.exception
+
+
+@contextlib.contextmanager
+def only_python() -> Iterator[None]:
+    """Until it ends, the package works as where its module in C isn't there."""
+    with contextlib.ExitStack() as patches:
+        for user in ("planes", "rows_by_c"):
+            patches.enter_context(mock.patch(f"bitcol.{user}.rows_module", lambda: None))
+        yield
 
 
 def random_column(generator: random.Random, rows: int, null_share: float, bits: int = 32) -> list[Value]:

@@ -8,6 +8,7 @@ import subprocess
 import sys
 import tempfile
 import unittest
+import zipfile
 from pathlib import Path
 
 import bitcol
@@ -82,6 +83,14 @@ class Wheel(InFolder):
     def test_the_same_files_make_the_same_bytes(self) -> None:
         first, second = self.make(self.folder / "a"), self.make(self.folder / "b")
         self.assertEqual(first.read_bytes(), second.read_bytes())
+
+    def test_it_has_the_module_in_c_if_that_was_built(self) -> None:
+        module = CLIENTS / "python/bitcol/_rows.abi3.so"
+        wheel = self.make(self.folder)
+        with zipfile.ZipFile(wheel) as files:
+            found = [files.read(name) for name in files.namelist() if name.endswith(".so")]
+        self.assertEqual(found, [module.read_bytes()] if module.exists() else [])
+        self.assertIn("-py3-none-", wheel.name)
 
     def test_a_program_or_a_library_that_is_not_there(self) -> None:
         for names in ({"BITCOL": "/no/such"}, {"BITCOL": self.program, "BITCOL_LIBRARY": "/no/such"}):

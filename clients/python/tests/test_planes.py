@@ -1,4 +1,5 @@
-"""Columns as bit planes, with Python's integers and with numpy, if it is installed: both make the same bytes.
+"""Columns as bit planes, with Python's integers, and with numpy and the module in C if these are there: all make the
+same bytes.
 
 The expected bytes are written bit by bit as docs/TABLE_FILE.md says.
 """
@@ -10,6 +11,7 @@ from unittest import mock
 
 from bitcol.cells import Cells, cells_of
 from bitcol.column_type import ColumnType
+from bitcol.optional import rows_module
 from bitcol.planes import cells_in_planes, fault_in, plane_pieces
 from tests.support import GREATEST, GREATEST_BIGINT, LEAST, LEAST_BIGINT
 from tests.test_tables import bits_of, planes_of
@@ -46,12 +48,15 @@ def columns() -> list[tuple[ColumnType, list[int | None]]]:
 class Planes(unittest.TestCase):
     """By Python's integers."""
 
-    numpy = None
+    numpy = rows = None
 
     def setUp(self) -> None:
-        patch = mock.patch("bitcol.planes.imported", lambda name: self.numpy)
-        patch.start()
-        self.addCleanup(patch.stop)
+        for patch in (
+            mock.patch("bitcol.planes.imported", lambda name: self.numpy),
+            mock.patch("bitcol.planes.rows_module", lambda: self.rows),
+        ):
+            patch.start()
+            self.addCleanup(patch.stop)
 
     def test_columns_there_and_back(self) -> None:
         for of, cells in columns():
@@ -96,6 +101,11 @@ class Planes(unittest.TestCase):
 @unittest.skipIf(numpy is None, "numpy is not installed")
 class PlanesByNumpy(Planes):
     numpy = numpy
+
+
+@unittest.skipIf(rows_module() is None, "the module in C is not built")
+class PlanesByC(Planes):
+    rows = rows_module()
 
 
 if __name__ == "__main__":
