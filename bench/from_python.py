@@ -4,7 +4,8 @@
 It reports small statements one by one, rows of two columns of random 32-bit values in and out, of which one in ten of
 the second is NULL, and a COUNT. Times are wall times, since two processes take part: the least of some rounds, in which
 all take turns. The program is what --program or the environment variable BITCOL names, or the one that `rt run` builds
-in crates/bitcol. Small statements are also timed through the library, if BITCOL_LIBRARY names it.
+in crates/bitcol. Small statements are also timed through the library, if BITCOL_LIBRARY names it. Ways in which the
+client's module in C takes part are timed with it, if it was built (make -C clients rows), and without it.
 
     python3 bench/from_python.py [ROWS [COUNTED]]      how many rows go in and out, and are counted
 """
@@ -19,7 +20,8 @@ import sys
 import time
 from collections.abc import Callable, Iterable
 from pathlib import Path
-from typing import Any
+from typing import Any, TypeVar
+from unittest import mock
 
 from common import LEAST, ROUNDS, SETTINGS, Number, built, data_file, options, processor_seconds, random_value, rounds
 from report import Report, figure, require, times
@@ -28,6 +30,7 @@ sys.path.insert(0, str(Path(__file__).resolve().parent.parent / "clients/python"
 sys.dont_write_bytecode = True
 
 import bitcol  # noqa: E402 - from the folder above
+from bitcol.optional import rows_module  # noqa: E402
 
 try:
     import numpy
@@ -44,13 +47,17 @@ SMALL_ROWS = 100
 
 Call = Callable[[], Any]
 Pairs = list[tuple[int, int | None]]
+# Calls by what goes in or out, and whether the module in C takes part: yes, no, or nothing where there is no choice.
+Ways = dict[tuple[str, str], Call]
+SQLITE = ("sqlite3", "")
+Key = TypeVar("Key")
 
 
 def program() -> str:
     return built("bitcol") if "bitcol" in SETTINGS.programs else os.environ.get("BITCOL") or built("bitcol")
 
 
-def quickest(calls: dict[str, Call], usual: int = ROUNDS) -> dict[str, float]:
+def quickest(calls: dict[Key, Call], usual: int = ROUNDS) -> dict[Key, float]:
     """The least seconds of some rounds of each call. They take turns."""
     least = dict.fromkeys(calls, float("inf"))
     for _ in range(rounds(usual)):
@@ -60,6 +67,24 @@ def quickest(calls: dict[str, Call], usual: int = ROUNDS) -> dict[str, float]:
             call()
             least[name] = min(least[name], time.perf_counter() - begin)
     return least
+
+
+def without_c(call: Call) -> Any:
+    """What the call returns, as where the module in C isn't there."""
+    with contextlib.ExitStack() as patches:
+        for user in (bitcol.planes, bitcol.rows_by_c):
+            patches.enter_context(mock.patch.object(user, "rows_module", lambda: None))
+        return call()
+
+
+def with_and_without_c(calls: dict[str, Call]) -> Ways:
+    """Each call with the module in C, if it was built, and without it."""
+    ways: Ways = {}
+    for way, call in calls.items():
+        if rows_module() is not None:
+            ways[way, "yes"] = call
+        ways[way, "no"] = lambda call=call: without_c(call)
+    return ways
 
 
 def sqlite(rows: Iterable[tuple] = ()) -> sqlite3.Connection:
@@ -125,14 +150,14 @@ def time_statements(report: Report) -> None:
     report.table("python-statements", "one by one, each with its answer", heading, lines)
 
 
-def tell(report: Report, name: str, what: str, took: dict[str, float], rows: int) -> None:
+def tell(report: Report, name: str, what: str, took: dict[tuple[str, str], float], rows: int) -> None:
     """How long each way took, and how many times as long sqlite3."""
     lines = [
-        [way, figure(seconds / rows * 1e9), times(took["sqlite3"], seconds)]
-        for way, seconds in took.items()
-        if way != "sqlite3"
+        [way, by_c, figure(seconds / rows * 1e9), times(took[SQLITE], seconds)]
+        for (way, by_c), seconds in took.items()
+        if (way, by_c) != SQLITE
     ]
-    report.table(name, f"{rows:,} rows", [what, "ns a row", "sqlite3 takes times as long"], lines)
+    report.table(name, f"{rows:,} rows", [what, "by C", "ns a row", "sqlite3 takes times as long"], lines)
 
 
 def columns_of(rows: int) -> tuple[list[int], list[int | None]]:
@@ -160,17 +185,20 @@ def time_rows_in(session: Any, pairs: Pairs, columns: tuple, report: Report) -> 
         session.run("DROP TABLE t; CREATE TABLE t (a INT, b INT)")
         session.executemany("INSERT INTO t VALUES (?, ?)", pairs)
 
-    calls: dict[str, Call] = {
-        "sqlite3": lambda: inserted_there(pairs),
-        "executemany of tuples": inserted,
+    by_c: dict[str, Call] = {
         "write_table of tuples": lambda: made(bitcol.Table.of_rows(["a", "b"], pairs)),
         "write_table of lists": lambda: made(dict(zip(["a", "b"], columns))),
-        "write_table of arrays, without NULL": lambda: made(arrays),
+    }
+    calls: Ways = {
+        SQLITE: lambda: inserted_there(pairs),
+        ("executemany of tuples", ""): inserted,
+        **with_and_without_c(by_c),
+        ("write_table of arrays, without NULL", ""): lambda: made(arrays),
     }
     if numpy:
         mask = numpy.array([cell is None for cell in columns[1]])
         masked = {"a": numpy.array(arrays["a"]), "b": numpy.ma.array(arrays["b"], mask=mask)}
-        calls["write_table of numpy's masked arrays"] = lambda: made(masked)
+        calls["write_table of numpy's masked arrays", ""] = lambda: made(masked)
     tell(report, "python-in", "Way in", quickest(calls), len(pairs))
 
 
@@ -181,19 +209,23 @@ def time_rows_out(session: Any, pairs: Pairs, report: Report) -> None:
     session.write_table("t", made)
     require(session.execute("SELECT a, b FROM t").rows() == pairs, "rows of a SELECT")
     require(list(session.read_table("t").rows()) == pairs, "rows of a whole table")
-    lists: dict[str, Call] = {
-        "sqlite3": lambda: other.execute("SELECT a, b FROM t").fetchall(),
-        "tuples of a SELECT": lambda: session.execute("SELECT a, b FROM t").rows(),
+    by_c: dict[str, Call] = {
         "tuples of read_table": lambda: list(session.read_table("t").rows()),
         "lists of read_table": lambda: session.read_table("t").columns(),
         "arrays of read_table": lambda: session.read_table("t").arrays(),
     }
     if numpy:
-        lists["numpy's masked arrays of read_table"] = lambda: session.read_table("t").to_numpy()
-    tell(report, "python-out", "Way out", quickest(lists), len(pairs))
-    loops: dict[str, Call] = {
-        "sqlite3": lambda: sum(1 for _ in other.execute("SELECT a, b FROM t")),
-        "a loop over the rows of read_table": lambda: sum(1 for _ in session.read_table("t").rows()),
+        by_c["numpy's masked arrays of read_table"] = lambda: session.read_table("t").to_numpy()
+    calls: Ways = {
+        SQLITE: lambda: other.execute("SELECT a, b FROM t").fetchall(),
+        ("tuples of a SELECT", ""): lambda: session.execute("SELECT a, b FROM t").rows(),
+        **with_and_without_c(by_c),
+    }
+    tell(report, "python-out", "Way out", quickest(calls), len(pairs))
+    loop = {"a loop over the rows of read_table": lambda: sum(1 for _ in session.read_table("t").rows())}
+    loops: Ways = {
+        SQLITE: lambda: sum(1 for _ in other.execute("SELECT a, b FROM t")),
+        **with_and_without_c(loop),
     }
     tell(report, "python-loop", "Way out", quickest(loops), len(pairs))
 
@@ -226,6 +258,8 @@ def main() -> None:
     report = Report("python3 bench/from_python.py")
     if numpy is None:
         report.note("numpy is not installed: left out")
+    if rows_module() is None:
+        report.note("the module in C is not built (make -C clients rows), or BITCOL_ROWS is 0: left out")
     time_statements(report)
     columns = columns_of(words.rows)
     pairs = list(zip(*columns))
