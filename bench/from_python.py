@@ -72,7 +72,7 @@ def quickest(calls: dict[Key, Call], usual: int = ROUNDS) -> dict[Key, float]:
 def without_c(call: Call) -> Any:
     """What the call returns, as where the module in C isn't there."""
     with contextlib.ExitStack() as patches:
-        for user in (bitcol.planes, bitcol.rows_by_c):
+        for user in (bitcol.planes, bitcol.reply, bitcol.rows_by_c):
             patches.enter_context(mock.patch.object(user, "rows_module", lambda: None))
         return call()
 
@@ -210,6 +210,7 @@ def time_rows_out(session: Any, pairs: Pairs, report: Report) -> None:
     require(session.execute("SELECT a, b FROM t").rows() == pairs, "rows of a SELECT")
     require(list(session.read_table("t").rows()) == pairs, "rows of a whole table")
     by_c: dict[str, Call] = {
+        "tuples of a SELECT": lambda: session.execute("SELECT a, b FROM t").rows(),
         "tuples of read_table": lambda: list(session.read_table("t").rows()),
         "lists of read_table": lambda: session.read_table("t").columns(),
         "arrays of read_table": lambda: session.read_table("t").arrays(),
@@ -218,7 +219,6 @@ def time_rows_out(session: Any, pairs: Pairs, report: Report) -> None:
         by_c["numpy's masked arrays of read_table"] = lambda: session.read_table("t").to_numpy()
     calls: Ways = {
         SQLITE: lambda: other.execute("SELECT a, b FROM t").fetchall(),
-        ("tuples of a SELECT", ""): lambda: session.execute("SELECT a, b FROM t").rows(),
         **with_and_without_c(by_c),
     }
     tell(report, "python-out", "Way out", quickest(calls), len(pairs))

@@ -12,7 +12,7 @@ from typing import Any, Union
 
 from .errors import InterfaceError, ProgrammingError, Refused, refusal
 from .lines import LineIndex
-from .optional import numpy_module, pandas_module
+from .optional import numpy_module, pandas_module, rows_module
 
 Cell = Union[int, str, None]
 Row = tuple[Any, ...]
@@ -95,7 +95,12 @@ class Reply:
 
     def rows(self) -> list[Row]:
         """Returns all rows as tuples, with None for NULL. Raises InterfaceError if the reply has no rows to show."""
-        return self._rows_of(self._all_cells())
+        if self._cells is not None or not self.headings or rows_module() is None:
+            return self._rows_of(self._all_cells())
+        rows: list[Row] = []
+        for start, end in self._parts():
+            rows += self._rows_between(start, end)
+        return rows
 
     def columns(self) -> list[list[Any]]:
         """Returns a list of cells for each heading."""
@@ -195,8 +200,11 @@ class Reply:
             start = end
 
     def _rows_between(self, start: int, end: int) -> list[Row]:
-        """The rows whose lines are the bytes of the body from start to end."""
-        return self._rows_of(self._cells_of(self._body[start:end]))
+        """The rows whose lines are the bytes of the body from start to end: by the module in C, if that is there and
+        takes them."""
+        lines, module = self._body[start:end], None if self._names_tables() else rows_module()
+        made: list[Row] | None = None if module is None else module.rows_in_lines(lines, len(self.headings))
+        return self._rows_of(self._cells_of(lines)) if made is None else made
 
     def _names_tables(self) -> bool:
         # TABLE is a reserved word, so no column has this name.

@@ -35,8 +35,8 @@ typedef struct {
 
 static void release(column *of, size_t count) {
     for (size_t place = 0; place < count; place++) {
-        Py_CLEAR(of[place].presence);
-        Py_CLEAR(of[place].words);
+        drop(&of[place].presence);
+        drop(&of[place].words);
     }
 }
 
@@ -115,7 +115,7 @@ static PyObject *pairs_of(column *of, size_t width) {
     PyObject *made = PyList_New((Py_ssize_t)width);
     for (size_t place = 0; made && place < width; place++) {
         PyObject *pair = pair_of(of + place);
-        if (!pair || PyList_SetItem(made, (Py_ssize_t)place, pair) < 0) Py_CLEAR(made);
+        if (!pair || PyList_SetItem(made, (Py_ssize_t)place, pair) < 0) drop(&made);
     }
     release(of, width);
     return made;
@@ -156,6 +156,6 @@ PyObject *narrowed(PyObject *module, PyObject *words) {
         store_4(to + at / 2, (uint32_t)word);
     }
     if (!higher) return made;
-    Py_DECREF(made);
+    Py_DecRef(made);
     return none();
 }

@@ -21,7 +21,7 @@ PyObject *list_out(PyObject *module, PyObject *arguments) {
     PyObject *made = PyList_New((Py_ssize_t)of.rows);
     for (size_t row = 0; made && row < of.rows; row++) {
         PyObject *cell = cell_of(&of, row);
-        if (!cell || PyList_SetItem(made, (Py_ssize_t)row, cell) < 0) Py_CLEAR(made);
+        if (!cell || PyList_SetItem(made, (Py_ssize_t)row, cell) < 0) drop(&made);
     }
     return made;
 }

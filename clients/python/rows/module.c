@@ -25,6 +25,9 @@ static PyMethodDef functions[] = {
      "narrowed(words) -> bytes or None\n\n32-bit words of 64-bit ones; None if one is of more than 32 bits."},
     {"list_out", list_out, METH_VARARGS,
      "list_out(presence, words, size) -> list\n\nAn int for each word of `size` bytes, or None where a row is NULL."},
+    {"rows_in_lines", rows_in_lines, METH_VARARGS,
+     "rows_in_lines(lines, width) -> list of tuples, or None\n\n"
+     "The rows of a reply; None if a line isn't `width` fields, each NULL or an integer of at most 64 bits."},
     {NULL, NULL, 0, NULL},
 };
 

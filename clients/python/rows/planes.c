@@ -13,7 +13,7 @@ typedef struct {
 /* Whether the tuple has planes of `size` bytes each; then `found` has them. Else raises ValueError. */
 static bool planes_of(PyObject *tuple, size_t size, planes *found) {
     Py_ssize_t count = PyTuple_Size(tuple);
-    if (count > MOST_PLANES) {
+    if (count < 0 || count > MOST_PLANES) {
         PyErr_SetString(PyExc_ValueError, "too many planes");
         return false;
     }
@@ -177,7 +177,7 @@ static PyObject *new_planes(size_t width, size_t size, uint8_t **to) {
     for (size_t place = 0; made && place < width; place++) {
         PyObject *plane = PyBytes_FromStringAndSize(NULL, (Py_ssize_t)size);
         if (!plane || PyList_SetItem(made, (Py_ssize_t)place, plane) < 0) {
-            Py_DECREF(made);
+            Py_DecRef(made);
             return NULL;
         }
         to[place] = (uint8_t *)PyBytes_AsString(plane);

@@ -6,7 +6,8 @@
  *
  * Inputs of bytes are objects of type bytes, whose content no one changes. Numbers are little-endian. Each function
  * checks the lengths of its inputs, and raises ValueError if they don't fit together: no caller of the package makes it
- * do so. Each function holds the interpreter's lock, so it is given some thousand rows at a time. */
+ * do so. Each function holds the interpreter's lock, so it is given some thousand rows at a time; only codes_told, which
+ * makes no objects, has a whole column. */
 #ifndef BITCOL_ROWS_H
 #define BITCOL_ROWS_H
 
@@ -32,11 +33,18 @@ static inline span span_of(PyObject *bytes) {
     return (span){(const uint8_t *)PyBytes_AsString(bytes), (size_t)PyBytes_Size(bytes)};
 }
 
-/* A new reference to None. The macros of 3.10 would count it also from 3.12 on, where it isn't counted: this asks the
- * interpreter that runs. */
+/* A new reference to None. References are counted by calls, not by the macros of 3.10: from 3.12 on some objects, such
+ * as None and the empty bytes, aren't counted, and only the interpreter that runs knows which. */
 static inline PyObject *none(void) {
     Py_IncRef(Py_None);
     return Py_None;
+}
+
+/* Gives a reference up, if there is one, and forgets it. */
+static inline void drop(PyObject **of) {
+    PyObject *held = *of;
+    *of = NULL;
+    Py_DecRef(held);
 }
 
 /* The number of bytes of the presence bits of so many rows. */
@@ -63,6 +71,7 @@ PyObject *column_in(PyObject *module, PyObject *arguments);
 PyObject *rows_in(PyObject *module, PyObject *arguments);
 PyObject *narrowed(PyObject *module, PyObject *arguments);
 PyObject *list_out(PyObject *module, PyObject *arguments);
+PyObject *rows_in_lines(PyObject *module, PyObject *arguments);
 
 /* Adds the type Rows to the module. Returns -1 with an exception if it can't. */
 int add_rows_type(PyObject *module);

@@ -37,13 +37,13 @@ static PyObject *iterator_new(PyTypeObject *type, PyObject *columns, PyObject *n
     }
     iterator *made = (iterator *)PyType_GenericAlloc(type, 0);
     if (!made) return NULL;
-    Py_INCREF(columns);
+    Py_IncRef(columns);
     made->columns = columns;
     made->of = PyMem_Calloc(width, sizeof(cells));
     made->width = width;
     if (!made->of) PyErr_NoMemory();
     if (!made->of || !columns_of(columns, width, made->of)) {
-        Py_DECREF(made);
+        Py_DecRef((PyObject *)made);
         return NULL;
     }
     made->rows = made->of[0].rows;
@@ -53,10 +53,10 @@ static PyObject *iterator_new(PyTypeObject *type, PyObject *columns, PyObject *n
 static void iterator_free(PyObject *self) {
     iterator *of = (iterator *)self;
     PyTypeObject *type = Py_TYPE(self);
-    Py_XDECREF(of->columns);
+    Py_DecRef(of->columns);
     PyMem_Free(of->of);
     PyObject_Free(self);
-    Py_DECREF(type);
+    Py_DecRef((PyObject *)type);
 }
 
 /* The tuple of the next row. The garbage collector needn't visit what has only numbers, so it isn't told of it: else it
@@ -68,7 +68,7 @@ static PyObject *iterator_next(PyObject *self) {
     PyObject *made = PyTuple_New((Py_ssize_t)of->width);
     for (size_t place = 0; made && place < of->width; place++) {
         PyObject *cell = cell_of(of->of + place, row);
-        if (!cell || PyTuple_SetItem(made, (Py_ssize_t)place, cell) < 0) Py_CLEAR(made);
+        if (!cell || PyTuple_SetItem(made, (Py_ssize_t)place, cell) < 0) drop(&made);
     }
     if (made) PyObject_GC_UnTrack(made);
     return made;
@@ -106,6 +106,6 @@ int add_rows_type(PyObject *module) {
     PyObject *type = PyType_FromModuleAndSpec(module, &spec, NULL);
     if (!type) return -1;
     int added = PyModule_AddObjectRef(module, "Rows", type);
-    Py_DECREF(type);
+    Py_DecRef(type);
     return added;
 }

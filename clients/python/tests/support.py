@@ -40,7 +40,7 @@ class SessionTestCase(unittest.TestCase):
 def only_python() -> Iterator[None]:
     """Until it ends, the package works as where its module in C isn't there."""
     with contextlib.ExitStack() as patches:
-        for user in ("planes", "rows_by_c"):
+        for user in ("planes", "reply", "rows_by_c"):
             patches.enter_context(mock.patch(f"bitcol.{user}.rows_module", lambda: None))
         yield
 

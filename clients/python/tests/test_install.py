@@ -88,7 +88,7 @@ class Wheel(InFolder):
         module = CLIENTS / "python/bitcol/_rows.abi3.so"
         wheel = self.make(self.folder)
         with zipfile.ZipFile(wheel) as files:
-            found = [files.read(name) for name in files.namelist() if name.endswith(".so")]
+            found = [files.read(name) for name in files.namelist() if name.endswith(".abi3.so")]
         self.assertEqual(found, [module.read_bytes()] if module.exists() else [])
         self.assertIn("-py3-none-", wheel.name)
 

@@ -24,6 +24,7 @@ from typing import Any
 import bitcol
 from bitcol import ColumnType, Table
 from bitcol.optional import rows_module
+from bitcol.reply import reply_of
 from bitcol.rows_by_c import BLOCK_ROWS
 from tests.support import GREATEST, GREATEST_BIGINT, LEAST, LEAST_BIGINT, only_python, random_column
 from tests.test_tables import bits_of
@@ -244,6 +245,48 @@ class LeftToPython(unittest.TestCase):
 
 
 @unittest.skipIf(rows is None, "the module in C is not built")
+class Replies(unittest.TestCase):
+    def test_worked(self) -> None:
+        self.assertEqual(rows.rows_in_lines(b"3,NULL\n-1,0\n", 2), [(3, None), (-1, 0)])
+        self.assertEqual(rows.rows_in_lines(b"NULL\n", 1), [(None,)])
+        self.assertEqual(rows.rows_in_lines(b"", 3), [])
+
+    def test_as_by_python(self) -> None:
+        """Replies of each length, with the ends of 32 and 64 bits, and sums beyond them."""
+        generator = random.Random(34)
+        ends = [LEAST_BIGINT, GREATEST_BIGINT, LEAST, GREATEST, 0, -1, 10**18, -(10**18), 10**19, 2**64 - 1]
+        for length in (*range(18), 1000, 40_003):
+            for bits in (8, 32, 64):
+                cells = [*random_column(generator, length, 0.2, bits), *ends[: length and bits // 8]]
+                expected = [(cell, None, -7) for cell in cells]
+                lines = "".join("NULL,NULL,-7\n" if cell is None else f"{cell},NULL,-7\n" for cell in cells)
+                data = f"A,B,C\n{lines}rows {len(cells)}\n".encode()
+                with only_python():
+                    self.assertEqual(reply_of(data).rows(), expected)
+                reply = reply_of(data)
+                self.assertEqual((reply.rows(), list(reply), reply.first_rows(2)), (expected, expected, expected[:2]))
+                self.assertEqual(sum(reply.batches(), []), expected)
+                self.assertEqual((reply.columns()[0], reply.rows()), (cells, expected))
+
+    def test_what_is_left_to_python(self) -> None:
+        for lines, width in (
+            *((b"1", 1), (b"1,", 1), (b",\n", 1), (b"\n", 1), (b"1,2\n", 1), (b"1\n", 2), (b"1\n2\n", 2)),
+            *((b"NUL\n", 1), (b"NULLS\n", 1), (b"NULL", 1), (b"null\n", 1), (b"-\n", 1), (b"--1\n", 1)),
+            *((b"1.5\n", 1), (b" 1\n", 1), (b"1 \n", 1), (b"01\n", 1), (b"-01\n", 1), (b"A\n", 1), (b"1e3\n", 1)),
+            *((b"9223372036854775808\n", 1), (b"-9223372036854775809\n", 1), (b"1" * 30 + b"\n", 1), (b"+1\n", 1)),
+            *((b"\0\n", 1), (b"1\r\n", 1), (b"1,2\n3", 2), (b"1\n", 0), (b"1\n", -1), (b"", 0), (b"1\n", 3)),
+        ):
+            with self.subTest(lines=lines, width=width):
+                self.assertIsNone(rows.rows_in_lines(lines, width))
+
+    def test_tables(self) -> None:
+        data = b"TABLE,COLUMNS,ROWS\nT,2,3\nrows 1\n"
+        self.assertEqual((reply_of(data).rows(), list(reply_of(data).batches())), ([("T", 2, 3)], [[("T", 2, 3)]]))
+        with self.assertRaisesRegex(bitcol.InterfaceError, "has no rows"):
+            reply_of(b"ok\n").rows()
+
+
+@unittest.skipIf(rows is None, "the module in C is not built")
 class Module(unittest.TestCase):
     def test_wrong_lengths(self) -> None:
         many = (b"\x01",) * 65
@@ -283,6 +326,8 @@ class Module(unittest.TestCase):
             (rows.column_in, ([1], 0)),
             (rows.rows_in, ([1], 0, 1)),
             (rows.list_out, (view, bytes(4), 4)),
+            (rows.rows_in_lines, (view, 1)),
+            (rows.rows_in_lines, (b"1\n",)),
             (rows.Rows, ()),
             (rows.Rows, (7,)),
             (rows.Rows, ((view, bytes(4), 4),)),
@@ -324,6 +369,7 @@ class References(unittest.TestCase):
             *(lambda of=of: rows.list_out(of, words, 8) for of in (presence, b"")),
             *(lambda of=of: list(rows.Rows(column, of)) for of in (column, (b"", b"", 4), 7)),
             lambda: next(rows.Rows(column)),
+            *(lambda of=of: rows.rows_in_lines(of, 2) for of in (b"1000,-5000\n" * 9, b"1000,NULL\n1000,\n")),
             lambda: rows.ends_of(presence, words, 8),
             lambda: rows.block_planes(b"\x01", bytes(64), 0, 64, 8),
             lambda: rows.block_words(b"\x01", 0, (b"\x01",) * 64, 8),
@@ -357,6 +403,7 @@ class References(unittest.TestCase):
             lambda: rows.narrowed(words),
             lambda: rows.list_out(presence, words, 8),
             lambda: list(rows.Rows(*columns)),
+            lambda: rows.rows_in_lines(b"100000,NULL\n200000,300000\n", 2),
             lambda: rows.ends_of(presence, words, 8),
             lambda: rows.block_planes(b"\x0d", words + bytes(32), 0, 9, 8),
             lambda: rows.block_words(b"\x01", 0, planes, 8),
