@@ -10,7 +10,7 @@ ghost use Rattle.bw_file.specs.Planes.{column_bytes, column_size, frame_of, plan
 
 use crate::presence::write_presence;
 use bw_cells::Measured;
-use bw_vertical::wide_plane_words;
+use bw_vertical::put_plane_words;
 use byteorder::{ByteOrder, LittleEndian};
 
 // How many cells are processed together: one for each bit of a word.
@@ -52,13 +52,15 @@ fn put_words(planes: &mut [u8], size: usize, k: usize, at: usize, words: &[u64; 
 }
 
 /// The words of the planes of at most 64 cells from cell `at` on, lent by the column or else computed from the
-/// distances of the cells from the base, and which of the cells are integers.
+/// distances of the cells from the base, and which of the cells are integers. `list` is room for the distances, which the
+/// caller keeps from run to run, since clearing it took as long as reading them.
 fn planes_at<C: Measured>(
     column: &C,
     at: usize,
     count: usize,
     base: i64,
     k: usize,
+    list: &mut [u64; 64],
     words: &mut [u64; 64],
 ) -> u64
     requires few { count ≤ 64 }
@@ -70,10 +72,9 @@ fn planes_at<C: Measured>(
     if let Some(present) = column.planes(at, count, base, k, words) {
         return present;
     }
-    let mut list = [0; 64];
     let run = &mut list[..count];
     let present = column.distances(at, base, run);
-    *words = wide_plane_words(run, k);
+    put_plane_words(run, k, words);
     present
 }
 
@@ -95,12 +96,13 @@ pub(crate) fn write_planes<C: Measured>(
     ensures bits { present.new ≡ presence_bytes (presence_size rows) (C.cells column.now) }
     ensures planes { planes.new ≡ plane_bytes base k (presence_size rows) (C.cells column.now) }
 {
+    let mut list = [0; 64];
     let mut words = [0; 64];
     let size = rows.div_ceil(8);
     'runs: for r in 0..rows.div_ceil(RUN) {
         let at = r * RUN;
         let end = rows.min(at + RUN);
-        let bits = planes_at(column, at, end - at, base, k, &mut words);
+        let bits = planes_at(column, at, end - at, base, k, &mut list, &mut words);
         write_presence(&mut present[at / 8..end.div_ceil(8)], bits);
         put_words(planes, size, k, at, &words);
     }

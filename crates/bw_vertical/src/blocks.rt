@@ -165,11 +165,20 @@ pub fn wide_plane_words(codes: &[u64], k: usize) -> [u64; 64]
     ensures { (b r : ℕ) → b < k → r < 64 → bit_of (slice_index result b) r ≡ bit_of (slice_index codes.now r) b }
 {
     let mut words = [0; 64];
-    put_codes(&narrowed(codes, 0), k.min(32), &mut words, 0);
-    if k > 32 {
-        put_codes(&narrowed(codes, 32), k - 32, &mut words, 32);
-    }
+    put_plane_words(codes, k, &mut words);
     words
+}
+
+/// Writes these words to `words`, which need not be cleared before.
+pub fn put_plane_words(codes: &[u64], k: usize, words: &mut [u64; 64])
+    requires few { length codes.now ≤ 64 }
+    requires narrow { k ≤ 64 }
+    ensures { (b r : ℕ) → b < k → r < 64 → bit_of (slice_index words.new b) r ≡ bit_of (slice_index codes.now r) b }
+{
+    put_codes(&narrowed(codes, 0), k.min(32), words, 0);
+    if k > 32 {
+        put_codes(&narrowed(codes, 32), k - 32, words, 32);
+    }
 }
 
 /// Appends n rows from row `at` on, which lie in one word, by the words of their planes: word b has bit b of each code,
