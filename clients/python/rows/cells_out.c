@@ -11,13 +11,16 @@ bool cells_of(PyObject *presence, PyObject *words, Py_ssize_t size, cells *found
     return false;
 }
 
-PyObject *list_out(PyObject *module, PyObject *arguments) {
-    (void)module;
+bool cells_in(PyObject *arguments, cells *found) {
     PyObject *presence, *words;
     Py_ssize_t size;
+    return PyArg_ParseTuple(arguments, "SSn", &presence, &words, &size) && cells_of(presence, words, size, found);
+}
+
+PyObject *list_out(PyObject *module, PyObject *arguments) {
+    (void)module;
     cells of;
-    if (!PyArg_ParseTuple(arguments, "SSn", &presence, &words, &size)) return NULL;
-    if (!cells_of(presence, words, size, &of)) return NULL;
+    if (!cells_in(arguments, &of)) return NULL;
     PyObject *made = PyList_New((Py_ssize_t)of.rows);
     for (size_t row = 0; made && row < of.rows; row++) {
         PyObject *cell = cell_of(&of, row);

@@ -78,11 +78,8 @@ PyObject *codes_told(PyObject *module, PyObject *arguments) {
 
 PyObject *ends_of(PyObject *module, PyObject *arguments) {
     (void)module;
-    PyObject *presence, *words;
-    Py_ssize_t size;
     cells of;
-    if (!PyArg_ParseTuple(arguments, "SSn", &presence, &words, &size)) return NULL;
-    if (!cells_of(presence, words, size, &of)) return NULL;
+    if (!cells_in(arguments, &of)) return NULL;
     int64_t least = INT64_MAX, greatest = INT64_MIN;
     for (size_t row = 0; row < of.rows; row++) {
         if (!is_known(of.presence.at, row)) continue;

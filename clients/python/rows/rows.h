@@ -62,6 +62,9 @@ typedef struct {
 /* Whether these bytes are cells; then `found` has them. Else raises ValueError. */
 bool cells_of(PyObject *presence, PyObject *words, Py_ssize_t size, cells *found);
 
+/* The same for a function's arguments, which have to be presence, words and size. Raises TypeError if they aren't. */
+bool cells_in(PyObject *arguments, cells *found);
+
 /* The functions of the module; module.c has what each takes and returns. */
 PyObject *codes_told(PyObject *module, PyObject *arguments);
 PyObject *ends_of(PyObject *module, PyObject *arguments);
