@@ -1,4 +1,5 @@
 pub mod Marking
 pub mod Ranks
+pub mod Refining
 pub mod Sorting
 pub mod Tables

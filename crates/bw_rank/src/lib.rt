@@ -6,6 +6,7 @@ mod marks;
 mod packed;
 mod ranked;
 mod ranks;
+mod refinement;
 mod table;
 mod widths;
 

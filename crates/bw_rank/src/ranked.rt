@@ -4,7 +4,8 @@ ghost use Rattle.std.specs.Prelude.{All, IfOk, length, ◌^◌, ◌≤◌};
 ghost use Rattle.bw_rank.specs.Ranks.{AreRanked};
 
 use crate::counted::with_times;
-use crate::ranks::{Ranks, greatest_of, rank};
+use crate::marks::ranks_by_marks;
+use crate::ranks::{Ranks, bitmap_limit, greatest_of, rank};
 use crate::table::ranked_by_table;
 use crate::widths::{narrowed, widened};
 use std::alloc::{AllocError, Global};
@@ -42,7 +43,7 @@ pub fn rank_counted(alloc: Global, numbers: &[u64]) -> Result<Ranked, AllocError
     with_times(alloc, entries, ranks)
 }
 
-/// The same for 32-bit numbers. By a table they take no more memory: the ranks replace the numbers in place.
+/// The same for 32-bit numbers. By a table or a bitmap the ranks replace the numbers in place.
 pub fn rank_narrow(alloc: Global, numbers: Vec<u32>) -> Result<Ranked, AllocError>
     requires { length numbers.items ≤ 2 ^ 24 }
     ensures { IfOk result (AreRanked numbers.items) }
@@ -50,6 +51,10 @@ pub fn rank_narrow(alloc: Global, numbers: Vec<u32>) -> Result<Ranked, AllocErro
     let greatest = greatest_narrow(&numbers);
     if u64::from(greatest) < table_limit(numbers.len()) {
         return ranked_by_table(alloc, numbers, greatest as usize + 1);
+    }
+    if u64::from(greatest) < bitmap_limit(numbers.len()) {
+        let Ranks { entries, ranks } = ranks_by_marks(alloc, numbers, greatest as usize + 1)?;
+        return with_times(alloc, entries, ranks);
     }
     let wide = widened(alloc, &numbers)?;
     drop(numbers);

@@ -78,3 +78,11 @@ fn numbers_of_64_bits(rt: HostRuntime) {
     check_bits(&rt, 0xf000_0000_0000_0f00, &[3000]);
     check_bits(&rt, 0x00ff_0000_0000_0000, &[3000]);
 }
+
+/// At least 65,536 numbers, few of which are distinct, are ranked by refinement.
+#[test]
+fn few_wide_numbers(rt: HostRuntime) {
+    check_bits(&rt, 0xf0_0000_0f00, &[65_536]);
+    check_bits(&rt, 0x8000_0101_0101_0101, &[70_000]);
+    check_bits(&rt, 0x00ff_0000_0000_0000, &[70_000]);
+}
