@@ -1,5 +1,6 @@
 -- The descent to entry n of some sorted codes, from the top plane down (O'Neil and Quass, SIGMOD 1997).
 use Rattle.std.specs.Prelude.{Bool, List, All, count_by, if◌then◌else◌, nat_le, nat_lt, ℕ, ◌&&◌, ◌*◌, ◌+◌, ◌-◌, ◌/◌, ◌<◌, ◌==◌, ◌^◌, ◌≡◌, ◌≤◌}
+use Rattle.bw_code.specs.Widths.{widest_code}
 use Rattle.bw_aggregate.specs.Left.{left_count}
 use Rattle.bw_aggregate.specs.declared.end.End.{End}
 use Rattle.bw_aggregate.specs.declared.end.End.TheVariants.{Greatest, Least}
@@ -20,7 +21,7 @@ Holds codes held left = (p : ℕ → Bool) → left_count codes p left ≡ count
 -- these are codes of k bits
 pub record BeginsAll (k : ℕ) (held : List ℕ) : Type 0 where
   pub below : All (λ code. code < 2 ^ k) held
-  pub narrow : k ≤ 64
+  pub narrow : k ≤ widest_code
 
 -- the number of codes that begin with the bits found so far, above the lowest i bits
 abbrev pub begin_count : List ℕ → ℕ → ℕ → ℕ

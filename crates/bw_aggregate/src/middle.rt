@@ -9,6 +9,7 @@ ghost use Rattle.bw_code.specs.Units.{segments_of};
 ghost use Rattle.bw_column.specs.Codes.{codes_for};
 ghost use Rattle.bw_column.specs.Values.{IsNullOrHeld};
 ghost use Rattle.bw_cells.specs.SetFunctions.{median};
+ghost use Rattle.bw_code.specs.Widths.{widest_code};
 ghost use Rattle.bw_aggregate.specs.Chosen.{AreKnownRows, chosen};
 ghost use Rattle.bw_aggregate.specs.Descending.{IsDescent};
 ghost use Rattle.bw_aggregate.specs.Descents.{IsNthCode};
@@ -25,7 +26,7 @@ use std::alloc::{AllocError, Global};
 
 /// Takes the descent down all planes in place, from the top.
 fn descend_in_place(codes: &VerticalColumn, descent: &mut Descent)
-    requires { codes.now.width ≤ 64 }
+    requires { codes.now.width ≤ widest_code }
     ensures { (held : List ℕ) (n : ℕ) → IsDescent codes.now.codes held n codes.now.width descent.old → IsDescent codes.now.codes held n 0 descent.new }
 {
     let width = codes.width();

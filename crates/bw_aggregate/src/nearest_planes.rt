@@ -4,6 +4,7 @@ ghost use Rattle.std.specs.Prelude.{false, if◌then◌else◌, nat_lt, true, �
 ghost use Rattle.bw_mask.specs.Masks.{row_in};
 ghost use Rattle.bw_code.specs.Columns.{Fit, code_at, count};
 ghost use Rattle.bw_code.specs.Units.{segments_of};
+ghost use Rattle.bw_code.specs.Widths.{widest_code};
 ghost use Rattle.bw_aggregate.specs.Ends.{AreNearest, IsNearest, MayBeNearer, distance, is_near};
 ghost use Rattle.bw_aggregate.specs.Marks.{marked};
 ghost use Rattle.bw_aggregate.specs.declared.end.End.TheVariants.{Greatest, Least};
@@ -36,7 +37,7 @@ fn rows_that_may_be_nearer(
 ) -> [u64; 4]
     requires there { q < segments_of 256 (count codes.now) }
     requires few { count codes.now ≤ 2 ^ 24 }
-    requires narrow { codes.now.width ≤ 64 }
+    requires narrow { codes.now.width ≤ widest_code }
     ensures left { (j : ℕ) → j < 256 → row_in result j ≡ true → row_in rows.now j ≡ true }
     ensures out { (j : ℕ) → j < 256 → row_in rows.now j ≡ true → row_in result j ≡ false → best ≤ distance end (2 ^ codes.now.width - 1) (code_at codes.now (256 * q + j)) }
 {
@@ -65,7 +66,7 @@ fn nearer_or_all(some: bool, nearer: [u64; 4], all: [u64; 4]) -> [u64; 4]
 fn nearest_of(codes: &VerticalColumn, q: usize, rows: &[u64; 4], end: End, best: u64) -> u64
     requires there { q < segments_of 256 (count codes.now) }
     requires few { count codes.now ≤ 2 ^ 24 }
-    requires narrow { codes.now.width ≤ 64 }
+    requires narrow { codes.now.width ≤ widest_code }
     requires some { nat_lt 0 (marked 256 (row_in rows.now)) ≡ true }
     ensures { IsNearest 256 (row_in rows.now) (λ j. code_at codes.now (256 * q + j)) end (2 ^ codes.now.width - 1) best result }
 {
@@ -89,7 +90,7 @@ fn nearest_of(codes: &VerticalColumn, q: usize, rows: &[u64; 4], end: End, best:
 fn nearest_in_segment(codes: &VerticalColumn, q: usize, rows: &[u64; 4], end: End, best: u64) -> u64
     requires there { q < segments_of 256 (count codes.now) }
     requires few { count codes.now ≤ 2 ^ 24 }
-    requires narrow { codes.now.width ≤ 64 }
+    requires narrow { codes.now.width ≤ widest_code }
     ensures { IsNearest 256 (row_in rows.now) (λ j. code_at codes.now (256 * q + j)) end (2 ^ codes.now.width - 1) best result }
 {
     let left = rows_that_may_be_nearer(codes, q, rows, end, best);
@@ -106,7 +107,7 @@ const FIRST_GROUPS: usize = 3;
 
 /// The number of first groups to read for codes of `width` bits.
 pub(crate) fn first_groups(width: u32) -> usize
-    requires { width ≤ 64 }
+    requires { width ≤ widest_code }
     ensures within { 4 * result ≤ width }
     ensures some { width < 4 * result + 64 }
 {
@@ -124,7 +125,7 @@ struct NearRows {
 fn near_rows(codes: &VerticalColumn, q: usize, rows: &[u64; 4], groups: usize) -> NearRows
     requires there { q < segments_of 256 (count codes.now) }
     requires few { count codes.now ≤ 2 ^ 24 }
-    requires narrow { codes.now.width ≤ 64 }
+    requires narrow { codes.now.width ≤ widest_code }
     requires fit { Fit codes.now.width codes.now.codes }
     requires within { 4 * groups ≤ codes.now.width }
     ensures least { MayBeNearer (row_in rows.now) (row_in result.least) (λ j. code_at codes.now (256 * q + j)) Least (2 ^ codes.now.width - 1) (2 ^ (codes.now.width - 4 * groups)) }
@@ -154,7 +155,7 @@ fn nearest_among(
 ) -> u64
     requires there { q < segments_of 256 (count codes.now) }
     requires few { count codes.now ≤ 2 ^ 24 }
-    requires narrow { codes.now.width ≤ 64 }
+    requires narrow { codes.now.width ≤ widest_code }
     requires within { 4 * groups ≤ codes.now.width }
     requires some { codes.now.width < 4 * groups + 64 }
     requires near { MayBeNearer (row_in rows.now) (row_in near.now) (λ j. code_at codes.now (256 * q + j)) end (2 ^ codes.now.width - 1) (2 ^ (codes.now.width - 4 * groups)) }
@@ -184,7 +185,7 @@ pub(crate) fn nearest_to_ends(
 ) -> Distances
     requires there { q < segments_of 256 (count codes.now) }
     requires few { count codes.now ≤ 2 ^ 24 }
-    requires narrow { codes.now.width ≤ 64 }
+    requires narrow { codes.now.width ≤ widest_code }
     requires fit { Fit codes.now.width codes.now.codes }
     requires within { 4 * groups ≤ codes.now.width }
     requires some { codes.now.width < 4 * groups + 64 }

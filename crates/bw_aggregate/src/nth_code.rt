@@ -4,6 +4,7 @@ ghost use Rattle.std.specs.Prelude.{IfOk, length, true, vec_len, ℕ, ◌&&◌, 
 ghost use Rattle.std.specs.List.{items_where_true};
 ghost use Rattle.bw_mask.specs.Masks.{MaskRows, len, row_at};
 ghost use Rattle.bw_code.specs.Columns.{code_at, count};
+ghost use Rattle.bw_code.specs.Widths.{widest_code};
 ghost use Rattle.bw_aggregate.specs.Descents.{IsNthCode, IsRest, begin_count, front};
 ghost use Rattle.bw_aggregate.specs.Digits.{AreLeft};
 
@@ -46,7 +47,7 @@ fn codes_below(bits: u32) -> u64
 
 /// Goes one digit further. The rows are those whose code begins with the bits found so far.
 fn next_digit<C: CodeColumn>(column: &C, left: &Mask, way: Way, counts: &mut Vec<u32>) -> Way
-    requires narrow { (C.seen column.now).width ≤ 64 }
+    requires narrow { (C.seen column.now).width ≤ widest_code }
     requires len { len left.now ≡ count (C.seen column.now) }
     requires some { 0 < way.below }
     requires small { (way.found + 1) * 2 ^ way.below ≤ 2 ^ (C.seen column.now).width }
@@ -84,7 +85,7 @@ fn rows_on_way<C: CodeColumn>(
     rows: &Mask,
     way: Way,
 ) -> Result<Mask, AllocError>
-    requires narrow { (C.seen column.now).width ≤ 64 }
+    requires narrow { (C.seen column.now).width ≤ widest_code }
     requires len { len rows.now ≡ count (C.seen column.now) }
     requires below { way.below < 64 }
     requires small { (way.found + 1) * 2 ^ way.below ≤ 2 ^ (C.seen column.now).width }
@@ -111,7 +112,7 @@ pub(crate) fn nth_code<C: CodeColumn>(
     rows: &Mask,
     nth: usize,
 ) -> Result<u64, AllocError>
-    requires narrow { (C.seen column.now).width ≤ 64 }
+    requires narrow { (C.seen column.now).width ≤ widest_code }
     requires len { len rows.now ≡ count (C.seen column.now) }
     requires there { nth < length (items_where_true rows.now.rows (C.seen column.now).codes) }
     ensures { IfOk result (IsNthCode (items_where_true rows.now.rows (C.seen column.now).codes) nth) }

@@ -4,6 +4,7 @@ ghost use Rattle.std.specs.Prelude.{[], slice_index_or, ℕ, ◌*◌, ◌+◌, �
 ghost use Rattle.bw_mask.specs.Masks.{bit_of, row_in};
 ghost use Rattle.bw_code.specs.Columns.{code_at, count};
 ghost use Rattle.bw_code.specs.Units.{segments_of};
+ghost use Rattle.bw_code.specs.Widths.{widest_code};
 ghost use Rattle.bw_aggregate.specs.Planes.{IsGroupPlane, is_in};
 
 use crate::rows::rows_at;
@@ -30,7 +31,7 @@ impl<'a> GroupPlane<'a> {
     /// Plane `i` of a column, counted from the highest.
     pub(crate) fn of(codes: &'a VerticalColumn, i: usize) -> GroupPlane<'a>
         requires within { i < codes.now.width }
-        requires narrow { codes.now.width ≤ 64 }
+        requires narrow { codes.now.width ≤ widest_code }
         ensures { IsGroupPlane codes.now i result }
     {
         let i = i as u32;
@@ -71,7 +72,7 @@ pub(crate) fn plane_at(codes: &VerticalColumn, q: usize, i: usize) -> &[u64; 4]
     requires there { q < segments_of 256 (count codes.now) }
     requires within { i < codes.now.width }
     requires few { count codes.now ≤ 2 ^ 24 }
-    requires narrow { codes.now.width ≤ 64 }
+    requires narrow { codes.now.width ≤ widest_code }
     ensures { (j : ℕ) → j < 256 → row_in result.now j ≡ bit_of (code_at codes.now (256 * q + j)) (codes.now.width - 1 - i) }
 {
     let GroupPlane { group, count, at } = GroupPlane::of(codes, i);

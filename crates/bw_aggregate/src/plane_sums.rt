@@ -4,6 +4,7 @@ ghost use Rattle.std.specs.Prelude.{All, Bool, List, length, sum, true, ℕ, ◌
 ghost use Rattle.bw_mask.specs.Masks.{row_in};
 ghost use Rattle.bw_code.specs.Columns.{Fit, count};
 ghost use Rattle.bw_code.specs.Units.{segments_of};
+ghost use Rattle.bw_code.specs.Widths.{widest_code};
 ghost use Rattle.bw_aggregate.specs.Left.{codes_between};
 ghost use Rattle.bw_aggregate.specs.Marks.{marked};
 ghost use Rattle.bw_aggregate.specs.PlaneSums.{AreBits, AreMadeOf, AreRows, IsSumTo};
@@ -50,7 +51,7 @@ fn planes_sum(
 ) -> u64
     requires there { q < segments_of 256 (count codes.now) }
     requires few { count codes.now ≤ 2 ^ 24 }
-    requires narrow { codes.now.width ≤ 64 }
+    requires narrow { codes.now.width ≤ widest_code }
     requires all { all ≡ true → (j : ℕ) → j < 256 → row_in rows.now j ≡ true }
     requires from { 4 * group ≤ end }
     requires within { end ≤ codes.now.width }
@@ -73,7 +74,7 @@ fn planes_sum(
 
 /// The number of groups of four planes above the lowest 32 planes. The last one may lie there in part only.
 fn upper_groups(width: usize) -> usize
-    requires { width ≤ 64 }
+    requires { width ≤ widest_code }
     ensures few { 4 * result ≤ width }
     ensures upper { result ≤ 8 }
     ensures lower { width ≤ 4 * result + 32 }
@@ -86,7 +87,7 @@ fn upper_groups(width: usize) -> usize
 pub(crate) fn segment_sum(codes: &VerticalColumn, q: usize, rows: &[u64; 4]) -> u128
     requires there { q < segments_of 256 (count codes.now) }
     requires few { count codes.now ≤ 2 ^ 24 }
-    requires narrow { codes.now.width ≤ 64 }
+    requires narrow { codes.now.width ≤ widest_code }
     ensures sum { (need : List Bool) → length need ≡ count codes.now → AreRows need q rows.now → result ≡ sum (codes_between need codes.now.codes (256 * q) (256 * q + 256)) }
     ensures small { result ≤ 2 ^ 97 }
 {

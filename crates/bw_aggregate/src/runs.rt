@@ -2,6 +2,7 @@
 
 ghost use Rattle.std.specs.Prelude.{All, Bool, List, drop, if◌then◌else◌, length, map, slice_index, sum, take, ℕ, ◌*◌, ◌+◌, ◌<◌, ◌^◌, ◌≡◌, ◌≤◌};
 ghost use Rattle.bw_mask.specs.Masks.{bit_of};
+ghost use Rattle.bw_code.specs.Widths.{widest_code};
 ghost use Rattle.bw_aggregate.specs.Runs.{IsRun, code_sum, lower_half, upper_half};
 
 /// Whether row `i` of a run is selected.
@@ -98,7 +99,7 @@ fn upper_halves(codes: &[u64]) -> [u64; 64]
 pub(crate) fn run_sum(codes: &[u64], bits: u32, rows: u64) -> u128
     requires few { length codes.now ≤ 64 }
     requires fit { All (λ code. code < 2 ^ bits) codes.now }
-    requires narrow { bits ≤ 64 }
+    requires narrow { bits ≤ widest_code }
     ensures sum { (need : List Bool) (all : List ℕ) (at : ℕ) → length need ≡ length all → codes.now ≡ take (length codes.now) (drop at all) → IsRun need at (length codes.now) rows
         → code_sum need all (at + length codes.now) ≡ code_sum need all at + result }
     ensures small { result ≤ 65 * 2 ^ 64 }

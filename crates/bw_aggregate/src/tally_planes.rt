@@ -5,6 +5,7 @@ ghost use Rattle.std.specs.Prelude.{Bool, List, false, length, sum, true, ◌&&�
 ghost use Rattle.bw_mask.specs.Masks.{len, row_at};
 ghost use Rattle.bw_code.specs.Columns.{Fit, count};
 ghost use Rattle.bw_code.specs.Units.{segments_of};
+ghost use Rattle.bw_code.specs.Widths.{widest_code};
 ghost use Rattle.bw_aggregate.specs.Left.{codes_between};
 ghost use Rattle.bw_aggregate.specs.PlaneSums.{AreRows};
 ghost use Rattle.bw_aggregate.specs.Tallies.{IsTally};
@@ -22,7 +23,7 @@ use bw_vertical::VerticalColumn;
 fn sum_if(asked: bool, codes: &VerticalColumn, q: usize, rows: &[u64; 4]) -> u128
     requires there { q < segments_of 256 (count codes.now) }
     requires few { count codes.now ≤ 2 ^ 24 }
-    requires narrow { codes.now.width ≤ 64 }
+    requires narrow { codes.now.width ≤ widest_code }
     ensures sum { asked ≡ true → (need : List Bool) → length need ≡ count codes.now → AreRows need q rows.now → result ≡ sum (codes_between need codes.now.codes (256 * q) (256 * q + 256)) }
     ensures unasked { asked ≡ false → result ≡ 0 }
     ensures small { result ≤ 2 ^ 97 }
@@ -45,7 +46,7 @@ pub(crate) fn tally_by_planes(
 ) -> Tally
     requires len { len rows.now ≡ count codes.now }
     requires nonnull_len { len nonnull.now ≡ count codes.now }
-    requires narrow { codes.now.width ≤ 64 }
+    requires narrow { codes.now.width ≤ widest_code }
     ensures { IsTally sum rows.now.rows (λ r. row_at rows.now r && row_at nonnull.now r) codes.now.codes (2 ^ codes.now.width - 1) far result }
 {
     let words = rows.words();

@@ -3,6 +3,7 @@
 ghost use Rattle.std.specs.Prelude.{All, Bool, List, drop, length, take, true, ℕ, ◌&&◌, ◌*◌, ◌+◌, ◌-◌, ◌<◌, ◌^◌, ◌≡◌, ◌≤◌};
 ghost use Rattle.bw_mask.specs.Masks.{bit_of, len, row_at};
 ghost use Rattle.bw_code.specs.Columns.{Fit, code_at, count};
+ghost use Rattle.bw_code.specs.Widths.{widest_code};
 ghost use Rattle.bw_aggregate.specs.Ends.{AreNearest};
 ghost use Rattle.bw_aggregate.specs.Runs.{IsRun, code_sum};
 ghost use Rattle.bw_aggregate.specs.Tallies.{IsTally};
@@ -35,7 +36,7 @@ struct RunTally {
 fn sum_if(asked: bool, codes: &[u64], bits: u32, rows: u64) -> u128
     requires few { length codes.now ≤ 64 }
     requires fit { All (λ code. code < 2 ^ bits) codes.now }
-    requires narrow { bits ≤ 64 }
+    requires narrow { bits ≤ widest_code }
     ensures sum { asked ≡ true → (need : List Bool) (all : List ℕ) (at : ℕ) → length need ≡ length all → codes.now ≡ take (length codes.now) (drop at all) → IsRun need at (length codes.now) rows
         → code_sum need all (at + length codes.now) ≡ code_sum need all at + result }
     ensures small { result ≤ 65 * 2 ^ 64 }
@@ -46,7 +47,7 @@ fn sum_if(asked: bool, codes: &[u64], bits: u32, rows: u64) -> u128
 /// The result for the codes of a run: their sum, if it is asked for, and the least distances from both ends, or `best`
 /// if none is nearer. If no row is selected, no code is read.
 fn run_tally<C: CodeColumn>(column: &C, run: Run, sum: bool, top: u64, best: Distances) -> RunTally
-    requires narrow { (C.seen column.now).width ≤ 64 }
+    requires narrow { (C.seen column.now).width ≤ widest_code }
     requires few { run.n ≤ 64 }
     requires inside { run.at + run.n ≤ count (C.seen column.now) }
     requires fit { Fit (C.seen column.now).width (C.seen column.now).codes }
@@ -83,7 +84,7 @@ pub(crate) fn tally_in_runs<C: CodeColumn>(
 ) -> Tally
     requires len { len rows.now ≡ count (C.seen column.now) }
     requires nonnull_len { len nonnull.now ≡ count (C.seen column.now) }
-    requires narrow { (C.seen column.now).width ≤ 64 }
+    requires narrow { (C.seen column.now).width ≤ widest_code }
     ensures { IsTally sum rows.now.rows (λ r. row_at rows.now r && row_at nonnull.now r) (C.seen column.now).codes (2 ^ (C.seen column.now).width - 1) far result }
 {
     let top = greatest_code(column.width());

@@ -4,6 +4,7 @@ use Rattle.std.specs.Prelude.{List, [], ◌∷◌, drop, length, map, min, slice
 use Rattle.std.specs.Global.{Vec}
 use Rattle.bw_code.specs.Lists.{made}
 use Rattle.bw_code.specs.Units.{segments_of}
+use Rattle.bw_code.specs.Widths.{widest_code}
 use Rattle.bw_byteslice.specs.Slices.{number_of, shift_of, slices_of}
 
 -- the bytes of each slice
@@ -52,7 +53,7 @@ pub record IsInPlace (slices : List (List ℕ)) (q start : ℕ) : Type 0 where
 -- the slices of n codes
 pub record AreSlices (k n : ℕ) (slices : List (List ℕ)) : Type 0 where
   pub some : 1 ≤ k
-  pub narrow : k ≤ 64
+  pub narrow : k ≤ widest_code
   pub few : n ≤ 2 ^ 24
   pub count : length slices ≡ slices_of k
   pub long : (i : ℕ) → i < slices_of k → length (slice_index_or slices i []) ≡ 32 * segments_of 32 n

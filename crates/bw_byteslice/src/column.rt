@@ -4,6 +4,7 @@ ghost use Rattle.std.specs.Prelude.{[], length, slice_index, slice_index_or, ℕ
 ghost use Rattle.bw_mask.specs.Masks.{bit_of, row_in};
 ghost use Rattle.bw_code.specs.Columns.{code_at, count};
 ghost use Rattle.bw_code.specs.Units.{digit, segments_of};
+ghost use Rattle.bw_code.specs.Widths.{widest_code};
 ghost use Rattle.bw_code.specs.declared.kind.Layout.TheVariants as layouts;
 ghost use Rattle.bw_byteslice.specs.Slices.{shift_of, slices_of};
 
@@ -80,7 +81,7 @@ impl SliceColumn {
 impl CodeColumn for SliceColumn {
     ghost layout = { layouts.S };
 
-    ghost WIDEST = { 64 };
+    ghost WIDEST = { widest_code };
 
     ghost seen = { λ c. c };
 

@@ -5,6 +5,7 @@ ghost use Rattle.std.specs.Prelude.{length, nat_lt, true, ℕ, ◌&&◌, ◌*◌
 ghost use Rattle.bw_mask.specs.Masks.{SameShape, bit_of, len, row_at};
 ghost use Rattle.bw_code.specs.Tests.{code_compares};
 ghost use Rattle.bw_code.specs.Units.{by_slices, segments_of, side_units, some_below};
+ghost use Rattle.bw_code.specs.Widths.{widest_code};
 ghost use Rattle.bw_byteslice.specs.Slices.{AreBytes, AreStored, by_bytes, code_in, number_in, side_cost, slices_of};
 
 use crate::rows::{chosen, high_half, is_empty, joined, low_half};
@@ -129,7 +130,7 @@ pub fn pair_from<A: Source<[u8; 32]>, B: Source<[u8; 32]>>(
     need: &Mask,
     out: &mut Mask,
 )
-    requires narrow { width ≤ 64 }
+    requires narrow { width ≤ widest_code }
     requires few { len need.now ≤ 2 ^ 24 }
     requires out { len out.old ≡ len need.now }
     requires units { length (A.units a.old) ≡ segments_of 32 (len need.now) * slices_of width }

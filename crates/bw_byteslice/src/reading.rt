@@ -1,6 +1,7 @@
 //! Reading codes from slices in memory.
 
 ghost use Rattle.std.specs.Prelude.{[], length, slice_index, slice_index_or, ℕ, ◌*◌, ◌+◌, ◌/◌, ◌<◌, ◌^◌, ◌≡◌, ◌≤◌};
+ghost use Rattle.bw_code.specs.Widths.{widest_code, widest_half};
 ghost use Rattle.bw_byteslice.specs.Slices.{slices_of};
 ghost use Rattle.bw_byteslice.specs.Storing.{byte_of, bytes_of, code_of, number_at};
 
@@ -11,7 +12,7 @@ const RUN: usize = 64;
 
 /// The code of row j.
 pub(crate) fn code_at(slices: &[Vec<u8>], width: u32, j: usize) -> u64
-    requires narrow { width ≤ 64 }
+    requires narrow { width ≤ widest_code }
     requires count { length slices.now ≡ slices_of width }
     requires bytes { (i j : ℕ) → byte_of (bytes_of slices.now) j i < 256 }
     requires there { (i : ℕ) → i < slices_of width → j < length (slice_index_or (bytes_of slices.now) i []) }
@@ -26,6 +27,7 @@ pub(crate) fn code_at(slices: &[Vec<u8>], width: u32, j: usize) -> u64
 }
 
 /// Fills `out` with the bytes of a slice from row `at` on, shifted right by `spare` bits.
+#[inline(always)]
 fn read_one(first: &[u8], at: usize, spare: u32, out: &mut [u32])
     requires spare { spare < 8 }
     requires first { at + length out.old ≤ length first.now }
@@ -39,6 +41,7 @@ fn read_one(first: &[u8], at: usize, spare: u32, out: &mut [u32])
 }
 
 /// Fills `out` with the numbers that the bytes of two slices make from row `at` on, shifted right by `spare` bits.
+#[inline(always)]
 fn read_two(first: &[u8], second: &[u8], at: usize, spare: u32, out: &mut [u32])
     requires spare { spare < 8 }
     requires first { at + length out.old ≤ length first.now }
@@ -54,6 +57,7 @@ fn read_two(first: &[u8], second: &[u8], at: usize, spare: u32, out: &mut [u32])
 }
 
 /// Fills `out` with the numbers that the bytes of three slices make from row `at` on, shifted right by `spare` bits.
+#[inline(always)]
 fn read_three(first: &[u8], second: &[u8], third: &[u8], at: usize, spare: u32, out: &mut [u32])
     requires spare { spare < 8 }
     requires first { at + length out.old ≤ length first.now }
@@ -71,6 +75,7 @@ fn read_three(first: &[u8], second: &[u8], third: &[u8], at: usize, spare: u32, 
 }
 
 /// Fills `out` with the numbers that the bytes of four slices make from row `at` on, shifted right by `spare` bits.
+#[inline(always)]
 fn read_four(
     first: &[u8],
     second: &[u8],
@@ -98,7 +103,9 @@ fn read_four(
 }
 
 /// Fills `out` with the numbers that the bytes of at most four slices make from row `at` on, shifted right by `spare`
-/// bits. A register holds twice as many 32-bit numbers as 64-bit ones.
+/// bits. A register holds twice as many 32-bit numbers as 64-bit ones. The loops over the bytes are inlined, since they
+/// are faster where the number of rows is known.
+#[inline(always)]
 fn read_numbers(slices: &[Vec<u8>], spare: u32, at: usize, out: &mut [u32])
     requires few { length slices.now ≤ 4 }
     requires spare { spare < 8 }
@@ -153,8 +160,8 @@ fn read_halves(upper: &[Vec<u8>], lower: &[Vec<u8>], spare: u32, at: usize, out:
 
 /// Fills `out` with codes of more than 32 bits from row `at` on, at most `RUN` of them.
 fn read_wide(slices: &[Vec<u8>], width: u32, at: usize, out: &mut [u64])
-    requires wide { 32 < width }
-    requires narrow { width ≤ 64 }
+    requires wide { widest_half < width }
+    requires narrow { width ≤ widest_code }
     requires count { length slices.now ≡ slices_of width }
     requires few { length out.old ≤ 64 }
     requires there { (i : ℕ) → i < slices_of width → at + length out.old ≤ length (slice_index_or (bytes_of slices.now) i []) }
@@ -178,7 +185,7 @@ fn widen(numbers: &[u32], out: &mut [u64])
 
 /// Fills `out` with codes from row `at` on, at most `RUN` of them.
 fn read_run(slices: &[Vec<u8>], width: u32, at: usize, out: &mut [u64])
-    requires narrow { width ≤ 64 }
+    requires narrow { width ≤ widest_code }
     requires count { length slices.now ≡ slices_of width }
     requires bytes { (i j : ℕ) → byte_of (bytes_of slices.now) j i < 256 }
     requires few { length out.old ≤ 64 }
@@ -190,14 +197,21 @@ fn read_run(slices: &[Vec<u8>], width: u32, at: usize, out: &mut [u64])
         return read_wide(slices, width, at, out);
     }
     let mut run = [0; RUN];
-    let codes = &mut run[..out.len()];
-    read_numbers(slices, shift_of(width), at, codes);
-    widen(codes, out);
+    let spare = shift_of(width);
+    // Most runs are whole, and are faster where the length is known.
+    if out.len() == RUN {
+        read_numbers(slices, spare, at, &mut run);
+        widen(&run, out);
+    } else {
+        let codes = &mut run[..out.len()];
+        read_numbers(slices, spare, at, codes);
+        widen(codes, out);
+    }
 }
 
 /// Fills `out` with the codes from row `at` on.
 pub(crate) fn read(slices: &[Vec<u8>], width: u32, at: usize, out: &mut [u64])
-    requires narrow { width ≤ 64 }
+    requires narrow { width ≤ widest_code }
     requires count { length slices.now ≡ slices_of width }
     requires few { at + length out.old ≤ 2 ^ 24 }
     requires bytes { (i j : ℕ) → byte_of (bytes_of slices.now) j i < 256 }

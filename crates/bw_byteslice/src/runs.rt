@@ -4,6 +4,7 @@ ghost use Rattle.std.specs.Prelude.{[], false, length, slice_index, slice_index_
 ghost use Rattle.bw_mask.specs.Masks.{bit_of};
 ghost use Rattle.bw_code.specs.Columns.{Fit};
 ghost use Rattle.bw_code.specs.Units.{digit};
+ghost use Rattle.bw_code.specs.Widths.{widest_code};
 ghost use Rattle.bw_byteslice.specs.Slices.{shift_of, slices_of};
 ghost use Rattle.bw_byteslice.specs.Storing.{byte_of, bytes_of, capacities_of};
 
@@ -89,7 +90,7 @@ fn put_numbers(
 /// Row at + i takes code i where bit i of `rows` is set. The codes are shifted left once for all slices, or, where they
 /// have more than 32 bits, once for the upper slices and once for the last four.
 pub(crate) fn put_run(slices: &mut Vec<Vec<u8>>, width: u32, at: usize, rows: u64, codes: &[u64])
-    requires narrow { width ≤ 64 }
+    requires narrow { width ≤ widest_code }
     requires count { vec_len slices.old ≡ slices_of width }
     requires few { length codes.now ≤ 64 }
     requires fit { Fit width codes.now }
@@ -127,7 +128,7 @@ pub(crate) fn fill_run(
     rows: u64,
     code: u64,
 )
-    requires narrow { width ≤ 64 }
+    requires narrow { width ≤ widest_code }
     requires count { vec_len slices.old ≡ slices_of width }
     requires few { count ≤ 64 }
     requires fits { code < 2 ^ width }

@@ -5,6 +5,7 @@ ghost use Rattle.std.specs.Prelude.{length, max, nat_le, nat_lt, not, true, ℕ,
 ghost use Rattle.bw_mask.specs.Masks.{SameShape, bit_of, len, row_at};
 ghost use Rattle.bw_code.specs.Tests.{TestFits, meets};
 ghost use Rattle.bw_code.specs.Units.{agreement, by_slices, cost_of, scan_units, segment_units, segments_of, some_below};
+ghost use Rattle.bw_code.specs.Widths.{widest_code};
 ghost use Rattle.bw_byteslice.specs.Slices.{AreBytes, AreStored, IsBelow, by_bytes, code_in, number_in, slices_of};
 
 use crate::rows::{chosen, either, high_half, is_empty, joined, low_half, without};
@@ -162,7 +163,7 @@ pub fn scan_from<S: Source<[u8; 32]>>(
     need: &Mask,
     out: &mut Mask,
 )
-    requires narrow { width ≤ 64 }
+    requires narrow { width ≤ widest_code }
     requires test { TestFits width test }
     requires few { len need.now ≤ 2 ^ 24 }
     requires out { len out.old ≡ len need.now }

@@ -3,6 +3,7 @@
 ghost use Rattle.std.specs.Prelude.{[], IfOk, OnOk, length, slice_index, slice_index_or, vec_capacity, vec_len, ℕ, ◌*◌, ◌+◌, ◌<◌, ◌^◌, ◌≡◌, ◌≤◌, ◌/◌, ◌%◌};
 ghost use Rattle.bw_code.specs.Columns.{Fit};
 ghost use Rattle.bw_code.specs.Units.{digit};
+ghost use Rattle.bw_code.specs.Widths.{widest_code, widest_half};
 ghost use Rattle.bw_byteslice.specs.Slices.{shift_of, slices_of};
 ghost use Rattle.bw_byteslice.specs.Storing.{byte_of, bytes_of, capacities_of};
 
@@ -70,7 +71,7 @@ pub(crate) fn grow(slices: &mut Vec<Vec<u8>>, len: usize)
 
 /// Each code shifted left, as a 32-bit number: a register holds twice as many of them as 64-bit ones.
 pub(crate) fn raise_codes(codes: &[u64], width: u32, numbers: &mut [u32])
-    requires narrow { width ≤ 32 }
+    requires narrow { width ≤ widest_half }
     requires fit { Fit width codes.now }
     requires long { length numbers.old ≡ length codes.now }
     ensures len { length numbers.new ≡ length numbers.old }
@@ -160,7 +161,7 @@ fn put_numbers(slices: &mut Vec<Vec<u8>>, first: usize, m: usize, at: usize, num
 
 /// The 32 bits of each shifted code from bit `down` on.
 pub(crate) fn raise_parts(codes: &[u64], width: u32, down: u32, numbers: &mut [u32])
-    requires narrow { width ≤ 64 }
+    requires narrow { width ≤ widest_code }
     requires down { down < 64 }
     requires fit { Fit width codes.now }
     requires long { length numbers.old ≡ length codes.now }
@@ -175,7 +176,7 @@ pub(crate) fn raise_parts(codes: &[u64], width: u32, down: u32, numbers: &mut [u
 /// The rows from `at` on get these codes, at most `BLOCK` of them. They are shifted left once for all slices, or, where
 /// they have more than 32 bits, once for the upper slices and once for the last four.
 fn put_block(slices: &mut Vec<Vec<u8>>, width: u32, at: usize, codes: &[u64])
-    requires narrow { width ≤ 64 }
+    requires narrow { width ≤ widest_code }
     requires count { vec_len slices.old ≡ slices_of width }
     requires few { length codes.now ≤ 64 }
     requires fit { Fit width codes.now }
@@ -203,7 +204,7 @@ fn put_block(slices: &mut Vec<Vec<u8>>, width: u32, at: usize, codes: &[u64])
 
 /// The rows from `at` on get these codes, a block at a time.
 pub(crate) fn put(slices: &mut Vec<Vec<u8>>, width: u32, at: usize, codes: &[u64])
-    requires narrow { width ≤ 64 }
+    requires narrow { width ≤ widest_code }
     requires count { vec_len slices.old ≡ slices_of width }
     requires fit { Fit width codes.now }
     requires few { at + length codes.now ≤ 2 ^ 24 }

@@ -5,6 +5,7 @@ ghost use Rattle.bw_code.specs.Fittings.{AreEnds};
 ghost use Rattle.bw_cells.specs.Distances.{distance_from};
 ghost use Rattle.bw_cells.specs.Known.{known};
 ghost use Rattle.bw_mask.specs.Masks.{bit_of};
+ghost use Rattle.bw_code.specs.Widths.{widest_code};
 
 use crate::distances::distances_in_run;
 use crate::ends::ends_in_runs;
@@ -61,7 +62,7 @@ pub trait Measured: Cells {
         words: &mut [u64; 64],
     ) -> Option<u64>
         requires few { count ≤ 64 }
-        requires narrow { k ≤ 64 }
+        requires narrow { k ≤ widest_code }
         requires inside { at + count ≤ length (Self.cells self.now) }
         ensures planes { IfSome result (λ present. (b r : ℕ) → b < k → r < 64 → bit_of (slice_index words.new b) r ≡ bit_of (slice_index (map (distance_from base) (take count (drop at (Self.cells self.now)))) r) b) }
         ensures present { IfSome result (λ present. (i : ℕ) → bit_of present i ≡ is_some (slice_index_or (take count (drop at (Self.cells self.now))) i None)) }

@@ -3,6 +3,7 @@ use Rattle.std.specs.Prelude.{Bool, List, if◌then◌else◌, length, nat_le, s
 use Rattle.std.specs.List.{All}
 use Rattle.bw_mask.specs.Masks.{bit_of}
 use Rattle.bw_code.specs.Lists.{made}
+use Rattle.bw_code.specs.Widths.{widest_code, widest_half}
 
 pub record CodeList : Type 0 where
   pub width : ℕ
@@ -29,14 +30,14 @@ pub record KeepsShape (new old : CodeList) : Type 0 where
 -- a plain list of codes of at most 32 bits
 pub record ArePlain (width : ℕ) (codes : List ℕ) : Type 0 where
   pub some : 1 ≤ width
-  pub narrow : width ≤ 32
+  pub narrow : width ≤ widest_half
   pub few : length codes ≤ 2 ^ 24
   pub fit : Fit width codes
 
 -- a plain list of codes of at most 64 bits
 pub record AreWide (width : ℕ) (codes : List ℕ) : Type 0 where
   pub some : 1 ≤ width
-  pub narrow : width ≤ 64
+  pub narrow : width ≤ widest_code
   pub few : length codes ≤ 2 ^ 24
   pub fit : Fit width codes
 

@@ -13,3 +13,4 @@ pub mod Shifts
 pub mod Tests
 pub mod Types
 pub mod Units
+pub mod Widths

@@ -1,6 +1,7 @@
 -- A plain list of codes, of 4 bytes each or of 8.
 use Rattle.std.specs.Prelude.{◌<◌, ◌≤◌}
 use Rattle.bw_code.specs.Columns.{CodeList}
+use Rattle.bw_code.specs.Widths.{widest_half}
 use Rattle.bw_code.specs.declared.plain.PlainCodes.{PlainCodes}
 use Rattle.bw_code.specs.declared.plain.PlainCodes.TheVariants.{Narrow, Wide}
 
@@ -10,5 +11,5 @@ plain_list (Wide codes) = codes
 
 -- codes take the smaller size that holds them
 abbrev pub ArePlainCodes : PlainCodes → Type 0
-ArePlainCodes (Narrow codes) = codes.width ≤ 32
-ArePlainCodes (Wide codes) = 32 < codes.width
+ArePlainCodes (Narrow codes) = codes.width ≤ widest_half
+ArePlainCodes (Wide codes) = widest_half < codes.width

@@ -2,6 +2,7 @@
 
 ghost use Rattle.std.specs.Prelude.{pos, ℕ, ◌-ℤ◌, ◌<◌, ◌^◌, ◌↔◌, ◌≡◌, ◌≤◌};
 ghost use Rattle.bw_mask.specs.Masks.{row_at};
+ghost use Rattle.bw_code.specs.Widths.{widest_code, widest_half};
 ghost use Rattle.bw_code.specs.declared.kind.Layout.TheVariants as layouts;
 
 use crate::column::CodeColumn;
@@ -40,7 +41,7 @@ impl Model for PlainColumn {
 impl CodeColumn for PlainColumn {
     ghost layout = { layouts.P };
 
-    ghost WIDEST = { 64 };
+    ghost WIDEST = { widest_code };
 
     ghost seen = { λ p. p };
 
@@ -163,8 +164,8 @@ impl PlainColumn {
     /// they take as many bytes as before. Takes no memory.
     pub fn shift(&mut self, rows: &Mask, from: i64, to: i64, width: u32)
         requires some { 1 ≤ width }
-        requires narrow { width ≤ 64 }
-        requires bytes { (width ≤ 32) ↔ (self.old.width ≤ 32) }
+        requires narrow { width ≤ widest_code }
+        requires bytes { (width ≤ widest_half) ↔ (self.old.width ≤ widest_half) }
         requires fit { (i : ℕ) → i < count self.old → StaysBelow (2 ^ width) (shifted (from -ℤ to) (row_at rows.now i) (code_at self.old i)) }
         ensures width { self.new.width ≡ width }
         ensures count { count self.new ≡ count self.old }

@@ -3,6 +3,7 @@
 ghost use Rattle.std.specs.Prelude.{All, List, length, slice_index, vec_capacity, vec_len, ℕ, ◌&&◌, ◌++◌, ◌+◌, ◌<◌, ◌^◌, ◌≡◌, ◌≤◌};
 ghost use Rattle.bw_mask.specs.Masks.{bit_of, len, row_at, SameShape};
 ghost use Rattle.bw_code.specs.Intervals.{is_in_wide as is_in};
+ghost use Rattle.bw_code.specs.Widths.{widest_code};
 ghost use Rattle.bw_code.specs.declared.kind.Layout.TheVariants as layouts;
 
 use crate::column::CodeColumn;
@@ -37,7 +38,7 @@ impl Model for WideCodes {
 impl CodeColumn for WideCodes {
     ghost layout = { layouts.P };
 
-    ghost WIDEST = { 64 };
+    ghost WIDEST = { widest_code };
 
     ghost seen = { λ p. p };
 
@@ -136,7 +137,7 @@ impl WideCodes {
     /// Takes no memory.
     pub(crate) fn shift(&mut self, rows: &Mask, from: i64, to: i64, width: u32)
         requires some { 1 ≤ width }
-        requires narrow { width ≤ 64 }
+        requires narrow { width ≤ widest_code }
         requires fit { (i : ℕ) → i < count self.old → StaysBelow (2 ^ width) (shifted (from -ℤ to) (row_at rows.now i) (code_at self.old i)) }
         ensures width { self.new.width ≡ width }
         ensures count { count self.new ≡ count self.old }

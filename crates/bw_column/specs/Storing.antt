@@ -1,6 +1,7 @@
 -- The codes of a column, in any layout.
 use Rattle.bw_code.specs.Columns.{CodeList}
 use Rattle.std.specs.Prelude.{ℕ, ◌↔◌, ◌≡◌, ◌≤◌}
+use Rattle.bw_code.specs.Widths.{widest_half}
 use Rattle.bw_code.specs.declared.kind.Layout.{Layout}
 use Rattle.bw_code.specs.declared.kind.Layout.TheVariants as layouts
 use Rattle.bw_column.specs.declared.storage.Codes.{Codes}
@@ -34,7 +35,7 @@ lent_layout (lent.S codes) = layouts.S
 
 -- where codes can be rebased in place: plain codes that take as many bytes as before, and planes where the width stays
 abbrev pub ShiftsTo : Layout → ℕ → ℕ → Type 0
-ShiftsTo layouts.P old new = (new ≤ 32) ↔ (old ≤ 32)
+ShiftsTo layouts.P old new = (new ≤ widest_half) ↔ (old ≤ widest_half)
 ShiftsTo layouts.V old new = new ≡ old
 ShiftsTo layouts.H old new = ⊥
 ShiftsTo layouts.S old new = ⊥

@@ -5,6 +5,8 @@ use Rattle.bw_code.specs.declared.kind.Layout.{Layout}
 use Rattle.bw_code.specs.declared.kind.Layout.TheVariants as layouts
 -- the non-null values
 pub use Rattle.bw_cells.specs.Known.{known}
+-- the greatest width of a code, in bits
+pub use Rattle.bw_code.specs.Widths.{widest}
 
 -- the integers of the type INTEGER, which every layout holds
 abbrev pub IsInteger : ℤ → Type 0
@@ -32,13 +34,6 @@ IsHeld layouts.S x = FitsSigned w64 x
 abbrev pub IsNullOrHeld : Layout → Option ℤ → Type 0
 IsNullOrHeld layout None = ⊤
 IsNullOrHeld layout (Some x) = IsHeld layout x
-
--- the greatest width of a code, in bits
-abbrev pub widest : Layout → ℕ
-widest layouts.P = 64
-widest layouts.V = 64
-widest layouts.H = 32
-widest layouts.S = 64
 
 -- the value of a row; null after the last row
 abbrev pub value_at : List (Option ℤ) → ℕ → Option ℤ

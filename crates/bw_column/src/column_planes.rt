@@ -4,6 +4,7 @@ ghost use Rattle.std.specs.Prelude.{IfSome, if◌then◌else◌, length, pos, �
 ghost use Rattle.bw_mask.specs.Masks.{SameShape, len, row_at};
 ghost use Rattle.bw_code.specs.Tests.{int_compares};
 ghost use Rattle.bw_code.specs.Units.{segments_of, some_below};
+ghost use Rattle.bw_code.specs.Widths.{widest_code};
 ghost use Rattle.bw_vertical.specs.Planes.{code_in};
 ghost use Rattle.bw_column.specs.PlaneSources.{HoldsCodes, reads_in, units_in};
 ghost use Rattle.bw_column.specs.Storing.{layout_of, list_of};
@@ -55,8 +56,8 @@ fn add_beside<A: Source<[u64; 4]>>(
     need: &Mask,
     out: &mut Mask,
 )
-    requires narrow { left.width ≤ 64 }
-    requires other_narrow { right.width ≤ 64 }
+    requires narrow { left.width ≤ widest_code }
+    requires other_narrow { right.width ≤ widest_code }
     requires few { len need.now ≤ 2 ^ 24 }
     requires out { len out.old ≡ len need.now }
     requires units { length (A.units a.old) ≡ segments_of 256 (len need.now) * left.width }
@@ -87,8 +88,8 @@ pub(crate) fn add_planes(
     need: &Mask,
     out: &mut Mask,
 )
-    requires narrow { left.width ≤ 64 }
-    requires other_narrow { right.width ≤ 64 }
+    requires narrow { left.width ≤ widest_code }
+    requires other_narrow { right.width ≤ widest_code }
     requires few { len need.now ≤ 2 ^ 24 }
     requires out { len out.old ≡ len need.now }
     requires units { length (units_in planes.old) ≡ segments_of 256 (len need.now) * left.width }

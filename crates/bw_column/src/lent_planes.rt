@@ -4,6 +4,7 @@ ghost use Rattle.std.specs.Prelude.{IfSome, None, drop, is_some, length, map, sl
 ghost use Rattle.bw_mask.specs.Masks.{bit_of};
 ghost use Rattle.bw_cells.specs.Distances.{distance_from};
 ghost use Rattle.bw_code.specs.Columns.{count};
+ghost use Rattle.bw_code.specs.Widths.{widest_code};
 ghost use Rattle.bw_code.specs.declared.encoding.Encoding.TheVariants as by;
 ghost use Rattle.bw_code.specs.declared.kind.Layout.TheVariants as layouts;
 ghost use Rattle.bw_column.specs.Codes.{AreRowCodes, values_from};
@@ -42,7 +43,7 @@ pub(crate) fn lent_planes(
 ) -> Option<u64>
     requires rows { AreRowCodes layouts.V (by.Offset offset) codes.now nonnull.now }
     requires few { n ≤ 64 }
-    requires narrow { k ≤ 64 }
+    requires narrow { k ≤ widest_code }
     requires inside { at + n ≤ count codes.now }
     ensures planes { IfSome result (λ present. (b r : ℕ) → b < k → r < 64 → bit_of (slice_index words.new b) r ≡ bit_of (slice_index (map (distance_from base) (take n (drop at (values_from (by.Offset offset) codes.now nonnull.now)))) r) b) }
     ensures present { IfSome result (λ present. (i : ℕ) → bit_of present i ≡ is_some (slice_index_or (take n (drop at (values_from (by.Offset offset) codes.now nonnull.now))) i None)) }

@@ -5,6 +5,7 @@ ghost use Rattle.bw_mask.specs.Masks.{SameShape, len, row_at};
 ghost use Rattle.bw_code.specs.Encodings.{width};
 ghost use Rattle.bw_code.specs.Meters.{raised};
 ghost use Rattle.bw_code.specs.Units.{units_of_addition, units_of_pair};
+ghost use Rattle.bw_code.specs.Widths.{widest_code};
 ghost use Rattle.bw_column.specs.Codes.{codes_for};
 ghost use Rattle.bw_column.specs.Comparisons.{compare_so};
 ghost use Rattle.bw_column.specs.Costs.{are_alike, have_sums};
@@ -18,8 +19,8 @@ use bw_mask::Mask;
 /// The units of all planes of two columns of these widths, where any row is known; else 0.
 fn units_of_planes(width: u32, other_width: u32, known: &Mask) -> u64
     requires few { len known.now ≤ 2 ^ 24 }
-    requires narrow { width ≤ 64 }
-    requires other_narrow { other_width ≤ 64 }
+    requires narrow { width ≤ widest_code }
+    requires other_narrow { other_width ≤ widest_code }
     ensures { result ≡ units_of_addition width other_width (row_at known.now) (len known.now) }
 {
     if known.any() {

@@ -11,6 +11,7 @@ use Rattle.bw_code.specs.Encodings.{bits_of, distance}
 use Rattle.bw_code.specs.Fittings.{AreEnds}
 use Rattle.bw_code.specs.declared.ends.Ends.{Ends}
 use Rattle.bw_code.specs.Headers.{row_limit}
+use Rattle.bw_code.specs.Widths.{widest_code}
 use Rattle.bw_file.specs.Cells.{presence_bytes, presence_size}
 use Rattle.bw_file.specs.Reading.{HasNoSpareBit}
 
@@ -99,7 +100,7 @@ has_in present i = bit_at (slice_index present (i / 8)) (i % 8) == 1
 -- bits and planes of n rows, the cells that are read from them with this base, and the ends of these
 pub record IsPlaneColumn (rows : ℕ) (base : ℤ) (k : ℕ) (present planes : List ℕ) (ends : Option Ends) : Type 0 where
   pub few : rows ≤ row_limit
-  pub narrow : k ≤ 64
+  pub narrow : k ≤ widest_code
   pub are : ArePlanes rows k present planes
   pub wide : All IsWideCell (cells_in rows base k present planes)
   pub measured : AreEnds (known (cells_in rows base k present planes)) ends

@@ -6,6 +6,7 @@ ghost use Rattle.bw_code.specs.Fittings.{AreEnds};
 ghost use Rattle.bw_code.specs.Types.{IsNullOrOfType, IsOfType};
 ghost use Rattle.bw_code.specs.declared.ends.Ends.{Ends as AnyEnds};
 ghost use Rattle.bw_code.specs.Headers.{row_limit};
+ghost use Rattle.bw_code.specs.Widths.{widest_code};
 ghost use Rattle.bw_file.specs.Cells.{presence_size};
 ghost use Rattle.bw_file.specs.Planes.{cells_in, code_in, has_in};
 ghost use Rattle.bw_file.specs.Reading.{HasNoSpareBit};
@@ -19,7 +20,7 @@ use bw_vertical::CodeEnds;
 
 /// The ends of the codes of k bits of `rows` rows.
 pub(crate) fn code_ends(present: &[u8], planes: &[u8], rows: usize, k: usize) -> CodeEnds
-    requires narrow { k ≤ 64 }
+    requires narrow { k ≤ widest_code }
     requires few { rows ≤ row_limit }
     requires present { length present.now ≡ presence_size rows }
     requires spare { HasNoSpareBit rows present.now }
@@ -72,7 +73,7 @@ pub(crate) fn values_in(
     base: i64,
     column_type: ColumnType,
 ) -> Values
-    requires narrow { k ≤ 64 }
+    requires narrow { k ≤ widest_code }
     requires few { rows ≤ row_limit }
     requires present { length present.now ≡ presence_size rows }
     requires spare { HasNoSpareBit rows present.now }

@@ -2,6 +2,7 @@
 
 ghost use Rattle.std.specs.Prelude.{length, nat_lt, slice_index, ℕ, ◌%◌, ◌&&◌, ◌*◌, ◌+◌, ◌-◌, ◌<◌, ◌==◌, ◌^◌, ◌≡◌, ◌≤◌};
 ghost use Rattle.bw_mask.specs.Masks.{bit_of};
+ghost use Rattle.bw_code.specs.Widths.{widest_code};
 ghost use Rattle.bw_file.specs.Planes.{code_in, plane_bit};
 
 use crate::row_bits::bits_of_rows;
@@ -9,7 +10,7 @@ use bw_vertical::{codes_of_words, halves_of_words};
 
 /// Word b has bit b of the codes of `count` rows from row `at` on, which is the first row of a byte.
 pub(crate) fn words_at(planes: &[u8], size: usize, k: usize, at: usize, count: usize) -> [u64; 64]
-    requires narrow { k ≤ 64 }
+    requires narrow { k ≤ widest_code }
     requires few { count ≤ 64 }
     requires first { at % 8 ≡ 0 }
     requires short { size ≤ 2 ^ 24 }
@@ -50,7 +51,7 @@ fn join(low: &[u32; 64], high: &[u32; 64], out: &mut [u64])
 /// Fills `out` with the codes of k bits of at most 64 rows from row `at` on, which is the first row of a byte. Each
 /// plane has `size` bytes.
 pub(crate) fn read_codes(planes: &[u8], size: usize, k: usize, at: usize, out: &mut [u64])
-    requires narrow { k ≤ 64 }
+    requires narrow { k ≤ widest_code }
     requires few { length out.old ≤ 64 }
     requires first { at % 8 ≡ 0 }
     requires short { size ≤ 2 ^ 24 }

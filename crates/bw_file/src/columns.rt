@@ -7,6 +7,7 @@ ghost use Rattle.bw_code.specs.Headers.{column_limit, row_limit};
 ghost use Rattle.bw_file.specs.Format.{column_bytes, AreEndsOf, HasType};
 ghost use Rattle.bw_file.specs.Planes.{column_size as plane_column_size, frame_of, IsWideCell};
 ghost use Rattle.bw_code.specs.Types.{IsTyped};
+ghost use Rattle.bw_code.specs.Widths.{widest_code};
 ghost use Rattle.bw_file.specs.declared.version.Version.TheVariants.{Second};
 
 use crate::column::FileColumn;
@@ -57,7 +58,7 @@ fn frame(ends: Option<Ends>) -> Offset
 
 /// How many bytes the planes take for this width and number of rows, together with what precedes them in a column.
 pub(crate) fn planes_size(width: u32, rows: usize) -> u64
-    requires narrow { width ≤ 64 }
+    requires narrow { width ≤ widest_code }
     requires few { rows ≤ row_limit }
     ensures value { result ≡ plane_column_size width rows }
     ensures short { result ≤ 136314889 }

@@ -1,6 +1,7 @@
 //! The least and the greatest code of a block of rows, found by a descent over the bytes of their planes.
 
 ghost use Rattle.std.specs.Prelude.{Bool, cond, false, length, true, ℕ, ◌*◌, ◌+◌, ◌/◌, ◌<◌, ◌^◌, ◌≡◌, ◌≤◌};
+ghost use Rattle.bw_code.specs.Widths.{widest_code};
 ghost use Rattle.bw_file.specs.Descents.{bit_at_row, IsGreatestSoFar, IsLeastSoFar};
 ghost use Rattle.bw_file.specs.Planes.{code_in};
 ghost use Rattle.bw_vertical.specs.Descents.{AreCodeEnds};
@@ -56,7 +57,7 @@ pub(crate) fn block_ends(
     from: usize,
     there: &[u8; BLOCK],
 ) -> CodeEnds
-    requires narrow { k ≤ 64 }
+    requires narrow { k ≤ widest_code }
     requires short { size ≤ 2 ^ 24 }
     requires inside { from ≤ size }
     requires planes { length planes.now ≡ k * size }

@@ -5,6 +5,7 @@ ghost use Rattle.bw_code.specs.Types.{IsNullOrOfType};
 ghost use Rattle.bw_code.specs.Headers.{row_limit};
 ghost use Rattle.bw_file.specs.Cells.{presence_size};
 ghost use Rattle.bw_mask.specs.Masks.{bit_of};
+ghost use Rattle.bw_code.specs.Widths.{widest_code};
 ghost use Rattle.bw_file.specs.Planes.{column_bytes, read_cell, IsWideCell};
 
 use crate::cells::has_cell;
@@ -165,7 +166,7 @@ fn read_plane_cells(
     at: usize,
     out: &mut [Option<i64>],
 )
-    requires narrow { k ≤ 64 }
+    requires narrow { k ≤ widest_code }
     requires few { rows ≤ row_limit }
     requires inside { at + length out.old ≤ rows }
     requires present { length present.now ≡ presence_size rows }
@@ -181,7 +182,7 @@ fn read_plane_cells(
 
 /// The cell of row i, whose code has k bits and is a distance from the base.
 fn cell_at(present: &[u8], planes: &[u8], rows: usize, base: i64, k: usize, i: usize) -> Option<i64>
-    requires narrow { k ≤ 64 }
+    requires narrow { k ≤ widest_code }
     requires few { rows ≤ row_limit }
     requires inside { i < rows }
     requires present { length present.now ≡ presence_size rows }

@@ -4,6 +4,7 @@ ghost use Rattle.std.specs.Prelude.{All, IfSome, List, None, Option, length, ℕ
 ghost use Rattle.std.specs.Int.{cast_unsigned, w64};
 ghost use Rattle.byteorder.specs.Endian.{little_bytes};
 ghost use Rattle.bw_code.specs.Headers.{row_limit};
+ghost use Rattle.bw_code.specs.Widths.{widest_code};
 ghost use Rattle.bw_file.specs.Cells.{presence_size};
 ghost use Rattle.bw_file.specs.Planes.{column_bytes, IsWideCell};
 
@@ -24,7 +25,7 @@ pub(crate) struct PlaneParts<'a> {
 /// The parts of the column of `rows` rows at the start of the bytes, if these are long enough for one.
 pub(crate) fn plane_parts<'a>(bytes: &'a [u8], rows: usize) -> Option<PlaneParts<'a>>
     requires few { rows ≤ row_limit }
-    ensures narrow { IfSome result (λ p. p.width ≤ 64) }
+    ensures narrow { IfSome result (λ p. p.width ≤ widest_code) }
     ensures bits { IfSome result (λ p. length p.present.now ≡ presence_size rows) }
     ensures long { IfSome result (λ p. length p.planes.now ≡ p.width * presence_size rows) }
     ensures spelled { IfSome result (λ p. bytes.entry.now ≡ p.present.now ++ (little_bytes 8 (cast_unsigned w64 p.base) ++ (p.width ∷ (p.planes.now ++ p.after.now)))) }

@@ -5,12 +5,13 @@ ghost use Rattle.bw_mask.specs.Masks.{bit_of};
 ghost use Rattle.bw_cells.specs.Distances.{distance_from};
 ghost use Rattle.bw_cells.specs.Known.{known};
 ghost use Rattle.bw_code.specs.Headers.{row_limit};
+ghost use Rattle.bw_code.specs.Widths.{widest_code};
 ghost use Rattle.bw_file.specs.Cells.{presence_bytes, presence_size};
 ghost use Rattle.bw_file.specs.Planes.{column_bytes, column_size, frame_of, plane_bit, plane_bytes, IsNear, IsWideCell};
 
 use crate::presence::write_presence;
 use bw_cells::Measured;
-use bw_vertical::wide_plane_words;
+use bw_vertical::put_plane_words;
 use byteorder::{ByteOrder, LittleEndian};
 
 // How many cells are processed together: one for each bit of a word.
@@ -33,7 +34,7 @@ fn put_word(out: &mut [u8], word: u64)
 /// Writes the bits of 64 rows, the first of which is row `at`, the first row of a byte. Word b has bit b of their
 /// codes. Each plane has `size` bytes; bits past them are left out.
 fn put_words(planes: &mut [u8], size: usize, k: usize, at: usize, words: &[u64; 64])
-    requires narrow { k ≤ 64 }
+    requires narrow { k ≤ widest_code }
     requires first { at % 8 ≡ 0 }
     requires short { size ≤ 2 ^ 24 }
     requires there { at / 8 ≤ size }
@@ -52,17 +53,19 @@ fn put_words(planes: &mut [u8], size: usize, k: usize, at: usize, words: &[u64; 
 }
 
 /// The words of the planes of at most 64 cells from cell `at` on, lent by the column or else computed from the
-/// distances of the cells from the base, and which of the cells are integers.
+/// distances of the cells from the base, and which of the cells are integers. `list` is room for the distances, which the
+/// caller keeps from run to run, since clearing it took as long as reading them.
 fn planes_at<C: Measured>(
     column: &C,
     at: usize,
     count: usize,
     base: i64,
     k: usize,
+    list: &mut [u64; 64],
     words: &mut [u64; 64],
 ) -> u64
     requires few { count ≤ 64 }
-    requires narrow { k ≤ 64 }
+    requires narrow { k ≤ widest_code }
     requires inside { at + count ≤ length (C.cells column.now) }
     ensures planes { (b r : ℕ) → b < k → r < 64 → bit_of (slice_index words.new b) r ≡ bit_of (slice_index (map (distance_from base) (take count (drop at (C.cells column.now)))) r) b }
     ensures present { (i : ℕ) → bit_of result i ≡ is_some (slice_index_or (take count (drop at (C.cells column.now))) i None) }
@@ -70,10 +73,9 @@ fn planes_at<C: Measured>(
     if let Some(present) = column.planes(at, count, base, k, words) {
         return present;
     }
-    let mut list = [0; 64];
     let run = &mut list[..count];
     let present = column.distances(at, base, run);
-    *words = wide_plane_words(run, k);
+    put_plane_words(run, k, words);
     present
 }
 
@@ -86,7 +88,7 @@ pub(crate) fn write_planes<C: Measured>(
     k: usize,
     column: &C,
 )
-    requires narrow { k ≤ 64 }
+    requires narrow { k ≤ widest_code }
     requires few { rows ≤ row_limit }
     requires count { length (C.cells column.now) ≡ rows }
     requires present { length present.old ≡ presence_size rows }
@@ -95,12 +97,13 @@ pub(crate) fn write_planes<C: Measured>(
     ensures bits { present.new ≡ presence_bytes (presence_size rows) (C.cells column.now) }
     ensures planes { planes.new ≡ plane_bytes base k (presence_size rows) (C.cells column.now) }
 {
+    let mut list = [0; 64];
     let mut words = [0; 64];
     let size = rows.div_ceil(8);
     'runs: for r in 0..rows.div_ceil(RUN) {
         let at = r * RUN;
         let end = rows.min(at + RUN);
-        let bits = planes_at(column, at, end - at, base, k, &mut words);
+        let bits = planes_at(column, at, end - at, base, k, &mut list, &mut words);
         write_presence(&mut present[at / 8..end.div_ceil(8)], bits);
         put_words(planes, size, k, at, &words);
     }

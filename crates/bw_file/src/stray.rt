@@ -1,6 +1,7 @@
 //! Bits that may not be set in a plane.
 
 ghost use Rattle.std.specs.Prelude.{bit_and, false, length, slice_index, true, ℕ, ◌*◌, ◌-◌, ◌<◌, ◌^◌, ◌≡◌, ◌≤◌};
+ghost use Rattle.bw_code.specs.Widths.{widest_code};
 ghost use Rattle.bw_file.specs.Planes.{HasNoStrayBit};
 
 /// Whether a bit of a plane is set that is clear in the bits of the rows, which are the same number of bytes.
@@ -19,7 +20,7 @@ fn has_bit_beyond(present: &[u8], plane: &[u8]) -> bool
 
 /// Whether a plane has a bit set at a row whose cell is null, or past the last row. Each plane has `size` bytes.
 pub(crate) fn has_stray_bit(present: &[u8], planes: &[u8], size: usize, k: usize) -> bool
-    requires narrow { k ≤ 64 }
+    requires narrow { k ≤ widest_code }
     requires short { size ≤ 2 ^ 24 }
     requires present { length present.now ≡ size }
     requires planes { length planes.now ≡ k * size }

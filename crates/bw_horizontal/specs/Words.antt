@@ -5,6 +5,7 @@ use Rattle.std.specs.List.{All}
 use Rattle.bw_code.specs.Lists.{made}
 use Rattle.bw_code.specs.Units.{segments_of}
 use Rattle.bw_lane.specs.Sections.{IsStored, on, section_of, sections_in}
+use Rattle.bw_code.specs.Widths.{widest_half}
 
 -- how many rows a segment has
 abbrev pub segment_rows : ℕ → ℕ
@@ -42,7 +43,7 @@ AreDelimiters k passes word found = (p : ℕ) → on found p ≡ (p % (k + 1) ==
 -- the words of a column of n codes: those of all its segments, in which sections without a row are 0
 pub record AreWords (k n : ℕ) (words : List ℕ) : Type 0 where
   pub some : 1 ≤ k
-  pub narrow : k ≤ 32
+  pub narrow : k ≤ widest_half
   pub few : n ≤ 2 ^ 24
   pub segments : AreSegments k (segments_of (segment_rows k) n) words
   pub clean : (j : ℕ) → n ≤ j → code_in k words j ≡ 0

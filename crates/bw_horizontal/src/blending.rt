@@ -5,6 +5,7 @@ ghost use Rattle.std.specs.List.{All};
 ghost use Rattle.bw_mask.specs.Masks.{bit_of};
 ghost use Rattle.bw_lane.specs.Sections.{IsStored, section_of, sections_in};
 ghost use Rattle.bw_code.specs.Columns.{Fit, is_chosen};
+ghost use Rattle.bw_code.specs.Widths.{widest_half};
 ghost use Rattle.bw_horizontal.specs.Words.{code_in, segment_rows};
 
 use crate::storage::put_codes;
@@ -39,7 +40,7 @@ fn blend_segment(
     from: usize,
 )
     requires some { 1 ≤ masks.width }
-    requires narrow { masks.width ≤ 32 }
+    requires narrow { masks.width ≤ widest_half }
     requires words { first + (masks.width + 1) ≤ length words.old }
     requires new { from + (masks.width + 1) ≤ length new.now }
     requires stored { All (IsStored masks.width) words.old }
@@ -72,7 +73,7 @@ fn rows_from(rows: u64, at: usize, start: usize) -> u64
 /// `new` is that of row `at`, and no row from `end` on is chosen.
 fn blend(words: &mut [u64], width: u32, at: usize, end: usize, rows: u64, new: &[u64])
     requires some { 1 ≤ width }
-    requires narrow { width ≤ 32 }
+    requires narrow { width ≤ widest_half }
     requires few { end ≤ 2 ^ 24 }
     requires end { end ≤ at + 64 }
     requires none { (j : ℕ) → end ≤ j → is_chosen at rows j ≡ false }
@@ -108,7 +109,7 @@ fn blend(words: &mut [u64], width: u32, at: usize, end: usize, rows: u64, new: &
 /// Row at + i takes code i where bit i of `rows` is set.
 pub(crate) fn put_run(words: &mut [u64], width: u32, at: usize, rows: u64, codes: &[u64])
     requires some { 1 ≤ width }
-    requires narrow { width ≤ 32 }
+    requires narrow { width ≤ widest_half }
     requires few { length codes.now ≤ 64 }
     requires within { at + length codes.now ≤ 2 ^ 24 }
     requires given { (i : ℕ) → length codes.now ≤ i → bit_of rows i ≡ false }
@@ -129,7 +130,7 @@ pub(crate) fn put_run(words: &mut [u64], width: u32, at: usize, rows: u64, codes
 /// Row at + i takes the code where bit i of `rows` is set. No bit is set for rows from `end` on.
 pub(crate) fn fill_run(words: &mut [u64], width: u32, at: usize, end: usize, rows: u64, code: u64)
     requires some { 1 ≤ width }
-    requires narrow { width ≤ 32 }
+    requires narrow { width ≤ widest_half }
     requires few { end ≤ 2 ^ 24 }
     requires end { end ≤ at + 64 }
     requires none { (j : ℕ) → end ≤ j → is_chosen at rows j ≡ false }

@@ -6,6 +6,7 @@ ghost use Rattle.bw_lane.specs.Sections.{sections_in};
 ghost use Rattle.bw_code.specs.Columns.{code_at, count};
 ghost use Rattle.bw_code.specs.declared.kind.Layout.TheVariants as layouts;
 ghost use Rattle.bw_code.specs.Units.{segments_of};
+ghost use Rattle.bw_code.specs.Widths.{widest_half};
 ghost use Rattle.bw_horizontal.specs.Words.{row_of_bit, segment_rows};
 
 use crate::pair::pair_from;
@@ -60,7 +61,7 @@ impl HorizontalColumn {
 impl CodeColumn for HorizontalColumn {
     ghost layout = { layouts.H };
 
-    ghost WIDEST = { 32 };
+    ghost WIDEST = { widest_half };
 
     ghost seen = { λ h. h };
 

@@ -7,6 +7,7 @@ ghost use Rattle.bw_lane.specs.Sections.{IsStored, holds, on};
 ghost use Rattle.bw_mask.specs.Masks.{SameShape, len, row_at};
 ghost use Rattle.bw_code.specs.Tests.{code_compares};
 ghost use Rattle.bw_code.specs.Units.{by_words, cost_of, segments_of, side_units};
+ghost use Rattle.bw_code.specs.Widths.{widest_half};
 ghost use Rattle.bw_horizontal.specs.Words.{AreSegments, code_at, code_in, segment_rows};
 
 use crate::gather::{finish, gather};
@@ -89,7 +90,7 @@ pub fn pair_from<A: Source<u64>, B: Source<u64>>(
     need: &Mask,
     out: &mut Mask,
 )
-    requires narrow { width ≤ 32 }
+    requires narrow { width ≤ widest_half }
     requires few { len need.now ≤ 2 ^ 24 }
     requires out { len out.old ≡ len need.now }
     requires units { AreSegments width (segments_of (segment_rows width) (len need.now)) (A.units a.old) }

@@ -4,6 +4,7 @@ ghost use Rattle.std.specs.Prelude.{if◌then◌else◌, length, slice_index, �
 ghost use Rattle.std.specs.List.{All};
 ghost use Rattle.bw_code.specs.Columns.{Fit};
 ghost use Rattle.bw_lane.specs.Sections.{IsStored};
+ghost use Rattle.bw_code.specs.Widths.{widest_half};
 ghost use Rattle.bw_horizontal.specs.Words.{code_in, section_in, segment_rows, word_of};
 
 use bw_lane::SectionMasks;
@@ -19,7 +20,7 @@ pub(crate) struct Place {
     word: usize,
     /// The row's section in its word.
     section: u32,
-    ghost narrow: { masks.width ≤ 32 },
+    ghost narrow: { masks.width ≤ widest_half },
     ghost start_is: { start ≡ row / segment_rows masks.width * (masks.width + 1) },
     ghost word_is: { word ≡ row % segment_rows masks.width % (masks.width + 1) },
     ghost section_is: { section ≡ section_in masks.width row },
@@ -28,7 +29,7 @@ pub(crate) struct Place {
 impl Place {
     /// The position of a row in words of codes of this width.
     pub(crate) fn of(width: u32, row: usize) -> Place
-        requires narrow { width ≤ 32 }
+        requires narrow { width ≤ widest_half }
         requires small { row ≤ 2 ^ 32 }
         ensures width { result.masks.width ≡ width }
         ensures row { result.row ≡ row }

@@ -7,6 +7,7 @@ ghost use Rattle.bw_lane.specs.Sections.{IsStored, on};
 ghost use Rattle.bw_mask.specs.Masks.{SameShape, len, row_at};
 ghost use Rattle.bw_code.specs.Tests.{TestFits, meets};
 ghost use Rattle.bw_code.specs.Units.{by_words, scan_units, segment_units, segments_of};
+ghost use Rattle.bw_code.specs.Widths.{widest_half};
 ghost use Rattle.bw_horizontal.specs.Prepared.{asked};
 ghost use Rattle.bw_horizontal.specs.Words.{AreDelimiters, AreSegments, code_at, code_in, segment_rows};
 
@@ -18,7 +19,7 @@ use bw_mask::Mask;
 
 /// The rows of segment q whose code meets the test, the first row in bit 0.
 fn rows_meeting<S: Source<u64>, T: WordTest>(source: &mut S, width: u32, q: usize, test: T) -> u64
-    requires narrow { width ≤ 32 }
+    requires narrow { width ≤ widest_half }
     requires small { q < 2 ^ 32 }
     requires there { (q + 1) * (width + 1) ≤ length (S.units source.old) }
     requires stored { All (IsStored width) (S.units source.old) }
@@ -38,7 +39,7 @@ fn rows_meeting<S: Source<u64>, T: WordTest>(source: &mut S, width: u32, q: usiz
 
 /// The rows of segment q that meet a prepared test.
 fn rows_asked<S: Source<u64>>(source: &mut S, width: u32, q: usize, test: Prepared) -> u64
-    requires narrow { width ≤ 32 }
+    requires narrow { width ≤ widest_half }
     requires small { q < 2 ^ 32 }
     requires there { (q + 1) * (width + 1) ≤ length (S.units source.old) }
     requires stored { All (IsStored width) (S.units source.old) }
@@ -62,7 +63,7 @@ fn segment<S: Source<u64>>(
     prepared: Prepared,
     need: u64,
 ) -> u64
-    requires narrow { width ≤ 32 }
+    requires narrow { width ≤ widest_half }
     requires prepared { (word : ℕ) → IsStored width word → AreDelimiters width (meets test) word (asked prepared word) }
     requires small { q < 2 ^ 32 }
     requires there { (q + 1) * (width + 1) ≤ length (S.units source.old) }
@@ -91,7 +92,7 @@ pub fn scan_from<S: Source<u64>>(
     need: &Mask,
     out: &mut Mask,
 )
-    requires narrow { width ≤ 32 }
+    requires narrow { width ≤ widest_half }
     requires test { TestFits width test }
     requires few { len need.now ≤ 2 ^ 24 }
     requires out { len out.old ≡ len need.now }

@@ -4,6 +4,7 @@ ghost use Rattle.std.specs.Prelude.{All, length, slice_index, vec_capacity, vec_
 ghost use Rattle.bw_lane.specs.Sections.{IsStored};
 ghost use Rattle.bw_code.specs.Columns.{Fit};
 ghost use Rattle.bw_code.specs.Units.{segments_of};
+ghost use Rattle.bw_code.specs.Widths.{widest_half};
 ghost use Rattle.bw_horizontal.specs.Words.{code_in, segment_rows, word_of};
 
 use crate::place::Place;
@@ -13,7 +14,7 @@ const LEAST_IN_RUNS: u32 = 6;
 
 /// How many words `rows` rows take.
 pub(crate) fn words_for(width: u32, rows: usize) -> usize
-    requires narrow { width ≤ 32 }
+    requires narrow { width ≤ widest_half }
     requires few { rows ≤ 2 ^ 24 }
     ensures { result ≡ segments_of (segment_rows width) rows * (width + 1) }
 {
@@ -23,7 +24,7 @@ pub(crate) fn words_for(width: u32, rows: usize) -> usize
 
 /// Appends words of zeros until there are enough for `rows` rows, within the capacity.
 pub(crate) fn fill_up(words: &mut Vec<u64>, width: u32, rows: usize)
-    requires narrow { width ≤ 32 }
+    requires narrow { width ≤ widest_half }
     requires few { rows ≤ 2 ^ 24 }
     requires most { vec_len words.old ≤ segments_of (segment_rows width) rows * (width + 1) }
     requires room { segments_of (segment_rows width) rows * (width + 1) ≤ vec_capacity words.old }
@@ -41,7 +42,7 @@ pub(crate) fn fill_up(words: &mut Vec<u64>, width: u32, rows: usize)
 /// Kept separate from the loop over runs in the machine code too, so that this loop has the registers to itself.
 #[inline(never)]
 fn put_rows(words: &mut [u64], width: u32, at: usize, codes: &[u64])
-    requires narrow { width ≤ 32 }
+    requires narrow { width ≤ widest_half }
     requires few { at + length codes.now ≤ 2 ^ 24 }
     requires fit { Fit width codes.now }
     requires there { (j : ℕ) → j < at + length codes.now → word_of width j < length words.old }
@@ -59,7 +60,7 @@ fn put_rows(words: &mut [u64], width: u32, at: usize, codes: &[u64])
 
 /// The codes of the rows from `at` on become these, run by run.
 fn put_runs(words: &mut [u64], width: u32, at: usize, codes: &[u64])
-    requires narrow { width ≤ 32 }
+    requires narrow { width ≤ widest_half }
     requires few { at + length codes.now ≤ 2 ^ 24 }
     requires fit { Fit width codes.now }
     requires there { (j : ℕ) → j < at + length codes.now → word_of width j < length words.old }
@@ -80,7 +81,7 @@ fn put_runs(words: &mut [u64], width: u32, at: usize, codes: &[u64])
 
 /// The codes of the rows from `at` on become these. Narrow codes have short runs, which do not pay off.
 pub(crate) fn put_codes(words: &mut [u64], width: u32, at: usize, codes: &[u64])
-    requires narrow { width ≤ 32 }
+    requires narrow { width ≤ widest_half }
     requires few { at + length codes.now ≤ 2 ^ 24 }
     requires fit { Fit width codes.now }
     requires there { (j : ℕ) → j < at + length codes.now → word_of width j < length words.old }
@@ -98,7 +99,7 @@ pub(crate) fn put_codes(words: &mut [u64], width: u32, at: usize, codes: &[u64])
 
 /// Fills `out` with the codes of the rows from `at` on, row by row.
 fn read_rows(words: &[u64], width: u32, at: usize, out: &mut [u64])
-    requires narrow { width ≤ 32 }
+    requires narrow { width ≤ widest_half }
     requires few { at + length out.old ≤ 2 ^ 24 }
     requires there { (j : ℕ) → j < at + length out.old → word_of width j < length words.now }
     ensures { (i : ℕ) → i < length out.old → slice_index out.new i ≡ code_in width words.now (at + i) }
@@ -112,7 +113,7 @@ fn read_rows(words: &[u64], width: u32, at: usize, out: &mut [u64])
 
 /// Fills `out` with the codes of the rows from `at` on, run by run.
 fn read_runs(words: &[u64], width: u32, at: usize, out: &mut [u64])
-    requires narrow { width ≤ 32 }
+    requires narrow { width ≤ widest_half }
     requires few { at + length out.old ≤ 2 ^ 24 }
     requires there { (j : ℕ) → j < at + length out.old → word_of width j < length words.now }
     ensures { (i : ℕ) → i < length out.old → slice_index out.new i ≡ code_in width words.now (at + i) }
@@ -129,7 +130,7 @@ fn read_runs(words: &[u64], width: u32, at: usize, out: &mut [u64])
 
 /// Fills `out` with the codes of the rows from `at` on. Narrow codes have short runs, which do not pay off.
 pub(crate) fn read_codes(words: &[u64], width: u32, at: usize, out: &mut [u64])
-    requires narrow { width ≤ 32 }
+    requires narrow { width ≤ widest_half }
     requires few { at + length out.old ≤ 2 ^ 24 }
     requires there { (j : ℕ) → j < at + length out.old → word_of width j < length words.now }
     ensures { (i : ℕ) → i < length out.old → slice_index out.new i ≡ code_in width words.now (at + i) }

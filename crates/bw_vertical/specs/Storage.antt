@@ -7,6 +7,7 @@ use Rattle.std.specs.Simd.Lanes.{mask_l}
 use Rattle.bw_mask.specs.Masks.{bit_of, rows_of}
 use Rattle.bw_code.specs.Lists.{made}
 use Rattle.bw_code.specs.Units.{segments_of}
+use Rattle.bw_code.specs.Widths.{widest_code}
 
 -- how many groups k planes take, and how many planes group g has
 abbrev pub groups_of : ℕ → ℕ
@@ -38,7 +39,7 @@ HasSegment k groups q = (g : ℕ) → 4 * g < k → (q + 1) * planes_in k g ≤ 
 -- the planes of n codes of k bits: whole segments, with bits past the last row 0
 pub record AreGroups (k : ℕ) (groups : List (List (List ℕ))) (n : ℕ) : Type 0 where
   pub some : 1 ≤ k
-  pub narrow : k ≤ 64
+  pub narrow : k ≤ widest_code
   pub few : n ≤ 2 ^ 24
   pub count : length groups ≡ groups_of k
   pub sizes : (g : ℕ) → 4 * g < k → length (slice_index_or groups g []) ≡ segments_of 256 n * planes_in k g

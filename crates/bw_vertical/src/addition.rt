@@ -7,6 +7,7 @@ ghost use Rattle.bw_mask.specs.Masks.{SameShape, bit_of, len, row_at, row_in};
 ghost use Rattle.bw_code.specs.Choosing.{by_masks};
 ghost use Rattle.bw_code.specs.Tests.{code_compares, int_compares};
 ghost use Rattle.bw_code.specs.Units.{segments_of, some_below};
+ghost use Rattle.bw_code.specs.Widths.{widest_code};
 ghost use Rattle.bw_code.specs.declared.compare.CmpOp.{CmpOp as Op};
 ghost use Rattle.bw_vertical.specs.Carries.{AreCompared};
 ghost use Rattle.bw_vertical.specs.Planes.{code_in};
@@ -115,7 +116,7 @@ impl LowBits {
 /// and nothing is read.
 #[inline(always)]
 fn low_plane<S: Source<[u64; 4]>>(source: &mut S, k: usize, q: usize, n: usize) -> [u64; 4]
-    requires narrow { k ≤ 64 }
+    requires narrow { k ≤ widest_code }
     requires small { q < 2 ^ 32 }
     requires there { (q + 1) * k ≤ length (S.units source.old) }
     requires few { S.reads source.old + (if nat_lt n k then 1 else 0) ≤ 2 ^ 63 }
@@ -139,7 +140,7 @@ fn low_planes<S: Source<[u64; 4]>>(
     q: usize,
     n: usize,
 ) -> ([u64; 4], [u64; 4], [u64; 4], [u64; 4])
-    requires narrow { k ≤ 64 }
+    requires narrow { k ≤ widest_code }
     requires bit { n ≤ 64 }
     requires small { q < 2 ^ 32 }
     requires there { (q + 1) * k ≤ length (S.units source.old) }
@@ -175,8 +176,8 @@ fn compare_lifted<A: Source<[u64; 4]>, B: Source<[u64; 4]>>(
     other: usize,
     q: usize,
 ) -> ([u64; 4], [u64; 4])
-    requires narrow { width ≤ 64 }
-    requires other_narrow { other ≤ 64 }
+    requires narrow { width ≤ widest_code }
+    requires other_narrow { other ≤ widest_code }
     requires small { q < 2 ^ 32 }
     requires there { (q + 1) * width ≤ length (A.units a.old) }
     requires other_there { (q + 1) * other ≤ length (B.units b.old) }
@@ -215,8 +216,8 @@ fn compare_sums<A: Source<[u64; 4]>, B: Source<[u64; 4]>>(
     q: usize,
     lifts: Lifts,
 ) -> ([u64; 4], [u64; 4])
-    requires narrow { width ≤ 64 }
-    requires other_narrow { other ≤ 64 }
+    requires narrow { width ≤ widest_code }
+    requires other_narrow { other ≤ widest_code }
     requires lower { (lifts.left ≡ 0) ⊎ (lifts.right ≡ 0) }
     requires small { q < 2 ^ 32 }
     requires there { (q + 1) * width ≤ length (A.units a.old) }
@@ -260,8 +261,8 @@ pub fn add_from<A: Source<[u64; 4]>, B: Source<[u64; 4]>>(
     need: &Mask,
     out: &mut Mask,
 )
-    requires narrow { left.width ≤ 64 }
-    requires other_narrow { right.width ≤ 64 }
+    requires narrow { left.width ≤ widest_code }
+    requires other_narrow { right.width ≤ widest_code }
     requires few { len need.now ≤ 2 ^ 24 }
     requires out { len out.old ≡ len need.now }
     requires units { length (A.units a.old) ≡ segments_of 256 (len need.now) * left.width }

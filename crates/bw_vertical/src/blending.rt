@@ -1,6 +1,7 @@
 //! Overwriting some rows of a word of each plane.
 
 ghost use Rattle.std.specs.Prelude.{[], length, slice_index, slice_index_or, vec_capacity, vec_len, ℕ, ◌*◌, ◌+◌, ◌-◌, ◌/◌, ◌%◌, ◌<◌, ◌^◌, ◌≡◌, ◌≢◌, ◌≤◌, ◌⊎◌};
+ghost use Rattle.bw_code.specs.Widths.{widest_code};
 ghost use Rattle.bw_vertical.specs.Storage.{HasSegment, KeepsSizes, blended, groups_of, lists, planes_in, word_of};
 
 /// The chosen rows of a lane of m adjacent planes become those of the words from `top` downwards.
@@ -41,7 +42,7 @@ fn blend_group(
     words: &[u64],
     rows: u64,
 )
-    requires narrow { k ≤ 64 }
+    requires narrow { k ≤ widest_code }
     requires small { w < 2 ^ 32 }
     requires count { vec_len groups.old ≡ groups_of k }
     requires there { HasSegment k (lists groups.old.items) (w / 4) }
@@ -64,7 +65,7 @@ pub(crate) fn blend_words(
     words: &[u64],
     rows: u64,
 )
-    requires narrow { k ≤ 64 }
+    requires narrow { k ≤ widest_code }
     requires small { w < 2 ^ 32 }
     requires count { vec_len groups.old ≡ groups_of k }
     requires there { HasSegment k (lists groups.old.items) (w / 4) }

@@ -2,14 +2,16 @@
 
 ghost use Rattle.std.specs.Prelude.{All, [], cond, false, length, slice_index, slice_index_or, vec_len, ℕ, ◌%◌, ◌*◌, ◌+◌, ◌-◌, ◌/◌, ◌<◌, ◌^◌, ◌≡◌, ◌≤◌};
 ghost use Rattle.bw_mask.specs.Masks.{bit_of};
+ghost use Rattle.bw_code.specs.Widths.{widest_code, widest_half};
 ghost use Rattle.bw_vertical.specs.Storage.{HasSegment, KeepsSizes, code_of, groups_of, is_set, lists};
 
 use crate::bytes::{codes_of_words, halves_of_words, put_codes};
 use crate::storage::{add_words, take_planes};
 
 /// The codes, of at most 32 bits, of rows 64 w to 64 w + 63.
+#[inline(always)]
 fn block_at(groups: &[Vec<[u64; 4]>], k: usize, w: usize) -> [u32; 64]
-    requires narrow { k ≤ 32 }
+    requires narrow { k ≤ widest_half }
     requires small { w < 2 ^ 32 }
     requires count { length groups.now ≡ groups_of k }
     requires there { HasSegment k (lists groups.now) (w / 4) }
@@ -22,8 +24,8 @@ fn block_at(groups: &[Vec<[u64; 4]>], k: usize, w: usize) -> [u32; 64]
 
 /// The codes, of more than 32 bits, of rows 64 w to 64 w + 63: the 32 lowest bits of each, and the bits above those.
 fn halves_at(groups: &[Vec<[u64; 4]>], k: usize, w: usize) -> ([u32; 64], [u32; 64])
-    requires wide { 32 ≤ k }
-    requires narrow { k ≤ 64 }
+    requires wide { widest_half ≤ k }
+    requires narrow { k ≤ widest_code }
     requires small { w < 2 ^ 32 }
     requires count { length groups.now ≡ groups_of k }
     requires there { HasSegment k (lists groups.now) (w / 4) }
@@ -47,6 +49,21 @@ fn copy_run(block: &[u32], from: usize, n: usize, out: &mut [u64], at: usize)
     }
 }
 
+/// The same, which is faster where the length is known: most runs are whole blocks.
+fn copy_of_block(block: &[u32; 64], from: usize, n: usize, out: &mut [u64], at: usize)
+    requires block { from + n ≤ 64 }
+    requires out { at + n ≤ length out.old }
+    ensures long { length out.new ≡ length out.old }
+    ensures before { (i : ℕ) → i < at → slice_index out.new i ≡ slice_index out.old i }
+    ensures copied { (r : ℕ) → r < n → slice_index out.new (at + r) ≡ slice_index block.now (from + r) }
+{
+    if n == 64 {
+        copy_run(block, from, 64, out, at);
+    } else {
+        copy_run(block, from, n, out, at);
+    }
+}
+
 /// Copies n 64-bit numbers, given in halves, from index `from` of a block on, to `out`, from index `at` on.
 fn copy_halves(low: &[u32], high: &[u32], from: usize, n: usize, out: &mut [u64], at: usize)
     requires low { from + n ≤ length low.now }
@@ -63,7 +80,7 @@ fn copy_halves(low: &[u32], high: &[u32], from: usize, n: usize, out: &mut [u64]
 
 /// Fills `out` with the codes of rows `at`, `at + 1`, .., of at most 32 bits.
 fn read_narrow(groups: &[Vec<[u64; 4]>], k: usize, at: usize, out: &mut [u64])
-    requires narrow { k ≤ 32 }
+    requires narrow { k ≤ widest_half }
     requires small { at + length out.old ≤ 2 ^ 32 }
     requires count { length groups.now ≡ groups_of k }
     requires there { (j : ℕ) → j < at + length out.old → HasSegment k (lists groups.now) (j / 256) }
@@ -75,15 +92,15 @@ fn read_narrow(groups: &[Vec<[u64; 4]>], k: usize, at: usize, out: &mut [u64])
         let from = (at + i) % 64;
         let n = (64 - from).min(out.len() - i);
         let block = block_at(groups, k, (at + i) / 64);
-        copy_run(&block, from, n, out, i);
+        copy_of_block(&block, from, n, out, i);
         i += n;
     }
 }
 
 /// Fills `out` with the codes of rows `at`, `at + 1`, .., of more than 32 bits.
 fn read_wide(groups: &[Vec<[u64; 4]>], k: usize, at: usize, out: &mut [u64])
-    requires wide { 32 ≤ k }
-    requires narrow { k ≤ 64 }
+    requires wide { widest_half ≤ k }
+    requires narrow { k ≤ widest_code }
     requires small { at + length out.old ≤ 2 ^ 32 }
     requires count { length groups.now ≡ groups_of k }
     requires there { (j : ℕ) → j < at + length out.old → HasSegment k (lists groups.now) (j / 256) }
@@ -102,7 +119,7 @@ fn read_wide(groups: &[Vec<[u64; 4]>], k: usize, at: usize, out: &mut [u64])
 
 /// Fills `out` with the codes of rows `at`, `at + 1`, ..
 pub(crate) fn read_codes(groups: &[Vec<[u64; 4]>], k: usize, at: usize, out: &mut [u64])
-    requires narrow { k ≤ 64 }
+    requires narrow { k ≤ widest_code }
     requires small { at + length out.old ≤ 2 ^ 32 }
     requires count { length groups.now ≡ groups_of k }
     requires there { (j : ℕ) → j < at + length out.old → HasSegment k (lists groups.now) (j / 256) }
@@ -150,7 +167,7 @@ fn narrowed(codes: &[u64], down: u32) -> [u32; 64]
 /// such code. The words from k on are unspecified.
 pub fn plane_words(codes: &[u64], k: usize) -> [u64; 32]
     requires few { length codes.now ≤ 64 }
-    requires narrow { k ≤ 32 }
+    requires narrow { k ≤ widest_half }
     ensures { (b r : ℕ) → b < k → r < 64 → bit_of (slice_index result b) r ≡ bit_of (slice_index codes.now r) b }
 {
     let mut words = [0; 32];
@@ -161,15 +178,24 @@ pub fn plane_words(codes: &[u64], k: usize) -> [u64; 32]
 /// The same for codes of at most 64 bits. Where 32 words are enough, `plane_words` is faster.
 pub fn wide_plane_words(codes: &[u64], k: usize) -> [u64; 64]
     requires few { length codes.now ≤ 64 }
-    requires narrow { k ≤ 64 }
+    requires narrow { k ≤ widest_code }
     ensures { (b r : ℕ) → b < k → r < 64 → bit_of (slice_index result b) r ≡ bit_of (slice_index codes.now r) b }
 {
     let mut words = [0; 64];
-    put_codes(&narrowed(codes, 0), k.min(32), &mut words, 0);
-    if k > 32 {
-        put_codes(&narrowed(codes, 32), k - 32, &mut words, 32);
-    }
+    put_plane_words(codes, k, &mut words);
     words
+}
+
+/// Writes these words to `words`, which need not be cleared before.
+pub fn put_plane_words(codes: &[u64], k: usize, words: &mut [u64; 64])
+    requires few { length codes.now ≤ 64 }
+    requires narrow { k ≤ widest_code }
+    ensures { (b r : ℕ) → b < k → r < 64 → bit_of (slice_index words.new b) r ≡ bit_of (slice_index codes.now r) b }
+{
+    put_codes(&narrowed(codes, 0), k.min(32), words, 0);
+    if k > 32 {
+        put_codes(&narrowed(codes, 32), k - 32, words, 32);
+    }
 }
 
 /// Appends n rows from row `at` on, which lie in one word, by the words of their planes: word b has bit b of each code,
@@ -182,7 +208,7 @@ pub(crate) fn put_planes(
     n: usize,
     words: &[u64; 64],
 )
-    requires narrow { k ≤ 64 }
+    requires narrow { k ≤ widest_code }
     requires small { at < 2 ^ 32 }
     requires count { vec_len groups.old ≡ groups_of k }
     requires there { HasSegment k (lists groups.old.items) (at / 256) }
@@ -201,7 +227,7 @@ pub(crate) fn put_planes(
 /// no row from `at` on was set. The codes are named only in the clauses.
 #[tactic(auto, using(crate::proofs::Settings::word_there))]
 fn put_rows(groups: &mut Vec<Vec<[u64; 4]>>, k: usize, at: usize, codes: &[u64], words: &[u64])
-    requires narrow { k ≤ 64 }
+    requires narrow { k ≤ widest_code }
     requires small { at < 2 ^ 32 }
     requires count { vec_len groups.old ≡ groups_of k }
     requires there { HasSegment k (lists groups.old.items) (at / 256) }
@@ -219,7 +245,7 @@ fn put_rows(groups: &mut Vec<Vec<[u64; 4]>>, k: usize, at: usize, codes: &[u64],
 
 /// The codes of rows `at`, `at + 1`, .., which lie in one word, become these. Before, no row from `at` on was set.
 pub(crate) fn put_block(groups: &mut Vec<Vec<[u64; 4]>>, k: usize, at: usize, codes: &[u64])
-    requires narrow { k ≤ 64 }
+    requires narrow { k ≤ widest_code }
     requires small { at < 2 ^ 32 }
     requires count { vec_len groups.old ≡ groups_of k }
     requires there { HasSegment k (lists groups.old.items) (at / 256) }

@@ -2,6 +2,7 @@
 
 ghost use Rattle.std.specs.Prelude.{length, vec_len, ℕ, ◌-◌, ◌/◌, ◌<◌, ◌^◌, ◌≡◌, ◌≢◌, ◌≤◌};
 ghost use Rattle.bw_mask.specs.Masks.{SameShape, bit_of, len as mask_len, row_at};
+ghost use Rattle.bw_code.specs.Widths.{widest_code};
 ghost use Rattle.bw_vertical.specs.Storage.{AreGroups, HasSegment, KeepsSizes, code_of, groups_of, is_set, lists};
 
 use crate::rows::put_lanes;
@@ -11,7 +12,7 @@ use bw_mask::Mask;
 /// The code of row j.
 #[tactic(auto, using(crate::proofs::Settings::word_there))]
 pub(crate) fn code_at(groups: &[Vec<[u64; 4]>], k: usize, j: usize) -> u64
-    requires narrow { k ≤ 64 }
+    requires narrow { k ≤ widest_code }
     requires small { j < 2 ^ 32 }
     requires count { length groups.now ≡ groups_of k }
     requires there { HasSegment k (lists groups.now) (j / 256) }
@@ -36,7 +37,7 @@ fn with_bit(word: u64, r: usize, bit: bool) -> u64
 /// The code of row j becomes this one.
 #[tactic(auto, using(crate::proofs::Settings::word_there))]
 pub(crate) fn put_code(groups: &mut Vec<Vec<[u64; 4]>>, k: usize, j: usize, code: u64)
-    requires narrow { k ≤ 64 }
+    requires narrow { k ≤ widest_code }
     requires small { j < 2 ^ 32 }
     requires count { vec_len groups.old ≡ groups_of k }
     requires there { HasSegment k (lists groups.old.items) (j / 256) }

@@ -7,6 +7,7 @@ ghost use Rattle.bw_code.specs.Shifts.{StaysBelow, shifted};
 ghost use Rattle.bw_code.specs.declared.kind.Layout.TheVariants as layouts;
 ghost use Rattle.bw_code.specs.Units.{segments_of};
 ghost use Rattle.bw_code.specs.Lists.{made};
+ghost use Rattle.bw_code.specs.Widths.{widest_code};
 ghost use Rattle.bw_vertical.specs.Planes.{code_by, code_in};
 ghost use Rattle.bw_vertical.specs.Storage.{groups_of, planes_in};
 
@@ -151,7 +152,7 @@ impl VerticalColumn {
 impl CodeColumn for VerticalColumn {
     ghost layout = { layouts.V };
 
-    ghost WIDEST = { 64 };
+    ghost WIDEST = { widest_code };
 
     ghost seen = { λ c. c };
 

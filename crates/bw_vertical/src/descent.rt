@@ -2,6 +2,7 @@
 
 ghost use Rattle.std.specs.Prelude.{Bool, cond, false, true, ℕ, ◌*◌, ◌+◌, ◌<◌, ◌^◌, ◌≡◌, ◌≤◌};
 ghost use Rattle.bw_mask.specs.Masks.{bit_of};
+ghost use Rattle.bw_code.specs.Widths.{widest_code};
 ghost use Rattle.bw_vertical.specs.Descents.{AreCodeEnds, IsGreatestSoFar, IsLeastSoFar};
 ghost use Rattle.bw_vertical.specs.Planes.{code_by};
 
@@ -59,7 +60,7 @@ impl Reached {
 /// The ends of the k-bit numbers of those of the first `count` rows whose bit in `there` is set. Word b has bit b of
 /// each.
 pub fn word_ends(words: &[u64; 64], k: usize, count: usize, there: u64) -> CodeEnds
-    requires narrow { k ≤ 64 }
+    requires narrow { k ≤ widest_code }
     requires few { count ≤ 64 }
     requires within { (r : ℕ) → count ≤ r → bit_of there r ≡ false }
     ensures { AreCodeEnds (bit_of there) (code_by k words.now) count result }

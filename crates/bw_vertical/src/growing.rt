@@ -1,6 +1,7 @@
 //! Appending planes.
 
 ghost use Rattle.std.specs.Prelude.{[], IfOk, OnOk, length, slice_index, slice_index_or, vec_capacity, vec_len, ℕ, ◌*◌, ◌+◌, ◌/◌, ◌<◌, ◌^◌, ◌≡◌, ◌≤◌};
+ghost use Rattle.bw_code.specs.Widths.{widest_code};
 ghost use Rattle.bw_vertical.specs.Storage.{AreGroups, capacities, groups_of, lists, planes_in, room_of, word_of};
 
 use crate::storage::planes_in;
@@ -25,7 +26,7 @@ pub(crate) fn reserve_segments(
     k: usize,
     more: usize,
 ) -> Result<(), AllocError>
-    requires narrow { k ≤ 64 }
+    requires narrow { k ≤ widest_code }
     requires few { more ≤ 2 ^ 16 }
     requires count { vec_len groups.old ≡ groups_of k }
     ensures count { vec_len groups.new ≡ vec_len groups.old }
@@ -58,7 +59,7 @@ fn push_planes(group: &mut Vec<[u64; 4]>, m: usize)
 
 /// Appends a segment, within the capacity. None of its rows is set.
 pub(crate) fn push_segment(groups: &mut Vec<Vec<[u64; 4]>>, k: usize)
-    requires narrow { k ≤ 64 }
+    requires narrow { k ≤ widest_code }
     requires count { vec_len groups.old ≡ groups_of k }
     requires room { (g : ℕ) → 4 * g < k → length (slice_index_or (lists groups.old.items) g []) + planes_in k g ≤ slice_index (capacities groups.old.items) g }
     ensures count { vec_len groups.new ≡ vec_len groups.old }

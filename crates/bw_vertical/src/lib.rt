@@ -19,7 +19,7 @@ mod source;
 mod storage;
 
 pub use addition::add_from;
-pub use blocks::{plane_words, wide_plane_words};
+pub use blocks::{plane_words, put_plane_words, wide_plane_words};
 pub use bytes::{codes_of_words, halves_of_words};
 pub use code_ends::CodeEnds;
 pub use column::VerticalColumn;

@@ -5,6 +5,7 @@ ghost use Rattle.std.specs.Prelude.{[], if◌then◌else◌, length, nat_lt, not
 ghost use Rattle.bw_mask.specs.Masks.{SameShape, len, row_at, row_in};
 ghost use Rattle.bw_code.specs.Tests.{code_compares};
 ghost use Rattle.bw_code.specs.Units.{agreement, by_planes, cost_of, segments_of, side_units, some_below};
+ghost use Rattle.bw_code.specs.Widths.{widest_code};
 ghost use Rattle.bw_vertical.specs.Planes.{code_in};
 
 use crate::rows::{is_empty, lanes_at, put_lanes};
@@ -26,7 +27,7 @@ fn compare_planes<A: Source<[u64; 4]>, B: Source<[u64; 4]>>(
     lt: &mut [u64; 4],
     eq: &mut [u64; 4],
 )
-    requires narrow { k ≤ 64 }
+    requires narrow { k ≤ widest_code }
     requires within { i < k }
     requires small { q < 2 ^ 32 }
     requires there { (q + 1) * k ≤ length (A.units a.old) }
@@ -55,7 +56,7 @@ fn compare<A: Source<[u64; 4]>, B: Source<[u64; 4]>>(
     q: usize,
     need: &[u64; 4],
 ) -> ([u64; 4], [u64; 4])
-    requires narrow { k ≤ 64 }
+    requires narrow { k ≤ widest_code }
     requires small { q < 2 ^ 32 }
     requires there { (q + 1) * k ≤ length (A.units a.old) }
     requires other_there { (q + 1) * k ≤ length (B.units b.old) }
@@ -96,7 +97,7 @@ fn segment<A: Source<[u64; 4]>, B: Source<[u64; 4]>>(
     op: CmpOp,
     need: &[u64; 4],
 ) -> [u64; 4]
-    requires narrow { k ≤ 64 }
+    requires narrow { k ≤ widest_code }
     requires small { q < 2 ^ 32 }
     requires there { (q + 1) * k ≤ length (A.units a.old) }
     requires other_there { (q + 1) * k ≤ length (B.units b.old) }
@@ -131,7 +132,7 @@ pub fn pair_from<A: Source<[u64; 4]>, B: Source<[u64; 4]>>(
     need: &Mask,
     out: &mut Mask,
 )
-    requires narrow { width ≤ 64 }
+    requires narrow { width ≤ widest_code }
     requires few { len need.now ≤ 2 ^ 24 }
     requires out { len out.old ≡ len need.now }
     requires units { length (A.units a.old) ≡ segments_of 256 (len need.now) * width }

@@ -2,6 +2,7 @@
 
 ghost use Rattle.std.specs.Prelude.{[], if◌then◌else◌, length, slice_index, slice_index_or, true, vec_len, ℕ, ◌%◌, ◌*◌, ◌+◌, ◌-◌, ◌/◌, ◌<◌, ◌^◌, ◌≡◌, ◌≢◌, ◌≤◌};
 ghost use Rattle.bw_mask.specs.Masks.{bit_of};
+ghost use Rattle.bw_code.specs.Widths.{widest_code};
 ghost use Rattle.bw_vertical.specs.Storage.{HasSegment, KeepsSizes, groups_of, is_set, lists, word_of};
 
 use crate::blending::blend_words;
@@ -18,7 +19,7 @@ fn put_words(
     codes: &[u64],
     words: &[u64],
 )
-    requires narrow { k ≤ 64 }
+    requires narrow { k ≤ widest_code }
     requires small { w < 2 ^ 32 }
     requires count { vec_len groups.old ≡ groups_of k }
     requires there { HasSegment k (lists groups.old.items) (w / 4) }
@@ -40,7 +41,7 @@ pub(crate) fn put_chosen(
     rows: u64,
     codes: &[u64],
 )
-    requires narrow { k ≤ 64 }
+    requires narrow { k ≤ widest_code }
     requires small { w < 2 ^ 32 }
     requires count { vec_len groups.old ≡ groups_of k }
     requires there { HasSegment k (lists groups.old.items) (w / 4) }
@@ -60,7 +61,7 @@ pub(crate) fn put_chosen(
 /// The words of the planes of k bits at these rows, where each of them has the same code. The words from k on are
 /// unspecified.
 fn equal_words(rows: u64, code: u64, k: usize) -> [u64; 64]
-    requires narrow { k ≤ 64 }
+    requires narrow { k ≤ widest_code }
     ensures { (b r : ℕ) → b < k → r < 64 → bit_of rows r ≡ true → bit_of (slice_index result b) r ≡ bit_of code b }
 {
     let mut words = [0; 64];
@@ -72,7 +73,7 @@ fn equal_words(rows: u64, code: u64, k: usize) -> [u64; 64]
 
 /// The codes of these rows of word w become this one.
 pub(crate) fn fill_chosen(groups: &mut Vec<Vec<[u64; 4]>>, k: usize, w: usize, rows: u64, code: u64)
-    requires narrow { k ≤ 64 }
+    requires narrow { k ≤ widest_code }
     requires small { w < 2 ^ 32 }
     requires count { vec_len groups.old ≡ groups_of k }
     requires there { HasSegment k (lists groups.old.items) (w / 4) }

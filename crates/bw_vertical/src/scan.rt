@@ -6,6 +6,7 @@ ghost use Rattle.bw_mask.specs.Masks.{SameShape, bit_of, len, row_at, row_in};
 ghost use Rattle.bw_code.specs.Tests.{TestFits, meets};
 ghost use Rattle.bw_code.specs.Units.{agreement, by_planes, cost_of, scan_units, segment_units, segments_of, some_below};
 ghost use Rattle.bw_code.specs.Choosing.{by_masks};
+ghost use Rattle.bw_code.specs.Widths.{widest_code};
 ghost use Rattle.bw_vertical.specs.Planes.{code_in};
 
 use crate::rows::{either, is_empty, lanes_at, put_lanes, without};
@@ -42,7 +43,7 @@ fn compare_plane<S: Source<[u64; 4]>>(
     lt: &mut [u64; 4],
     eq: &mut [u64; 4],
 )
-    requires narrow { k ≤ 64 }
+    requires narrow { k ≤ widest_code }
     requires within { i < k }
     requires unit { unit ≡ q * k + i }
     requires bit { at < 64 }
@@ -66,7 +67,7 @@ fn compare<S: Source<[u64; 4]>>(
     constant: u64,
     need: &[u64; 4],
 ) -> ([u64; 4], [u64; 4])
-    requires narrow { k ≤ 64 }
+    requires narrow { k ≤ widest_code }
     requires constant { constant < 2 ^ k }
     requires small { q < 2 ^ 32 }
     requires there { (q + 1) * k ≤ length (S.units source.old) }
@@ -128,7 +129,7 @@ fn between_plane<S: Source<[u64; 4]>>(
     low: &mut Side,
     high: &mut Side,
 )
-    requires narrow { k ≤ 64 }
+    requires narrow { k ≤ widest_code }
     requires within { i < k }
     requires unit { unit ≡ q * k + i }
     requires bit { at < 64 }
@@ -163,7 +164,7 @@ fn between<S: Source<[u64; 4]>>(
     high: u64,
     need: &[u64; 4],
 ) -> [u64; 4]
-    requires narrow { k ≤ 64 }
+    requires narrow { k ≤ widest_code }
     requires low { low < 2 ^ k }
     requires high { high < 2 ^ k }
     requires small { q < 2 ^ 32 }
@@ -218,7 +219,7 @@ fn segment<S: Source<[u64; 4]>>(
     test: CodeTest,
     need: &[u64; 4],
 ) -> [u64; 4]
-    requires narrow { k ≤ 64 }
+    requires narrow { k ≤ widest_code }
     requires test { TestFits k test }
     requires small { q < 2 ^ 32 }
     requires there { (q + 1) * k ≤ length (S.units source.old) }
@@ -251,7 +252,7 @@ pub fn scan_from<S: Source<[u64; 4]>>(
     need: &Mask,
     out: &mut Mask,
 )
-    requires narrow { width ≤ 64 }
+    requires narrow { width ≤ widest_code }
     requires test { TestFits width test }
     requires few { len need.now ≤ 2 ^ 24 }
     requires out { len out.old ≡ len need.now }

@@ -3,6 +3,7 @@
 ghost use Rattle.std.specs.Int.{bit_at};
 ghost use Rattle.std.specs.Prelude.{if◌then◌else◌, slice_index, vec_len, ℕ, ◌%◌, ◌*◌, ◌+◌, ◌-◌, ◌/◌, ◌<◌, ◌^◌, ◌≡◌, ◌≢◌, ◌≤◌};
 ghost use Rattle.bw_mask.specs.Masks.{bit_of, len as mask_len, row_at};
+ghost use Rattle.bw_code.specs.Widths.{widest_code};
 ghost use Rattle.bw_vertical.specs.Planes.{code_by};
 ghost use Rattle.bw_vertical.specs.Storage.{AreGroups, HasSegment, KeepsSizes, code_of, groups_of, is_set, lists, word_of};
 
@@ -28,7 +29,7 @@ pub(crate) fn rows_where(rows: u64, number: u64, n: usize) -> u64
 
 /// Adds `by` to the codes of these rows of word w, modulo 2^k.
 pub(crate) fn shift_word(groups: &mut Vec<Vec<[u64; 4]>>, k: usize, w: usize, rows: u64, by: u64)
-    requires narrow { k ≤ 64 }
+    requires narrow { k ≤ widest_code }
     requires small { w < 2 ^ 32 }
     requires count { vec_len groups.old ≡ groups_of k }
     requires there { HasSegment k (lists groups.old.items) (w / 4) }
@@ -50,7 +51,7 @@ pub(crate) fn shift_word(groups: &mut Vec<Vec<[u64; 4]>>, k: usize, w: usize, ro
 /// Word b holds bit b of a number below 2^`own` in each of 64 rows. Afterwards the words hold the k lowest bits of the
 /// numbers, with `by` added in these rows. What words from `k` on hold afterwards is not told.
 pub fn shift_words(words: &mut [u64; 64], own: usize, k: usize, rows: u64, by: u64)
-    requires narrow { k ≤ 64 }
+    requires narrow { k ≤ widest_code }
     ensures { (b r : ℕ) → b < k → r < 64 → bit_of (slice_index words.new b) r ≡ bit_of (code_by own words.old r + (if bit_of rows r then by else 0)) b }
 {
     let mut carry = 0;

@@ -1,6 +1,7 @@
 //! Planes in memory as a source of units.
 
 ghost use Rattle.std.specs.Prelude.{length, min, ◌*◌, ◌+◌, ◌-◌, ◌/◌, ◌<◌, ◌^◌, ◌≡◌, ◌≤◌};
+ghost use Rattle.bw_code.specs.Widths.{widest_code};
 ghost use Rattle.bw_vertical.specs.Storage.{AreGroups, HasSegment, LieAhead, Stands, groups_of, lists, planes_in, units_of};
 
 use crate::storage::planes_in;
@@ -41,7 +42,7 @@ fn next_group<'a>(
     from: Standing<'a>,
     i: usize,
 ) -> Standing<'a>
-    requires narrow { k ≤ 64 }
+    requires narrow { k ≤ widest_code }
     requires left { 0 < from.left }
     requires within { from.left ≤ k }
     requires start { from.start ≡ from.segment * k }
@@ -75,7 +76,7 @@ fn at_group<'a>(
 ) -> Standing<'a>
     requires start { start ≡ segment * k }
     requires group { 4 * g < k }
-    requires narrow { k ≤ 64 }
+    requires narrow { k ≤ widest_code }
     requires small { segment < 2 ^ 32 }
     requires count { length groups.now ≡ groups_of k }
     requires there { HasSegment k (lists groups.now) segment }
@@ -105,7 +106,7 @@ fn jumped<'a>(
     i: usize,
 ) -> Standing<'a>
     requires some { 0 < k }
-    requires narrow { k ≤ 64 }
+    requires narrow { k ≤ widest_code }
     requires low { i < 2 ^ 32 }
     requires start { start ≡ segment * k }
     requires count { length groups.now ≡ groups_of k }
@@ -128,7 +129,7 @@ fn jumped<'a>(
 #[inline(always)]
 fn stepped<'a>(groups: &'a [Vec<[u64; 4]>], k: usize, from: Standing<'a>, i: usize) -> Standing<'a>
     requires some { 0 < k }
-    requires narrow { k ≤ 64 }
+    requires narrow { k ≤ widest_code }
     requires low { i < 2 ^ 32 }
     requires count { length groups.now ≡ groups_of k }
     requires there { HasSegment k (lists groups.now) (i / k) }
@@ -150,7 +151,7 @@ fn stepped<'a>(groups: &'a [Vec<[u64; 4]>], k: usize, from: Standing<'a>, i: usi
 #[inline(always)]
 fn moved<'a>(groups: &'a [Vec<[u64; 4]>], k: usize, from: Standing<'a>, i: usize) -> Standing<'a>
     requires some { 0 < k }
-    requires narrow { k ≤ 64 }
+    requires narrow { k ≤ widest_code }
     requires low { i < 2 ^ 32 }
     requires count { length groups.now ≡ groups_of k }
     requires there { HasSegment k (lists groups.now) (i / k) }

@@ -1,12 +1,13 @@
 //! Planes in groups of four, word by word.
 
 ghost use Rattle.std.specs.Prelude.{[], bit_or, ◌^◌, length, slice_index, slice_index_or, vec_capacity, vec_len, ℕ, ◌*◌, ◌+◌, ◌-◌, ◌/◌, ◌%◌, ◌<◌, ◌≡◌, ◌≢◌, ◌≤◌, ◌⊎◌};
+ghost use Rattle.bw_code.specs.Widths.{widest_code};
 ghost use Rattle.bw_vertical.specs.Storage.{HasSegment, KeepsSizes, groups_of, lists, plane_at, planes_in, word_of};
 
 /// How many planes group g has.
 pub(crate) fn planes_in(k: usize, g: usize) -> usize
     requires group { 4 * g < k }
-    requires narrow { k ≤ 64 }
+    requires narrow { k ≤ widest_code }
     ensures { result ≡ planes_in k g }
 {
     (k - 4 * g).min(4)
@@ -15,7 +16,7 @@ pub(crate) fn planes_in(k: usize, g: usize) -> usize
 /// Plane i of segment q.
 pub(crate) fn plane_at(groups: &[Vec<[u64; 4]>], k: usize, q: usize, i: usize) -> &[u64; 4]
     requires plane { i < k }
-    requires narrow { k ≤ 64 }
+    requires narrow { k ≤ widest_code }
     requires small { q < 2 ^ 32 }
     requires count { length groups.now ≡ groups_of k }
     requires there { HasSegment k (lists groups.now) q }
@@ -29,7 +30,7 @@ pub(crate) fn plane_at(groups: &[Vec<[u64; 4]>], k: usize, q: usize, i: usize) -
 /// Word w of plane i.
 pub(crate) fn word_at(groups: &[Vec<[u64; 4]>], k: usize, i: usize, w: usize) -> u64
     requires plane { i < k }
-    requires narrow { k ≤ 64 }
+    requires narrow { k ≤ widest_code }
     requires small { w < 2 ^ 32 }
     requires count { length groups.now ≡ groups_of k }
     requires there { HasSegment k (lists groups.now) (w / 4) }
@@ -55,7 +56,7 @@ fn put_in_group(group: &mut Vec<[u64; 4]>, at: usize, lane: usize, word: u64)
 /// Word w of plane i becomes this word.
 pub(crate) fn put_word(groups: &mut Vec<Vec<[u64; 4]>>, k: usize, i: usize, w: usize, word: u64)
     requires plane { i < k }
-    requires narrow { k ≤ 64 }
+    requires narrow { k ≤ widest_code }
     requires small { w < 2 ^ 32 }
     requires count { vec_len groups.old ≡ groups_of k }
     requires there { HasSegment k (lists groups.old.items) (w / 4) }
@@ -85,7 +86,7 @@ fn take_words(group: &[[u64; 4]], from: usize, m: usize, lane: usize, words: &mu
 
 /// Word w of the m planes of group g: word b becomes that of the plane of bit b.
 fn take_group(groups: &[Vec<[u64; 4]>], k: usize, g: usize, m: usize, w: usize, words: &mut [u64])
-    requires narrow { k ≤ 64 }
+    requires narrow { k ≤ widest_code }
     requires small { w < 2 ^ 32 }
     requires count { length groups.now ≡ groups_of k }
     requires there { HasSegment k (lists groups.now) (w / 4) }
@@ -101,7 +102,7 @@ fn take_group(groups: &[Vec<[u64; 4]>], k: usize, g: usize, m: usize, w: usize, 
 
 /// Word w of each plane: word b becomes that of the plane of bit b. The words from k on stay.
 pub(crate) fn take_planes(groups: &[Vec<[u64; 4]>], k: usize, w: usize, words: &mut [u64])
-    requires narrow { k ≤ 64 }
+    requires narrow { k ≤ widest_code }
     requires small { w < 2 ^ 32 }
     requires count { length groups.now ≡ groups_of k }
     requires there { HasSegment k (lists groups.now) (w / 4) }
@@ -158,7 +159,7 @@ fn add_group(
     words: &[u64],
     up: usize,
 )
-    requires narrow { k ≤ 64 }
+    requires narrow { k ≤ widest_code }
     requires small { w < 2 ^ 32 }
     requires count { vec_len groups.old ≡ groups_of k }
     requires there { HasSegment k (lists groups.old.items) (w / 4) }
@@ -182,7 +183,7 @@ pub(crate) fn add_words(
     words: &[u64],
     up: usize,
 )
-    requires narrow { k ≤ 64 }
+    requires narrow { k ≤ widest_code }
     requires small { w < 2 ^ 32 }
     requires count { vec_len groups.old ≡ groups_of k }
     requires there { HasSegment k (lists groups.old.items) (w / 4) }

@@ -8,7 +8,7 @@ use crate::seen::{see, see_at};
 use bw_byteslice::SliceColumn;
 use bw_code::{CodeColumn, Source};
 use bw_horizontal::HorizontalColumn;
-use bw_vertical::{VerticalColumn, plane_words, wide_plane_words};
+use bw_vertical::{VerticalColumn, plane_words, put_plane_words, wide_plane_words};
 use std::process::Abort;
 
 /// The planes of the codes 22 and 1, of five bits: four in the first group and one in the second.
@@ -75,12 +75,16 @@ fn planes_of_three_wide_codes(rt: HostRuntime) {
     }
 }
 
-/// The words of those planes by themselves, that of the lowest bits first.
+/// The words of those planes by themselves, that of the lowest bits first, also over words that were not cleared.
 #[test]
 fn words_of_three_wide_codes(rt: HostRuntime) {
     let words = wide_plane_words(&WIDE, 40);
+    let mut others = [u64::MAX; 64];
+    put_plane_words(&WIDE, 40, &mut others);
     for b in 0..40 {
-        see_at(&rt, b, words[39 - b], WIDE_PLANES[b / 4][b % 4]);
+        let plane = WIDE_PLANES[b / 4][b % 4];
+        see_at(&rt, b, words[39 - b], plane);
+        see_at(&rt, b, others[39 - b], plane);
     }
 }
 

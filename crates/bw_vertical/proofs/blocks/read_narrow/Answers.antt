@@ -16,19 +16,19 @@ loop-i-preserved c =
     let gs = lists c.args.groups.now in
     let at = c.args.at in
     let i = c.loop-i.i in
-    let out = c.copy_run.new.out in
+    let out = c.copy_of_block.new.out in
     let inv = c.loop-i.invariant in
     record {
-      long = c.copy_run.ensures.long ∙ inv.long;
-      inside = omega (arith, c.min-n.ensures, c.copy_run.ensures.long, c.loop-i-test.true);
+      long = c.copy_of_block.ensures.long ∙ inv.long;
+      inside = omega (arith, c.min-n.ensures, c.copy_of_block.ensures.long, c.loop-i-test.true);
       done = λ j h.
           elim (cases_lt j i) [
-            | inl l ↦ c.copy_run.ensures.before j l ∙ inv.done j l
+            | inl l ↦ c.copy_of_block.ensures.before j l ∙ inv.done j l
             | inr l ↦
                 let r = j - i in
                 let low : j - i < c.min-n.result = omega (arith, h, l) in
                 let place : j ≡ i + (j - i) = omega (arith, l) in
                 let row : 64 * ((at + i) / 64) + ((at + i) % 64 + (j - i)) ≡ at + j = omega (arith, l) in
-                ap (λ n. get_or out n 0) place ∙ c.copy_run.ensures.copied (j - i) low ∙ c.block_at-block.ensures ((at + i) % 64 + (j - i)) (omega (arith, c.min-n.ensures, low)) ∙ ap (code_of k gs) row
+                ap (λ n. get_or out n 0) place ∙ c.copy_of_block.ensures.copied (j - i) low ∙ c.block_at-block.ensures ((at + i) % 64 + (j - i)) (omega (arith, c.min-n.ensures, low)) ∙ ap (code_of k gs) row
           ];
     }

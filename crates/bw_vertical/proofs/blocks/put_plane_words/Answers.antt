@@ -3,7 +3,7 @@ use Rattle.std.proofs.Math.Nat.{zero-add}
 use Rattle.std.proofs.lemmas.Bool.{cases_lt}
 use Rattle.bw_mask.specs.Masks.{bit_of}
 use Rattle.bw_vertical.proofs.Halves.{half_bit}
-use Rattle.bw_vertical.proofs.blocks.wide_plane_words.Goals as goal
+use Rattle.bw_vertical.proofs.blocks.put_plane_words.Goals as goal
 
 -- the words of the 32 lowest bits
 low : (k m r x half : ℕ) (words : List ℕ) → m ≡ min k 32 → half ≡ x / 2 ^ 0 % 2 ^ 32 → ((b : ℕ) → b < m → bit_of (get_or words (0 + b) 0) r ≡ bit_of half b) → (b : ℕ) → b < 32 → b < k → bit_of (get_or words b 0) r ≡ bit_of x b
