@@ -264,6 +264,9 @@ def closure_faults():
     theorem = ROOT / "docs/THEOREM.md"
     if theorem.exists():
         text = theorem.read_text(encoding="utf-8")
+        named = f"There are {len(files)} files, in {len(crates)} crates."
+        if named not in " ".join(text.split()):
+            yield theorem, 1, named, "isn't what the document has of the closure of RunsTo"
         for path in files:
             name = str(path.relative_to(ROOT))
             if name not in text:
