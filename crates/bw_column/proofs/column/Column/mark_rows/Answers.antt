@@ -28,6 +28,8 @@ pub loop-at-init : goal.loop-at-init
 loop-at-init c = record {
   at = omega arith;
   count = c.requires.count;
+  first = omega arith;
+  before = λ m h. absurd (omega (arith, h));
   marks = λ m. (λ h. absurd (c.requires.none m h), λ h. absurd (omega (arith, h.1)));
 }
 
@@ -49,6 +51,8 @@ loop-at-preserved c =
     record {
       at = inside;
       count = c.mark_standing.ensures.count ∙ i.count;
+      first = omega (arith, c.first_unmarked-first.ensures.inside, c.mark_standing.ensures.count, i.count);
+      before = c.first_unmarked-first.ensures.marked;
       marks = λ m. (
         λ h. (more m).1 (elim ((c.mark_standing.ensures.marks m).0 h) [
           | inl was ↦ inl ((i.marks m).0 was)
