@@ -83,7 +83,7 @@ module _ {N : Type 0} where
   pub two_typed : (headers : List (Header N)) (first second : List (Option ℤ)) → length headers ≡ 2 → All (IsNullOrOfType Integer) first → All (IsNullOrOfType Integer) second → AllZip IsTyped headers (first ∷ second ∷ [])
   two_typed [] first second count a b = absurd (omega (arith, count))
   two_typed (h ∷ []) first second count a b = absurd (omega (arith, count))
-  two_typed (h ∷ g ∷ []) first second count a b = (λ k d l. of_any h.column_type (get_or first k d) (as_type (get_or first k d) (a k d l)), (λ k d l. of_any g.column_type (get_or second k d) (as_type (get_or second k d) (b k d l)), tt))
+  two_typed (h ∷ g ∷ []) first second count a b = (λ k d l. of_any h.column_type (get_or first k d) (a k d l), (λ k d l. of_any g.column_type (get_or second k d) (b k d l), tt))
   two_typed (h ∷ g ∷ f ∷ headers) first second count a b = absurd (omega (arith, count))
 
   pub none_chosen : (headers : List (Header N)) → All (λ h. IsTrue (holds_its_type h)) headers → HoldTypes [] headers
