@@ -92,9 +92,9 @@ fn take_run(
 {
     let mut i = from;
     'run: while is_old_next(old, stands, new, i, j) {
-        let place = entries.len() as u64;
+        let index = entries.len() as u64;
         entries.push_reserved(old[i]);
-        moves.push_reserved(place);
+        moves.push_reserved(index);
         i += 1;
     }
     i
