@@ -209,6 +209,8 @@ def is_refused(crates, tried):
     words = ["rt", "check", "--jobs", "2", "--only", tried.upper]
     done = subprocess.run(words, cwd=crates / tried.crate(), capture_output=True, text=True, check=False)
     said = done.stdout + done.stderr
+    if "nothing above it was checked" in said:
+        return False, "the upper call was not reached, since a library below it was not proved"
     there = re.search(r"(?m)^only=\d+ proved=\d+$", said) and f"fn {tried.upper}: proved" not in said
     told = re.findall(r"(?m)^(?:note: )?\S+:\d+:\d+: .*(?:error|not proved).*$", said)
     return bool(done.returncode and there), "; ".join(line[:160] for line in told[:2]) or said[-400:]
