@@ -60,6 +60,16 @@ impl Dictionary {
         Ok(Dictionary { entries })
     }
 
+    /// The dictionary that has these entries.
+    pub fn of_entries(entries: Vec<i64>) -> Dictionary
+        requires { IsAscending entries.items }
+        ensures { result ≡ entries.items }
+    {
+        let mut entries = entries;
+        entries.shrink_to_fit();
+        Dictionary { entries }
+    }
+
     /// The values that have a code, ascending. The index of each is its code.
     pub fn entries(&self) -> &[i64]
         ensures is { result.now ≡ self.now }

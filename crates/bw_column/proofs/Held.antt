@@ -1,10 +1,10 @@
--- What a layout holds is an integer of 64 bits, and every layout holds an INTEGER.
+-- What a layout holds is an integer of 64 bits.
 use Rattle.std.proofs.Common.{List, None, Option, Some, arith, refl, subst, ℤ, ◌≡◌}
 use Rattle.std.specs.List.{All}
 use Rattle.std.proofs.lemmas.Int.{ints}
 use Rattle.bw_code.specs.declared.kind.Layout.{Layout}
 use Rattle.bw_code.specs.declared.kind.Layout.TheVariants as layouts
-use Rattle.bw_column.specs.Values.{IsHeld, IsInteger, IsNullOrHeld, IsNullOrInteger, IsNullOrStorable, IsStorable}
+use Rattle.bw_column.specs.Values.{IsHeld, IsNullOrHeld, IsNullOrStorable, IsStorable}
 
 held_storable : (l : Layout) (x : ℤ) → IsHeld l x → IsStorable x
 held_storable layouts.P x h = h
@@ -18,19 +18,6 @@ storable l (Some x) h = held_storable l x h
 
 pub all_storable : (l : Layout) (values : List (Option ℤ)) → All (IsNullOrHeld l) values → All IsNullOrStorable values
 all_storable l values all k d h = storable l _ (all k d h)
-
-integer_held : (l : Layout) (x : ℤ) → IsInteger x → IsHeld l x
-integer_held layouts.P x h = omega (arith, ints, h)
-integer_held layouts.V x h = omega (arith, ints, h)
-integer_held layouts.H x h = h
-integer_held layouts.S x h = omega (arith, ints, h)
-
-pub null_or_held : (l : Layout) (value : Option ℤ) → IsNullOrInteger value → IsNullOrHeld l value
-null_or_held l None h = tt
-null_or_held l (Some x) h = integer_held l x h
-
-pub all_held : (l : Layout) (values : List (Option ℤ)) → All IsNullOrInteger values → All (IsNullOrHeld l) values
-all_held l values all k d h = null_or_held l _ (all k d h)
 
 -- plain codes hold what any layout holds
 plain : (value : Option ℤ) → IsNullOrStorable value → IsNullOrHeld layouts.P value

@@ -133,6 +133,24 @@ module _ (entries : List ℤ) (sound : IsEncoding (by.Dictionary entries)) (valu
           omega (arith, it, code)
       by_value None is = let none = sym set ∙ set_here (by.Dictionary entries) sound values coded at n run present inside part bits k low ∙ ap is_some is in absurd cc
 
+  -- where all entries are marked by the first rows, they are marked by all
+  pub marked_all : (stands : List Bool) (at : ℕ) → at ≤ length values → ((m : ℕ) → (StandsAt stands m ↔ HasCodeTo (by.Dictionary entries) values at m)) → ((m : ℕ) → m < length entries → StandsAt stands m)
+      → (m : ℕ) → (StandsAt stands m ↔ HasCodeTo (by.Dictionary entries) values (length values) m)
+  marked_all stands at inside marks all m = (forth, back)
+    where
+      forth : StandsAt stands m → HasCodeTo (by.Dictionary entries) values (length values) m
+      forth h = let was = (marks m).0 h in (was.0, omega (arith, was.1, inside), was.2, was.3)
+
+      back : HasCodeTo (by.Dictionary entries) values (length values) m → StandsAt stands m
+      back h = by_value (get_or values h.0 None) refl
+        where
+          by_value : (value : Option ℤ) → get_or values h.0 None ≡ value → StandsAt stands m
+          by_value (Some x) is =
+              let it = (entry_of h.0 x h.1 is).0 in
+              let code : code_for (by.Dictionary entries) (Some x) ≡ m = ap (code_for (by.Dictionary entries)) (sym is) ∙ h.3 in
+              all m (omega (arith, it, code))
+          by_value None is = let none = sym h.2 ∙ ap is_some is in absurd cc
+
 -- the entries of a dictionary that some row has are the values that are not null
 module _ (entries : List ℤ) (sound : IsEncoding (by.Dictionary entries)) (values : List (Option ℤ)) (coded : All (IsCoded (by.Dictionary entries)) values) (stands : List Bool)
     (marks : (m : ℕ) → (StandsAt stands m ↔ HasCodeTo (by.Dictionary entries) values (length values) m)) where

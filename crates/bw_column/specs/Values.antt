@@ -8,14 +8,6 @@ pub use Rattle.bw_cells.specs.Known.{known}
 -- the greatest width of a code, in bits
 pub use Rattle.bw_code.specs.Widths.{widest}
 
--- the integers of the type INTEGER, which every layout holds
-abbrev pub IsInteger : ℤ → Type 0
-IsInteger x = FitsSigned w32 x
-
-abbrev pub IsNullOrInteger : Option ℤ → Type 0
-IsNullOrInteger None = ⊤
-IsNullOrInteger (Some x) = IsInteger x
-
 -- the integers that some layout holds: those of 64 bits
 abbrev pub IsStorable : ℤ → Type 0
 IsStorable x = FitsSigned w64 x

@@ -11,7 +11,7 @@ use crate::column::Column;
 use crate::storage::Codes;
 use bw_cells::Measured;
 use bw_code::{Encoding, Kind, Layout, Offset};
-use bw_dictionary::{dictionary_of, rank_cells};
+use bw_dictionary::{dictionary_like, rank_cells};
 use bw_mask::Mask;
 use std::alloc::{AllocError, Global};
 
@@ -96,7 +96,7 @@ impl Column {
         ensures kind { IfOk result (λ c. kind_of c.encoding ≡ kinds.Dictionary) }
     {
         let ranked = rank_cells(alloc, values)?;
-        let encoding = dictionary_of(alloc, &ranked.entries)?;
+        let encoding = dictionary_like(alloc, &ranked.entries)?;
         let mut column = Column::with_room(alloc, layout, encoding, values.len())?;
         column.extend_ranked(values, &ranked);
         Ok(column)

@@ -16,7 +16,8 @@ use crate::column::Column;
 use bw_cells::Measured;
 use bw_code::{Encoding, Layout};
 use bw_dictionary::{
-    MergedEntries, RankedCells, dictionary_of, mark_standing, merge_entries, move_codes, rank_cells,
+    MergedEntries, RankedCells, dictionary_of, first_unmarked, mark_standing, merge_entries,
+    move_codes, rank_cells,
 };
 use std::alloc::{AllocError, Global};
 
@@ -52,12 +53,18 @@ impl Column {
         let _sound = self.encoding();
         let mut list = [0; 64];
         let mut at = 0;
+        let mut first = 0;
         while at < self.len() {
             let n = (self.len() - at).min(64);
             let codes = &mut list[..n];
             let present = self.read_codes(at, codes);
             mark_standing(stands, codes, present);
             at += n;
+            // Where entries are few, all are marked long before the last row.
+            first = first_unmarked(stands, first);
+            if first == entries.len() {
+                return;
+            }
         }
     }
 
@@ -139,7 +146,7 @@ impl Column {
             moves,
             places: codes,
         } = merge_entries(alloc, entries, &stands, &ranked.entries)?;
-        let encoding = dictionary_of(alloc, &entries)?;
+        let encoding = dictionary_of(entries);
         let column = self.moved(alloc, layout, encoding, &moves, more)?;
         Ok(Grown { column, codes })
     }

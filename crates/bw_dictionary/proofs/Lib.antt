@@ -2,4 +2,3 @@ pub mod Below
 pub mod Encoded
 pub mod Moved
 pub mod Union
-pub mod Unique

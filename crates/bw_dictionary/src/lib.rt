@@ -8,8 +8,8 @@ mod merging;
 mod ranked_cells;
 mod standing;
 
-pub use entries::dictionary_of;
+pub use entries::{dictionary_like, dictionary_of};
 pub use finding::find_entries;
 pub use merging::{MergedEntries, merge_entries};
 pub use ranked_cells::{RankedCells, rank_cells};
-pub use standing::{mark_standing, move_codes};
+pub use standing::{first_unmarked, mark_standing, move_codes};

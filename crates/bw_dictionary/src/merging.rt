@@ -1,8 +1,9 @@
 //! Merging the entries of a dictionary that are still in use with new ones.
 
-ghost use Rattle.std.specs.Prelude.{IfOk, length, ◌+◌, ◌<◌, ◌≡◌, ◌≤◌};
+ghost use Rattle.std.specs.Prelude.{IfOk, IsTrue, List, length, vec_capacity, ℕ, ◌+◌, ◌<◌, ◌≡◌, ◌≤◌};
 ghost use Rattle.bw_code.specs.Ascending.{IsAscending};
-ghost use Rattle.bw_dictionary.specs.Merging.{IsTurn, IsUnion};
+ghost use Rattle.bw_dictionary.specs.Merging.{IsTurn, IsUnion, Merging};
+ghost use Rattle.bw_dictionary.specs.declared.merging.Turn.TheVariants.{Old};
 
 use std::alloc::{AllocError, Global};
 
@@ -55,6 +56,50 @@ fn turn_of(old: &[i64], stands: &[bool], new: &[i64], i: usize, j: usize) -> Tur
     Turn::Both
 }
 
+/// Whether the next old entry is in use and comes before the next new one, after i old and j new ones.
+fn is_old_next(old: &[i64], stands: &[bool], new: &[i64], i: usize, j: usize) -> bool
+    requires flags { length stands.now ≡ length old.now }
+    requires new { j ≤ length new.now }
+    ensures { IsTrue result → IsTurn old.now stands.now new.now i j Old }
+{
+    i < old.len() && stands[i] && (j == new.len() || old[i] < new[j])
+}
+
+/// Takes the old entries from index `from` on that are in use and come before the next new one, after j new ones.
+/// Returns the index of the first that it leaves. Most entries come in long runs, which a loop of their own takes.
+fn take_run(
+    old: &[i64],
+    stands: &[bool],
+    new: &[i64],
+    from: usize,
+    j: usize,
+    entries: &mut Vec<i64>,
+    moves: &mut Vec<u64>,
+) -> usize
+    requires flags { length stands.now ≡ length old.now }
+    requires old { IsAscending old.now }
+    requires new { IsAscending new.now }
+    requires from { from ≤ length old.now }
+    requires taken { j ≤ length new.now }
+    requires entries_room { length old.now + length new.now ≤ vec_capacity entries.old }
+    requires moves_room { length old.now ≤ vec_capacity moves.old }
+    requires merging { (places : List ℕ) × Merging old.now stands.now new.now from j entries.old.items moves.old.items places }
+    ensures from { from ≤ result }
+    ensures inside { result ≤ length old.now }
+    ensures entries_room { vec_capacity entries.old ≤ vec_capacity entries.new }
+    ensures moves_room { vec_capacity moves.old ≤ vec_capacity moves.new }
+    ensures merging { (places : List ℕ) → Merging old.now stands.now new.now from j entries.old.items moves.old.items places → Merging old.now stands.now new.now result j entries.new.items moves.new.items places }
+{
+    let mut i = from;
+    'run: while is_old_next(old, stands, new, i, j) {
+        let index = entries.len() as u64;
+        entries.push_reserved(old[i]);
+        moves.push_reserved(index);
+        i += 1;
+    }
+    i
+}
+
 /// The old entries that are still in use, merged with the new ones.
 pub fn merge_entries(
     alloc: Global,
@@ -82,7 +127,7 @@ pub fn merge_entries(
             Turn::Old => {
                 entries.push_reserved(old[i]);
                 moves.push_reserved(place);
-                i += 1;
+                i = take_run(old, stands, new, i + 1, j, &mut entries, &mut moves);
             }
             Turn::New => {
                 entries.push_reserved(new[j]);

@@ -21,6 +21,21 @@ pub fn mark_standing(stands: &mut [bool], codes: &[u64], present: u64)
     }
 }
 
+/// The first index from `from` on whose entry isn't marked; the number of entries if all are.
+pub fn first_unmarked(stands: &[bool], from: usize) -> usize
+    requires from { from ≤ length stands.now }
+    requires marked { (m : ℕ) → m < from → StandsAt stands.now m }
+    ensures inside { result ≤ length stands.now }
+    ensures marked { (m : ℕ) → m < result → StandsAt stands.now m }
+    ensures there { result < length stands.now → slice_index_or stands.now result true ≡ false }
+{
+    let mut first = from;
+    'marked: while first < stands.len() && stands[first] {
+        first += 1;
+    }
+    first
+}
+
 /// Replaces each code of a block by the table's value at its index, and by 0 where the row's bit isn't set.
 pub fn move_codes(codes: &mut [u64], present: u64, moves: &[u64])
     requires few { length codes.old ≤ 64 }

@@ -185,7 +185,7 @@ fn codes_of_two_bytes(words: &[u64; 32]) -> [u32; 64]
 }
 
 /// The codes of k bits whose planes have these words. The conversion is faster where the number of bytes is known, and
-/// where the codes are not stored before they are used: inlined, it takes two thirds of the time.
+/// where the codes are not stored before they are used: inlined, it takes 0.6 to 0.75 of the time.
 #[inline(always)]
 pub fn codes_of_words(words: &[u64; 32], k: usize) -> [u32; 64]
     requires narrow { k ≤ widest_half }

@@ -10,7 +10,7 @@ use Rattle.bw_code.specs.declared.header.Header.{Header}
 use Rattle.bw_code.specs.declared.kind.ColumnType.{ColumnType}
 use Rattle.bw_code.specs.declared.kind.ColumnType.TheVariants.{Integer}
 use Rattle.bw_code.proofs.Types.{zipped_by}
-use Rattle.bw_column.specs.Values.{IsNullOrInteger, value_at}
+use Rattle.bw_column.specs.Values.{value_at}
 use Rattle.bw_code.proofs.Lists.{made_at, made_len}
 use Rattle.bw_table.specs.Changes.{type_at}
 use Rattle.bw_table.specs.Rows.{AreWholeRows, row_from, rows_from}
@@ -28,7 +28,7 @@ are_wide width cells i d l =
     let more : (i + 1) * width ≤ length cells / width * width = mul-le-mul_right {m = i + 1} {n = length cells / width} width (omega (arith, inside)) in
     ap length is ∙ omega (arith, more, div-mul-le_self (length cells) width, length-take width (drop (i * width) cells), length-drop (i * width) cells)
 
-pub are_integers : (width : ℕ) (cells : List (Option ℤ)) → All IsNullOrInteger cells → All (λ row. All IsNullOrInteger row) (rows_from width cells)
+pub are_integers : (width : ℕ) (cells : List (Option ℤ)) → All (IsNullOrOfType Integer) cells → All (λ row. All (IsNullOrOfType Integer) row) (rows_from width cells)
 are_integers width cells all i d l j e m =
     let inside : i < length cells / width = omega (arith, l, made_len (length cells / width) (row_from width cells)) in
     let is = made_at (length cells / width) (row_from width cells) i d inside in
@@ -37,23 +37,19 @@ are_integers width cells all i d l j e m =
     let at : get_or (get_or (rows_from width cells) i d) j e ≡ get_or cells (i * width + j) e = ap (λ r. get_or r j e) is ∙ get_or-take width (drop (i * width) cells) j e narrow ∙ get_or-drop (i * width) cells j e in
     rw at (all (i * width + j) e (omega (arith, there, length-take width (drop (i * width) cells), length-drop (i * width) cells)))
 
-pub one_more : (cells : List (Option ℤ)) (x : Option ℤ) → All IsNullOrInteger cells → IsNullOrInteger x → All IsNullOrInteger (cells ++ x ∷ [])
-one_more cells x all one = All-push IsNullOrInteger cells x all one
+pub one_more : (cells : List (Option ℤ)) (x : Option ℤ) → All (IsNullOrOfType Integer) cells → IsNullOrOfType Integer x → All (IsNullOrOfType Integer) (cells ++ x ∷ [])
+one_more cells x all one = All-push (IsNullOrOfType Integer) cells x all one
 
 -- ---- types
 
-as_type : (value : Option ℤ) → IsNullOrInteger value → IsNullOrOfType Integer value
-as_type None of = tt
-as_type (Some x) of = of
+pub integer_taken : (types : List ColumnType) (k : ℕ) (value : Option ℤ) → IsNullOrOfType Integer value → IsNullOrOfType (type_at types k) value
+integer_taken types k value of = of_any (type_at types k) value of
 
-pub integer_taken : (types : List ColumnType) (k : ℕ) (value : Option ℤ) → IsNullOrInteger value → IsNullOrOfType (type_at types k) value
-integer_taken types k value of = of_any (type_at types k) value (as_type value of)
-
-by_integers : (types : List ColumnType) (width : ℕ) (cells : List (Option ℤ)) → length types ≡ width → All IsNullOrInteger cells → All (IsRowOf types) (rows_from width cells)
+by_integers : (types : List ColumnType) (width : ℕ) (cells : List (Option ℤ)) → length types ≡ width → All (IsNullOrOfType Integer) cells → All (IsRowOf types) (rows_from width cells)
 by_integers types width cells count all i d l =
     let row = get_or (rows_from width cells) i d in
     let wide : length row ≡ width = are_wide width cells i d l in
-    zipped_by IsNullOrOfType types row (wide ∙ sym count) (λ k t e low. of_any (get_or types k t) (get_or row k e) (as_type (get_or row k e) (are_integers width cells all i d l k e (omega (arith, low, wide, count)))))
+    zipped_by IsNullOrOfType types row (wide ∙ sym count) (λ k t e low. of_any (get_or types k t) (get_or row k e) (are_integers width cells all i d l k e (omega (arith, low, wide, count))))
 
 by_checks : (types : List ColumnType) (width : ℕ) (cells : List (Option ℤ)) → length types ≡ width → ((i : ℕ) → i < length cells → IsNullOrOfType (type_at types (i % width)) (value_at cells i)) → All (IsRowOf types) (rows_from width cells)
 by_checks types width cells count each i d l =
@@ -74,7 +70,7 @@ module _ {N : Type 0} where
   pub types_count : (headers : List (Header N)) → length (types_of headers) ≡ length headers
   types_count headers = length-map headers (λ (header : Header N). header.column_type)
 
-  pub integers_typed : (headers : List (Header N)) (width : ℕ) (cells : List (Option ℤ)) → width ≡ length headers → All IsNullOrInteger cells → All (IsRowOf (types_of headers)) (rows_from width cells)
+  pub integers_typed : (headers : List (Header N)) (width : ℕ) (cells : List (Option ℤ)) → width ≡ length headers → All (IsNullOrOfType Integer) cells → All (IsRowOf (types_of headers)) (rows_from width cells)
   integers_typed headers width cells count all = by_integers (types_of headers) width cells (types_count headers ∙ sym count) all
 
   pub checked_typed : (headers : List (Header N)) (width : ℕ) (cells : List (Option ℤ)) → width ≡ length headers → ((i : ℕ) → i < length cells → IsNullOrOfType (type_at (types_of headers) (i % length headers)) (value_at cells i)) → All (IsRowOf (types_of headers)) (rows_from width cells)
@@ -84,10 +80,10 @@ module _ {N : Type 0} where
   one_header_more headers header all one = All-push (λ h. IsTrue (holds_its_type h)) headers header all one
 
   -- columns of integers are of whichever types
-  pub two_typed : (headers : List (Header N)) (first second : List (Option ℤ)) → length headers ≡ 2 → All IsNullOrInteger first → All IsNullOrInteger second → AllZip IsTyped headers (first ∷ second ∷ [])
+  pub two_typed : (headers : List (Header N)) (first second : List (Option ℤ)) → length headers ≡ 2 → All (IsNullOrOfType Integer) first → All (IsNullOrOfType Integer) second → AllZip IsTyped headers (first ∷ second ∷ [])
   two_typed [] first second count a b = absurd (omega (arith, count))
   two_typed (h ∷ []) first second count a b = absurd (omega (arith, count))
-  two_typed (h ∷ g ∷ []) first second count a b = (λ k d l. of_any h.column_type (get_or first k d) (as_type (get_or first k d) (a k d l)), (λ k d l. of_any g.column_type (get_or second k d) (as_type (get_or second k d) (b k d l)), tt))
+  two_typed (h ∷ g ∷ []) first second count a b = (λ k d l. of_any h.column_type (get_or first k d) (a k d l), (λ k d l. of_any g.column_type (get_or second k d) (b k d l), tt))
   two_typed (h ∷ g ∷ f ∷ headers) first second count a b = absurd (omega (arith, count))
 
   pub none_chosen : (headers : List (Header N)) → All (λ h. IsTrue (holds_its_type h)) headers → HoldTypes [] headers

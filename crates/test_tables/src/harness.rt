@@ -2,7 +2,8 @@
 
 ghost use Rattle.std.specs.Prelude.{All, IsTrue, length, slice_index_or, vec_len, ℕ, ◌%◌, ◌<◌, ◌≡◌};
 ghost use Rattle.bw_code.specs.Types.{IsNullOrOfType, holds_its_type, types_of};
-ghost use Rattle.bw_column.specs.Values.{IsNullOrInteger, value_at};
+ghost use Rattle.bw_code.specs.declared.kind.ColumnType.TheVariants.{Integer};
+ghost use Rattle.bw_column.specs.Values.{value_at};
 ghost use Rattle.bw_mask.specs.Masks.{len};
 ghost use Rattle.bw_table.specs.Changes.{MayTake, type_at};
 
@@ -103,7 +104,7 @@ pub(crate) fn opened<R: Abort + AllocGlobal>(
 
 /// The value, widened for a column.
 pub(crate) fn wide(cell: Cell) -> Option<i64>
-    ensures { IsNullOrInteger result }
+    ensures { IsNullOrOfType Integer result }
 {
     match cell {
         Some(x) => Some(x as i64),
@@ -113,7 +114,7 @@ pub(crate) fn wide(cell: Cell) -> Option<i64>
 
 #[tactic(auto, using(crate::proofs::Flat::one_more))]
 fn wide_cells<R: Abort + AllocGlobal>(rt: &R, cells: &[Cell]) -> Vec<Option<i64>>
-    ensures { All IsNullOrInteger result.items }
+    ensures { All (IsNullOrOfType Integer) result.items }
 {
     let mut wide_cells = Vec::new(rt.alloc());
     for i in 0..cells.len() {
@@ -170,7 +171,7 @@ pub(crate) fn insert_wide<R: Abort + AllocGlobal>(
 }
 
 fn see_integer(cell: Cell)
-    ensures { IsNullOrInteger cell }
+    ensures { IsNullOrOfType Integer cell }
 {
     match cell {
         Some(_) | None => (),
@@ -179,7 +180,7 @@ fn see_integer(cell: Cell)
 
 /// Shows that each cell is null or an INTEGER, since 32 bits hold nothing else.
 fn see_integers(cells: &[Cell])
-    ensures { All IsNullOrInteger cells.now }
+    ensures { All (IsNullOrOfType Integer) cells.now }
 {
     for cell in cells {
         see_integer(*cell);

@@ -17,6 +17,16 @@ merge-preserved-in-Skip c =
       merging = rw c.push_reserved.ensures.items (skipped c.args.old.now c.args.stands.now c.args.new.now c.merge.i c.merge.j c.merge.entries.items c.merge.moves.items c.merge.places.items c.requires.old c.requires.new v.merging turn.0 turn.1);
     }
 
+pub take_run-i-requires-clause-merging : goal.take_run-i-requires-clause-merging
+take_run-i-requires-clause-merging c =
+    let v = c.merge.invariant in
+    let turn = c.in-Old.ensures in
+    let x = get_or c.args.old.now c.merge.i (pos 0) in
+    let back : to_z w64 (of_z w64 x) ≡ x = search (arith, ints, to_z-of_z) in
+    let union = c.push_reserved-in-Old.ensures.items ∙ ap (λ (y : ℤ). c.merge.entries.items ++ y ∷ []) back in
+    let place : c.len-place.result ≡ length c.merge.entries.items = omega (arith, c.len-place.ensures, c.merge.entries.ok.0) in
+    (c.merge.places.items, rw (union, c.push_reserved-in-Old-2.ensures.items) (took_old c.args.old.now c.args.stands.now c.args.new.now c.merge.i c.merge.j c.merge.entries.items c.merge.moves.items c.merge.places.items c.requires.old c.requires.new v.merging c.len-place.result turn.0 turn.1 turn.2 place))
+
 pub merge-preserved-in-Old : goal.merge-preserved-in-Old
 merge-preserved-in-Old c =
     let v = c.merge.invariant in
@@ -24,15 +34,14 @@ merge-preserved-in-Old c =
     let x = get_or c.args.old.now c.merge.i (pos 0) in
     let back : to_z w64 (of_z w64 x) ≡ x = search (arith, ints, to_z-of_z) in
     let union = c.push_reserved-in-Old.ensures.items ∙ ap (λ (y : ℤ). c.merge.entries.items ++ y ∷ []) back in
-    let few : length c.merge.entries.items ≤ c.merge.i + c.merge.j = v.merging.few in
     let place : c.len-place.result ≡ length c.merge.entries.items = omega (arith, c.len-place.ensures, c.merge.entries.ok.0) in
     record {
-      old = omega (arith, turn.0);
+      old = c.take_run-i.ensures.inside;
       new = v.new;
-      entries_room = omega (arith, c.push_reserved-in-Old.ensures.capacity, v.entries_room);
-      moves_room = omega (arith, c.push_reserved-in-Old-2.ensures.capacity, v.moves_room);
+      entries_room = omega (arith, c.push_reserved-in-Old.ensures.capacity, c.take_run-i.ensures.entries_room, v.entries_room);
+      moves_room = omega (arith, c.push_reserved-in-Old-2.ensures.capacity, c.take_run-i.ensures.moves_room, v.moves_room);
       places_room = v.places_room;
-      merging = rw (union, c.push_reserved-in-Old-2.ensures.items) (took_old c.args.old.now c.args.stands.now c.args.new.now c.merge.i c.merge.j c.merge.entries.items c.merge.moves.items c.merge.places.items c.requires.old c.requires.new v.merging c.len-place.result turn.0 turn.1 turn.2 place);
+      merging = c.take_run-i.ensures.merging c.merge.places.items (rw (union, c.push_reserved-in-Old-2.ensures.items) (took_old c.args.old.now c.args.stands.now c.args.new.now c.merge.i c.merge.j c.merge.entries.items c.merge.moves.items c.merge.places.items c.requires.old c.requires.new v.merging c.len-place.result turn.0 turn.1 turn.2 place));
     }
 
 pub merge-preserved-in-New : goal.merge-preserved-in-New

@@ -1,4 +1,4 @@
-use Rattle.std.proofs.Common.{ap, refl, ℤ, ◌++◌, ◌≡◌, ◌∙◌}
+use Rattle.std.proofs.Common.{refl, ℤ, ◌++◌, ◌≡◌, ◌∙◌}
 use Rattle.std.specs.Prelude.{Contains, ◌↔◌}
 use Rattle.bw_code.specs.Ascending.{IsAscending}
 use Rattle.bw_code.specs.declared.encoding.Encoding.TheVariants as by
@@ -17,8 +17,8 @@ moved-requires-clause-moved g c =
     let up : IsAscending c.in-Dictionary.own = c.entries-entries.ensures.ascending in
     let put : IsUnion c.in-Dictionary.own c.in_ok-stands.stands.items c.args.ranked.now.entries.items merged.entries.items merged.moves.items merged.places.items = rw (c.entries-entries.ensures.is, c.deref.ensures.value, c.deref-2.ensures.value) at c.in_ok-entries.ensures in
     let from : c.args.self.now.encoding ≡ by.Dictionary c.in-Dictionary.own = rw (← c.self.view_is) c.in-Dictionary.is in
-    let e : c.in_ok-encoding.encoding ≡ by.Dictionary merged.entries.items = c.in_ok-encoding.ensures ∙ ap by.Dictionary c.deref-3.ensures.value in
-    rw (from, e, c.deref-4.ensures.value) (moves_are c.in-Dictionary.own c.in_ok-stands.stands.items c.args.ranked.now.entries.items merged.entries.items merged.moves.items merged.places.items up put own cells stand c.requires.ranked.entries)
+    let e : c.dictionary_of-encoding.result ≡ by.Dictionary merged.entries.items = c.dictionary_of-encoding.ensures in
+    rw (from, e, c.deref-3.ensures.value) (moves_are c.in-Dictionary.own c.in_ok-stands.stands.items c.args.ranked.now.entries.items merged.entries.items merged.moves.items merged.places.items up put own cells stand c.requires.ranked.entries)
 
 pub moved-requires-clause-narrow : goal.moved-requires-clause-narrow
 moved-requires-clause-narrow g c =
@@ -30,7 +30,7 @@ moved-requires-clause-narrow g c =
     let up : IsAscending c.in-Dictionary.own = c.entries-entries.ensures.ascending in
     let put : IsUnion c.in-Dictionary.own c.in_ok-stands.stands.items c.args.ranked.now.entries.items merged.entries.items merged.moves.items merged.places.items = rw (c.entries-entries.ensures.is, c.deref.ensures.value, c.deref-2.ensures.value) at c.in_ok-entries.ensures in
     let fits = union_fits c.in-Dictionary.own c.in_ok-stands.stands.items c.args.ranked.now.entries.items merged.entries.items merged.moves.items merged.places.items up put own cells stand c.requires.ranked.entries in
-    let e : c.in_ok-encoding.encoding ≡ by.Dictionary merged.entries.items = c.in_ok-encoding.ensures ∙ ap by.Dictionary c.deref-3.ensures.value in
+    let e : c.dictionary_of-encoding.result ≡ by.Dictionary merged.entries.items = c.dictionary_of-encoding.ensures in
     rw e (narrow l (known (own ++ cells)) (by.Dictionary merged.entries.items) (held_of_both l own cells (known (own ++ cells)) refl c.requires.own c.requires.held) fits)
 
 pub returns-clause-fits : goal.returns-clause-fits
@@ -42,7 +42,7 @@ returns-clause-fits g c =
     let up : IsAscending c.in-Dictionary.own = c.entries-entries.ensures.ascending in
     let put : IsUnion c.in-Dictionary.own c.in_ok-stands.stands.items c.args.ranked.now.entries.items merged.entries.items merged.moves.items merged.places.items = rw (c.entries-entries.ensures.is, c.deref.ensures.value, c.deref-2.ensures.value) at c.in_ok-entries.ensures in
     let fits = union_fits c.in-Dictionary.own c.in_ok-stands.stands.items c.args.ranked.now.entries.items merged.entries.items merged.moves.items merged.places.items up put own cells stand c.requires.ranked.entries in
-    let e : c.in_ok-column.column.encoding ≡ by.Dictionary merged.entries.items = c.in_ok-column.ensures.encoding ∙ c.in_ok-encoding.ensures ∙ ap by.Dictionary c.deref-3.ensures.value in
+    let e : c.in_ok-column.column.encoding ≡ by.Dictionary merged.entries.items = c.in_ok-column.ensures.encoding ∙ c.dictionary_of-encoding.ensures in
     rw e fits
 
 pub returns-clause-codes : goal.returns-clause-codes
@@ -53,5 +53,5 @@ returns-clause-codes g c =
     let stand : (x : ℤ) → (StandsIn c.in-Dictionary.own c.in_ok-stands.stands.items x ↔ Contains (known own) x) = rw c.entries-entries.ensures.is at c.in_ok-stands.ensures.stands in
     let up : IsAscending c.in-Dictionary.own = c.entries-entries.ensures.ascending in
     let put : IsUnion c.in-Dictionary.own c.in_ok-stands.stands.items c.args.ranked.now.entries.items merged.entries.items merged.moves.items merged.places.items = rw (c.entries-entries.ensures.is, c.deref.ensures.value, c.deref-2.ensures.value) at c.in_ok-entries.ensures in
-    let e : c.in_ok-column.column.encoding ≡ by.Dictionary merged.entries.items = c.in_ok-column.ensures.encoding ∙ c.in_ok-encoding.ensures ∙ ap by.Dictionary c.deref-3.ensures.value in
+    let e : c.in_ok-column.column.encoding ≡ by.Dictionary merged.entries.items = c.in_ok-column.ensures.encoding ∙ c.dictionary_of-encoding.ensures in
     rw e (places_are c.in-Dictionary.own c.in_ok-stands.stands.items c.args.ranked.now.entries.items merged.entries.items merged.moves.items merged.places.items up put own cells stand c.requires.ranked.entries)

@@ -1,4 +1,4 @@
-use Rattle.std.proofs.Common.{length, ℕ, ◌-◌, ◌≡◌, ◌≤◌}
+use Rattle.std.proofs.Common.{length, ℕ, ◌-◌, ◌<◌, ◌≡◌, ◌≤◌}
 use Rattle.std.specs.Prelude.{◌↔◌}
 use Rattle.bw_code.specs.declared.encoding.Encoding.TheVariants as by
 use Rattle.bw_dictionary.specs.Merging.{StandsAt}
@@ -10,6 +10,8 @@ abbrev pub invariant-loop-at : goal.invariant-loop-at
 invariant-loop-at l = record {
   at : l.at ≤ length l.self.values;
   count : length l.stands ≡ length l.entries;
+  first : l.first ≤ length l.entries;
+  before : (m : ℕ) → m < l.first → StandsAt l.stands m;
   marks : (m : ℕ) → (StandsAt l.stands m ↔ HasCodeTo (by.Dictionary l.entries) l.self.values l.at m);
 }
 
