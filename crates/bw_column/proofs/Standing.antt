@@ -20,9 +20,9 @@ use Rattle.bw_column.specs.Moves.{IsMoved}
 use Rattle.bw_column.specs.Values.{known}
 use Rattle.bw_column.proofs.Rows.{code_is}
 
--- one of the first n values has this code
-abbrev pub HasCodeTo : Encoding → List (Option ℤ) → ℕ → ℕ → Type 0
-HasCodeTo e values n m = (r : ℕ) × (r < n) × (is_some (get_or values r None) ≡ true) × (code_for e (get_or values r None) ≡ m)
+-- a value from the n-th on has this code
+abbrev pub HasCodeFrom : Encoding → List (Option ℤ) → ℕ → ℕ → Type 0
+HasCodeFrom e values n m = (r : ℕ) × (r < length values) × (is_some (get_or values r None) ≡ true) × (code_for e (get_or values r None) ≡ m) × (n ≤ r)
 
 module _ (e : Encoding) (sound : IsEncoding e) (values : List (Option ℤ)) (coded : All (IsCoded e) values) where
   -- a run of codes, with a word that says which values there are not null
@@ -46,25 +46,25 @@ module _ (e : Encoding) (sound : IsEncoding e) (values : List (Option ℤ)) (cod
     set_here : (k : ℕ) → k < n → bit_of present k ≡ is_some (get_or values (at + k) None)
     set_here k h = bits k ∙ ap is_some (value_here k h)
 
-    pub marked_more : (m : ℕ) → (HasCodeTo e values (at + n) m ↔ (HasCodeTo e values at m ⊎ IsCodeOf run present (length run) m))
-    marked_more m = (forth, back)
+    pub marked_more : (till : ℕ) → at + n ≡ till → (m : ℕ) → (HasCodeFrom e values at m ↔ (HasCodeFrom e values till m ⊎ IsCodeOf run present (length run) m))
+    marked_more till up m = (forth, back)
       where
-        forth : HasCodeTo e values (at + n) m → HasCodeTo e values at m ⊎ IsCodeOf run present (length run) m
-        forth h = elim (cases_lt h.0 at) [
-          | inl before ↦ inl (h.0, before, h.2, h.3)
-          | inr upto ↦
+        forth : HasCodeFrom e values at m → HasCodeFrom e values till m ⊎ IsCodeOf run present (length run) m
+        forth h = elim (cases_lt h.0 till) [
+          | inl before ↦
               let k = h.0 - at in
-              let is : at + k ≡ h.0 = omega (arith, upto) in
-              let low : k < n = omega (arith, h.1, upto) in
+              let is : at + k ≡ h.0 = omega (arith, h.4) in
+              let low : k < n = omega (arith, before, h.4, up) in
               inr (k, omega (arith, low, many), set_here k low ∙ ap (λ r. is_some (get_or values r None)) is ∙ h.2, code_here k low ∙ ap (λ r. code_for e (get_or values r None)) is ∙ h.3)
+          | inr upto ↦ inl (h.0, h.1, h.2, h.3, upto)
         ]
 
-        back : HasCodeTo e values at m ⊎ IsCodeOf run present (length run) m → HasCodeTo e values (at + n) m
+        back : HasCodeFrom e values till m ⊎ IsCodeOf run present (length run) m → HasCodeFrom e values at m
         back h = elim h [
-          | inl was ↦ (was.0, omega (arith, was.1), was.2, was.3)
+          | inl was ↦ (was.0, was.1, was.2, was.3, omega (arith, was.4, up))
           | inr was ↦
               let low : was.0 < n = omega (arith, was.1, many) in
-              (at + was.0, omega (arith, low), sym (set_here was.0 low) ∙ was.2, sym (code_here was.0 low) ∙ was.3)
+              (at + was.0, omega (arith, low, inside), sym (set_here was.0 low) ∙ was.2, sym (code_here was.0 low) ∙ was.3, omega arith)
         ]
 
     -- by a table that has the new code of each value in the place of the old one
@@ -133,15 +133,15 @@ module _ (entries : List ℤ) (sound : IsEncoding (by.Dictionary entries)) (valu
           omega (arith, it, code)
       by_value None is = let none = sym set ∙ set_here (by.Dictionary entries) sound values coded at n run present inside part bits k low ∙ ap is_some is in absurd cc
 
-  -- where all entries are marked by the first rows, they are marked by all
-  pub marked_all : (stands : List Bool) (at : ℕ) → at ≤ length values → ((m : ℕ) → (StandsAt stands m ↔ HasCodeTo (by.Dictionary entries) values at m)) → ((m : ℕ) → m < length entries → StandsAt stands m)
-      → (m : ℕ) → (StandsAt stands m ↔ HasCodeTo (by.Dictionary entries) values (length values) m)
-  marked_all stands at inside marks all m = (forth, back)
+  -- where all entries are marked by the last rows, they are marked by all
+  pub marked_all : (stands : List Bool) (at : ℕ) → ((m : ℕ) → (StandsAt stands m ↔ HasCodeFrom (by.Dictionary entries) values at m)) → ((m : ℕ) → m < length entries → StandsAt stands m)
+      → (m : ℕ) → (StandsAt stands m ↔ HasCodeFrom (by.Dictionary entries) values 0 m)
+  marked_all stands at marks all m = (forth, back)
     where
-      forth : StandsAt stands m → HasCodeTo (by.Dictionary entries) values (length values) m
-      forth h = let was = (marks m).0 h in (was.0, omega (arith, was.1, inside), was.2, was.3)
+      forth : StandsAt stands m → HasCodeFrom (by.Dictionary entries) values 0 m
+      forth h = let was = (marks m).0 h in (was.0, was.1, was.2, was.3, omega arith)
 
-      back : HasCodeTo (by.Dictionary entries) values (length values) m → StandsAt stands m
+      back : HasCodeFrom (by.Dictionary entries) values 0 m → StandsAt stands m
       back h = by_value (get_or values h.0 None) refl
         where
           by_value : (value : Option ℤ) → get_or values h.0 None ≡ value → StandsAt stands m
@@ -153,7 +153,7 @@ module _ (entries : List ℤ) (sound : IsEncoding (by.Dictionary entries)) (valu
 
 -- the entries of a dictionary that some row has are the values that are not null
 module _ (entries : List ℤ) (sound : IsEncoding (by.Dictionary entries)) (values : List (Option ℤ)) (coded : All (IsCoded (by.Dictionary entries)) values) (stands : List Bool)
-    (marks : (m : ℕ) → (StandsAt stands m ↔ HasCodeTo (by.Dictionary entries) values (length values) m)) where
+    (marks : (m : ℕ) → (StandsAt stands m ↔ HasCodeFrom (by.Dictionary entries) values 0 m)) where
   abbrev e : Encoding
   e = by.Dictionary entries
 
@@ -163,7 +163,7 @@ module _ (entries : List ℤ) (sound : IsEncoding (by.Dictionary entries)) (valu
       forth : StandsIn entries stands x → Contains (known values) x
       forth h = by (get_or values ((marks h.0).0 h.2).0 None) refl
         where
-          row : HasCodeTo e values (length values) h.0
+          row : HasCodeFrom e values 0 h.0
           row = (marks h.0).0 h.2
 
           by : (value : Option ℤ) → get_or values row.0 None ≡ value → Contains (known values) x
@@ -178,4 +178,4 @@ module _ (entries : List ℤ) (sound : IsEncoding (by.Dictionary entries)) (valu
       back h =
           let cell = cell_of values x h.0 h.1 h.2 in
           let it = entry_of entries sound values coded cell.0 x cell.1 cell.2 in
-          (code_for e (Some x), it.0, (marks (code_for e (Some x))).1 (cell.0, cell.1, ap is_some cell.2, ap (code_for e) cell.2), it.1)
+          (code_for e (Some x), it.0, (marks (code_for e (Some x))).1 (cell.0, cell.1, ap is_some cell.2, ap (code_for e) cell.2, omega arith), it.1)

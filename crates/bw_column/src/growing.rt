@@ -21,6 +21,16 @@ use bw_dictionary::{
 };
 use std::alloc::{AllocError, Global};
 
+/// How many of the rows before row `at` are in the same word of rows.
+fn rows_before(at: usize) -> usize
+    requires { 0 < at }
+    ensures some { 0 < result }
+    ensures few { result ≤ 64 }
+    ensures there { result ≤ at }
+{
+    (at - 1) % 64 + 1
+}
+
 /// A column whose dictionary has other values, too.
 #[derive(Drop)]
 pub(crate) struct Grown {
@@ -52,15 +62,16 @@ impl Column {
     {
         let _sound = self.encoding();
         let mut list = [0; 64];
-        let mut at = 0;
+        let mut at = self.len();
         let mut first = 0;
-        while at < self.len() {
-            let n = (self.len() - at).min(64);
+        // From the last row backwards: where entries are few, all are marked after few rows, also where the newest
+        // entry is only in the last row.
+        while at > 0 {
+            let n = rows_before(at);
             let codes = &mut list[..n];
+            at -= n;
             let present = self.read_codes(at, codes);
             mark_standing(stands, codes, present);
-            at += n;
-            // Where entries are few, all are marked long before the last row.
             first = first_unmarked(stands, first);
             if first == entries.len() {
                 return;
