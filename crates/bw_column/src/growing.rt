@@ -1,7 +1,7 @@
 //! Growing a column's dictionary by other values: the entries that some row still has are merged with the new ones, and
 //! each code is mapped to its new index.
 
-ghost use Rattle.std.specs.Prelude.{All, Contains, IfOk, None, drop, is_some, length, slice_index_or, take, ℕ, ℤ, ◌++◌, ◌+◌, ◌^◌, ◌↔◌, ◌≡◌, ◌≤◌};
+ghost use Rattle.std.specs.Prelude.{All, Contains, IfOk, None, drop, is_some, length, slice_index_or, take, ℕ, ℤ, ◌++◌, ◌+◌, ◌<◌, ◌^◌, ◌↔◌, ◌≡◌, ◌≤◌};
 ghost use Rattle.bw_code.specs.Encodings.{AreCodes, IsFit, code_of, kind_of, width};
 ghost use Rattle.bw_code.specs.declared.encoding.Encoding.TheVariants as by;
 ghost use Rattle.bw_code.specs.declared.kind.Kind.TheVariants as kinds;

@@ -1,4 +1,4 @@
-use Rattle.std.proofs.Common.{All, None, arith, drop, get_or, inl, inr, is_some, length, length-take-le, take, ℕ, ◌+◌, ◌<◌, ◌≡◌, ◌≤◌, ◌∙◌}
+use Rattle.std.proofs.Common.{All, None, arith, drop, get_or, inl, inr, is_some, length, length-take-le, take, ℕ, ◌+◌, ◌-◌, ◌<◌, ◌≡◌, ◌≤◌, ◌∙◌}
 use Rattle.std.specs.Prelude.{◌↔◌}
 use Rattle.bw_mask.specs.Masks.{bit_of}
 use Rattle.bw_code.specs.Encodings.{IsEncoding}
