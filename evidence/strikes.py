@@ -166,7 +166,6 @@ STRIKES = [
     Strike("bw_column::distances::distances_by_offset", (of_column("read", "storage.rt", "codes", "out.new"),)),
     Strike("bw_column::column::Column::read", (of_column("read_block", "reading.rt", "", "out.new"),)),
     Strike("bw_column::column::Column::compared_block", (of_column("rise_of_block", "pairs.rt", "rises", "out.new"),)),
-    Strike("bw_engine::shown::read_column", (of_column("read", "reading.rt", "", "out.new"),)),
     Strike("bw_column::lent_planes::lent_planes", (of_words(),)),
     Strike("bw_column::ends::plane_ends", (of_words(),)),
     Strike("bw_column::storage::Codes::put_words", (of_words_put(),)),
