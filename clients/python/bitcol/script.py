@@ -11,7 +11,7 @@ import re
 from collections.abc import Mapping, Sequence, Set
 from functools import lru_cache
 from operator import index
-from typing import Any, Union
+from typing import Any, NamedTuple, Union
 
 from .errors import DataError, ProgrammingError
 
@@ -62,15 +62,18 @@ def bound(statement: str, values: Sequence[Any]) -> str:
     A value is None or an integer. Raises ProgrammingError if one is neither, or if the number of values isn't the
     number of `?`, and DataError if an integer has more than 64 bits.
     """
-    if isinstance(values, UNLISTED) or not hasattr(values, "__len__"):
-        raise ProgrammingError(f"the values are to be a list or a tuple, not a {type(values).__name__}")
-    pieces = _between_places(statement)
-    if len(values) != len(pieces) - 1:
-        raise ProgrammingError(f"values given: {len(values)}; places for values in the statement: {len(pieces) - 1}")
-    woven = [pieces[0]]
-    for value, piece in zip(values, pieces[1:]):
-        woven += (literal(value), piece)
-    return "".join(woven)
+    return _filled(_remembered_form(statement), values)
+
+
+def bound_statement(text: str, values: Sequence[Any]) -> bytes:
+    """Returns the only statement of a text, with its `;` and its values. Raises what bound and statement_of raise. Only
+    when a text is new is it searched for the end of its statement and for places: no value can move these."""
+    try:
+        form = _form_of_statement(text)
+    except ProgrammingError:
+        # Faults of the values come first, and those of the text are told as they are with the values.
+        return statement_of(bound(text, values))
+    return _filled(form, values).encode()
 
 
 def literal(value: Any) -> str:
@@ -150,13 +153,39 @@ def _one_statement(text: str) -> bytes:
 _remembered_statement = lru_cache(maxsize=512)(_one_statement)
 
 
-@lru_cache(maxsize=512)
-def _between_places(statement: str) -> tuple[str, ...]:
-    """Returns the text before, between and after the `?` for values."""
+class _Form(NamedTuple):
+    """A statement with places for values: a format with `%s` for each of them, and their number."""
+
+    format: str
+    places: int
+
+
+def _form_of(statement: str) -> _Form:
     places = [found.span() for found in _PLACE.finditer(statement) if found[1]]
     starts = [0, *(end for _, end in places)]
     ends = [*(start for start, _ in places), len(statement)]
-    return tuple(statement[start:end] for start, end in zip(starts, ends))
+    pieces = (statement[start:end].replace("%", "%%") for start, end in zip(starts, ends))
+    return _Form("%s".join(pieces), len(places))
+
+
+_remembered_form = lru_cache(maxsize=512)(_form_of)
+
+
+@lru_cache(maxsize=512)
+def _form_of_statement(text: str) -> _Form:
+    """Returns the form of the only statement of a text, with its `;`. Raises what statement_of raises."""
+    return _form_of(_one_statement(text).decode())
+
+
+def _filled(form: _Form, values: Sequence[Any]) -> str:
+    """Returns the statement of this form with these values. Raises what bound raises."""
+    # Whether a type is a Mapping or a Set takes long to find out.
+    is_listed = type(values) in (tuple, list) or not isinstance(values, UNLISTED) and hasattr(values, "__len__")
+    if not is_listed:
+        raise ProgrammingError(f"the values are to be a list or a tuple, not a {type(values).__name__}")
+    if len(values) != form.places:
+        raise ProgrammingError(f"values given: {len(values)}; places for values in the statement: {form.places}")
+    return form.format % tuple(map(literal, values))
 
 
 def _parts(script: bytes) -> list[bytes]:
