@@ -11,7 +11,7 @@ import re
 from collections.abc import Mapping, Sequence, Set
 from functools import lru_cache
 from operator import index
-from typing import Any, NamedTuple, Union
+from typing import Any, Union
 
 from .errors import DataError, ProgrammingError
 
@@ -62,18 +62,20 @@ def bound(statement: str, values: Sequence[Any]) -> str:
     A value is None or an integer. Raises ProgrammingError if one is neither, or if the number of values isn't the
     number of `?`, and DataError if an integer has more than 64 bits.
     """
-    return _filled(_remembered_form(statement), values)
+    return _woven(_remembered_pieces(statement), values)
 
 
 def bound_statement(text: str, values: Sequence[Any]) -> bytes:
-    """Returns the only statement of a text, with its `;` and its values. Raises what bound and statement_of raise. Only
-    when a text is new is it searched for the end of its statement and for places: no value can move these."""
+    """Returns the only statement of a text, with its `;` and its values. Raises what bound and statement_of raise.
+
+    Values move neither the end of a statement nor its places, so a text is searched for these only when it is new.
+    """
     try:
-        form = _form_of_statement(text)
+        pieces = _pieces_of_statement(text)
     except ProgrammingError:
-        # Faults of the values come first, and those of the text are told as they are with the values.
+        # A fault of the values is reported first, and one of the text as it is with its values.
         return statement_of(bound(text, values))
-    return _filled(form, values).encode()
+    return _woven(pieces, values).encode() + b";"
 
 
 def literal(value: Any) -> str:
@@ -153,39 +155,34 @@ def _one_statement(text: str) -> bytes:
 _remembered_statement = lru_cache(maxsize=512)(_one_statement)
 
 
-class _Form(NamedTuple):
-    """A statement with places for values: a format with `%s` for each of them, and their number."""
-
-    format: str
-    places: int
-
-
-def _form_of(statement: str) -> _Form:
+def _pieces_of(statement: str) -> tuple[str, ...]:
+    """Returns the text before, between and after the `?` for values."""
     places = [found.span() for found in _PLACE.finditer(statement) if found[1]]
     starts = [0, *(end for _, end in places)]
     ends = [*(start for start, _ in places), len(statement)]
-    pieces = (statement[start:end].replace("%", "%%") for start, end in zip(starts, ends))
-    return _Form("%s".join(pieces), len(places))
+    return tuple(statement[start:end] for start, end in zip(starts, ends))
 
 
-_remembered_form = lru_cache(maxsize=512)(_form_of)
+_remembered_pieces = lru_cache(maxsize=512)(_pieces_of)
 
 
 @lru_cache(maxsize=512)
-def _form_of_statement(text: str) -> _Form:
-    """Returns the form of the only statement of a text, with its `;`. Raises what statement_of raises."""
-    return _form_of(_one_statement(text).decode())
+def _pieces_of_statement(text: str) -> tuple[str, ...]:
+    """Returns the pieces of the only statement of a text, without its `;`. Raises what statement_of raises."""
+    return _pieces_of(_one_statement(text)[:-1].decode())
 
 
-def _filled(form: _Form, values: Sequence[Any]) -> str:
-    """Returns the statement of this form with these values. Raises what bound raises."""
-    # Whether a type is a Mapping or a Set takes long to find out.
-    is_listed = type(values) in (tuple, list) or not isinstance(values, UNLISTED) and hasattr(values, "__len__")
-    if not is_listed:
+def _woven(pieces: tuple[str, ...], values: Sequence[Any]) -> str:
+    """Returns the statement of these pieces with the values between them. Raises what bound raises."""
+    # The usual types come first: it takes long to find out that one is no Mapping and no Set.
+    if type(values) not in (tuple, list) and (isinstance(values, UNLISTED) or not hasattr(values, "__len__")):
         raise ProgrammingError(f"the values are to be a list or a tuple, not a {type(values).__name__}")
-    if len(values) != form.places:
-        raise ProgrammingError(f"values given: {len(values)}; places for values in the statement: {form.places}")
-    return form.format % tuple(map(literal, values))
+    if len(values) != len(pieces) - 1:
+        raise ProgrammingError(f"values given: {len(values)}; places for values in the statement: {len(pieces) - 1}")
+    woven = [pieces[0]]
+    for value, piece in zip(values, pieces[1:]):
+        woven += (literal(value), piece)
+    return "".join(woven)
 
 
 def _parts(script: bytes) -> list[bytes]:

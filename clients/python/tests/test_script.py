@@ -132,6 +132,15 @@ class Binding(unittest.TestCase):
             statements += isinstance(expected, bytes)
         self.assertGreater(statements, 100)
 
+    def test_values_that_are_fewer_than_they_say(self) -> None:
+        """What is sent ends with a `;` also then: else the program would wait for it."""
+
+        class Two(list):  # type: ignore[type-arg]
+            def __len__(self) -> int:
+                return 2
+
+        self.assertEqual(bound_statement("a ? b ? c", Two([1])), statement_of(bound("a ? b ? c", Two([1]))))
+
 
 class FileNames(unittest.TestCase):
     def test_quotes_are_doubled(self) -> None:
