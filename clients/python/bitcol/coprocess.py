@@ -89,7 +89,8 @@ class Coprocess:
                 self._unsent, self._owed = script, statements
                 self._send()
                 if seconds is None:
-                    # A short reply is often there by now, and then there is no need to wait.
+                    # A short reply is often there by now, and then there is no need to wait. Where the time is limited,
+                    # it is looked at before each transfer.
                     self._receive()
                 return self._finish()
             except OperationalError:
