@@ -58,6 +58,7 @@ class Coprocess:
         self._scripts = self._child.stdin.fileno()
         self._answers = self._child.stdout.fileno()
         os.set_blocking(self._scripts, False)
+        os.set_blocking(self._answers, False)
         self._for_answers = select.poll()
         self._for_answers.register(self._answers, select.POLLIN)
         self._for_both = select.poll()
@@ -87,6 +88,10 @@ class Coprocess:
                 self._finish()
                 self._unsent, self._owed = script, statements
                 self._send()
+                if seconds is None:
+                    # A short reply is often there by now, and then there is no need to wait. Where the time is limited,
+                    # it is looked at before each transfer.
+                    self._receive()
                 return self._finish()
             except OperationalError:
                 raise
@@ -171,7 +176,11 @@ class Coprocess:
         self._unsent = memoryview(self._unsent)[sent:] if sent < len(self._unsent) else b""
 
     def _receive(self) -> None:
-        data = os.read(self._answers, PIPE_BYTES)
+        """Reads what the pipe holds, if it holds anything."""
+        try:
+            data = os.read(self._answers, PIPE_BYTES)
+        except BlockingIOError:
+            return
         if not data:
             self._died()
         self._buffer.add(data)

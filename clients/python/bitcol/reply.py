@@ -8,6 +8,7 @@ from __future__ import annotations
 
 import json
 from collections.abc import Iterator, Sequence
+from functools import lru_cache
 from typing import Any, Union
 
 from .errors import InterfaceError, ProgrammingError, Refused, refusal
@@ -21,6 +22,8 @@ _ONE_LINE = (b"ok", b"error ", b"units ")
 _LAST_LINE = b"\nrows "
 # The bytes of rows that are read at a time when an answer isn't needed as a whole.
 _BATCH_BYTES = 2**18
+# Headings of few bytes are remembered. For longer ones it would take memory, and hardly save time.
+_LONGEST_REMEMBERED = 256
 _read_json = json.JSONDecoder().raw_decode
 
 
@@ -28,23 +31,35 @@ class ReplyBuffer:
     """Splits a stream of bytes into replies. The time is linear in the bytes, in whatever pieces they arrive."""
 
     def __init__(self) -> None:
-        self._bytes = bytearray()
+        # Mostly bytes come as one piece that is one reply. They are copied to an array only if they are not.
+        self._bytes: bytes | bytearray = b""
         # No reply ends before this offset.
         self._looked = 0
 
     def add(self, data: bytes) -> None:
         """Appends bytes."""
-        self._bytes += data
+        if not self._bytes:
+            self._bytes = data
+        elif isinstance(self._bytes, bytearray):
+            self._bytes += data
+        else:
+            self._bytes = bytearray(self._bytes) + data
 
     def take(self) -> bytes | None:
         """Removes and returns the first reply, or returns None if it isn't complete."""
         end = self._first_end()
         if end < 0:
             return None
-        with memoryview(self._bytes) as view:
-            reply = bytes(view[:end])
-        del self._bytes[:end]
+        held = self._bytes
         self._looked = 0
+        if end == len(held):
+            self._bytes = b""
+            return bytes(held)
+        if not isinstance(held, bytearray):
+            held = self._bytes = bytearray(held)
+        with memoryview(held) as view:
+            reply = bytes(view[:end])
+        del held[:end]
         return reply
 
     def _first_end(self) -> int:
@@ -97,9 +112,11 @@ class Reply:
         """Returns all rows as tuples, with None for NULL. Raises InterfaceError if the reply has no rows to show."""
         if self._cells is not None or not self.headings or rows_module() is None:
             return self._rows_of(self._all_cells())
+        if len(self._body) <= _BATCH_BYTES:
+            return self._rows_in(self._body)
         rows: list[Row] = []
         for start, end in self._parts():
-            rows += self._rows_between(start, end)
+            rows += self._rows_in(self._body[start:end])
         return rows
 
     def columns(self) -> list[list[Any]]:
@@ -114,7 +131,7 @@ class Reply:
         end = 0
         for _ in range(min(limit, len(self))):
             end = self._body.index(b"\n", end) + 1
-        return self._rows_between(0, end)
+        return self._rows_in(self._body[:end])
 
     def lines_at(self, first: int, limit: int) -> str:
         """Returns the lines of at most `limit` rows from row `first` on, counted from 0, as the program wrote them. The
@@ -134,7 +151,7 @@ class Reply:
             yield self.rows()
             return
         for start, end in self._parts():
-            yield self._rows_between(start, end)
+            yield self._rows_in(self._body[start:end])
 
     def lines(self, null: str) -> Iterator[str]:
         """Yields the rows as CSV lines, some at a time, with `null` for NULL. Raises InterfaceError as batches does."""
@@ -199,10 +216,9 @@ class Reply:
             yield start, end
             start = end
 
-    def _rows_between(self, start: int, end: int) -> list[Row]:
-        """The rows whose lines are the bytes of the body from start to end: by the module in C, if that is there and
-        takes them."""
-        lines, module = self._body[start:end], None if self._names_tables() else rows_module()
+    def _rows_in(self, lines: bytes) -> list[Row]:
+        """The rows that these lines of the body are: by the module in C, if that is there and takes them."""
+        module = None if self._names_tables() else rows_module()
         made: list[Row] | None = None if module is None else module.rows_in_lines(lines, len(self.headings))
         return self._rows_of(self._cells_of(lines)) if made is None else made
 
@@ -231,16 +247,27 @@ class Reply:
 
 def reply_of(data: bytes) -> Reply:
     """Parses the bytes of one reply."""
+    first = data.index(b"\n") + 1
+    if first < len(data):
+        last = data.rindex(_LAST_LINE) + 1
+        return Reply(int(data[last + len(b"rows ") : -1]), _headings_in(data[: first - 1]), data[first:last])
     if data.startswith(b"ok"):
-        return Reply(int(data[3:]) if len(data) > len(b"ok\n") else None)
-    if data.startswith(b"error "):
-        number, _, text = data[len(b"error ") : -1].partition(b": ")
-        return Reply(refusal=refusal(int(number), text.decode()))
+        return Reply(int(data[len(b"ok ") : -1]) if len(data) > len(b"ok\n") else None)
     if data.startswith(b"units "):
         return Reply(int(data[len(b"units ") : -1]), is_units=True)
-    first, last = data.index(b"\n"), data.rindex(_LAST_LINE)
-    headings = tuple(data[:first].decode().split(","))
-    return Reply(int(data[last + len(_LAST_LINE) : -1]), headings, data[first + 1 : last + 1])
+    number, _, text = data[len(b"error ") : -1].partition(b": ")
+    return Reply(refusal=refusal(int(number), text.decode()))
+
+
+def _headings_in(line: bytes) -> tuple[str, ...]:
+    return _remembered_headings(line) if len(line) <= _LONGEST_REMEMBERED else _split_headings(line)
+
+
+def _split_headings(line: bytes) -> tuple[str, ...]:
+    return tuple(line.decode().split(","))
+
+
+_remembered_headings = lru_cache(maxsize=512)(_split_headings)
 
 
 def _line_of(row: Row, null: str) -> str:

@@ -62,15 +62,20 @@ def bound(statement: str, values: Sequence[Any]) -> str:
     A value is None or an integer. Raises ProgrammingError if one is neither, or if the number of values isn't the
     number of `?`, and DataError if an integer has more than 64 bits.
     """
-    if isinstance(values, UNLISTED) or not hasattr(values, "__len__"):
-        raise ProgrammingError(f"the values are to be a list or a tuple, not a {type(values).__name__}")
-    pieces = _between_places(statement)
-    if len(values) != len(pieces) - 1:
-        raise ProgrammingError(f"values given: {len(values)}; places for values in the statement: {len(pieces) - 1}")
-    woven = [pieces[0]]
-    for value, piece in zip(values, pieces[1:]):
-        woven += (literal(value), piece)
-    return "".join(woven)
+    return _woven(_remembered_pieces(statement), values)
+
+
+def bound_statement(text: str, values: Sequence[Any]) -> bytes:
+    """Returns the only statement of a text, with its `;` and its values. Raises what bound and statement_of raise.
+
+    Values move neither the end of a statement nor its places, so a text is searched for these only when it is new.
+    """
+    try:
+        pieces = _pieces_of_statement(text)
+    except ProgrammingError:
+        # A fault of the values is reported first, and one of the text as it is with its values.
+        return statement_of(bound(text, values))
+    return _woven(pieces, values).encode() + b";"
 
 
 def literal(value: Any) -> str:
@@ -150,13 +155,34 @@ def _one_statement(text: str) -> bytes:
 _remembered_statement = lru_cache(maxsize=512)(_one_statement)
 
 
-@lru_cache(maxsize=512)
-def _between_places(statement: str) -> tuple[str, ...]:
+def _pieces_of(statement: str) -> tuple[str, ...]:
     """Returns the text before, between and after the `?` for values."""
     places = [found.span() for found in _PLACE.finditer(statement) if found[1]]
     starts = [0, *(end for _, end in places)]
     ends = [*(start for start, _ in places), len(statement)]
     return tuple(statement[start:end] for start, end in zip(starts, ends))
+
+
+_remembered_pieces = lru_cache(maxsize=512)(_pieces_of)
+
+
+@lru_cache(maxsize=512)
+def _pieces_of_statement(text: str) -> tuple[str, ...]:
+    """Returns the pieces of the only statement of a text, without its `;`. Raises what statement_of raises."""
+    return _pieces_of(_one_statement(text)[:-1].decode())
+
+
+def _woven(pieces: tuple[str, ...], values: Sequence[Any]) -> str:
+    """Returns the statement of these pieces with the values between them. Raises what bound raises."""
+    # The usual types come first: it takes long to find out that one is no Mapping and no Set.
+    if type(values) not in (tuple, list) and (isinstance(values, UNLISTED) or not hasattr(values, "__len__")):
+        raise ProgrammingError(f"the values are to be a list or a tuple, not a {type(values).__name__}")
+    if len(values) != len(pieces) - 1:
+        raise ProgrammingError(f"values given: {len(values)}; places for values in the statement: {len(pieces) - 1}")
+    woven = [pieces[0]]
+    for value, piece in zip(values, pieces[1:]):
+        woven += (literal(value), piece)
+    return "".join(woven)
 
 
 def _parts(script: bytes) -> list[bytes]:

@@ -15,7 +15,7 @@ from .errors import ProgrammingError
 from .insertion import Inserter, insertion_of
 from .program import find_program
 from .reply import Reply, reply_of
-from .script import PathLike, bound, checked_name, checked_text, quoted, statement_of, statements_of
+from .script import PathLike, bound_statement, checked_name, checked_text, quoted, statement_of, statements_of
 from .table import Table
 from .table_file import Kind, Layout
 
@@ -46,9 +46,9 @@ class Session:
     def execute(self, statement: str, values: Sequence[Any] = ()) -> Reply:
         """Executes one statement, with these values (integers and None) for its `?`, and returns the reply."""
         text = checked_text(statement)
-        if "?" in text or not isinstance(values, tuple) or values:
-            text = bound(text, values)
-        (data,) = self._door.answer(statement_of(text), 1)
+        has_values = "?" in text or not isinstance(values, tuple) or values
+        script = bound_statement(text, values) if has_values else statement_of(text)
+        (data,) = self._door.answer(script, 1)
         return _accepted(reply_of(data))
 
     def executemany(self, statement: str, rows: Iterable[Sequence[Any]]) -> int:

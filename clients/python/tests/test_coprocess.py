@@ -71,6 +71,29 @@ class Ends(SessionTestCase):
             with self.assertRaisesRegex(bitcol.OperationalError, "ended with status 2: no memory to begin with"):
                 session.execute("TABLES -- \n")
 
+    def test_a_program_that_answers_in_pieces(self) -> None:
+        with tempfile.TemporaryDirectory() as folder:
+            program = Path(folder) / "program"
+            pieces = ("A\\n1", "\\n", "2\\nrow", "s 2\\n")
+            answer = "; ".join(f"sleep 0.05; printf '{piece}'" for piece in pieces)
+            program.write_text(f"#!/bin/sh\nwhile read line; do {answer}; done\n")
+            program.chmod(stat.S_IRWXU)
+            session = self.new_session(program=program)
+            for _ in range(2):
+                self.assertEqual(session.execute("TABLES -- \n").rows(), [(1,), (2,)])
+
+    def test_a_reply_that_comes_after_the_time_limit(self) -> None:
+        door = door_of(self.session)
+        send = door._send
+
+        def send_and_sleep() -> None:
+            send()
+            time.sleep(0.2)
+
+        door._send = send_and_sleep  # type: ignore[method-assign]
+        with self.assertRaises(bitcol.OutOfTime):
+            self.session.answers(["TABLES"], 0.1)
+
     def test_a_program_that_is_killed_by_a_signal_without_a_name(self) -> None:
         number = signal.SIGRTMIN + 6
         door_of(self.session)._child.send_signal(number)

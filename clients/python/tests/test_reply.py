@@ -54,6 +54,15 @@ class Meaning(unittest.TestCase):
         self.assertEqual(reply.columns(), [[1, -2], [None, 5]])
         self.assertEqual(list(reply), [(1, None), (-2, 5)])
 
+    def test_few_and_many_headings(self) -> None:
+        for width in (1, 3, 500):
+            headings = tuple(f"COLUMN_{place}" for place in range(width))
+            for first in (7, 8):
+                line = ",".join(str(first + place) for place in range(width))
+                reply = reply_of(f"{','.join(headings)}\n{line}\nrows 1\n".encode())
+                self.assertEqual(reply.headings, headings)
+                self.assertEqual(reply.rows(), [tuple(range(first, first + width))])
+
     def test_no_rows(self) -> None:
         reply = reply_of(b"A,B\nrows 0\n")
         self.assertEqual((reply.rows(), reply.columns(), len(reply)), ([], [[], []], 0))

@@ -2,10 +2,20 @@
 
 import random
 import unittest
+from collections.abc import Callable
+from typing import Any
 
 from bitcol import DataError, ProgrammingError, quoted
-from bitcol.script import bound, statement_of, statements_of
+from bitcol.script import bound, bound_statement, statement_of, statements_of
 from tests.support import SessionTestCase
+
+
+def outcome(call: Callable[[str, Any], bytes], text: str, values: Any) -> Any:
+    """Returns what the call returns, or the type and the text of what it raises."""
+    try:
+        return call(text, values)
+    except (DataError, ProgrammingError) as fault:
+        return type(fault), str(fault)
 
 
 class Cutting(unittest.TestCase):
@@ -104,6 +114,32 @@ class Binding(unittest.TestCase):
         for value in (-(2**63) - 1, 2**63, 10**5000):
             with self.assertRaisesRegex(DataError, "64 bits"):
                 bound("?", (value,))
+
+    def test_a_statement_with_values(self) -> None:
+        self.assertEqual(bound_statement("SELECT a FROM t WHERE a = ?", (5,)), b"SELECT a FROM t WHERE a =  5 ;")
+        self.assertEqual(bound_statement(";DELETE FROM t WHERE a=?; -- 5%", [None]), b"DELETE FROM t WHERE a= NULL ;")
+
+    def test_a_statement_with_values_is_the_statement_of_the_text_with_them(self) -> None:
+        """Also where one of both is refused, and the second time, when the text is known."""
+        generator = random.Random(7)
+        statements = 0
+        for _ in range(4_000):
+            text = "".join(generator.choice("???';;-- %\na1é\ud800") for _ in range(generator.randint(0, 9)))
+            values = [generator.choice((1, -1, None, 2**63, "1")) for _ in range(generator.randint(0, 2))]
+            expected = outcome(lambda text, values: statement_of(bound(text, values)), text, values)
+            for _ in range(2):
+                self.assertEqual(outcome(bound_statement, text, values), expected, (text, values))
+            statements += isinstance(expected, bytes)
+        self.assertGreater(statements, 100)
+
+    def test_values_that_are_fewer_than_they_say(self) -> None:
+        """What is sent ends with a `;` also then: else the program would wait for it."""
+
+        class Two(list):  # type: ignore[type-arg]
+            def __len__(self) -> int:
+                return 2
+
+        self.assertEqual(bound_statement("a ? b ? c", Two([1])), statement_of(bound("a ? b ? c", Two([1]))))
 
 
 class FileNames(unittest.TestCase):
