@@ -11,8 +11,9 @@ CSV adds the file whose name stands before it in italics. So is each script ther
 In a guide (docs/GUIDE.md) an example is instead a fence of commands after `$ `, whose outputs follow them, or of Python
 with `>>>`. Commands are those of the system's shell, among them `bitcol` and `python3 -m bitcol`; what follows a prompt
 of bitcol's shell is typed there. All examples of a guide are run in their order, in one folder, where a fence that has
-a file's name before it in italics makes this file. Times aren't compared, nor is what the shell advises because of
-them. With --take the outputs are written into the guide as they are now, in place of being compared.
+a file's name before it in italics makes this file. Times aren't compared, and whatever the shell measures takes equally
+long, so that what it advises doesn't depend on the machine. With --take the outputs are written into the guide as they
+are now, with times that are measured, in place of being compared.
 
 It prints file:line and the difference for each example that gets other replies, and exits with 1 if there is any.
 """
@@ -99,7 +100,7 @@ def guide_examples(guide, takes):
     with tempfile.TemporaryDirectory(prefix="bitcol-guide-") as name:
         folder = Path(name).resolve() / "work"
         folder.mkdir()
-        examples = list(Room(folder).examples(text))
+        examples = list(Room(folder, measures=takes).examples(text))
     if takes:
         guide.write_text(taken(text, examples), encoding="utf-8")
         return [True] * len(examples)

@@ -14,7 +14,7 @@ from pathlib import Path
 from typing import Any
 
 import bitcol
-from tests.terminal import IN_TEXT, MORE, PROMPT, SECONDS, Terminal, environment, erased
+from tests.terminal import IN_TEXT, MORE, PROMPT, SECONDS, Terminal, environment, erased, even_clock
 
 FENCE = re.compile(
     r"(?:\*(?P<file>[\w. ]+)\*:\n\n)?^```(?P<kind>csv|sql|console|python)\n(?P<body>.*?)^```$",
@@ -22,12 +22,11 @@ FENCE = re.compile(
 )
 PROMPTS = (PROMPT, MORE, IN_TEXT)
 COLUMNS = 72
-# Measured values differ from run to run: seconds, microseconds in sentences and in columns, and what is advised.
+# Measured times differ from run to run: seconds, and microseconds in sentences and in columns.
+MICROSECONDS = re.compile(r"\b(\d+) microseconds\b")
 _SECONDS = re.compile(r"^\d+\.\d{3} s$", re.MULTILINE)
-_MICROSECONDS = re.compile(r"\b\d+ microseconds\b")
-_REBUILD = re.compile(r"^(REBUILD \w+)( \(.*\))?: \d+ units, ", re.MULTILINE)
 _HEADING = "MICROSECONDS"
-_NOTE = re.compile(r"(-+|(, )?advised|\s+)$")
+_CELL = re.compile(r" *\d+")
 
 
 def taken(text: str, examples: Iterable[Example]) -> str:
@@ -45,15 +44,15 @@ def runs_of(body: str) -> Iterator[tuple[str, str]]:
 
 
 def without_times(text: str) -> str:
-    """Returns the text without measured times, and without what is advised because of them."""
-    text = _REBUILD.sub(r"\1: ", _MICROSECONDS.sub("microseconds", _SECONDS.sub("s", text)))
+    """Returns the text with an N in the place of each measured time."""
     lines, place = [], None
-    for line in text.split("\n"):
+    for line in MICROSECONDS.sub("N microseconds", _SECONDS.sub("N s", text)).split("\n"):
+        cell = "" if place is None else line[place : place + len(_HEADING)]
         if _HEADING in line:
             place = line.index(_HEADING)
-        elif place is not None and not line[place : place + len(_HEADING)].strip("0123456789- "):
-            line = (line[:place] + _NOTE.sub("", line[place + len(_HEADING) :])).rstrip()
-        else:
+        elif _CELL.fullmatch(cell):
+            line = f"{line[:place]}N{line[place + len(_HEADING) :]}"
+        elif cell != "-" * len(_HEADING):
             place = None
         lines.append(line)
     return "\n".join(lines)
@@ -77,9 +76,11 @@ class Example:
 class Room:
     """A folder in which the examples of a document are run, in their order."""
 
-    def __init__(self, folder: Path) -> None:
-        """The folder exists. The program and the histories of its shells are beside it."""
+    def __init__(self, folder: Path, measures: bool = False) -> None:
+        """The folder exists. The program and the histories of its shells are beside it. Its shells measure times only
+        if this is asked for: otherwise whatever they measure takes equally long, and sizes decide what they advise."""
         self._folder = folder
+        self._clock = {} if measures else even_clock(folder.parent)
         self._names: dict[str, Any] = {}
         programs = folder.parent / "bin"
         programs.mkdir()
@@ -128,7 +129,7 @@ class Room:
             stdin=subprocess.DEVNULL,
             text=True,
             cwd=self._folder,
-            env=environment(self._folder.parent, PATH=self._path),
+            env=environment(self._folder.parent, PATH=self._path, **self._clock),
             timeout=SECONDS,
             check=False,
         )
@@ -139,7 +140,8 @@ class Room:
         words = shlex.split(command)
         if words[:3] != ["python3", "-m", "bitcol"]:
             raise ValueError(f"no shell to type into: {command}")
-        terminal = Terminal(self._folder, words[3:], environment(self._folder.parent, COLUMNS=str(COLUMNS)))
+        variables = environment(self._folder.parent, COLUMNS=str(COLUMNS), **self._clock)
+        terminal = Terminal(self._folder, words[3:], variables)
         try:
             terminal.keeps_escapes = True
             shown = ""

@@ -27,6 +27,8 @@ MORE = "   ...> "
 IN_TEXT = "     '> "
 COLUMNS = 100
 SECONDS = 30
+# A clock by which everything takes equally long, whatever the machine is doing: Python imports it when it starts.
+EVEN_CLOCK = "import itertools, time\n\nticks = itertools.count()\ntime.perf_counter = lambda: next(ticks) / 1_000\n"
 _ESCAPES = re.compile(r"\x1b\[[0-9;?]*[A-Za-z]")
 _NO_COLOURS = re.compile(r"\x1b\[[0-9;?]*[A-Za-ln-z]")
 # How a line is erased, once carriage returns are left out.
@@ -53,6 +55,15 @@ def environment(folder: Path, **variables: str) -> dict[str, str]:
         "PYTHONUTF8": "1",
     }
     return {**os.environ, **named, **variables}
+
+
+def even_clock(folder: Path) -> dict[str, str]:
+    """Returns environment variables for shells that measure a millisecond for whatever they measure, so that what they
+    advise doesn't depend on the machine. The clock is put into this folder."""
+    clock = folder / "clock"
+    clock.mkdir()
+    (clock / "sitecustomize.py").write_text(EVEN_CLOCK)
+    return {"PYTHONPATH": os.pathsep.join([str(clock), str(PACKAGE)])}
 
 
 class ShellTestCase(unittest.TestCase):

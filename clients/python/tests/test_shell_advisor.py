@@ -15,12 +15,10 @@ from bitcol.shell.sizes import Values, codes_size, values_of
 from bitcol.shell.workload import MOST_REMEMBERED, History, history_of
 from bitcol.table_file import ColumnHeader, headers_of
 from tests.support import SessionTestCase
-from tests.terminal import PACKAGE, PROMPT, ShellTestCase
+from tests.terminal import PROMPT, ShellTestCase, even_clock
 
 INTERRUPT = "\x03"
 STANDS = "V OFFSET"
-# A clock by which everything takes equally long, whatever the machine is doing: Python imports it when it starts.
-EVEN_CLOCK = "import itertools, time\n\nticks = itertools.count()\ntime.perf_counter = lambda: next(ticks) / 1_000\n"
 
 
 class Workloads(unittest.TestCase):
@@ -144,16 +142,13 @@ class Advised(ShellTestCase):
 
     def setUp(self) -> None:
         super().setUp()
-        clock = self.folder.parent / "clock"
-        clock.mkdir()
-        (clock / "sitecustomize.py").write_text(EVEN_CLOCK)
-        self.path = os.pathsep.join([str(clock), str(PACKAGE)])
+        self.clock = even_clock(self.folder.parent)
         lines = [f"{place // 16},{37 * place % 1000},{(5, 7_000_000_000)[place % 2]}\n" for place in range(256)]
         self.table = self.write("t.csv", "hour,level,site\n" + "".join(lines))
 
     def advice(self, typed: str) -> tuple[list[dict[str, object]], list[str]]:
         """Returns the answer, which is JSON, and the lines on standard error."""
-        ended = self.run_shell(self.table, "--mode", "json", typed=typed, PYTHONPATH=self.path)
+        ended = self.run_shell(self.table, "--mode", "json", typed=typed, **self.clock)
         self.assertEqual(ended.returncode, 0, ended.stderr)
         return json.loads(ended.stdout), ended.stderr.splitlines()
 
@@ -180,7 +175,7 @@ class Advised(ShellTestCase):
         self.write("t.csv", "a\n" + "5\n2000000000\n" * 4_000)
         typed = "SELECT COUNT(*) FROM t WHERE a = 5;\n" * 2 + ".mode csv\n.advise t\n.export t before.table\n"
         typed += ".advise t apply\n.export t after.table\n.advise t apply\n"
-        ended = self.run_shell("t.csv", typed=typed, PYTHONPATH=self.path)
+        ended = self.run_shell("t.csv", typed=typed, **self.clock)
         lines = ended.stderr.splitlines()
         self.assertEqual(lines[0], "2 x SELECT COUNT(*) FROM t WHERE a = 5")
         self.assertEqual(lines[-1], "line 8: error: nothing is advised for T: .advise T measures it", lines)

@@ -1,6 +1,7 @@
 """The shell's page: runs each of its examples, in order, in one folder.
 
-With the variable BITCOL_TAKE the page's outputs are rewritten as they are now.
+With the variable BITCOL_TAKE the page's outputs are rewritten as they are now, with times that are measured. Otherwise
+whatever the shell measures takes equally long: only then does what it advises depend on nothing but the example.
 """
 
 from __future__ import annotations
@@ -9,32 +10,52 @@ import os
 import unittest
 from pathlib import Path
 
-from tests.examples import Room, runs_of, taken, without_times
+from tests.examples import MICROSECONDS, Room, runs_of, taken, without_times
 from tests.terminal import ShellTestCase
 
 PAGE = Path(__file__).resolve().parent.parent / "SHELL.md"
 
 
 class Page(ShellTestCase):
+    maxDiff = None
+
     def test_examples(self) -> None:
-        text = PAGE.read_text(encoding="utf-8")
-        examples = Room(self.folder).examples(text)
-        if os.environ.get("BITCOL_TAKE"):
+        text, takes = PAGE.read_text(encoding="utf-8"), bool(os.environ.get("BITCOL_TAKE"))
+        examples = list(Room(self.folder, measures=takes).examples(text))
+        if takes:
             PAGE.write_text(taken(text, examples), encoding="utf-8")
-        commands = 0
+            return
+        self.assertGreater(sum(len(list(runs_of(example.before))) for example in examples), 10)
         for example in examples:
-            commands += len(list(runs_of(example.before)))
             self.assertEqual(without_times(example.now), without_times(example.before))
-        self.assertTrue(commands > 10 or "BITCOL_TAKE" in os.environ)
+        # The times are those of the even clock, on which nothing that is advised depends.
+        times = [int(time) for example in examples for time in MICROSECONDS.findall(example.now)]
+        self.assertTrue(times and all(time % 1_000 == 0 for time in times), times)
 
 
 class Times(unittest.TestCase):
+    FIRST = "a: 3 units, 120 microseconds\nA  MICROSECONDS  B\n-  ------------  -\nT            12  1\n0.012 s\n"
+    SECOND = "a: 3 units, 7 microseconds\nA  MICROSECONDS  B\n-  ------------  -\nT             9  1\n1.000 s\n"
+
     def test_what_was_measured_is_left_out(self) -> None:
-        first = "a: 3 units, 120 microseconds\nA  MICROSECONDS  B\n-  ------------  -\nT            12  1\n0.012 s\n"
-        second = "a: 3 units, 7 microseconds\nA  MICROSECONDS  B\n-  ------------  -\nT             9  1\n1.000 s\n"
-        self.assertEqual(without_times(first), without_times(second))
-        for before, after in (("3 units", "4 units"), ("T  ", "U  "), ("  1\n", "  2\n")):
-            self.assertNotEqual(without_times(first), without_times(second.replace(before, after)))
+        self.assertEqual(without_times(self.FIRST), without_times(self.SECOND))
+
+    def test_nothing_else_is_left_out(self) -> None:
+        for before, after in (
+            ("a: 3 units", "a: 4 units"),
+            ("7 microseconds", "microseconds"),
+            ("T  ", "U  "),
+            ("  1\n", "  2\n"),
+            ("  1\n", "  1  advised\n"),
+            ("             9", "              "),
+            ("             9", "            -9"),
+            ("------------", "-----------"),
+            ("1.000 s", "1.000"),
+            ("1.000 s", "s"),
+        ):
+            changed = self.SECOND.replace(before, after)
+            self.assertNotEqual(changed, self.SECOND)
+            self.assertNotEqual(without_times(changed), without_times(self.FIRST), after)
 
 
 if __name__ == "__main__":
