@@ -467,8 +467,8 @@ class Ends(WebTestCase):
             self.kill_program(number)
 
     def test_a_statement_does_not_keep_the_server(self) -> None:
-        """The program reads a statement and answers nothing for five seconds: the server waits for two."""
-        program = self.write("slow", "#!/bin/sh\nhead -c 1 > taken\nexec sleep 5\n")
+        """The program reads a statement and never answers: the server waits for two seconds."""
+        program = self.write("slow", "#!/bin/sh\nhead -c 1 > taken\ncat > /dev/null\n")
         program.chmod(0o755)
         server = self.start(BITCOL=str(program))
         with ThreadPoolExecutor(1) as window:
