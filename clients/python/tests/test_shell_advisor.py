@@ -219,18 +219,23 @@ class Advised(ShellTestCase):
 
 class Undisturbed(ShellTestCase):
     """The table and the session after an advice that ended differently. The number in the file is that of the program
-    that was started last: the copy's."""
+    that was started last: the copy's, which begins once it isn't held any more."""
 
     def setUp(self) -> None:
         super().setUp()
-        self.program, self.number = self.observed_program()
+        program, self.number = self.observed_program()
+        self.held = self.folder.parent / "held"
+        wait = f"while [ -e '{self.held}' ]; do sleep 0.05; done"
+        program.write_text(program.read_text().replace("exec ", f"{wait}\nexec "))
         self.write("t.csv", "a\n" + "".join(f"{place}\n" for place in range(500)))
-        self.shell = self.terminal("t.csv", BITCOL=str(self.program))
+        self.shell = self.terminal("t.csv", BITCOL=str(program))
         self.shell.say("SELECT COUNT(*) FROM t WHERE a < 3;")
         self.first = self.number.read_text()
 
-    def wait_for_copy(self) -> int:
-        """Waits for the copy's program, and returns its process."""
+    def start_advice(self) -> int:
+        """Asks for advice, and returns the process of the copy's program, which is held."""
+        self.held.touch()
+        self.shell.press(".advise t\n")
         limit = time.monotonic() + 30
         while self.number.read_text() in (self.first, ""):
             self.assertLess(time.monotonic(), limit)
@@ -246,14 +251,12 @@ class Undisturbed(ShellTestCase):
         self.assertIn("nothing is advised for T", self.shell.say(".advise t apply"))
 
     def test_an_interrupt(self) -> None:
-        self.shell.press(".advise t\n")
-        copy = self.wait_for_copy()
-        os.kill(copy, signal.SIGSTOP)
+        copy = self.start_advice()
         self.shell.wait_for("trying layouts: ")
         self.shell.press(INTERRUPT)
         self.shell.wait_for("interrupted: ")
         self.shell.wait_for(PROMPT)
-        os.kill(copy, signal.SIGCONT)
+        self.held.unlink()
         self.assert_as_before()
         limit = time.monotonic() + 30
         while Path(f"/proc/{copy}").exists():
@@ -262,16 +265,16 @@ class Undisturbed(ShellTestCase):
 
     def test_the_end_of_the_program(self) -> None:
         """It doesn't count as an end of the copy, and another program is started."""
-        self.shell.press(".advise t\n")
-        self.wait_for_copy()
+        self.start_advice()
         os.kill(int(self.first), signal.SIGKILL)
+        self.held.unlink()
         said = self.shell.wait_for(PROMPT)
         self.assertIn("error: the program was killed by SIGKILL; its tables are gone\n", said)
         self.assertIn("another program was started, and it has no tables\n", said)
 
     def test_the_end_of_the_copy(self) -> None:
-        self.shell.press(".advise t\n")
-        os.kill(self.wait_for_copy(), signal.SIGKILL)
+        os.kill(self.start_advice(), signal.SIGKILL)
+        self.held.unlink()
         said = self.shell.wait_for(PROMPT)
         self.assertIn("error: the copy of T: the program was killed by SIGKILL; its tables are gone; T itself is", said)
         self.assert_as_before()
