@@ -30,6 +30,7 @@ SECONDS = 30
 # A clock by which everything takes equally long, whatever the machine is doing: Python imports it when it starts.
 EVEN_CLOCK = "import itertools, time\n\nticks = itertools.count()\ntime.perf_counter = lambda: next(ticks) / 1_000\n"
 _ESCAPES = re.compile(r"\x1b\[[0-9;?]*[A-Za-z]")
+_NO_ERASING = re.compile(r"\x1b\[(?!K)[0-9;?]*[A-Za-z]")
 _NO_COLOURS = re.compile(r"\x1b\[[0-9;?]*[A-Za-ln-z]")
 # How a line is erased, once carriage returns are left out.
 _ERASING = "\x1b[K"
@@ -140,24 +141,24 @@ class Terminal:
         self._pid, self._side = pty.fork()
         if self._pid == 0:
             try:
+                fcntl.ioctl(0, termios.TIOCSWINSZ, struct.pack("HHHH", 40, COLUMNS, 0, 0))
                 os.chdir(folder)
                 os.execve(SHELL[0], [*SHELL, *words], variables)
             finally:
                 os._exit(127)
-        fcntl.ioctl(self._side, termios.TIOCSWINSZ, struct.pack("HHHH", 40, COLUMNS, 0, 0))
         self.keeps_escapes = False
         self._unread = ""
         self._status: int | None = None
 
     def wait_for(self, text: str, seconds: float = SECONDS) -> str:
-        """Waits for this text, and returns what was written up to it since the last wait. AssertionError if it doesn't
-        come."""
+        """Waits for this text, and returns what was written up to it since the last wait, without the progress lines
+        that were erased: a slow machine shows some. AssertionError if it doesn't come."""
         limit = time.monotonic() + seconds
         while text not in self._unread:
             if not self._read(limit - time.monotonic()):
                 raise AssertionError(f"{text!r} doesn't come after {self._unread!r}")
         before, _, self._unread = self._unread.partition(text)
-        return before
+        return before if self.keeps_escapes else erased(before)
 
     def press(self, keys: str) -> None:
         """Types keys, without the end of a line."""
@@ -170,9 +171,17 @@ class Terminal:
     def interrupt(self, prompt: str = PROMPT) -> None:
         """Presses Ctrl-C, and waits for the next prompt. It isn't pressed in the moment between a prompt and the wait
         for keys, when Python doesn't notice it before the next key."""
-        time.sleep(0.2)
+        self.wait_until_idle()
         self.press("\x03")
         self.wait_for(prompt)
+
+    def wait_until_idle(self) -> None:
+        """Waits until the shell's main thread sleeps, which waits for keys then, or for the program."""
+        limit = time.monotonic() + SECONDS
+        while self._state() != "S":
+            if time.monotonic() > limit:
+                raise AssertionError(f"the shell isn't idle after {self._unread!r}")
+            time.sleep(0.005)
 
     def say(self, line: str, prompt: str = PROMPT) -> str:
         """Types a line at a prompt, and returns what is written up to the next prompt."""
@@ -188,7 +197,7 @@ class Terminal:
         """Returns what is written up to the end of the shell, which ends by itself."""
         while self._read(SECONDS):
             pass
-        return self._unread
+        return self._unread if self.keeps_escapes else erased(self._unread)
 
     def status(self) -> int:
         """Waits for the end of the shell, and returns its exit status."""
@@ -211,6 +220,11 @@ class Terminal:
             data = os.read(self._side, 65_536) if ready else b""
         except OSError:  # raised by Linux when the other side is closed
             data = b""
-        text = data.decode(errors="replace")
-        self._unread += (text if self.keeps_escapes else _ESCAPES.sub("", text)).replace("\r", "")
+        self._unread += data.decode(errors="replace").replace("\r", "")
+        if not self.keeps_escapes:
+            self._unread = _NO_ERASING.sub("", self._unread)
         return bool(data)
+
+    def _state(self) -> str:
+        """Returns the letter of Linux for the state of the shell's main thread."""
+        return Path(f"/proc/{self._pid}/stat").read_text().rpartition(")")[2].split()[0]

@@ -195,8 +195,7 @@ class Interrupts(ShellTestCase):
             os.kill(held, signal.SIGSTOP)
             self.addCleanup(_let_go_on, held)
             terminal.press("INSERT INTO t VALUES (3);\n")
-            terminal.wait_for("INSERT INTO t VALUES (3);\n")
-            time.sleep(0.3)
+            terminal.wait_for("waiting: ")
             terminal.press(INTERRUPT)
             terminal.wait_for("interrupted: what was under way may yet be carried out\n")
             terminal.wait_for(PROMPT)
@@ -215,7 +214,7 @@ class Interrupts(ShellTestCase):
         terminal.interrupt()
         terminal.press(".quit\n")
         terminal.wait_for(".quit\n")
-        time.sleep(0.3)
+        terminal.wait_until_idle()
         terminal.press(INTERRUPT)
         terminal.rest()
         self.assertEqual(terminal.status(), 130)
@@ -328,7 +327,8 @@ class Colours(ShellTestCase):
 
 class ProgressLines(ShellTestCase):
     def test_a_long_load_tells_how_far_it_is(self) -> None:
-        """The program is stopped, so that the load takes long."""
+        """The program is stopped, so that the load takes long. Progress is shown every tenth of a second, or more
+        rarely, so that at least a second is between the first of these and the last."""
         program, number = self.observed_program()
         self.write("t.csv", "a\n1\n2\n")
         terminal = self.terminal(BITCOL=str(program))
@@ -337,7 +337,11 @@ class ProgressLines(ShellTestCase):
         os.kill(held, signal.SIGSTOP)
         self.addCleanup(_let_go_on, held)
         terminal.press(".import t.csv\n")
-        terminal.wait_for("t.csv: 0 s")
-        terminal.wait_for("t.csv: 1 s")
+        shown = []
+        for _ in range(12):
+            terminal.wait_for("t.csv: ")
+            shown.append(int(terminal.wait_for(" s")))
+        self.assertEqual(shown, sorted(shown))
+        self.assertGreater(shown[-1], shown[0])
         os.kill(held, signal.SIGCONT)
         self.assertIn("T: 2 rows\n", terminal.wait_for(PROMPT))
