@@ -1,7 +1,8 @@
 """The shell's page: runs each of its examples, in order, in one folder.
 
-With the variable BITCOL_TAKE the page's outputs are rewritten as they are now, with times that are measured. Otherwise
-whatever the shell measures takes equally long: only then does what it advises depend on nothing but the example.
+Whatever the shell measures takes equally long here, so that what it advises depends on nothing but the example. With
+the variable BITCOL_TAKE the page's outputs are first rewritten as they are now, with times that are measured. If other
+load on the machine changed what was advised by these, the test fails, and they are to be taken again.
 """
 
 from __future__ import annotations
@@ -20,17 +21,22 @@ class Page(ShellTestCase):
     maxDiff = None
 
     def test_examples(self) -> None:
-        text, takes = PAGE.read_text(encoding="utf-8"), bool(os.environ.get("BITCOL_TAKE"))
-        examples = list(Room(self.folder, measures=takes).examples(text))
-        if takes:
-            PAGE.write_text(taken(text, examples), encoding="utf-8")
-            return
+        if os.environ.get("BITCOL_TAKE"):
+            self.take()
+        examples = list(Room(self.folder).examples(PAGE.read_text(encoding="utf-8")))
         self.assertGreater(sum(len(list(runs_of(example.before))) for example in examples), 10)
         for example in examples:
             self.assertEqual(without_times(example.now), without_times(example.before))
         # The times are those of the even clock, on which nothing that is advised depends.
         times = [int(time) for example in examples for time in MICROSECONDS.findall(example.now)]
         self.assertTrue(times and all(time % 1_000 == 0 for time in times), times)
+
+    def take(self) -> None:
+        """Rewrites the page with its outputs as they are now."""
+        folder = self.folder.parent / "taken" / "work"
+        folder.mkdir(parents=True)
+        text = PAGE.read_text(encoding="utf-8")
+        PAGE.write_text(taken(text, Room(folder, measures=True).examples(text)), encoding="utf-8")
 
 
 class Times(unittest.TestCase):
