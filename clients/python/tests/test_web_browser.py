@@ -308,19 +308,23 @@ class Page(BrowserTestCase):
     def test_the_policy_holds(self) -> None:
         """Neither a script in the page nor a part from elsewhere is loaded."""
         self.open()
+        expected = ["connect-src", "frame-src", "img-src", "script-src-elem", "script-src-elem"]
         violated = self.browser.execute_async_script(
-            "const done = arguments[arguments.length - 1], found = [];"
-            "addEventListener('securitypolicyviolation', (event) => found.push(event.effectiveDirective));"
+            "const [awaited, done] = arguments, found = [];"
+            "addEventListener('securitypolicyviolation', (event) => {"
+            "  found.push(event.effectiveDirective);"
+            "  if (found.length === awaited) setTimeout(() => done(found.sort()), 500);"
+            "});"
             "const add = (tag, properties) =>"
             "  document.body.append(Object.assign(document.createElement(tag), properties));"
             "add('script', {textContent: 'window.wasRun = true'});"
             "add('script', {src: 'http://evil.example:1/a.js'});"
             "add('img', {src: 'http://evil.example:1/a.png'});"
             "add('iframe', {src: 'http://evil.example:1/'});"
-            "fetch('http://evil.example:1/').catch(() => {});"
-            "setTimeout(() => done(found.sort()), 500)"
+            "fetch('http://evil.example:1/').catch(() => {});",
+            len(expected),
         )
-        self.assertEqual(violated, ["connect-src", "frame-src", "img-src", "script-src-elem", "script-src-elem"])
+        self.assertEqual(violated, expected)
         self.assertIsNone(self.js("return window.wasRun"))
         self.browser.get_log("browser")
 
