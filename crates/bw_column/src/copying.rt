@@ -21,6 +21,7 @@ use crate::step::Step;
 use crate::within::has_top;
 use bw_cells::Measured;
 use bw_code::{Encoding, Ends, Layout, Offset};
+use bw_dictionary::{dictionary_like, find_entries, merge_entries, move_codes};
 use bw_mask::{Mask, has_bit};
 use std::alloc::{AllocError, Global};
 
@@ -77,6 +78,17 @@ fn keep_bits(words: &mut [u64; 64], present: u64, rows: u64) -> u64
     present & rows
 }
 
+/// The table that maps a code to its entry's index among those used, and that to a code.
+fn through(alloc: Global, stands: &[bool], moves: &[u64], table: &[u64]) -> Result<Vec<u64>, AllocError> {
+    let mut codes = Vec::from_elem(alloc, 0, moves.len())?;
+    for m in 0..moves.len() {
+        if stands[m] {
+            codes[m] = table[moves[m] as usize];
+        }
+    }
+    Ok(codes)
+}
+
 /// The layout of a copy: V stays V, and every other layout is copied to plain codes.
 fn copied_layout(layout: Layout) -> Layout
     ensures held { (values : List (Option ℤ)) → All (IsNullOrHeld layout) values → All (IsNullOrHeld result) values }
@@ -101,14 +113,35 @@ impl Column {
     {
         let _few = self.len();
         let _sound = self.encoding();
-        let Encoding::Offset(offset) = self.encoding else {
-            return Ok(None);
-        };
-        let encoding = Encoding::Offset(offset);
-        let layout = copied_layout(self.layout());
-        let mut copy = Column::with_room(alloc, layout, encoding, self.len())?;
-        copy.extend_masked(offset, self, places);
-        Ok(Some(copy))
+        match &self.encoding {
+            Encoding::Offset(offset) => {
+                let encoding = Encoding::Offset(*offset);
+                let layout = copied_layout(self.layout());
+                let mut copy = Column::with_room(alloc, layout, encoding, self.len())?;
+                copy.extend_masked(*offset, self, places);
+                Ok(Some(copy))
+            }
+            Encoding::Dictionary(dictionary) => {
+                let encoding = dictionary_like(alloc, dictionary.entries())?;
+                let mut copy = Column::with_room(alloc, Layout::P, encoding, self.len())?;
+                copy.extend_masked_entries(self, places);
+                Ok(Some(copy))
+            }
+        }
+    }
+
+    /// The same for the codes of a dictionary, which the copy has, too.
+    fn extend_masked_entries(&mut self, other: &Column, places: &Mask) {
+        let mut list = [0; 64];
+        let mut at = 0;
+        while at < other.len() {
+            let n = (other.len() - at).min(64);
+            let codes = &mut list[..n];
+            let present = other.read_codes(at, codes);
+            let kept = keep_rows(codes, present, places.bits(at, n));
+            self.extend_rows(codes, kept);
+            at += n;
+        }
     }
 
     /// Appends the values that another column has in the rows of a mask, and NULL for each other row, within the room.
@@ -214,6 +247,16 @@ impl Column {
         let _few = self.len();
         let _many = copy.len();
         let codes = KeptCodes::Distances;
+        if let (Encoding::Dictionary(own), Encoding::Dictionary(other)) = (&self.encoding, &copy.encoding) {
+            let stands = copy.standing(alloc, other.entries())?;
+            let none = [];
+            let used = merge_entries(alloc, other.entries(), &stands, &none)?;
+            if let Some(table) = find_entries(alloc, own.entries(), &used.entries)? {
+                let codes = KeptCodes::Places(through(alloc, &stands, &used.moves, &table)?);
+                self.reserve(0)?;
+                return Ok(Prepared { step: Step::Stay, codes });
+            }
+        }
         if self.has_codes_of(copy) {
             self.reserve(0)?;
             let step = Step::Stay;
@@ -234,7 +277,7 @@ impl Column {
             unreachable!()
         };
         let Encoding::Offset(offset) = other.encoding else {
-            unreachable!()
+            return spans(own, other.ends());
         };
         let _sound = other.encoding();
         if covers(own, offset) {
@@ -314,6 +357,21 @@ impl Column {
         }
     }
 
+    /// Writes the values of a copy to the set places by these codes, a word of rows at a time.
+    fn copy_entries(&mut self, places: &Mask, copy: &Column, codes: &[u64]) {
+        let end = places.len();
+        let mut at = 0;
+        while let Some(place) = places.next_from(at) {
+            let start = place - place % 64;
+            let n = (end - start).min(64);
+            let mut list = [0; 64];
+            let present = copy.read_codes(start, &mut list[..n]);
+            move_codes(&mut list[..n], present, codes);
+            self.put_coded(start, places.bits(start, n), &list[..n], present);
+            at = start + n;
+        }
+    }
+
     /// Writes the values of a copy to the set places, from which the copy was taken. Takes no memory.
     pub fn copy_from(&mut self, prepared: Prepared, places: &Mask, copy: &Column)
         requires prepared { IsPreparedFor self.old (chosen_values places.now copy.now.values) false prepared }
@@ -324,11 +382,16 @@ impl Column {
         ensures layout { self.new.layout ≡ self.old.layout }
         ensures encoding { IsEncodingFor self.old.values self.old.encoding (chosen_values places.now copy.now.values) self.new.encoding }
     {
-        let Prepared { step, codes: _ } = prepared;
+        let Prepared { step, codes } = prepared;
         self.take(step);
-        let Encoding::Offset(offset) = self.encoding else {
-            unreachable!()
-        };
-        self.copy_runs(offset, places, copy);
+        match codes {
+            KeptCodes::Places(codes) => self.copy_entries(places, copy, codes.as_slice()),
+            KeptCodes::Distances => {
+                let Encoding::Offset(offset) = self.encoding else {
+                    unreachable!()
+                };
+                self.copy_runs(offset, places, copy);
+            }
+        }
     }
 }

@@ -42,7 +42,7 @@ pub(crate) struct Grown {
 impl Column {
     /// Fills `codes` with the codes of at most 64 rows from row `at` on, and returns which of the rows are non-null.
     #[tactic(auto, using(bw_code::proofs::Lists::made_len))]
-    fn read_codes(&self, at: usize, codes: &mut [u64]) -> u64
+    pub(crate) fn read_codes(&self, at: usize, codes: &mut [u64]) -> u64
         requires few { length codes.old ≤ 64 }
         requires there { at + length codes.old ≤ length self.now.values }
         ensures codes { codes.new ≡ take (length codes.old) (drop at (codes_for self.now.encoding self.now.values)) }
@@ -80,7 +80,7 @@ impl Column {
     }
 
     /// Which entries of its dictionary some row has.
-    fn standing(&self, alloc: Global, entries: &[i64]) -> Result<Vec<bool>, AllocError>
+    pub(crate) fn standing(&self, alloc: Global, entries: &[i64]) -> Result<Vec<bool>, AllocError>
         requires { self.now.encoding ≡ by.Dictionary entries.now }
         ensures count { IfOk result (λ stands. length stands.items ≡ length entries.now) }
         ensures stands { IfOk result (λ stands. (x : ℤ) → (StandsIn entries.now stands.items x ↔ Contains (known self.now.values) x)) }

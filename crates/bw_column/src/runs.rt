@@ -24,7 +24,7 @@ const FEW: u32 = 8;
 
 /// Fills `out` with the items for the set places from `at` on, the first set place taking item `first`, and with `none`
 /// where a place is not set. Returns the index of the next set place's item.
-fn spread<T: Copy>(
+pub(crate) fn spread<T: Copy>(
     places: &Mask,
     at: usize,
     list: &[T],

@@ -45,7 +45,7 @@ fn values_from(kind: Kind, column: &Column, alloc: Global, mask: &Mask) -> Resul
     ensures values { IfOk result (λ values. taken mask.now values ≡ chosen_values mask.now column.now.values) }
     ensures fits { IfOk result (FitsCopy kind mask.now) }
 {
-    if kind == Kind::Offset && are_many(mask) {
+    if are_many(mask) {
         if let Some(copy) = column.copy_at(alloc, mask)? {
             return Ok(Taken::Copied(copy));
         }
