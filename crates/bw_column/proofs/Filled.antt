@@ -1,12 +1,12 @@
 -- A value for each row, put in the set places of a mask, word by word.
-use Rattle.std.proofs.Common.{Bool, List, None, Option, ap, arith, count_by, false, if◌then◌else◌, inl, inr, length, refl, replicate, sym, true, ℕ, ℤ, ◌&&◌, ◌+◌, ◌-◌, ◌<◌, ◌≡◌, ◌≤◌, ◌∙◌}
+use Rattle.std.proofs.Common.{Bool, List, None, Option, ap, arith, count_by, drop, false, if◌then◌else◌, inl, inr, length, length-drop, length-take, refl, replicate, sym, take, true, ℕ, ℤ, ◌&&◌, ◌+◌, ◌-◌, ◌<◌, ◌≡◌, ◌≤◌, ◌∙◌}
 use Rattle.std.specs.Prelude.{nat_lt}
 use Rattle.std.proofs.lemmas.Bool.{both_ways, cases_Bool, cases_lt, le-ltb, lt-ltb}
 use Rattle.std.proofs.lemmas.List.{get_or-replicate, get_or_past}
 use Rattle.bw_mask.specs.Masks.{IsNext, MaskRows, bit_of, row_at}
 use Rattle.bw_code.specs.Columns.{is_chosen}
 use Rattle.bw_code.specs.Lists.{made}
-use Rattle.bw_code.proofs.Lists.{made_at, made_is, made_len}
+use Rattle.bw_code.proofs.Lists.{made_at, made_is, made_len, part_at}
 use Rattle.bw_code.proofs.Runs.{chosen_above, chosen_below, chosen_from}
 use Rattle.bw_column.specs.Places.{overwritten, put_at, rank}
 use Rattle.bw_column.specs.Values.{value_at}
@@ -116,3 +116,10 @@ chosen_among start rows n j given t =
         | inr h ↦ absurd (both_ways (bit_of rows (j - start)) (given (j - start) h) (sym (chosen_from start rows j from) ∙ t))
       ],
     )
+
+-- what a word takes of the copy stands in the copy at the same rows
+pub taken_of_run : (copy : List (Option ℤ)) (start rows n : ℕ) → start + n ≤ length copy → ((i : ℕ) → n ≤ i → bit_of rows i ≡ false) → (j : ℕ) → is_chosen start rows j ≡ true → value_at (take n (drop start copy)) (j - start) ≡ value_at copy j
+taken_of_run copy start rows n inside given j t =
+    let here = chosen_among start rows n j given t in
+    let run : start + (j - start) ≡ j = omega (arith, here.0) in
+    part_at copy (take n (drop start copy)) start n (j - start) None refl (omega (arith, here.1, length-take n (drop start copy), length-drop start copy, inside)) ∙ ap (value_at copy) run

@@ -1,8 +1,9 @@
 -- A dictionary that takes in other values: its entries, and the codes there.
-use Rattle.std.proofs.Common.{Bool, List, None, Option, Some, ap, arith, get_or, inl, inr, length, map, pos, refl, sym, ℕ, ℤ, ◌++◌, ◌<◌, ◌≡◌, ◌∙◌}
+use Rattle.std.proofs.Common.{[], Bool, List, None, Option, Some, ap, arith, false, get_or, inl, inr, length, map, pos, refl, subst, sym, true≢false, ℕ, ℤ, ◌++◌, ◌<◌, ◌≡◌, ◌∙◌}
 use Rattle.std.specs.List.{All}
 use Rattle.std.specs.Prelude.{Contains, unwrap_or, ◌↔◌}
-use Rattle.std.proofs.lemmas.List.{get_or-map, get_or_default, length-map}
+use Rattle.std.proofs.lemmas.Bool.{cases_lt}
+use Rattle.std.proofs.lemmas.List.{append-nil, get_or-map, get_or_default, get_or_past, length-map}
 use Rattle.std.proofs.lemmas.List.Elements.{Contains-append_cases, Contains-append_left, Contains-append_right, Contains-get_or, filter_map-append}
 use Rattle.bw_cells.proofs.Known.{known_at}
 use Rattle.bw_code.specs.Ascending.{IsAscending}
@@ -12,7 +13,7 @@ use Rattle.bw_code.specs.declared.encoding.Encoding.TheVariants as by
 use Rattle.bw_code.specs.declared.kind.Kind.TheVariants as kinds
 use Rattle.bw_code.proofs.Entries.{entry_at}
 use Rattle.bw_code.proofs.Lists.{made_is}
-use Rattle.bw_dictionary.specs.Merging.{IsUnion, StandsIn}
+use Rattle.bw_dictionary.specs.Merging.{IsUnion, StandsAt, StandsIn}
 use Rattle.bw_dictionary.specs.Moving.{moved_place}
 use Rattle.bw_dictionary.specs.Ranking.{place_of}
 use Rattle.bw_dictionary.proofs.Encoded.{cell_of}
@@ -25,6 +26,10 @@ use Rattle.bw_column.proofs.Known.{all_coded}
 -- the encoding of a column is told of its values and encoding, under whatever names
 pub for_same : (own again values : List (Option ℤ)) (a b e : Encoding) → again ≡ own → b ≡ a → IsEncodingFor own a values e → IsEncodingFor again b values e
 for_same own again values a b e p q for = rw (p, q) for
+
+-- no values, and no entries
+pub none_distinct : AreDistinct [] []
+none_distinct = record { ascending = λ i j low h. absurd (omega arith); same = λ x. (λ h. h, λ h. h) }
 
 -- all values of a dictionary's list have codes
 pub distinct_coded : (values entries : List ℤ) → AreDistinct values entries → All (Contains entries) values
@@ -91,6 +96,22 @@ module _ (entries : List ℤ) (stands : List Bool) (new union : List ℤ) (moves
           let moved : IsMoved (by.Dictionary entries) (by.Dictionary union) moves (Some x) = rw code (omega (arith, m.1, put.moves_count), there) in
           rw same moved
 
+  -- by way of their places there, to codes in a third encoding
+  pub moves_through : (e : Encoding) (codes table : List ℕ) → AreCodes (code_of e) union codes → length table ≡ length moves → ((m : ℕ) → StandsAt stands m → get_or table m 0 ≡ get_or codes (get_or moves m 0) 0)
+      → All (IsMoved (by.Dictionary entries) e table) own
+  moves_through e codes table are count through k d h = each (get_or own k None) refl
+    where
+      each : (value : Option ℤ) → get_or own k None ≡ value → IsMoved (by.Dictionary entries) e table (get_or own k d)
+      each None is = let same : get_or own k d ≡ None = get_or_default own k d None h ∙ is in rw same tt
+      each (Some x) is =
+          let same : get_or own k d ≡ Some x = get_or_default own k d None h ∙ is in
+          let m = (stand x).1 (known_at own k x is) in
+          let code : code_for (by.Dictionary entries) (Some x) ≡ m.0 = ap (λ c. unwrap_or c 0) (entry_at entries x m.0 up m.1 m.3) in
+          let to = put.moved m.0 m.1 m.2 in
+          let there : code_of e x ≡ Some (get_or table m.0 0) = ap (code_of e) (sym (to.1 ∙ m.3)) ∙ are.each (get_or moves m.0 0) to.0 ∙ ap Some (sym (through m.0 m.2)) in
+          let moved : IsMoved (by.Dictionary entries) e table (Some x) = rw code (omega (arith, m.1, put.moves_count, count), there) in
+          rw same moved
+
   pub union_fits : AreDistinct (known (own ++ cells)) union
   union_fits = record {
     ascending = put.ascending;
@@ -118,3 +139,20 @@ module _ (entries : List ℤ) (stands : List Bool) (new union : List ℤ) (moves
     count = put.places_count;
     each = λ i h. let to = put.placed i h in entry_at union (get_or new i (pos 0)) (get_or places i 0) put.ascending to.0 to.1;
   }
+
+-- entries that stand, alone
+module _ (entries : List ℤ) (stands : List Bool) (used : List ℤ) (moves places : List ℕ) (up : IsAscending entries) (put : IsUnion entries stands [] used moves places)
+    (own : List (Option ℤ)) (stand : (x : ℤ) → (StandsIn entries stands x ↔ Contains (known own) x)) where
+  pub used_distinct : AreDistinct (known own) used
+  used_distinct = subst (λ xs. AreDistinct (known xs) used) (append-nil own) (union_fits entries stands [] used moves places up put own [] stand none_distinct)
+
+  pub used_moves : (e : Encoding) (codes table : List ℕ) → AreCodes (code_of e) used codes → length table ≡ length moves → ((m : ℕ) → StandsAt stands m → get_or table m 0 ≡ get_or codes (get_or moves m 0) 0)
+      → All (IsMoved (by.Dictionary entries) e table) own
+  used_moves = moves_through entries stands [] used moves places up put own [] stand none_distinct
+
+  pub used_inside : (codes : List ℕ) → length codes ≡ length used → length stands ≡ length entries → (m : ℕ) → StandsAt stands m → get_or moves m 0 < length codes
+  used_inside codes many flags m at =
+      elim (cases_lt m (length entries)) [
+        | inl low ↦ omega (arith, (put.moved m low at).0, many)
+        | inr high ↦ absurd (true≢false (sym at ∙ get_or_past stands m false (omega (arith, high, flags))))
+      ]

@@ -1,23 +1,19 @@
 -- Values that are null outside of a mask: what the values in its rows ask, they ask.
-use Rattle.std.proofs.Common.{◌≡◌, ℕ, suc, zero, ℤ, ◌+◌, ◌<◌, ◌≤◌, ◌&&◌, Bool, FitsSigned, true, false, is_some, length-drop, length-take, nat_lt, w64, Option, None, Some, List, [], ◌∷◌, ◌++◌, drop, length, get_or, if◌then◌else◌, map, refl, sym, ap, subst, take, ◌∙◌, inl, inr, arith, add-one}
+use Rattle.std.proofs.Common.{◌≡◌, ℕ, suc, zero, ℤ, ◌+◌, ◌<◌, ◌≤◌, ◌&&◌, Bool, true, false, is_some, length-drop, length-take, nat_lt, Option, None, Some, List, [], ◌∷◌, ◌++◌, drop, length, get_or, if◌then◌else◌, map, refl, sym, ap, subst, take, ◌∙◌, inl, inr, arith, add-one}
 use Rattle.std.specs.List.{All}
 use Rattle.std.proofs.lemmas.Bool.{cases_Bool, cases_lt, le-ltb, lt-ltb}
 use Rattle.std.proofs.lemmas.List.{append-nil, drop_more, ext_get_or, get_or-map, get_or_default, get_or_past, length-map, map-append, take_all}
 use Rattle.std.proofs.lemmas.List.Elements.{filter_map-append}
 use Rattle.bw_mask.specs.Masks.{MaskRows, bit_of, len, row_at}
-use Rattle.bw_cells.specs.Distances.{distance_from}
 use Rattle.bw_cells.proofs.Known.{known_part}
 use Rattle.bw_code.proofs.Lists.{made_at, made_len, part_at}
 use Rattle.bw_code.specs.declared.encoding.Encoding.{Encoding}
-use Rattle.bw_code.specs.declared.encoding.Encoding.TheVariants as by
-use Rattle.bw_code.specs.declared.offset.Offset.{Offset}
 use Rattle.bw_code.specs.Encodings.{IsEncoding}
 use Rattle.bw_column.specs.Codes.{IsCoded, IsRowCode, code_for, codes_for}
 use Rattle.bw_column.specs.Copies.{IsMasked, masked}
 use Rattle.bw_column.specs.Places.{chosen_values, rank, set_below}
 use Rattle.bw_column.specs.Preparing.{IsEncodingFor}
 use Rattle.bw_column.specs.Values.{IsNullOrStorable, known, value_at}
-use Rattle.bw_column.proofs.Bases.{distance_is_code}
 use Rattle.bw_column.proofs.Blocks.{are_row_codes, rows_are_values}
 use Rattle.bw_column.proofs.Blocks.{rows as rows_of_codes}
 use Rattle.bw_column.proofs.Pieces.{all_here}
@@ -108,20 +104,20 @@ all_masked P places values none all k d h =
     let inside : k < length values = omega (arith, h, made_len (length values) f) in
     rw (made_at (length values) f k d inside) (elim (cases_Bool (row_at places k)) [ inl t ↦ rw t (all k None inside) | inr t ↦ rw t none ])
 
--- the distance of a value, and 0 where it is not there, which is the distance of a null
-kept_distance : (base : ℤ) (v : Option ℤ) → (if is_some v then distance_from base v else 0) ≡ distance_from base v
-kept_distance base None = refl
-kept_distance base (Some x) = refl
+-- the code of a value, and 0 where it is not there, which is the code of a null
+kept_code : (e : Encoding) (v : Option ℤ) → (if is_some v then code_for e v else 0) ≡ code_for e v
+kept_code e None = refl
+kept_code e (Some x) = refl
 
--- a run of a copy: the distances of those of the values that are in the mask's rows
-module _ (o : Offset) (places : MaskRows) (values : List (Option ℤ)) (at n present rows kept : ℕ) (distances codes : List ℕ) (inside : at + n ≤ length values) (fits : FitsSigned w64 o.base)
-    (coded : All (IsCoded (by.Offset o)) values) (storable : All IsNullOrStorable values)
-    (are : distances ≡ map (distance_from o.base) (take n (drop at values)))
+-- a run of a copy: the codes of those of the values that are in the mask's rows
+module _ (e : Encoding) (sound : IsEncoding e) (places : MaskRows) (values : List (Option ℤ)) (at n present rows kept : ℕ) (all_codes codes : List ℕ) (inside : at + n ≤ length values)
+    (coded : All (IsCoded e) values) (storable : All IsNullOrStorable values)
+    (are : all_codes ≡ take n (drop at (codes_for e values)))
     (there : (i : ℕ) → bit_of present i ≡ is_some (get_or (take n (drop at values)) i None))
     (bits : (i : ℕ) → bit_of rows i ≡ (nat_lt i n && row_at places (at + i)))
     (both : (k : ℕ) → bit_of kept k ≡ (bit_of present k && bit_of rows k))
-    (long : length codes ≡ length distances)
-    (each : (k : ℕ) → k < length distances → get_or codes k 0 ≡ (if bit_of kept k then get_or distances k 0 else 0)) where
+    (long : length codes ≡ length all_codes)
+    (each : (k : ℕ) → k < length all_codes → get_or codes k 0 ≡ (if bit_of kept k then get_or all_codes k 0 else 0)) where
   abbrev own : List (Option ℤ)
   own = take n (drop at values)
 
@@ -146,30 +142,29 @@ module _ (o : Offset) (places : MaskRows) (values : List (Option ℤ)) (at n pre
   here : (k : ℕ) → k < n → bit_of kept k ≡ (is_some (value_at values (at + k)) && row_at places (at + k))
   here k h = both k ∙ rw (there k, own_at k h, bits k, lt-ltb k n h) refl
 
-  many : length distances ≡ n
-  many = ap length are ∙ length-map own (distance_from o.base) ∙ own_len
+  many : length all_codes ≡ n
+  many = ap length are ∙ omega (arith, length-take n (drop at (codes_for e values)), length-drop at (codes_for e values), inside, length-map values (code_for e))
 
-  distance_at : (k : ℕ) → k < n → get_or distances k 0 ≡ distance_from o.base (value_at values (at + k))
-  distance_at k h = ap (λ xs. get_or xs k 0) are ∙ get_or-map (distance_from o.base) own k None 0 (omega (arith, h, own_len)) ∙ ap (distance_from o.base) (own_at k h)
+  code_here : (k : ℕ) → k < n → get_or all_codes k 0 ≡ code_for e (value_at values (at + k))
+  code_here k h = part_at (codes_for e values) all_codes at n k 0 are (omega (arith, h, many)) ∙ get_or-map (code_for e) values (at + k) None 0 (omega (arith, h, inside))
 
-  code_at_run : (k : ℕ) → k < n → get_or codes k 0 ≡ code_for (by.Offset o) (get_or run k None)
+  code_at_run : (k : ℕ) → k < n → get_or codes k 0 ≡ code_for e (get_or run k None)
   code_at_run k h =
       let v = value_at values (at + k) in
-      let low : at + k < length values = omega (arith, h, inside) in
       each k (omega (arith, h, many))
       ∙ elim (cases_Bool (row_at places (at + k))) [
         | inl t ↦
             let bit : bit_of kept k ≡ is_some v = here k h ∙ rw t (and-true-r (is_some v)) in
-            rw (bit, distance_at k h, run_at k h, t) (kept_distance o.base v ∙ distance_is_code o v fits (coded (at + k) None low) (storable (at + k) None low))
+            rw (bit, code_here k h, run_at k h, t) (kept_code e v)
         | inr t ↦
             let bit : bit_of kept k ≡ false = here k h ∙ rw t (and-false-r (is_some v)) in
             rw (bit, run_at k h, t) refl
       ]
 
-  pub run_codes : codes ≡ codes_for (by.Offset o) run
+  pub run_codes : codes ≡ codes_for e run
   run_codes =
-      ext_get_or 0 codes (codes_for (by.Offset o) run) (long ∙ many ∙ sym (length-map run (code_for (by.Offset o)) ∙ run_len)) (λ k h.
-      code_at_run k (omega (arith, h, long, many)) ∙ sym (code_any (by.Offset o) run k))
+      ext_get_or 0 codes (codes_for e run) (long ∙ many ∙ sym (length-map run (code_for e) ∙ run_len)) (λ k h.
+      code_at_run k (omega (arith, h, long, many)) ∙ sym (code_any e run k))
 
   pub run_present : (k : ℕ) → bit_of kept k ≡ is_some (get_or run k None)
   run_present k =
@@ -184,10 +179,8 @@ module _ (o : Offset) (places : MaskRows) (values : List (Option ℤ)) (at n pre
             rw none (both k ∙ rw (bits k, le-ltb k n h) (and-false-r (bit_of present k)))
       ]
 
-  pub masked_rows : (e : Encoding) → e ≡ by.Offset o → ((k : ℕ) → k < length codes → IsRowCode e (get_or codes k 0) (bit_of kept k)) × (rows_of_codes e codes kept ≡ run)
-  masked_rows e is =
-      let sound : IsEncoding e = rw is tt in
-      let held : All (IsCoded e) run = rw is (all_here (IsCoded (by.Offset o)) (masked places values) at n (all_masked (IsCoded (by.Offset o)) places values tt coded)) in
+  pub masked_rows : ((k : ℕ) → k < length codes → IsRowCode e (get_or codes k 0) (bit_of kept k)) × (rows_of_codes e codes kept ≡ run)
+  masked_rows =
+      let held : All (IsCoded e) run = all_here (IsCoded e) (masked places values) at n (all_masked (IsCoded e) places values tt coded) in
       let ints : All IsNullOrStorable run = all_here IsNullOrStorable (masked places values) at n (all_masked IsNullOrStorable places values tt storable) in
-      let by_codes : codes ≡ codes_for e run = rw is run_codes in
-      (are_row_codes e sound run codes kept held ints by_codes run_present, rows_are_values e sound run codes kept held ints by_codes run_present)
+      (are_row_codes e sound run codes kept held ints run_codes run_present, rows_are_values e sound run codes kept held ints run_codes run_present)

@@ -15,9 +15,10 @@ use Rattle.bw_code.proofs.Lists.{made_is, part_at}
 use Rattle.bw_dictionary.specs.Merging.{StandsAt, StandsIn}
 use Rattle.bw_dictionary.specs.Moving.{IsCodeOf}
 use Rattle.bw_dictionary.proofs.Encoded.{cell_of}
-use Rattle.bw_column.specs.Codes.{IsCoded, code_for, codes_for}
+use Rattle.bw_column.specs.Codes.{IsCoded, IsRowCode, code_for, codes_for}
 use Rattle.bw_column.specs.Moves.{IsMoved}
-use Rattle.bw_column.specs.Values.{known}
+use Rattle.bw_column.specs.Values.{IsNullOrStorable, known}
+use Rattle.bw_column.proofs.Blocks.{are_row_codes, rows, rows_are_values}
 use Rattle.bw_column.proofs.Rows.{code_is}
 
 -- a value from the n-th on has this code
@@ -110,6 +111,14 @@ module _ (e : Encoding) (sound : IsEncoding e) (values : List (Option ℤ)) (cod
                   let there = (moved_at k x h e_is).1 in
                   rw (set_here k h ∙ ap is_some e_is, e_is) (ap (λ c. get_or moves c 0) (code_here k h ∙ ap (code_for e) e_is) ∙ sym (ap (λ o. unwrap_or o 0) there))
               by None e_is = rw (set_here k h ∙ ap is_some e_is, e_is) refl
+
+      -- the rows that are written by such codes
+      pub moved_rows : IsEncoding other → All IsNullOrStorable here → (new : List ℕ) → length new ≡ length run → ((k : ℕ) → k < length run → get_or new k 0 ≡ (if bit_of present k then get_or moves (get_or run k 0) 0 else 0))
+          → (length new ≡ n) × ((k : ℕ) → k < length new → IsRowCode other (get_or new k 0) (bit_of present k)) × (rows other new present ≡ here)
+      moved_rows sound_other storable new long each =
+          let codes = codes_moved new long each in
+          let held = values_coded sound_other in
+          (long ∙ many, are_row_codes other sound_other here new present held storable codes bits, rows_are_values other sound_other here new present held storable codes bits)
 
 -- the code of a value that is not null is the place of an entry
 module _ (entries : List ℤ) (sound : IsEncoding (by.Dictionary entries)) (values : List (Option ℤ)) (coded : All (IsCoded (by.Dictionary entries)) values) where

@@ -8,6 +8,13 @@ use Rattle.bw_code.specs.declared.kind.Kind.TheVariants as kind
 use Rattle.bw_code.specs.declared.kind.Layout.TheVariants as layouts
 use Rattle.bw_column.specs.Codes.{IsCoded}
 use Rattle.bw_column.specs.Columns.{ColumnView}
+use Rattle.bw_column.specs.Moves.{IsMoved}
+use Rattle.bw_column.specs.Places.{chosen_values}
+use Rattle.bw_column.specs.Preparing.{IsPreparedFor, Preparation, after}
+use Rattle.bw_column.specs.declared.copying.CopiedCodes.{CopiedCodes}
+use Rattle.bw_column.specs.declared.copying.CopiedCodes.TheVariants.{Distances, Moved}
+use Rattle.bw_column.specs.declared.kept.KeptCodes.TheVariants as kept
+use Rattle.bw_column.specs.declared.step.Step.{Step}
 use Rattle.bw_column.specs.Values.{value_at}
 
 -- the values in the rows of a mask, and null in every other row
@@ -18,6 +25,27 @@ masked places values = made (length values) (λ i. if row_at places i then value
 pub record IsMasked (places : MaskRows) (values : List (Option ℤ)) : Type 0 where
   pub long : length values ≡ len places
   pub null : (i : ℕ) → row_at places i ≡ false → value_at values i ≡ None
+
+-- a copy, the step before its values are taken, and the codes by which they are
+pub record CopyPreparation : Type 0 where
+  pub step : Step
+  pub codes : CopiedCodes
+  pub copy : ColumnView
+
+-- the codes of a copy's values in a column as it is after a step: distances where it is of kind OFFSET, or found in the table
+abbrev pub FitsAfter : ColumnView → Step → ColumnView → CopiedCodes → Type 0
+FitsAfter column step copy Distances = kind_of (after column step).encoding ≡ kind.Offset
+FitsAfter column step copy (Moved moves) = All (IsMoved copy.encoding (after column step).encoding moves.items) copy.values
+
+-- a step, and no codes that are kept
+abbrev pub step_alone : Step → Preparation
+step_alone step = record { step = step; codes = kept.Distances }
+
+-- what is prepared lets the column in its present state take the copy's values in the rows of a mask
+pub record IsCopyPreparedFor (column : ColumnView) (places : MaskRows) (prepared : CopyPreparation) : Type 0 where
+  pub masked : IsMasked places prepared.copy.values
+  pub fits : FitsAfter column prepared.step prepared.copy prepared.codes
+  pub ready : IsPreparedFor column (chosen_values places prepared.copy.values) false (step_alone prepared.step)
 
 -- a column can take any of another column's values by their codes as they are: both are of kind OFFSET, its layout holds what the
 -- other's holds, and each of those values has a code in it

@@ -128,7 +128,7 @@ impl Column {
             let step = Step::Stay;
             return Ok(Prepared { step, codes });
         }
-        let Grown { column, codes } = self.grown(alloc, values, &ranked, more)?;
+        let Grown { column, codes } = self.grown(alloc, values, &ranked.entries, more)?;
         let codes = KeptCodes::Places(ranked.codes(alloc, values, &codes)?);
         let step = Step::Replace(column);
         Ok(Prepared { step, codes })

@@ -8,21 +8,49 @@ ghost use Rattle.bw_code.specs.declared.encoding.Encoding.TheVariants as by;
 ghost use Rattle.bw_code.specs.declared.kind.Kind.TheVariants as kind;
 ghost use Rattle.bw_column.specs.Codes.{IsCoded};
 ghost use Rattle.bw_column.specs.Columns.{Keeps};
-ghost use Rattle.bw_column.specs.Copies.{IsMasked, masked};
+ghost use Rattle.bw_column.specs.Copies.{FitsAfter, IsCopyPreparedFor, IsMasked, masked, step_alone};
+ghost use Rattle.bw_column.specs.Moves.{IsMoved};
 ghost use Rattle.bw_column.specs.Places.{chosen_values, overwritten, put_values};
-ghost use Rattle.bw_column.specs.Preparing.{IsEncodingFor, IsPreparedFor};
+ghost use Rattle.bw_column.specs.Preparing.{IsEncodingFor, IsPreparedFor, after};
 ghost use Rattle.bw_column.specs.Values.{IsNullOrHeld, known, widest};
+ghost use Rattle.bw_dictionary.specs.Merging.{StandsAt};
 
-use crate::change::Prepared;
 use crate::codes::greatest_code;
 use crate::column::Column;
-use crate::kept::KeptCodes;
+use crate::growing::Grown;
 use crate::step::Step;
 use crate::within::has_top;
 use bw_cells::Measured;
-use bw_code::{Encoding, Ends, Layout, Offset};
+use bw_code::{Encoding, Ends, Kind, Layout, Offset};
+use bw_dictionary::{dictionary_like, find_entries, merge_entries, move_codes};
 use bw_mask::{Mask, has_bit};
 use std::alloc::{AllocError, Global};
+use std::marker::Model;
+
+/// The codes by which a column takes the values of a copy.
+#[derive(Drop)]
+pub(crate) enum CopiedCodes {
+    /// Distances from the column's base.
+    Distances,
+    /// For each code in the copy's dictionary that a row has, the code of the same value in the column's.
+    Moved(Vec<u64>),
+}
+
+/// A copy, and what a column has prepared to take its values.
+#[derive(Drop)]
+pub struct PreparedCopy {
+    pub(crate) step: Step,
+    pub(crate) codes: CopiedCodes,
+    pub(crate) copy: Column,
+}
+
+impl Model for PreparedCopy {
+    ghost use Rattle.bw_column.specs.Copies.{CopyPreparation};
+
+    ghost Value = { CopyPreparation };
+
+    ghost view = { λ p. record { step = p.step; codes = p.codes; copy = p.copy } };
+}
 
 /// Whether bases and widths alone show that each value with a code in `other` has one in `offset`, too.
 fn covers(offset: Offset, other: Offset) -> bool
@@ -77,46 +105,77 @@ fn keep_bits(words: &mut [u64; 64], present: u64, rows: u64) -> u64
     present & rows
 }
 
-/// The layout of a copy: V stays V, and every other layout is copied to plain codes.
-fn copied_layout(layout: Layout) -> Layout
+/// The codes by way of an index: for each entry that stands the code at the index that it moves to.
+fn codes_through(
+    alloc: Global,
+    stands: &[bool],
+    moves: &[u64],
+    codes: &[u64],
+) -> Result<Vec<u64>, AllocError>
+    requires flags { length stands.now ≡ length moves.now }
+    requires inside { (m : ℕ) → StandsAt stands.now m → slice_index moves.now m < length codes.now }
+    ensures count { IfOk result (λ table. length table.items ≡ length moves.now) }
+    ensures each { IfOk result (λ table. (m : ℕ) → StandsAt stands.now m → slice_index table.items m ≡ slice_index codes.now (slice_index moves.now m)) }
+{
+    let mut table = Vec::with_capacity(alloc, moves.len())?;
+    for m in 0..moves.len() {
+        let code = if stands[m] {
+            codes[moves[m] as usize]
+        } else {
+            0
+        };
+        table.push_reserved(code);
+    }
+    Ok(table)
+}
+
+/// The layout of a copy: distances in V stay in V, and all other codes are copied to plain codes.
+fn copied_layout(layout: Layout, kind: Kind) -> Layout
     ensures held { (values : List (Option ℤ)) → All (IsNullOrHeld layout) values → All (IsNullOrHeld result) values }
     ensures wide { widest layout ≤ widest result }
 {
-    if layout == Layout::V {
+    if layout == Layout::V && kind == Kind::Offset {
         Layout::V
     } else {
         Layout::P
     }
 }
 
+/// A copy of an encoding.
+fn encoding_like(alloc: Global, encoding: &Encoding) -> Result<Encoding, AllocError>
+    ensures { IfOk result (λ e. e ≡ encoding.now) }
+{
+    match encoding {
+        Encoding::Offset(offset) => Ok(Encoding::Offset(*offset)),
+        Encoding::Dictionary(dictionary) => dictionary_like(alloc, dictionary.entries()),
+    }
+}
+
 impl Column {
-    /// A copy of the values in the rows of a mask, in planes or plain codes, with NULL in the other rows. It stays the
-    /// same while the columns change. Returns a copy only of a column of kind OFFSET, `None` for a DICTIONARY.
-    pub fn copy_at(&self, alloc: Global, places: &Mask) -> Result<Option<Column>, AllocError>
+    /// A copy of the values in the rows of a mask, in the same encoding, in planes or plain codes, with NULL in the
+    /// other rows. It stays the same while the columns change.
+    pub fn copy_at(&self, alloc: Global, places: &Mask) -> Result<Column, AllocError>
         requires { len places.now ≡ length self.now.values }
-        ensures values { IfOk result (λ copy. IfSome copy (λ c. c.values ≡ masked places.now self.now.values)) }
-        ensures masked { IfOk result (λ copy. IfSome copy (λ c. IsMasked places.now c.values)) }
-        ensures held { IfOk result (λ copy. IfSome copy (λ c. All (IsNullOrHeld self.now.layout) c.values)) }
-        ensures kind { IfOk result (λ copy. IfSome copy (λ c. kind_of c.encoding ≡ kind.Offset)) }
+        ensures values { IfOk result (λ copy. copy.values ≡ masked places.now self.now.values) }
+        ensures masked { IfOk result (λ copy. IsMasked places.now copy.values) }
+        ensures held { IfOk result (λ copy. All (IsNullOrHeld self.now.layout) copy.values) }
+        ensures kind { IfOk result (λ copy. kind_of copy.encoding ≡ kind_of self.now.encoding) }
     {
         let _few = self.len();
         let _sound = self.encoding();
-        let Encoding::Offset(offset) = self.encoding else {
-            return Ok(None);
-        };
-        let encoding = Encoding::Offset(offset);
-        let layout = copied_layout(self.layout());
+        let encoding = encoding_like(alloc, &self.encoding)?;
+        let layout = copied_layout(self.layout(), self.kind());
         let mut copy = Column::with_room(alloc, layout, encoding, self.len())?;
-        copy.extend_masked(offset, self, places);
-        Ok(Some(copy))
+        copy.extend_masked(self, places);
+        Ok(copy)
     }
 
-    /// Appends the values that another column has in the rows of a mask, and NULL for each other row, within the room.
-    fn extend_masked(&mut self, offset: Offset, other: &Column, places: &Mask)
+    /// Appends the values that another column of this encoding has in the rows of a mask, and NULL for each other row,
+    /// within the room.
+    fn extend_masked(&mut self, other: &Column, places: &Mask)
         requires places { len places.now ≡ length other.now.values }
         requires none { self.old.values ≡ [] }
-        requires encoding { self.old.encoding ≡ by.Offset offset }
-        requires coded { All (IsCoded (by.Offset offset)) other.now.values }
+        requires encoding { self.old.encoding ≡ other.now.encoding }
         requires held { All (IsNullOrHeld self.old.layout) other.now.values }
         requires room { length other.now.values ≤ self.old.room }
         requires few { length other.now.values ≤ 2 ^ 24 }
@@ -126,23 +185,15 @@ impl Column {
         let mut at = 0;
         while at < other.len() {
             let n = (other.len() - at).min(64);
-            self.extend_masked_run(offset, other, places, at, n);
+            self.extend_masked_run(other, places, at, n);
             at += n;
         }
     }
 
     /// Appends n of these values from row `at` on, at most 64, by their codes.
-    fn extend_masked_codes(
-        &mut self,
-        offset: Offset,
-        other: &Column,
-        places: &Mask,
-        at: usize,
-        n: usize,
-    )
+    fn extend_masked_codes(&mut self, other: &Column, places: &Mask, at: usize, n: usize)
         requires places { len places.now ≡ length other.now.values }
-        requires encoding { self.old.encoding ≡ by.Offset offset }
-        requires coded { All (IsCoded (by.Offset offset)) other.now.values }
+        requires encoding { self.old.encoding ≡ other.now.encoding }
         requires held { All (IsNullOrHeld self.old.layout) other.now.values }
         requires block { n ≤ 64 }
         requires inside { at + n ≤ length other.now.values }
@@ -153,25 +204,18 @@ impl Column {
         ensures encoding { self.new.encoding ≡ self.old.encoding }
         ensures room { self.old.room ≤ self.new.room }
     {
+        let _sound = other.encoding();
         let mut list = [0; 64];
         let codes = &mut list[..n];
-        let present = other.distances(at, offset.base, codes);
+        let present = other.read_codes(at, codes);
         let kept = keep_rows(codes, present, places.bits(at, n));
         self.extend_rows(codes, kept);
     }
 
-    /// The same by their planes, where both columns have planes.
-    fn extend_masked_run(
-        &mut self,
-        offset: Offset,
-        other: &Column,
-        places: &Mask,
-        at: usize,
-        n: usize,
-    )
+    /// The same by their planes, where both columns have planes of distances.
+    fn extend_masked_run(&mut self, other: &Column, places: &Mask, at: usize, n: usize)
         requires places { len places.now ≡ length other.now.values }
-        requires encoding { self.old.encoding ≡ by.Offset offset }
-        requires coded { All (IsCoded (by.Offset offset)) other.now.values }
+        requires encoding { self.old.encoding ≡ other.now.encoding }
         requires held { All (IsNullOrHeld self.old.layout) other.now.values }
         requires some { 0 < n }
         requires block { n ≤ 64 }
@@ -183,44 +227,104 @@ impl Column {
         ensures encoding { self.new.encoding ≡ self.old.encoding }
         ensures room { self.old.room ≤ self.new.room }
     {
-        if self.begins_planes() {
-            let mut words = [0; 64];
-            let k = offset.width as usize;
-            if let Some(present) = other.planes(at, n, offset.base, k, &mut words) {
-                let kept = keep_bits(&mut words, present, places.bits(at, n));
-                self.extend_planes(offset, &words, n, kept);
-                return;
+        let _sound = other.encoding();
+        if let Encoding::Offset(offset) = self.encoding {
+            if self.begins_planes() {
+                let mut words = [0; 64];
+                let k = offset.width as usize;
+                if let Some(present) = other.planes(at, n, offset.base, k, &mut words) {
+                    let kept = keep_bits(&mut words, present, places.bits(at, n));
+                    self.extend_planes(offset, &words, n, kept);
+                    return;
+                }
             }
         }
-        self.extend_masked_codes(offset, other, places, at, n);
+        self.extend_masked_codes(other, places, at, n);
     }
 
-    /// Prepares to take the values of a copy. Where one of them has no code, the result includes the step to an
-    /// encoding that fits all values, as in `room_for`. The column keeps its values, layout and encoding, also where it
-    /// runs out of memory; at most its room grows.
+    /// Prepares to take the values of a copy of the same kind. Where one of them has no code, the result includes the
+    /// step to an encoding that fits all values, as in `room_for`. The column keeps its values, layout and encoding,
+    /// also where it runs out of memory; at most its room grows.
     pub fn room_to_copy(
         &mut self,
         alloc: Global,
         places: &Mask,
+        copy: Column,
+    ) -> Result<PreparedCopy, AllocError>
+        requires kind { kind_of copy.encoding ≡ kind_of self.old.encoding }
+        requires masked { IsMasked places.now copy.values }
+        requires held { All (IsNullOrHeld self.old.layout) copy.values }
+        ensures prepared { IfOk result (IsCopyPreparedFor self.new places.now) }
+        ensures values { IfOk result (λ prepared. prepared.copy.values ≡ copy.values) }
+        ensures keeps { Keeps self.new self.old }
+    {
+        match self.kind() {
+            Kind::Offset => {
+                let step = self.step_to_copy(alloc, places, &copy)?;
+                let codes = CopiedCodes::Distances;
+                Ok(PreparedCopy { step, codes, copy })
+            }
+            Kind::Dictionary => {
+                let (step, codes) = self.step_and_moves(alloc, places, &copy)?;
+                Ok(PreparedCopy { step, codes, copy })
+            }
+        }
+    }
+
+    /// The step before a column of kind OFFSET takes the values of a copy.
+    fn step_to_copy(
+        &mut self,
+        alloc: Global,
+        places: &Mask,
         copy: &Column,
-    ) -> Result<Prepared, AllocError>
+    ) -> Result<Step, AllocError>
         requires own { kind_of self.old.encoding ≡ kind.Offset }
         requires kind { kind_of copy.now.encoding ≡ kind.Offset }
         requires masked { IsMasked places.now copy.now.values }
         requires held { All (IsNullOrHeld self.old.layout) copy.now.values }
-        ensures prepared { IfOk result (IsPreparedFor self.new (chosen_values places.now copy.now.values) false) }
+        ensures prepared { IfOk result (λ step. IsPreparedFor self.new (chosen_values places.now copy.now.values) false (step_alone step)) }
+        ensures kind { IfOk result (λ step. kind_of (after self.new step).encoding ≡ kind.Offset) }
         ensures keeps { Keeps self.new self.old }
     {
         let _few = self.len();
         let _many = copy.len();
-        let codes = KeptCodes::Distances;
         if self.has_codes_of(copy) {
             self.reserve(0)?;
-            let step = Step::Stay;
-            return Ok(Prepared { step, codes });
+            return Ok(Step::Stay);
         }
         let step = self.step_with(alloc, copy, 0)?;
-        Ok(Prepared { step, codes })
+        Ok(step)
+    }
+
+    /// The step before a column of kind DICTIONARY takes the values of a copy, and the codes that they then have. Only
+    /// the entries that some row has are looked up or merged. No row is read beyond its code.
+    fn step_and_moves(
+        &mut self,
+        alloc: Global,
+        places: &Mask,
+        copy: &Column,
+    ) -> Result<(Step, CopiedCodes), AllocError>
+        requires own { kind_of self.old.encoding ≡ kind.Dictionary }
+        requires kind { kind_of copy.now.encoding ≡ kind.Dictionary }
+        requires masked { IsMasked places.now copy.now.values }
+        requires held { All (IsNullOrHeld self.old.layout) copy.now.values }
+        ensures prepared { IfOk result (λ both. IsPreparedFor self.new (chosen_values places.now copy.now.values) false (step_alone both.0)) }
+        ensures codes { IfOk result (λ both. FitsAfter self.new both.0 copy.now both.1) }
+        ensures keeps { Keeps self.new self.old }
+    {
+        let _few = self.len();
+        let _sound = copy.encoding();
+        let entries = copy.entries();
+        let stands = copy.standing(alloc, entries)?;
+        let used = merge_entries(alloc, entries, &stands, &[])?;
+        if let Some(codes) = find_entries(alloc, self.entries(), &used.entries)? {
+            let moves = codes_through(alloc, &stands, &used.moves, &codes)?;
+            self.reserve(0)?;
+            return Ok((Step::Stay, CopiedCodes::Moved(moves)));
+        }
+        let Grown { column, codes } = self.grown(alloc, copy, &used.entries, 0)?;
+        let moves = codes_through(alloc, &stands, &used.moves, &codes)?;
+        Ok((Step::Replace(column), CopiedCodes::Moved(moves)))
     }
 
     /// Whether each value of another column has a code in this one. Both are of kind OFFSET. Bases and widths may
@@ -314,21 +418,67 @@ impl Column {
         }
     }
 
-    /// Writes the values of a copy to the set places, from which the copy was taken. Takes no memory.
-    pub fn copy_from(&mut self, prepared: Prepared, places: &Mask, copy: &Column)
-        requires prepared { IsPreparedFor self.old (chosen_values places.now copy.now.values) false prepared }
-        requires own { kind_of self.old.encoding ≡ kind.Offset }
-        requires masked { IsMasked places.now copy.now.values }
+    /// Writes the values of a copy to some of at most 64 rows, as `copy_codes`, by a table of the codes that they have
+    /// in this column.
+    fn copy_moved(&mut self, at: usize, n: usize, rows: u64, copy: &Column, moves: &[u64])
+        requires word { at % 64 ≡ 0 }
+        requires few { n ≤ 64 }
+        requires there { at + n ≤ length self.old.values }
+        requires copied { at + n ≤ length copy.now.values }
+        requires given { (i : ℕ) → n ≤ i → bit_of rows i ≡ false }
+        requires moved { All (IsMoved copy.now.encoding self.old.encoding moves.now) copy.now.values }
+        requires held { All (IsNullOrHeld self.old.layout) copy.now.values }
+        ensures values { self.new.values ≡ put_values self.old.values at rows (take n (drop at copy.now.values)) }
+        ensures layout { self.new.layout ≡ self.old.layout }
+        ensures encoding { self.new.encoding ≡ self.old.encoding }
+    {
+        let _own = self.encoding();
+        let _sound = copy.encoding();
+        let mut list = [0; 64];
+        let codes = &mut list[..n];
+        let present = copy.read_codes(at, codes);
+        move_codes(codes, present, moves);
+        self.put_coded(at, rows, codes, present);
+    }
+
+    /// Writes the values of a copy to the set places by such a table, a word of rows at a time.
+    fn copy_entries(&mut self, places: &Mask, copy: &Column, moves: &[u64])
+        requires moved { All (IsMoved copy.now.encoding self.old.encoding moves.now) copy.now.values }
+        requires held { All (IsNullOrHeld self.old.layout) copy.now.values }
+        requires copied { length copy.now.values ≡ length self.old.values }
         requires places { len places.now ≡ length self.old.values }
         ensures values { self.new.values ≡ overwritten places.now (chosen_values places.now copy.now.values) self.old.values }
         ensures layout { self.new.layout ≡ self.old.layout }
-        ensures encoding { IsEncodingFor self.old.values self.old.encoding (chosen_values places.now copy.now.values) self.new.encoding }
+        ensures encoding { self.new.encoding ≡ self.old.encoding }
     {
-        let Prepared { step, codes: _ } = prepared;
+        let end = places.len();
+        let mut at = 0;
+        while let Some(place) = places.next_from(at) {
+            let start = place - place % 64;
+            let n = (end - start).min(64);
+            self.copy_moved(start, n, places.bits(start, n), copy, moves);
+            at = start + n;
+        }
+    }
+
+    /// Writes the values of a copy to the set places, from which the copy was taken. Takes no memory.
+    pub fn copy_from(&mut self, prepared: PreparedCopy, places: &Mask)
+        requires prepared { IsCopyPreparedFor self.old places.now prepared }
+        requires places { len places.now ≡ length self.old.values }
+        ensures values { self.new.values ≡ overwritten places.now (chosen_values places.now prepared.copy.values) self.old.values }
+        ensures layout { self.new.layout ≡ self.old.layout }
+        ensures encoding { IsEncodingFor self.old.values self.old.encoding (chosen_values places.now prepared.copy.values) self.new.encoding }
+    {
+        let PreparedCopy { step, codes, copy } = prepared;
         self.take(step);
-        let Encoding::Offset(offset) = self.encoding else {
-            unreachable!()
-        };
-        self.copy_runs(offset, places, copy);
+        match codes {
+            CopiedCodes::Distances => {
+                let Encoding::Offset(offset) = self.encoding else {
+                    unreachable!()
+                };
+                self.copy_runs(offset, places, &copy);
+            }
+            CopiedCodes::Moved(moves) => self.copy_entries(places, &copy, &moves),
+        }
     }
 }

@@ -2,7 +2,8 @@
 //! each code is mapped to its new index.
 
 ghost use Rattle.std.specs.Prelude.{All, Contains, IfOk, None, drop, is_some, length, slice_index_or, take, ℕ, ℤ, ◌++◌, ◌+◌, ◌<◌, ◌^◌, ◌↔◌, ◌≡◌, ◌≤◌};
-ghost use Rattle.bw_code.specs.Encodings.{AreCodes, IsFit, code_of, kind_of, width};
+ghost use Rattle.bw_code.specs.Ascending.{IsAscending};
+ghost use Rattle.bw_code.specs.Encodings.{AreCodes, AreDistinct, IsFit, code_of, kind_of, width};
 ghost use Rattle.bw_code.specs.declared.encoding.Encoding.TheVariants as by;
 ghost use Rattle.bw_code.specs.declared.kind.Kind.TheVariants as kinds;
 ghost use Rattle.bw_mask.specs.Masks.{bit_of};
@@ -10,14 +11,12 @@ ghost use Rattle.bw_column.specs.Codes.{codes_for};
 ghost use Rattle.bw_column.specs.Moves.{IsMoved};
 ghost use Rattle.bw_column.specs.Values.{IsNullOrHeld, known, widest};
 ghost use Rattle.bw_dictionary.specs.Merging.{StandsAt, StandsIn};
-ghost use Rattle.bw_dictionary.specs.Ranking.{AreRanked};
 
 use crate::column::Column;
 use bw_cells::Measured;
 use bw_code::{Encoding, Layout};
 use bw_dictionary::{
-    MergedEntries, RankedCells, dictionary_of, first_unmarked, mark_standing, merge_entries,
-    move_codes, rank_cells,
+    MergedEntries, dictionary_of, first_unmarked, mark_standing, merge_entries, move_codes,
 };
 use std::alloc::{AllocError, Global};
 
@@ -40,9 +39,21 @@ pub(crate) struct Grown {
 }
 
 impl Column {
+    /// The values that have a code in a column of kind DICTIONARY, ascending. The index of each is its code.
+    pub(crate) fn entries(&self) -> &[i64]
+        requires { kind_of self.now.encoding ≡ kinds.Dictionary }
+        ensures is { self.now.encoding ≡ by.Dictionary result.now }
+        ensures ascending { IsAscending result.now }
+    {
+        let Encoding::Dictionary(dictionary) = &self.encoding else {
+            unreachable!()
+        };
+        dictionary.entries()
+    }
+
     /// Fills `codes` with the codes of at most 64 rows from row `at` on, and returns which of the rows are non-null.
     #[tactic(auto, using(bw_code::proofs::Lists::made_len))]
-    fn read_codes(&self, at: usize, codes: &mut [u64]) -> u64
+    pub(crate) fn read_codes(&self, at: usize, codes: &mut [u64]) -> u64
         requires few { length codes.old ≤ 64 }
         requires there { at + length codes.old ≤ length self.now.values }
         ensures codes { codes.new ≡ take (length codes.old) (drop at (codes_for self.now.encoding self.now.values)) }
@@ -80,7 +91,7 @@ impl Column {
     }
 
     /// Which entries of its dictionary some row has.
-    fn standing(&self, alloc: Global, entries: &[i64]) -> Result<Vec<bool>, AllocError>
+    pub(crate) fn standing(&self, alloc: Global, entries: &[i64]) -> Result<Vec<bool>, AllocError>
         requires { self.now.encoding ≡ by.Dictionary entries.now }
         ensures count { IfOk result (λ stands. length stands.items ≡ length entries.now) }
         ensures stands { IfOk result (λ stands. (x : ℤ) → (StandsIn entries.now stands.items x ↔ Contains (known self.now.values) x)) }
@@ -126,16 +137,16 @@ impl Column {
     }
 
     /// The same values in a layout and a dictionary that includes those of the cells, with room for `more` further
-    /// values.
+    /// values. `entries` are the distinct values of the cells.
     fn grown_in<C: Measured>(
         &self,
         alloc: Global,
         layout: Layout,
         cells: &C,
-        ranked: &RankedCells,
+        entries: &[i64],
         more: usize,
     ) -> Result<Grown, AllocError>
-        requires ranked { AreRanked (C.cells cells.now) ranked.now }
+        requires distinct { AreDistinct (known (C.cells cells.now)) entries.now }
         requires kind { kind_of self.now.encoding ≡ kinds.Dictionary }
         requires own { All (IsNullOrHeld layout) self.now.values }
         requires held { All (IsNullOrHeld layout) (C.cells cells.now) }
@@ -145,19 +156,16 @@ impl Column {
         ensures fits { IfOk result (λ g. IsFit (known (self.now.values ++ C.cells cells.now)) g.column.encoding) }
         ensures kind { IfOk result (λ g. kind_of g.column.encoding ≡ kinds.Dictionary) }
         ensures room { IfOk result (λ g. length self.now.values + more ≤ g.column.room) }
-        ensures codes { IfOk result (λ g. AreCodes (code_of g.column.encoding) ranked.now.entries.items g.codes.items) }
+        ensures codes { IfOk result (λ g. AreCodes (code_of g.column.encoding) entries.now g.codes.items) }
     {
-        let Encoding::Dictionary(own) = &self.encoding else {
-            unreachable!()
-        };
-        let entries = own.entries();
-        let stands = self.standing(alloc, entries)?;
+        let own = self.entries();
+        let stands = self.standing(alloc, own)?;
         let MergedEntries {
-            entries,
+            entries: all,
             moves,
             places: codes,
-        } = merge_entries(alloc, entries, &stands, &ranked.entries)?;
-        let encoding = dictionary_of(entries);
+        } = merge_entries(alloc, own, &stands, entries)?;
+        let encoding = dictionary_of(all);
         let column = self.moved(alloc, layout, encoding, &moves, more)?;
         Ok(Grown { column, codes })
     }
@@ -167,10 +175,10 @@ impl Column {
         &self,
         alloc: Global,
         cells: &C,
-        ranked: &RankedCells,
+        entries: &[i64],
         more: usize,
     ) -> Result<Grown, AllocError>
-        requires ranked { AreRanked (C.cells cells.now) ranked.now }
+        requires distinct { AreDistinct (known (C.cells cells.now)) entries.now }
         requires kind { kind_of self.now.encoding ≡ kinds.Dictionary }
         requires held { All (IsNullOrHeld self.now.layout) (C.cells cells.now) }
         requires few { length self.now.values + more ≤ 2 ^ 24 }
@@ -179,10 +187,10 @@ impl Column {
         ensures fits { IfOk result (λ g. IsFit (known (self.now.values ++ C.cells cells.now)) g.column.encoding) }
         ensures kind { IfOk result (λ g. kind_of g.column.encoding ≡ kinds.Dictionary) }
         ensures room { IfOk result (λ g. length self.now.values + more ≤ g.column.room) }
-        ensures codes { IfOk result (λ g. AreCodes (code_of g.column.encoding) ranked.now.entries.items g.codes.items) }
+        ensures codes { IfOk result (λ g. AreCodes (code_of g.column.encoding) entries.now g.codes.items) }
     {
         let _held = self.len();
-        self.grown_in(alloc, self.layout(), cells, ranked, more)
+        self.grown_in(alloc, self.layout(), cells, entries, more)
     }
 
     /// The same values in a layout and a dictionary of only those entries that some row has. No value is read, only
@@ -198,8 +206,7 @@ impl Column {
         let _few = self.len();
         let none = [];
         let cells = none.as_slice();
-        let ranked = rank_cells(alloc, &cells)?;
-        let grown = self.grown_in(alloc, layout, &cells, &ranked, 0)?;
+        let grown = self.grown_in(alloc, layout, &cells, &[], 0)?;
         Ok(grown.column)
     }
 }

@@ -30,6 +30,7 @@ mod within;
 
 pub use change::Prepared;
 pub use column::Column;
+pub use copying::PreparedCopy;
 pub use storage::Storage;
 
 /// Compares columns of kind OFFSET over sources of planes, whatever their bases.

@@ -69,7 +69,7 @@ impl Column {
             }
             Kind::Dictionary => {
                 let ranked = rank_cells(alloc, values)?;
-                let grown = self.grown(alloc, values, &ranked, more)?;
+                let grown = self.grown(alloc, values, &ranked.entries, more)?;
                 Ok(Step::Replace(grown.column))
             }
         }

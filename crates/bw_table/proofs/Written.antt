@@ -1,5 +1,5 @@
 -- What the sets of an update make ready and do, column by column.
-use Rattle.std.proofs.Common.{◌≡◌, ◌≢◌, ℕ, ℤ, ◌+◌, ◌<◌, ◌≤◌, ◌==◌, false, List, [], ◌∷◌, ◌++◌, drop, take, length, get_or, set, refl, sym, ap, subst, ◌∙◌, inl, inr, arith, length-set, count_by, Option, Some, None}
+use Rattle.std.proofs.Common.{◌≡◌, ◌≢◌, ℕ, ℤ, ◌+◌, ◌<◌, ◌≤◌, ◌==◌, false, List, [], ◌∷◌, ◌++◌, drop, take, length, get_or, set, refl, sym, ap, subst, ◌∙◌, inl, inr, arith, length-set, count_by, replicate, Option, Some, None}
 use Rattle.std.specs.List.{All, AllPairs}
 use Rattle.std.proofs.lemmas.Bool.{cases_Bool, cases_eq, cases_lt, eq-eqb, eqb-true}
 use Rattle.std.proofs.lemmas.List.{drop_more, get_or-drop, get_or_default, length-drop, get_or-set_same, get_or-set_other, get_or_push, get_or_append_left, length_push, length-map}
@@ -10,8 +10,10 @@ use Rattle.bw_code.specs.Encodings.{kind_of}
 use Rattle.bw_code.proofs.Lists.{made_len}
 use Rattle.bw_column.specs.Codes.{IsCoded}
 use Rattle.bw_column.specs.Columns.{ColumnView, Keeps}
-use Rattle.bw_column.specs.Copies.{CanCopy}
+use Rattle.bw_column.specs.Copies.{CanCopy, FitsAfter, step_alone}
 use Rattle.bw_column.specs.Preparing.{IsEncodingFor, IsPreparedFor, Preparation}
+use Rattle.bw_column.specs.declared.copying.CopiedCodes.{CopiedCodes}
+use Rattle.bw_column.specs.declared.copying.CopiedCodes.TheVariants.{Distances, Moved}
 use Rattle.bw_column.specs.declared.kept.KeptCodes.{KeptCodes}
 use Rattle.bw_column.specs.declared.step.Step.{Step}
 use Rattle.bw_column.specs.declared.step.Step.TheVariants.{Replace, Shift, Stay}
@@ -20,13 +22,13 @@ use Rattle.bw_column.proofs.Ordered.{all_chosen}
 use Rattle.bw_table.specs.Changes.{places, set_of, value_for}
 use Rattle.bw_table.specs.Slots.{row_of}
 use Rattle.bw_table.specs.Halves.{AllKept}
-use Rattle.bw_table.specs.Sets.{AllSet, AreReadyFor, CanApply, FitsCopy, IsCopied, IsPreparedIn, IsReady, IsSet, IsWritten, IsWrittenIn, changed, gathered, taken}
+use Rattle.bw_table.specs.Sets.{AllSet, AreReadyFor, CanApply, IsCopied, IsPreparedIn, IsReady, IsReadyFor, IsSet, IsWritten, IsWrittenIn, changed, gathered, prepared_values}
 use Rattle.bw_table.specs.declared.setting.Change.{Change}
 use Rattle.bw_table.specs.declared.setting.Change.TheVariants.{Copy, Take}
 use Rattle.bw_table.specs.declared.setting.SetTo.{SetTo}
 use Rattle.bw_table.specs.declared.setting.SetTo.TheVariants.{Column}
 use Rattle.bw_table.specs.declared.taking.PreparedValues.{PreparedValues}
-use Rattle.bw_table.specs.declared.taking.Taken.{Taken}
+use Rattle.bw_table.specs.declared.taking.PreparedValues.TheVariants as ready
 use Rattle.bw_table.proofs.Places.{count_places, gathered_column, map_alike}
 use Rattle.bw_table.proofs.Readied.{one_less, popped}
 use Rattle.bw_table.proofs.Across.{kept_row}
@@ -71,9 +73,23 @@ module _ (new old : ColumnView) (values : List (Option ℤ)) (keeps : Keeps new 
 pub still_ready : (new old : ColumnView) (values : List (Option ℤ)) (prepared : Preparation) → Keeps new old → IsPreparedFor old values false prepared → IsPreparedFor new values false prepared
 still_ready new old values prepared keeps is = still_ready_by new old values keeps prepared.step prepared.codes is
 
--- a copy fits a column as long as that keeps its encoding
-pub fits_kept : (new old : ColumnView) (found : MaskRows) (values : Taken) → Keeps new old → FitsCopy (kind_of old.encoding) found values → FitsCopy (kind_of new.encoding) found values
-fits_kept new old found values keeps is = rw keeps.encoding is
+module _ (new old : ColumnView) (keeps : Keeps new old) where
+  fits_kept : (copy : ColumnView) (step : Step) (codes : CopiedCodes) → FitsAfter old step copy codes → FitsAfter new step copy codes
+  fits_kept copy Stay Distances is = rw keeps.encoding is
+  fits_kept copy Stay (Moved moves) is = rw keeps.encoding is
+  fits_kept copy (Shift offset) Distances is = is
+  fits_kept copy (Shift offset) (Moved moves) is = is
+  fits_kept copy (Replace column) Distances is = is
+  fits_kept copy (Replace column) (Moved moves) is = is
+
+  pub ready_for_kept : (found : MaskRows) (own : PreparedValues) → IsReadyFor old found own → IsReadyFor new found own
+  ready_for_kept found (ready.Each prepared values) is = still_ready new old values.items prepared keeps is
+  ready_for_kept found (ready.Same prepared value) is = still_ready new old (replicate (count_by (λ row. row) found.rows) value) prepared keeps is
+  ready_for_kept found (ready.Copied prepared) is = record {
+    masked = is.masked;
+    fits = fits_kept prepared.copy prepared.step prepared.codes is.fits;
+    ready = still_ready new old (chosen_values found prepared.copy.values) (step_alone prepared.step) keeps is.ready;
+  }
 
 -- a column can be copied as long as both keep their lists
 can_copy_kept : (new old : ColumnView) (from from_old : ColumnView) → Keeps new old → Keeps from from_old → CanCopy old from_old → CanCopy new from
@@ -91,8 +107,7 @@ module _ (new old : List ColumnView) (kept : AllKept new old) (found : MaskRows)
   prepared_kept : (set : ℕ × SetTo) (ready : PreparedValues) → IsPreparedIn old found set ready → IsPreparedIn new found set ready
   prepared_kept set ready is = record {
     values = is.values ∙ sym (gathered_kept set.1);
-    ready = λ c. still_ready (get_or new set.0 c) (get_or old set.0 c) (taken found ready.values) ready.prepared (kept.each set.0 c) (is.ready c);
-    fits = λ c. fits_kept (get_or new set.0 c) (get_or old set.0 c) found ready.values (kept.each set.0 c) (is.fits c);
+    ready = λ c. ready_for_kept (get_or new set.0 c) (get_or old set.0 c) (kept.each set.0 c) found ready (is.ready c);
   }
 
   copied_kept : (later : List (ℕ × SetTo)) (set : ℕ × SetTo) (from : ℕ) → IsCopied old later set from → IsCopied new later set from
@@ -200,9 +215,8 @@ counted columns found to values e = sym (count_places found) ∙ sym (length-map
 module _ {found : MaskRows} {sets : List (ℕ × SetTo)} {cur old : List ColumnView} {n : ℕ} {here : ℕ × SetTo} where
   pub can_apply : (change : Change) → Turn found sets cur old n here change → CanApply cur found here.0 change
   can_apply (Take ready) t = record {
-    prepared = λ c. still_ready (get_or cur here.0 c) (get_or old here.0 c) (taken found ready.values) ready.prepared (keeps_here t c) (t.ready.ready c);
-    count = counted old found here.1 (taken found ready.values) t.ready.values;
-    fits = λ c. fits_kept (get_or cur here.0 c) (get_or old here.0 c) found ready.values (keeps_here t c) (t.ready.fits c);
+    prepared = λ c. ready_for_kept (get_or cur here.0 c) (get_or old here.0 c) (keeps_here t c) found ready (t.ready.ready c);
+    count = counted old found here.1 (prepared_values found ready) t.ready.values;
   }
   can_apply (Copy from) t = record {
     there = omega (arith, t.ready.there, t.done.count);

@@ -6,8 +6,7 @@ use Rattle.bw_code.specs.Encodings.{IsFit, kind_of}
 use Rattle.bw_code.specs.declared.header.Header.{Header}
 use Rattle.bw_column.specs.Columns.{ColumnView, Keeps}
 use Rattle.bw_code.specs.declared.kind.Kind.{Kind}
-use Rattle.bw_code.specs.declared.kind.Kind.TheVariants as kinds
-use Rattle.bw_column.specs.Copies.{CanCopy, IsMasked}
+use Rattle.bw_column.specs.Copies.{CanCopy, IsCopyPreparedFor, IsMasked}
 use Rattle.bw_column.specs.Places.{chosen_values, overwritten}
 use Rattle.bw_column.specs.Preparing.{IsEncodingFor, IsPreparedFor}
 use Rattle.bw_column.specs.Values.{known, value_at}
@@ -19,6 +18,7 @@ use Rattle.bw_table.specs.declared.setting.Change.TheVariants.{Copy, Take}
 use Rattle.bw_table.specs.declared.setting.SetTo.{SetTo}
 use Rattle.bw_table.specs.declared.setting.SetTo.TheVariants.{Column, Value}
 use Rattle.bw_table.specs.declared.taking.PreparedValues.{PreparedValues}
+use Rattle.bw_table.specs.declared.taking.PreparedValues.TheVariants as ready
 use Rattle.bw_table.specs.declared.taking.Taken.{Taken}
 use Rattle.bw_table.specs.declared.taking.Taken.TheVariants.{Copied, Each, Same}
 
@@ -41,17 +41,28 @@ taken mask (Each values) = values.items
 taken mask (Same value) = replicate (count_by (λ row. row) mask.rows) value
 taken mask (Copied column) = chosen_values mask column.values
 
--- a copy is null outside of the mask's rows, and both it and the column that takes it are of kind OFFSET
+-- a copy is null outside of the mask's rows, and of this kind
 abbrev pub FitsCopy : Kind → MaskRows → Taken → Type 0
 FitsCopy kind mask (Each values) = ⊤
 FitsCopy kind mask (Same value) = ⊤
-FitsCopy kind mask (Copied copy) = (kind ≡ kinds.Offset) × (kind_of copy.encoding ≡ kinds.Offset) × IsMasked mask copy.values
+FitsCopy kind mask (Copied copy) = (kind_of copy.encoding ≡ kind) × IsMasked mask copy.values
+
+-- the same values, prepared for
+abbrev pub prepared_values : MaskRows → PreparedValues → List (Option ℤ)
+prepared_values mask (ready.Each prepared values) = values.items
+prepared_values mask (ready.Same prepared value) = replicate (count_by (λ row. row) mask.rows) value
+prepared_values mask (ready.Copied prepared) = chosen_values mask prepared.copy.values
+
+-- the column as it is is prepared for the values
+abbrev pub IsReadyFor : ColumnView → MaskRows → PreparedValues → Type 0
+IsReadyFor column mask (ready.Each prepared values) = IsPreparedFor column values.items false prepared
+IsReadyFor column mask (ready.Same prepared value) = IsPreparedFor column (replicate (count_by (λ row. row) mask.rows) value) false prepared
+IsReadyFor column mask (ready.Copied prepared) = IsCopyPreparedFor column mask prepared
 
 -- the values are those of the set, and the column as it is is prepared for them
 pub record IsPreparedIn (columns : List ColumnView) (found : MaskRows) (set : ℕ × SetTo) (own : PreparedValues) : Type 0 where
-  pub values : taken found own.values ≡ gathered columns found set.1
-  pub ready : (c : ColumnView) → IsPreparedFor (slice_index_or columns set.0 c) (taken found own.values) false own.prepared
-  pub fits : (c : ColumnView) → FitsCopy (kind_of (slice_index_or columns set.0 c).encoding) found own.values
+  pub values : prepared_values found own ≡ gathered columns found set.1
+  pub ready : (c : ColumnView) → IsReadyFor (slice_index_or columns set.0 c) found own
 
 -- the set is to this other column, which no later set is of, and whose codes will do
 pub record IsCopied (columns : List ColumnView) (later : List (ℕ × SetTo)) (set : ℕ × SetTo) (from : ℕ) : Type 0 where
@@ -71,9 +82,8 @@ AreReadyFor columns found sets changes = (j : ℕ) (s : ℕ × SetTo) (d : Chang
 
 -- a column is ready to take these values
 pub record CanTakeIn (columns : List ColumnView) (found : MaskRows) (k : ℕ) (ready : PreparedValues) : Type 0 where
-  pub prepared : (c : ColumnView) → IsPreparedFor (slice_index_or columns k c) (taken found ready.values) false ready.prepared
-  pub count : count_by (λ row. row) found.rows ≡ length (taken found ready.values)
-  pub fits : (c : ColumnView) → FitsCopy (kind_of (slice_index_or columns k c).encoding) found ready.values
+  pub prepared : (c : ColumnView) → IsReadyFor (slice_index_or columns k c) found ready
+  pub count : count_by (λ row. row) found.rows ≡ length (prepared_values found ready)
 
 -- a column is ready to take the values of another one
 pub record CanCopyIn (columns : List ColumnView) (k from : ℕ) : Type 0 where
@@ -88,7 +98,7 @@ CanApply columns found k (Copy from) = CanCopyIn columns k from
 
 -- the values of a change, in order
 abbrev pub changed : List ColumnView → MaskRows → Change → List (Option ℤ)
-changed columns found (Take ready) = taken found ready.values
+changed columns found (Take ready) = prepared_values found ready
 changed columns found (Copy from) = gathered columns found (Column from)
 
 -- the values are written in the found rows

@@ -94,8 +94,8 @@ fn prepare_set(
         return Ok(Change::Copy(from));
     }
     let values = values_for(columns, alloc, found, k, to)?;
-    let prepared = make_ready(&mut columns[k], alloc, found, &values)?;
-    Ok(Change::Take(PreparedValues { prepared, values }))
+    let ready = make_ready(&mut columns[k], alloc, found, values)?;
+    Ok(Change::Take(ready))
 }
 
 /// The first step: each column that is set prepares for its values, which are read from the columns as they are. The

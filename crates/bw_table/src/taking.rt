@@ -5,14 +5,14 @@ ghost use Rattle.bw_mask.specs.Masks.{len};
 ghost use Rattle.bw_code.specs.Encodings.{kind_of};
 ghost use Rattle.bw_column.specs.Columns.{ColumnView, Keeps};
 ghost use Rattle.bw_column.specs.Places.{chosen_values, overwritten};
-ghost use Rattle.bw_column.specs.Preparing.{IsEncodingFor, IsPreparedFor};
+ghost use Rattle.bw_column.specs.Preparing.{IsEncodingFor};
 ghost use Rattle.bw_column.specs.Values.{IsNullOrHeld};
-ghost use Rattle.bw_table.specs.Sets.{FitsCopy, IsThere, gathered, taken};
+ghost use Rattle.bw_table.specs.Sets.{FitsCopy, IsReadyFor, IsThere, gathered, prepared_values, taken};
 
 use crate::gathering::gather;
 use crate::setting::SetTo;
 use bw_code::Kind;
-use bw_column::{Column, Prepared};
+use bw_column::{Column, Prepared, PreparedCopy};
 use bw_mask::Mask;
 use std::alloc::{AllocError, Global};
 
@@ -29,9 +29,10 @@ pub(crate) enum Taken {
 
 /// Values, and what a column has prepared for them.
 #[derive(Drop)]
-pub(crate) struct PreparedValues {
-    pub(crate) prepared: Prepared,
-    pub(crate) values: Taken,
+pub(crate) enum PreparedValues {
+    Each(Prepared, Vec<Option<i64>>),
+    Same(Prepared, Option<i64>),
+    Copied(PreparedCopy),
 }
 
 /// Whether the mask has so many of a column's rows that copying all of them costs less than listing the values.
@@ -45,10 +46,8 @@ fn values_from(kind: Kind, column: &Column, alloc: Global, mask: &Mask) -> Resul
     ensures values { IfOk result (λ values. taken mask.now values ≡ chosen_values mask.now column.now.values) }
     ensures fits { IfOk result (FitsCopy kind mask.now) }
 {
-    if kind == Kind::Offset && are_many(mask) {
-        if let Some(copy) = column.copy_at(alloc, mask)? {
-            return Ok(Taken::Copied(copy));
-        }
+    if column.kind() == kind && are_many(mask) {
+        return Ok(Taken::Copied(column.copy_at(alloc, mask)?));
     }
     Ok(Taken::Each(gather(column, alloc, mask)?))
 }
@@ -78,36 +77,44 @@ pub(crate) fn make_ready(
     column: &mut Column,
     alloc: Global,
     mask: &Mask,
-    values: &Taken,
-) -> Result<Prepared, AllocError>
-    requires held { All (IsNullOrHeld column.old.layout) (taken mask.now values.now) }
-    requires count { length (taken mask.now values.now) ≤ 2 ^ 24 }
+    values: Taken,
+) -> Result<PreparedValues, AllocError>
+    requires held { All (IsNullOrHeld column.old.layout) (taken mask.now values) }
+    requires count { length (taken mask.now values) ≤ 2 ^ 24 }
     requires few { length column.old.values ≤ 2 ^ 24 }
-    requires fits { FitsCopy (kind_of column.old.encoding) mask.now values.now }
-    ensures prepared { IfOk result (IsPreparedFor column.new (taken mask.now values.now) false) }
+    requires fits { FitsCopy (kind_of column.old.encoding) mask.now values }
+    ensures values { IfOk result (λ ready. prepared_values mask.now ready ≡ taken mask.now values) }
+    ensures prepared { IfOk result (IsReadyFor column.new mask.now) }
     ensures keeps { Keeps column.new column.old }
 {
     match values {
-        Taken::Each(list) => column.room_for(alloc, &list.as_slice(), false),
-        Taken::Same(value) => column.room_to_fill(alloc, *value, mask.count()),
-        Taken::Copied(copy) => column.room_to_copy(alloc, mask, copy),
+        Taken::Each(list) => {
+            let prepared = column.room_for(alloc, &list.as_slice(), false)?;
+            Ok(PreparedValues::Each(prepared, list))
+        }
+        Taken::Same(value) => {
+            let prepared = column.room_to_fill(alloc, value, mask.count())?;
+            Ok(PreparedValues::Same(prepared, value))
+        }
+        Taken::Copied(copy) => {
+            let prepared = column.room_to_copy(alloc, mask, copy)?;
+            Ok(PreparedValues::Copied(prepared))
+        }
     }
 }
 
 /// Writes the values that a column is prepared for to the rows of a mask. Allocates nothing.
 pub(crate) fn take(column: &mut Column, mask: &Mask, ready: PreparedValues)
-    requires prepared { IsPreparedFor column.old (taken mask.now ready.values) false ready.prepared }
+    requires prepared { IsReadyFor column.old mask.now ready }
     requires mask { len mask.now ≡ length column.old.values }
-    requires count { count_by (λ row. row) mask.now.rows ≡ length (taken mask.now ready.values) }
-    requires fits { FitsCopy (kind_of column.old.encoding) mask.now ready.values }
-    ensures values { column.new.values ≡ overwritten mask.now (taken mask.now ready.values) column.old.values }
+    requires count { count_by (λ row. row) mask.now.rows ≡ length (prepared_values mask.now ready) }
+    ensures values { column.new.values ≡ overwritten mask.now (prepared_values mask.now ready) column.old.values }
     ensures layout { column.new.layout ≡ column.old.layout }
-    ensures encoding { IsEncodingFor column.old.values column.old.encoding (taken mask.now ready.values) column.new.encoding }
+    ensures encoding { IsEncodingFor column.old.values column.old.encoding (prepared_values mask.now ready) column.new.encoding }
 {
-    let PreparedValues { prepared, values } = ready;
-    match values {
-        Taken::Each(list) => column.overwrite(prepared, mask, &list),
-        Taken::Same(value) => column.fill(prepared, mask, value),
-        Taken::Copied(copy) => column.copy_from(prepared, mask, &copy),
+    match ready {
+        PreparedValues::Each(prepared, list) => column.overwrite(prepared, mask, &list),
+        PreparedValues::Same(prepared, value) => column.fill(prepared, mask, value),
+        PreparedValues::Copied(prepared) => column.copy_from(prepared, mask),
     }
 }

@@ -108,7 +108,7 @@ pub(crate) fn filled<R: Abort + AllocGlobal>(
     column
 }
 
-/// The column with another's values in the chosen rows. Both are of kind OFFSET and have one layout.
+/// The column with another's values in the chosen rows. Both are of one kind and have one layout.
 fn copied<R: Abort + AllocGlobal>(
     rt: &R,
     mut column: Column,
@@ -116,16 +116,13 @@ fn copied<R: Abort + AllocGlobal>(
     places: &Mask,
 ) -> Column {
     assert!(rt; column.layout() == other.layout());
-    assert!(rt; column.kind() == Kind::Offset);
+    assert!(rt; column.kind() == other.kind());
     assert!(rt; places.len() == column.len() && places.len() == other.len());
-    let copy = other
-        .copy_at(rt.alloc(), places)
-        .expect(rt, "memory")
-        .expect(rt, "a column of kind OFFSET");
+    let copy = other.copy_at(rt.alloc(), places).expect(rt, "memory");
     let prepared = column
-        .room_to_copy(rt.alloc(), places, &copy)
+        .room_to_copy(rt.alloc(), places, copy)
         .expect(rt, "memory");
-    column.copy_from(prepared, places, &copy);
+    column.copy_from(prepared, places);
     column
 }
 
@@ -192,18 +189,29 @@ fn check_literal_put<R: Abort + AllocGlobal>(
     see_values(rt, &column, &wanted(rt, round, Some(literal)));
 }
 
-fn check_copied<R: Abort + AllocGlobal>(rt: &R, layout: Layout, round: usize) {
-    let column = column_of(rt, &values_of(rt, round), layout, Kind::Offset);
-    let other = column_of(rt, &turned(rt, round), layout, Kind::Offset);
+fn check_copied<R: Abort + AllocGlobal>(rt: &R, layout: Layout, kind: Kind, round: usize) {
+    let column = column_of(rt, &values_of(rt, round), layout, kind);
+    let other = column_of(rt, &turned(rt, round), layout, kind);
     let column = copied(rt, column, &other, &chosen_rows(rt, round));
     see_values(rt, &column, &wanted_of_copy(rt, round));
+}
+
+/// The same with the values of the next round, of which the column has few.
+fn check_copied_anew<R: Abort + AllocGlobal>(rt: &R, layout: Layout, kind: Kind, round: usize) {
+    let column = column_of(rt, &values_of(rt, round), layout, kind);
+    let other = column_of(rt, &values_of(rt, round.wrapping_add(1)), layout, kind);
+    let column = copied(rt, column, &other, &chosen_rows(rt, round));
+    see_values(rt, &column, &wanted(rt, round, None));
 }
 
 #[test]
 fn copies_of_runs(rt: HostRuntime) {
     for layout in LAYOUTS {
-        for round in 0..15 {
-            check_copied(&rt, layout, round);
+        for kind in KINDS {
+            for round in 0..15 {
+                check_copied(&rt, layout, kind, round);
+                check_copied_anew(&rt, layout, kind, round);
+            }
         }
     }
 }
@@ -217,10 +225,12 @@ fn check_taken<R: Abort + AllocGlobal>(
     wanted: &[Option<i64>],
 ) {
     for layout in LAYOUTS {
-        let column = column_of(rt, values, layout, Kind::Offset);
-        let other = column_of(rt, others, layout, Kind::Offset);
-        let column = copied(rt, column, &other, &mask_of(rt, rows));
-        see_values(rt, &column, wanted);
+        for kind in KINDS {
+            let column = column_of(rt, values, layout, kind);
+            let other = column_of(rt, others, layout, kind);
+            let column = copied(rt, column, &other, &mask_of(rt, rows));
+            see_values(rt, &column, wanted);
+        }
     }
 }
 
@@ -247,19 +257,6 @@ fn copies_that_need_another_encoding(rt: HostRuntime) {
         &[Some(10), Some(11), Some(13)],
     );
     check_taken(&rt, &values, &far, &[false, false, false], &values);
-}
-
-#[test]
-fn no_copy_of_a_dictionary(rt: HostRuntime) {
-    let column = column_of(&rt, &[Some(1), None], Layout::V, Kind::Dictionary);
-    let places = mask_of(&rt, &[true, true]);
-    assert!(&rt; places.len() == column.len());
-    assert!(&rt;
-        column
-            .copy_at(rt.alloc(), &places)
-            .expect(&rt, "memory")
-            .is_none()
-    );
 }
 
 #[test]

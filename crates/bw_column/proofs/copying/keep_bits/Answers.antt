@@ -1,4 +1,4 @@
-use Rattle.std.proofs.Common.{Bool, ap, arith, bit_and, get_or, inl, inr, length, set, sym, ℕ, ◌&&◌, ◌+◌, ◌<◌, ◌≡◌, ◌≤◌, ◌∙◌}
+use Rattle.std.proofs.Common.{ap, arith, bit_and, get_or, inl, inr, length, set, sym, ◌&&◌, ◌<◌, ◌∙◌}
 use Rattle.std.proofs.lemmas.Bool.{cases_eq}
 use Rattle.std.proofs.lemmas.List.{get_or-set_other, get_or-set_same}
 use Rattle.bw_mask.specs.Masks.{bit_of}

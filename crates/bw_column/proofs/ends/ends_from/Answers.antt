@@ -1,6 +1,5 @@
-use Rattle.std.proofs.Common.{arith, false, inl, inr, max, min, refl, sym, true, ◌≡◌, ◌≤◌, ◌∙◌}
+use Rattle.std.proofs.Common.{arith, false, inl, inr, refl, sym, true, ◌≡◌, ◌∙◌}
 use Rattle.std.proofs.lemmas.Bool.{cases_lt}
-use Rattle.bw_column.specs.Extremes.{IsGreatestFrom, IsLeastFrom}
 use Rattle.bw_vertical.proofs.JoinedEnds.{on, turned}
 use Rattle.bw_column.proofs.ends.ends_from.Goals as goal
 

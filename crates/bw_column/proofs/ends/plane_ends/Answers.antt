@@ -1,4 +1,4 @@
-use Rattle.std.proofs.Common.{ap, arith, get_or, min, nat_lt, subst, sym, ◌&&◌, ◌*◌, ◌+◌, ◌<◌, ◌≡◌, ◌≤◌, ◌∙◌, ◌^◌, ℕ}
+use Rattle.std.proofs.Common.{ap, arith, min, subst, sym, ◌&&◌, ◌*◌, ◌+◌, ◌<◌, ◌≡◌, ◌≤◌, ◌∙◌, ◌^◌}
 use Rattle.std.proofs.lemmas.Bool.{lt-ltb}
 use Rattle.bw_mask.specs.Masks.{bit_of, row_at}
 use Rattle.bw_code.specs.Columns.{code_at, count}

@@ -5,7 +5,7 @@ use Rattle.bw_column.specs.Columns.{ColumnView, Keeps}
 use Rattle.bw_table.specs.Halves.{AllKept}
 use Rattle.bw_table.specs.Sets.{taken}
 use Rattle.bw_table.proofs.Readied.{kept_set}
-use Rattle.bw_table.proofs.Written.{counted, fits_kept, gathered_kept, kept_as_is}
+use Rattle.bw_table.proofs.Written.{counted, gathered_kept, kept_as_is}
 use Rattle.bw_table.proofs.setting.prepare_set.Goals as goal
 
 pub returns-in-Some-clause-kept : goal.returns-in-Some-clause-kept
@@ -43,8 +43,8 @@ returns-clause-ready c =
     let x = c.make_ready.new.column in
     let keeps : (d : ColumnView) → Keeps x (get_or columns k d) = λ d. rw (get_or_default columns k d c.index_mut.result.now named, ← c.index_mut.ensures.value) c.make_ready.ensures.keeps in
     let kept : AllKept (set columns k x) columns = kept_set columns columns k x named keeps (kept_as_is columns) in
+    let ready = c.in_ok-ready in
     record {
-      values = c.in_ok-values.ensures.values ∙ sym (gathered_kept (set columns k x) columns kept found c.args.to);
-      ready = λ d. rw (get_or-set_same columns k x d named) c.in_ok-prepared.ensures.prepared;
-      fits = λ d. rw (get_or-set_same columns k x d named) (fits_kept x (get_or columns k d) found c.in_ok-values.values (keeps d) (c.in_ok-values.ensures.fits d));
+      values = ready.ensures.values ∙ c.in_ok-values.ensures.values ∙ sym (gathered_kept (set columns k x) columns kept found c.args.to);
+      ready = λ d. rw (get_or-set_same columns k x d named) ready.ensures.prepared;
     }

@@ -8,7 +8,7 @@ use Rattle.bw_column.proofs.column.Column.copy_at.Goals as goal
 
 pub with_room-requires-clause-narrow : goal.with_room-requires-clause-narrow
 with_room-requires-clause-narrow c =
-    let wide : width c.self.inside.encoding ≡ c.in-Offset.offset.width = ap width c.in-Offset.is in
+    let wide : width c.in_ok-encoding.encoding ≡ width c.self.inside.encoding = ap width c.in_ok-encoding.ensures in
     let own : widest (layout_of c.self.inside.codes) ≡ widest c.layout.result = ap widest (ap (λ (v : ColumnView). v.layout) c.self.view_is ∙ sym c.layout.ensures) in
     omega (arith, c.self.invariant.narrow, wide, own, c.copied_layout-layout.ensures.wide)
 

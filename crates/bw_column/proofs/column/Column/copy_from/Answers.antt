@@ -6,9 +6,14 @@ use Rattle.bw_column.proofs.column.Column.copy_from.Goals as goal
 pub copy_runs-requires-clause-coded : goal.copy_runs-requires-clause-coded
 copy_runs-requires-clause-coded c =
     let is = rw (← c.prepared.view_is) at c.requires.prepared in
-    rw c.take.ensures.encoding (all_of_chosen c.args.places.now c.args.copy.now.values c.requires.masked (IsCoded _) tt is.coded)
+    rw c.take.ensures.encoding (all_of_chosen c.args.places.now _ is.masked (IsCoded _) tt is.ready.coded)
 
 pub copy_runs-requires-clause-held : goal.copy_runs-requires-clause-held
 copy_runs-requires-clause-held c =
     let is = rw (← c.prepared.view_is) at c.requires.prepared in
-    rw (c.take.ensures.layout, is.layout) (all_of_chosen c.args.places.now c.args.copy.now.values c.requires.masked (IsNullOrHeld _) tt is.held)
+    rw (c.take.ensures.layout, is.ready.layout) (all_of_chosen c.args.places.now _ is.masked (IsNullOrHeld _) tt is.ready.held)
+
+pub copy_entries-requires-clause-held : goal.copy_entries-requires-clause-held
+copy_entries-requires-clause-held c =
+    let is = rw (← c.prepared.view_is) at c.requires.prepared in
+    rw (c.take.ensures.layout, is.ready.layout) (all_of_chosen c.args.places.now _ is.masked (IsNullOrHeld _) tt is.ready.held)

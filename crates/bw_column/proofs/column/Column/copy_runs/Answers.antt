@@ -1,20 +1,11 @@
-use Rattle.std.proofs.Common.{List, None, Option, ap, arith, drop, false, get_or, length, length-drop, length-take, refl, take, true, ℕ, ℤ, ◌%◌, ◌+◌, ◌-◌, ◌≡◌, ◌≤◌, ◌∙◌}
-use Rattle.bw_mask.specs.Masks.{bit_of, row_at}
-use Rattle.bw_code.specs.Columns.{is_chosen}
-use Rattle.bw_code.proofs.Lists.{part_at}
+use Rattle.std.proofs.Common.{None, Option, ap, arith, drop, get_or, length, take, ℕ, ℤ, ◌%◌, ◌+◌, ◌-◌, ◌≡◌, ◌≤◌, ◌∙◌}
+use Rattle.bw_mask.specs.Masks.{row_at}
 use Rattle.bw_column.specs.Places.{chosen_values}
 use Rattle.bw_column.specs.Values.{value_at}
-use Rattle.bw_column.proofs.Filled.{all_filled, chosen_among, filled_len, outside_word, rest_unfilled, run_filled}
+use Rattle.bw_column.proofs.Filled.{all_filled, filled_len, outside_word, rest_unfilled, run_filled, taken_of_run}
 use Rattle.bw_column.proofs.Ordered.{chosen_at}
 use Rattle.bw_column.proofs.Overwriting.{below_len}
 use Rattle.bw_column.proofs.column.Column.copy_runs.Goals as goal
-
--- what a word takes of the copy stands in the copy at the same rows
-taken : (copy : List (Option ℤ)) (start rows n : ℕ) → start + n ≤ length copy → ((i : ℕ) → n ≤ i → bit_of rows i ≡ false) → (j : ℕ) → is_chosen start rows j ≡ true → value_at (take n (drop start copy)) (j - start) ≡ value_at copy j
-taken copy start rows n inside given j t =
-    let here = chosen_among start rows n j given t in
-    let run : start + (j - start) ≡ j = omega (arith, here.0) in
-    part_at copy (take n (drop start copy)) start n (j - start) None refl (omega (arith, here.1, length-take n (drop start copy), length-drop start copy, inside)) ∙ ap (value_at copy) run
 
 pub loop-place-preserved : goal.loop-place-preserved
 loop-place-preserved c =
@@ -35,7 +26,7 @@ loop-place-preserved c =
     let inside : start + n ≤ length old = omega (arith, c.min-n.ensures, c.len-end.ensures.rows, there, c.requires.places) in
     let past : at ≤ start + n = omega (arith, c.min-n.ensures, c.len-end.ensures.rows, there, is.0) in
     let to : start ≤ place = omega arith in
-    let agree = taken copy start rows n (omega (arith, inside, c.requires.copied)) (outside_word rows n (λ i. row_at places (start + i)) c.bits.ensures) in
+    let agree = taken_of_run copy start rows n (omega (arith, inside, c.requires.copied)) (outside_word rows n (λ i. row_at places (start + i)) c.bits.ensures) in
     let long : length c.copy_rows.new.self.values ≡ length old = ap length c.copy_rows.ensures.values ∙ filled_len places v old now at i.len i.done i.rest start n rows place inside past to is.2 c.bits.ensures u agree in
     record {
       at = omega (arith, inside, c.requires.places);

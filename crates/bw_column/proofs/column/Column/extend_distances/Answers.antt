@@ -1,7 +1,6 @@
-use Rattle.std.proofs.Common.{FitsSigned, ap, arith, drop, length, length-drop, length-take, map, rules, take, w64, ◌++◌, ◌+◌, ◌∙◌, ◌≡◌, ◌≤◌}
+use Rattle.std.proofs.Common.{FitsSigned, ap, drop, length, map, rules, take, w64, ◌++◌, ◌∙◌, ◌≡◌}
 use Rattle.std.specs.List.{All}
 use Rattle.std.proofs.lemmas.Int.{to_z-of_z}
-use Rattle.std.proofs.lemmas.List.{length-map}
 use Rattle.bw_cells.specs.Distances.{distance_from}
 use Rattle.bw_column.specs.Codes.{IsCoded}
 use Rattle.bw_column.specs.Values.{IsNullOrHeld}

@@ -1,4 +1,4 @@
-use Rattle.std.proofs.Common.{arith, ap, drop, sym, take, ◌++◌, ◌+◌, ◌∙◌, ◌≡◌, ◌≤◌, length}
+use Rattle.std.proofs.Common.{arith, ap, drop, sym, take, ◌++◌, ◌∙◌}
 use Rattle.std.proofs.Math.Seq.{take-add}
 use Rattle.std.proofs.lemmas.List.{take_all}
 use Rattle.bw_column.specs.Copies.{masked}

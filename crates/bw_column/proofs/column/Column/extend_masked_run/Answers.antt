@@ -1,4 +1,4 @@
-use Rattle.std.proofs.Common.{FitsSigned, List, Option, ap, arith, drop, get_or, length, length-drop, length-take, map, of_z, refl, rules, subst, sym, take, to_z, w64, ℤ, ◌++◌, ◌+◌, ◌∙◌, ◌≡◌, ◌≤◌}
+use Rattle.std.proofs.Common.{FitsSigned, ap, arith, drop, get_or, length, length-drop, length-take, map, of_z, refl, rules, subst, sym, take, to_z, w64, ◌∙◌, ◌≡◌}
 use Rattle.std.specs.List.{All}
 use Rattle.std.proofs.lemmas.Int.{to_z-of_z}
 use Rattle.bw_mask.specs.Masks.{bit_of}
@@ -6,6 +6,7 @@ use Rattle.bw_cells.specs.Distances.{distance_from}
 use Rattle.bw_code.specs.declared.encoding.Encoding.TheVariants as by
 use Rattle.bw_code.specs.declared.kind.Layout.TheVariants as layouts
 use Rattle.bw_column.specs.Codes.{IsCoded}
+use Rattle.bw_column.specs.Columns.{ColumnView}
 use Rattle.bw_column.specs.Copies.{masked}
 use Rattle.bw_column.specs.PlaneSources.{ArePlanesOf}
 use Rattle.bw_column.specs.Values.{IsNullOrHeld}
@@ -16,9 +17,11 @@ use Rattle.bw_column.proofs.column.Column.extend_masked_run.Goals as goal
 
 pub extend_planes-requires-clause-cells : goal.extend_planes-requires-clause-cells
 extend_planes-requires-clause-cells c =
-    let o = c.args.offset in
+    let o = c.in-Offset.offset in
+    let of : c.args.other.now.encoding ≡ by.Offset o = sym c.requires.encoding ∙ sym (ap (λ (v : ColumnView). v.encoding) c.self.view_is) ∙ c.in-Offset.is in
     let places = c.args.places.now in
     let values = c.args.other.now.values in
+    let given_codes : All (IsCoded (by.Offset o)) values = rw of at c.encoding-sound.ensures.coded in
     let at = c.args.at in
     let n = c.args.n in
     let fits : FitsSigned w64 o.base = search rules in
@@ -27,7 +30,7 @@ extend_planes-requires-clause-cells c =
     let all = masked places values in
     let run = take n (drop at all) in
     let long : length run ≡ n = omega (arith, length-take n (drop at all), length-drop at all, c.requires.inside, masked_len places values) in
-    let coded : All (IsCoded (by.Offset o)) run = all_here (IsCoded (by.Offset o)) all at n (all_masked (IsCoded (by.Offset o)) places values tt c.requires.coded) in
+    let coded : All (IsCoded (by.Offset o)) run = all_here (IsCoded (by.Offset o)) all at n (all_masked (IsCoded (by.Offset o)) places values tt given_codes) in
     let layout : c.args.self.now.layout ≡ layouts.V = (c.if-begins_planes.ensures refl).0 in
     let given : All (IsNullOrHeld layouts.V) values = subst (λ l. All (IsNullOrHeld l) values) layout c.requires.held in
     let held : All (IsNullOrHeld layouts.V) run = all_here (IsNullOrHeld layouts.V) all at n (all_masked (IsNullOrHeld layouts.V) places values tt given) in
@@ -41,9 +44,11 @@ extend_planes-requires-clause-cells c =
 
 pub returns-in-Some-clause-values : goal.returns-in-Some-clause-values
 returns-in-Some-clause-values c =
-    let o = c.args.offset in
+    let o = c.in-Offset.offset in
+    let of : c.args.other.now.encoding ≡ by.Offset o = sym c.requires.encoding ∙ sym (ap (λ (v : ColumnView). v.encoding) c.self.view_is) ∙ c.in-Offset.is in
     let places = c.args.places.now in
     let values = c.args.other.now.values in
+    let given_codes : All (IsCoded (by.Offset o)) values = rw of at c.encoding-sound.ensures.coded in
     let at = c.args.at in
     let n = c.args.n in
     let fits : FitsSigned w64 o.base = search rules in
@@ -52,7 +57,7 @@ returns-in-Some-clause-values c =
     let all = masked places values in
     let run = take n (drop at all) in
     let long : length run ≡ n = omega (arith, length-take n (drop at all), length-drop at all, c.requires.inside, masked_len places values) in
-    let coded : All (IsCoded (by.Offset o)) run = all_here (IsCoded (by.Offset o)) all at n (all_masked (IsCoded (by.Offset o)) places values tt c.requires.coded) in
+    let coded : All (IsCoded (by.Offset o)) run = all_here (IsCoded (by.Offset o)) all at n (all_masked (IsCoded (by.Offset o)) places values tt given_codes) in
     let layout : c.args.self.now.layout ≡ layouts.V = (c.if-begins_planes.ensures refl).0 in
     let given : All (IsNullOrHeld layouts.V) values = subst (λ l. All (IsNullOrHeld l) values) layout c.requires.held in
     let held : All (IsNullOrHeld layouts.V) run = all_here (IsNullOrHeld layouts.V) all at n (all_masked (IsNullOrHeld layouts.V) places values tt given) in

@@ -1,7 +1,5 @@
 use Rattle.std.proofs.Common.{ap, arith, drop, length, length-drop, length-take, take, ◌++◌, ◌+◌, ◌∙◌, ◌≡◌, ◌≤◌}
-use Rattle.std.specs.List.{All}
 use Rattle.bw_code.proofs.Lists.{part_fits, part_over}
-use Rattle.bw_column.specs.Codes.{IsCoded}
 use Rattle.bw_column.proofs.column.Column.extend_measured.Goals as goal
 
 pub loop-at-preserved : goal.loop-at-preserved

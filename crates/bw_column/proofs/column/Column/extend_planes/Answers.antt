@@ -1,6 +1,6 @@
-use Rattle.std.proofs.Common.{FitsSigned, List, None, Option, ap, arith, get_or, is_some, length, map, rules, subst, sym, w64, ℕ, ℤ, ◌++◌, ◌+◌, ◌<◌, ◌≡◌, ◌≤◌, ◌^◌, ◌∙◌, false}
+use Rattle.std.proofs.Common.{FitsSigned, ap, arith, is_some, length, map, rules, subst, sym, w64, ◌++◌, ◌+◌, ◌≡◌, ◌≤◌, ◌^◌, ◌∙◌}
 use Rattle.std.specs.List.{All}
-use Rattle.bw_mask.specs.Masks.{bit_of, row_at}
+use Rattle.bw_mask.specs.Masks.{row_at}
 use Rattle.bw_code.specs.Columns.{code_at, count}
 use Rattle.bw_code.specs.Encodings.{width}
 use Rattle.bw_code.specs.Lists.{made}
@@ -9,7 +9,6 @@ use Rattle.bw_code.specs.declared.kind.Layout.TheVariants as layouts
 use Rattle.bw_code.proofs.Lists.{made_len}
 use Rattle.bw_column.specs.Codes.{AreRowCodes, IsCoded, codes_for, value_from}
 use Rattle.bw_column.specs.Columns.{ColumnView}
-use Rattle.bw_column.specs.PlaneSources.{ArePlanesOf}
 use Rattle.bw_column.specs.Storing.{layout_of, list_of}
 use Rattle.bw_column.specs.Values.{IsNullOrHeld}
 use Rattle.bw_column.proofs.Changed.{rows_extended, values_extended}

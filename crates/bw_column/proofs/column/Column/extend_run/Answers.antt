@@ -1,4 +1,4 @@
-use Rattle.std.proofs.Common.{FitsSigned, ap, arith, drop, get_or, is_some, length, length-drop, length-take, map, of_z, refl, rules, subst, sym, take, to_z, w64, ◌++◌, ◌+◌, ◌∙◌, ◌≡◌, ◌≤◌, ◌<◌}
+use Rattle.std.proofs.Common.{FitsSigned, ap, arith, drop, get_or, length, length-drop, length-take, map, of_z, refl, rules, subst, take, to_z, w64, ◌∙◌, ◌≡◌}
 use Rattle.std.specs.List.{All}
 use Rattle.std.proofs.lemmas.Int.{to_z-of_z}
 use Rattle.bw_mask.specs.Masks.{bit_of}

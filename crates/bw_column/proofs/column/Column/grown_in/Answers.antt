@@ -12,24 +12,24 @@ pub moved-requires-clause-moved : goal.moved-requires-clause-moved
 moved-requires-clause-moved g c =
     let own = c.args.self.now.values in
     let cells = g.C.Cells.cells c.args.cells.now in
-    let merged = c.in_ok-entries.field-0 in
-    let stand : (x : ℤ) → (StandsIn c.in-Dictionary.own c.in_ok-stands.stands.items x ↔ Contains (known own) x) = rw c.entries-entries.ensures.is at c.in_ok-stands.ensures.stands in
-    let up : IsAscending c.in-Dictionary.own = c.entries-entries.ensures.ascending in
-    let put : IsUnion c.in-Dictionary.own c.in_ok-stands.stands.items c.args.ranked.now.entries.items merged.entries.items merged.moves.items merged.places.items = rw (c.entries-entries.ensures.is, c.deref.ensures.value, c.deref-2.ensures.value) at c.in_ok-entries.ensures in
-    let from : c.args.self.now.encoding ≡ by.Dictionary c.in-Dictionary.own = rw (← c.self.view_is) c.in-Dictionary.is in
+    let merged = c.in_ok-all.field-0 in
+    let stand : (x : ℤ) → (StandsIn c.entries-own.result.now c.in_ok-stands.stands.items x ↔ Contains (known own) x) = c.in_ok-stands.ensures.stands in
+    let up : IsAscending c.entries-own.result.now = c.entries-own.ensures.ascending in
+    let put : IsUnion c.entries-own.result.now c.in_ok-stands.stands.items c.args.entries.now merged.entries.items merged.moves.items merged.places.items = rw c.deref.ensures.value at c.in_ok-all.ensures in
+    let from : c.args.self.now.encoding ≡ by.Dictionary c.entries-own.result.now = c.entries-own.ensures.is in
     let e : c.dictionary_of-encoding.result ≡ by.Dictionary merged.entries.items = c.dictionary_of-encoding.ensures in
-    rw (from, e, c.deref-3.ensures.value) (moves_are c.in-Dictionary.own c.in_ok-stands.stands.items c.args.ranked.now.entries.items merged.entries.items merged.moves.items merged.places.items up put own cells stand c.requires.ranked.entries)
+    rw (from, e, c.deref-2.ensures.value) (moves_are c.entries-own.result.now c.in_ok-stands.stands.items c.args.entries.now merged.entries.items merged.moves.items merged.places.items up put own cells stand c.requires.distinct)
 
 pub moved-requires-clause-narrow : goal.moved-requires-clause-narrow
 moved-requires-clause-narrow g c =
     let l = c.args.layout in
     let own = c.args.self.now.values in
     let cells = g.C.Cells.cells c.args.cells.now in
-    let merged = c.in_ok-entries.field-0 in
-    let stand : (x : ℤ) → (StandsIn c.in-Dictionary.own c.in_ok-stands.stands.items x ↔ Contains (known own) x) = rw c.entries-entries.ensures.is at c.in_ok-stands.ensures.stands in
-    let up : IsAscending c.in-Dictionary.own = c.entries-entries.ensures.ascending in
-    let put : IsUnion c.in-Dictionary.own c.in_ok-stands.stands.items c.args.ranked.now.entries.items merged.entries.items merged.moves.items merged.places.items = rw (c.entries-entries.ensures.is, c.deref.ensures.value, c.deref-2.ensures.value) at c.in_ok-entries.ensures in
-    let fits = union_fits c.in-Dictionary.own c.in_ok-stands.stands.items c.args.ranked.now.entries.items merged.entries.items merged.moves.items merged.places.items up put own cells stand c.requires.ranked.entries in
+    let merged = c.in_ok-all.field-0 in
+    let stand : (x : ℤ) → (StandsIn c.entries-own.result.now c.in_ok-stands.stands.items x ↔ Contains (known own) x) = c.in_ok-stands.ensures.stands in
+    let up : IsAscending c.entries-own.result.now = c.entries-own.ensures.ascending in
+    let put : IsUnion c.entries-own.result.now c.in_ok-stands.stands.items c.args.entries.now merged.entries.items merged.moves.items merged.places.items = rw c.deref.ensures.value at c.in_ok-all.ensures in
+    let fits = union_fits c.entries-own.result.now c.in_ok-stands.stands.items c.args.entries.now merged.entries.items merged.moves.items merged.places.items up put own cells stand c.requires.distinct in
     let e : c.dictionary_of-encoding.result ≡ by.Dictionary merged.entries.items = c.dictionary_of-encoding.ensures in
     rw e (narrow l (known (own ++ cells)) (by.Dictionary merged.entries.items) (held_of_both l own cells (known (own ++ cells)) refl c.requires.own c.requires.held) fits)
 
@@ -37,11 +37,11 @@ pub returns-clause-fits : goal.returns-clause-fits
 returns-clause-fits g c =
     let own = c.args.self.now.values in
     let cells = g.C.Cells.cells c.args.cells.now in
-    let merged = c.in_ok-entries.field-0 in
-    let stand : (x : ℤ) → (StandsIn c.in-Dictionary.own c.in_ok-stands.stands.items x ↔ Contains (known own) x) = rw c.entries-entries.ensures.is at c.in_ok-stands.ensures.stands in
-    let up : IsAscending c.in-Dictionary.own = c.entries-entries.ensures.ascending in
-    let put : IsUnion c.in-Dictionary.own c.in_ok-stands.stands.items c.args.ranked.now.entries.items merged.entries.items merged.moves.items merged.places.items = rw (c.entries-entries.ensures.is, c.deref.ensures.value, c.deref-2.ensures.value) at c.in_ok-entries.ensures in
-    let fits = union_fits c.in-Dictionary.own c.in_ok-stands.stands.items c.args.ranked.now.entries.items merged.entries.items merged.moves.items merged.places.items up put own cells stand c.requires.ranked.entries in
+    let merged = c.in_ok-all.field-0 in
+    let stand : (x : ℤ) → (StandsIn c.entries-own.result.now c.in_ok-stands.stands.items x ↔ Contains (known own) x) = c.in_ok-stands.ensures.stands in
+    let up : IsAscending c.entries-own.result.now = c.entries-own.ensures.ascending in
+    let put : IsUnion c.entries-own.result.now c.in_ok-stands.stands.items c.args.entries.now merged.entries.items merged.moves.items merged.places.items = rw c.deref.ensures.value at c.in_ok-all.ensures in
+    let fits = union_fits c.entries-own.result.now c.in_ok-stands.stands.items c.args.entries.now merged.entries.items merged.moves.items merged.places.items up put own cells stand c.requires.distinct in
     let e : c.in_ok-column.column.encoding ≡ by.Dictionary merged.entries.items = c.in_ok-column.ensures.encoding ∙ c.dictionary_of-encoding.ensures in
     rw e fits
 
@@ -49,9 +49,9 @@ pub returns-clause-codes : goal.returns-clause-codes
 returns-clause-codes g c =
     let own = c.args.self.now.values in
     let cells = g.C.Cells.cells c.args.cells.now in
-    let merged = c.in_ok-entries.field-0 in
-    let stand : (x : ℤ) → (StandsIn c.in-Dictionary.own c.in_ok-stands.stands.items x ↔ Contains (known own) x) = rw c.entries-entries.ensures.is at c.in_ok-stands.ensures.stands in
-    let up : IsAscending c.in-Dictionary.own = c.entries-entries.ensures.ascending in
-    let put : IsUnion c.in-Dictionary.own c.in_ok-stands.stands.items c.args.ranked.now.entries.items merged.entries.items merged.moves.items merged.places.items = rw (c.entries-entries.ensures.is, c.deref.ensures.value, c.deref-2.ensures.value) at c.in_ok-entries.ensures in
+    let merged = c.in_ok-all.field-0 in
+    let stand : (x : ℤ) → (StandsIn c.entries-own.result.now c.in_ok-stands.stands.items x ↔ Contains (known own) x) = c.in_ok-stands.ensures.stands in
+    let up : IsAscending c.entries-own.result.now = c.entries-own.ensures.ascending in
+    let put : IsUnion c.entries-own.result.now c.in_ok-stands.stands.items c.args.entries.now merged.entries.items merged.moves.items merged.places.items = rw c.deref.ensures.value at c.in_ok-all.ensures in
     let e : c.in_ok-column.column.encoding ≡ by.Dictionary merged.entries.items = c.in_ok-column.ensures.encoding ∙ c.dictionary_of-encoding.ensures in
-    rw e (places_are c.in-Dictionary.own c.in_ok-stands.stands.items c.args.ranked.now.entries.items merged.entries.items merged.moves.items merged.places.items up put own cells stand c.requires.ranked.entries)
+    rw e (places_are c.entries-own.result.now c.in_ok-stands.stands.items c.args.entries.now merged.entries.items merged.moves.items merged.places.items up put own cells stand c.requires.distinct)

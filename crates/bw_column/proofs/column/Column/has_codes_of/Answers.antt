@@ -1,4 +1,3 @@
-use Rattle.std.proofs.Common.{refl}
 use Rattle.bw_column.proofs.column.Column.has_codes_of.Goals as goal
 
 pub returns-then-eq : goal.returns-then-eq

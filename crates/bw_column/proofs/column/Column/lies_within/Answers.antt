@@ -1,4 +1,4 @@
-use Rattle.std.proofs.Common.{FitsSigned, None, ap, arith, drop, inl, inr, length, length-take, map, pow_pos, refl, rules, subst, take, w64, ℕ, ◌+◌, ◌-◌, ◌<◌, ◌^◌, ◌≡◌, ◌≤◌, ◌∙◌}
+use Rattle.std.proofs.Common.{FitsSigned, None, ap, arith, drop, inl, inr, length, length-take, map, pow_pos, refl, rules, subst, take, w64, ◌+◌, ◌-◌, ◌<◌, ◌^◌, ◌≡◌, ◌≤◌, ◌∙◌}
 use Rattle.std.proofs.lemmas.Bool.{cases_lt}
 use Rattle.std.proofs.lemmas.Int.{to_z-of_z}
 use Rattle.std.proofs.lemmas.List.{get_or_default}

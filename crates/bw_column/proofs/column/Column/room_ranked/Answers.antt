@@ -16,7 +16,7 @@ returns-clause-prepared g c =
     let none : All (IsCoded own.encoding) cells → ⊥ = λ all.
     let it : is_some c.in_ok-codes.field-0 ≡ true = c.in_ok-codes.ensures.all.1 (rw (← c.self.view_is) at all) in
     true≢false (sym it ∙ ap is_some c.in_default.is) in
-    let codes : c.in_ok-codes-2.field-0.items ≡ map (moved_place c.in_ok-column.field-0.codes.items c.in_ok-ranked.ranked.entries.items) cells = rw c.deref.ensures.value at c.in_ok-codes-2.ensures in
+    let codes : c.in_ok-codes-2.field-0.items ≡ map (moved_place c.in_ok-column.field-0.codes.items c.in_ok-ranked.ranked.entries.items) cells = rw c.deref-2.ensures.value at c.in_ok-codes-2.ensures in
     let coded = (both_coded column.encoding own.values cells list refl (fit_coded list column.encoding grown.ensures.kind grown.ensures.fits)).1 in
     record {
       can = tt;
@@ -24,7 +24,7 @@ returns-clause-prepared g c =
       layout = grown.ensures.layout;
       encoding = record { stays = λ all. absurd (none all); anew = λ _. (grown.ensures.fits, grown.ensures.kind ∙ sym c.requires.kind) };
       coded = coded;
-      codes = codes ∙ codes_by_table cells c.in_ok-ranked.ranked.entries.items c.in_ok-ranked.ensures.entries column.encoding c.in_ok-column.field-0.codes.items grown.ensures.codes;
+      codes = codes ∙ codes_by_table cells c.in_ok-ranked.ranked.entries.items c.in_ok-ranked.ensures.entries column.encoding c.in_ok-column.field-0.codes.items (rw c.deref.ensures.value at grown.ensures.codes);
       held = c.requires.held;
       few = c.requires.few;
       room = omega (arith, grown.ensures.room, c.count_more-more.ensures);
