@@ -23,6 +23,7 @@ pub mod Ordered
 pub mod Overwriting
 pub mod PairRows
 pub mod Pieces
+pub mod Raised
 pub mod Ranks
 pub mod Repeated
 pub mod Rises

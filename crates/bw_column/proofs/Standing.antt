@@ -122,7 +122,7 @@ module _ (e : Encoding) (sound : IsEncoding e) (values : List (Option ℤ)) (cod
 
 -- the code of a value that is not null is the place of an entry
 module _ (entries : List ℤ) (sound : IsEncoding (by.Dictionary entries)) (values : List (Option ℤ)) (coded : All (IsCoded (by.Dictionary entries)) values) where
-  entry_of : (r : ℕ) (x : ℤ) → r < length values → get_or values r None ≡ Some x → (code_for (by.Dictionary entries) (Some x) < length entries) × (get_or entries (code_for (by.Dictionary entries) (Some x)) (pos 0) ≡ x)
+  pub entry_of : (r : ℕ) (x : ℤ) → r < length values → get_or values r None ≡ Some x → (code_for (by.Dictionary entries) (Some x) < length entries) × (get_or entries (code_for (by.Dictionary entries) (Some x)) (pos 0) ≡ x)
   entry_of r x h is =
       let here : IsCoded (by.Dictionary entries) (Some x) = rw is at (coded r None h) in
       let it = entry_is entries x (code_for (by.Dictionary entries) (Some x)) sound.ascending (code_is (by.Dictionary entries) sound x here) in

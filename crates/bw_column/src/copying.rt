@@ -1,6 +1,6 @@
 //! Copying values from another column, a word of rows at a time, by their codes.
 
-ghost use Rattle.std.specs.Prelude.{All, IfOk, IfSome, IsTrue, List, Option, [], drop, false, if◌then◌else◌, length, slice_index, take, ℕ, ℤ, ◌%◌, ◌&&◌, ◌++◌, ◌+◌, ◌<◌, ◌^◌, ◌↔◌, ◌≡◌, ◌≤◌};
+ghost use Rattle.std.specs.Prelude.{All, IfOk, IsTrue, List, Option, [], drop, false, if◌then◌else◌, length, slice_index, take, ℕ, ℤ, ◌%◌, ◌&&◌, ◌++◌, ◌+◌, ◌<◌, ◌^◌, ◌↔◌, ◌≡◌, ◌≤◌};
 ghost use Rattle.bw_mask.specs.Masks.{bit_of, len};
 ghost use Rattle.bw_code.specs.Encodings.{IsWithin, kind_of};
 ghost use Rattle.bw_code.specs.Fittings.{AreEnds};

@@ -1,13 +1,15 @@
 //! Appending values to a column.
 
-ghost use Rattle.std.specs.Prelude.{All, List, Option, drop, length, slice_index, take, true, ℕ, ℤ, ◌%◌, ◌++◌, ◌+◌, ◌<◌, ◌^◌, ◌≡◌, ◌≤◌};
+ghost use Rattle.std.specs.Prelude.{All, List, Option, drop, false, length, slice_index, take, true, ℕ, ℤ, ◌%◌, ◌++◌, ◌+◌, ◌<◌, ◌^◌, ◌≡◌, ◌≤◌};
 ghost use Rattle.bw_mask.specs.Masks.{bit_of};
+ghost use Rattle.bw_code.specs.Encodings.{width};
 ghost use Rattle.bw_code.specs.Lists.{made};
 ghost use Rattle.bw_code.specs.declared.encoding.Encoding.TheVariants as by;
 ghost use Rattle.bw_column.specs.Codes.{IsCoded, IsRowCode, codes_for, value_from};
 ghost use Rattle.bw_column.specs.PlaneSources.{ArePlanesOf};
 ghost use Rattle.bw_column.specs.Values.{IsNullOrHeld};
 ghost use Rattle.bw_code.specs.declared.kind.Layout.TheVariants as layouts;
+ghost use Rattle.bw_vertical.specs.Planes.{code_by};
 
 use crate::codes::encode_all;
 use crate::column::Column;
@@ -31,6 +33,27 @@ impl Column {
     {
         self.codes.extend(codes);
         self.nonnull.push_bits(codes.len(), present);
+    }
+
+    /// Appends n rows by the words of the planes of their codes, within the room: those whose bit is set are non-null.
+    /// The rows lie in one word. The layout is V.
+    #[tactic(auto, using(bw_code::proofs::Lists::made_len))]
+    pub(crate) fn extend_word(&mut self, words: &[u64; 64], n: usize, present: u64)
+        requires layout { self.old.layout ≡ layouts.V }
+        requires some { 0 < n }
+        requires word { length self.old.values % 64 + n ≤ 64 }
+        requires rest { (b r : ℕ) → b < width self.old.encoding → n ≤ r → r < 64 → bit_of (slice_index words.now b) r ≡ false }
+        requires rows { (k : ℕ) → k < n → IsRowCode self.old.encoding (code_by (width self.old.encoding) words.now k) (bit_of present k) }
+        requires held { All (IsNullOrHeld self.old.layout) (made n (λ k. value_from self.old.encoding (code_by (width self.old.encoding) words.now k) (bit_of present k))) }
+        requires room { length self.old.values + n ≤ self.old.room }
+        requires few { length self.old.values + n ≤ 2 ^ 24 }
+        ensures values { self.new.values ≡ self.old.values ++ made n (λ k. value_from self.old.encoding (code_by (width self.old.encoding) words.now k) (bit_of present k)) }
+        ensures layout { self.new.layout ≡ self.old.layout }
+        ensures encoding { self.new.encoding ≡ self.old.encoding }
+        ensures room { self.old.room ≤ self.new.room }
+    {
+        self.codes.extend_words(words, n);
+        self.nonnull.push_bits(n, present);
     }
 
     /// Appends at most 64 values with their codes, within the room.

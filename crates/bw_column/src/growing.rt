@@ -13,6 +13,7 @@ ghost use Rattle.bw_column.specs.Values.{IsNullOrHeld, known, widest};
 ghost use Rattle.bw_dictionary.specs.Merging.{StandsAt, StandsIn};
 
 use crate::column::Column;
+use crate::raising::raised_from;
 use bw_cells::Measured;
 use bw_code::{Encoding, Layout};
 use bw_dictionary::{
@@ -136,6 +137,33 @@ impl Column {
         Ok(column)
     }
 
+    /// The same, from V to V by planes where one entry is new and each old one is still in use.
+    fn moved_or_raised(
+        &self,
+        alloc: Global,
+        layout: Layout,
+        encoding: Encoding,
+        moves: &[u64],
+        more: usize,
+    ) -> Result<Column, AllocError>
+        requires kind { kind_of self.now.encoding ≡ kinds.Dictionary }
+        requires moved { All (IsMoved self.now.encoding encoding moves.now) self.now.values }
+        requires narrow { width encoding ≤ widest layout }
+        requires held { All (IsNullOrHeld layout) self.now.values }
+        requires few { length self.now.values + more ≤ 2 ^ 24 }
+        ensures values { IfOk result (λ c. c.values ≡ self.now.values) }
+        ensures layout { IfOk result (λ c. c.layout ≡ layout) }
+        ensures encoding { IfOk result (λ c. c.encoding ≡ encoding) }
+        ensures room { IfOk result (λ c. length self.now.values + more ≤ c.room) }
+    {
+        if layout == Layout::V && self.layout() == Layout::V {
+            if let Some(place) = raised_from(moves) {
+                return self.raised(alloc, encoding, place, more);
+            }
+        }
+        self.moved(alloc, layout, encoding, moves, more)
+    }
+
     /// The same values in a layout and a dictionary that includes those of the cells, with room for `more` further
     /// values. `entries` are the distinct values of the cells.
     fn grown_in<C: Measured>(
@@ -166,7 +194,7 @@ impl Column {
             places: codes,
         } = merge_entries(alloc, own, &stands, entries)?;
         let encoding = dictionary_of(all);
-        let column = self.moved(alloc, layout, encoding, &moves, more)?;
+        let column = self.moved_or_raised(alloc, layout, encoding, &moves, more)?;
         Ok(Grown { column, codes })
     }
 

@@ -21,6 +21,7 @@ mod kept;
 mod lent_planes;
 mod pair_codes;
 mod pairs;
+mod raising;
 mod reading;
 mod runs;
 mod split;

@@ -1,6 +1,6 @@
 //! Sets columns in the rows of a mask, in two steps: first every allocation, then the writes, which can't fail.
 
-ghost use Rattle.std.specs.Prelude.{All, IfOk, IfSome, false, length, slice_index_or, vec_len, ℕ, ◌<◌, ◌^◌, ◌≡◌, ◌≢◌, ◌≤◌};
+ghost use Rattle.std.specs.Prelude.{All, IfOk, IfSome, false, length, slice_index_or, vec_len, ◌<◌, ◌^◌, ◌≡◌, ◌≢◌, ◌≤◌};
 ghost use Rattle.std.specs.List.{AllPairs};
 ghost use Rattle.bw_mask.specs.Masks.{len};
 ghost use Rattle.bw_column.specs.Columns.{ColumnView};

@@ -8,8 +8,8 @@ use Rattle.bw_column.proofs.Grown.{moves_are, places_are, union_fits}
 use Rattle.bw_column.proofs.Narrow.{held_of_both, narrow}
 use Rattle.bw_column.proofs.column.Column.grown_in.Goals as goal
 
-pub moved-requires-clause-moved : goal.moved-requires-clause-moved
-moved-requires-clause-moved g c =
+pub moved_or_raised-requires-clause-moved : goal.moved_or_raised-requires-clause-moved
+moved_or_raised-requires-clause-moved g c =
     let own = c.args.self.now.values in
     let cells = g.C.Cells.cells c.args.cells.now in
     let merged = c.in_ok-all.field-0 in
@@ -20,8 +20,8 @@ moved-requires-clause-moved g c =
     let e : c.dictionary_of-encoding.result ≡ by.Dictionary merged.entries.items = c.dictionary_of-encoding.ensures in
     rw (from, e, c.deref-2.ensures.value) (moves_are c.entries-own.result.now c.in_ok-stands.stands.items c.args.entries.now merged.entries.items merged.moves.items merged.places.items up put own cells stand c.requires.distinct)
 
-pub moved-requires-clause-narrow : goal.moved-requires-clause-narrow
-moved-requires-clause-narrow g c =
+pub moved_or_raised-requires-clause-narrow : goal.moved_or_raised-requires-clause-narrow
+moved_or_raised-requires-clause-narrow g c =
     let l = c.args.layout in
     let own = c.args.self.now.values in
     let cells = g.C.Cells.cells c.args.cells.now in
