@@ -13,7 +13,7 @@ use Rattle.bw_code.specs.declared.encoding.Encoding.TheVariants as by
 use Rattle.bw_code.specs.declared.kind.Kind.TheVariants as kinds
 use Rattle.bw_code.proofs.Entries.{entry_at}
 use Rattle.bw_code.proofs.Lists.{made_is}
-use Rattle.bw_dictionary.specs.Merging.{IsUnion, StandsAt, StandsIn}
+use Rattle.bw_dictionary.specs.Merging.{AreStandingCodes, IsUnion, StandsAt, StandsIn}
 use Rattle.bw_dictionary.specs.Moving.{moved_place}
 use Rattle.bw_dictionary.specs.Ranking.{place_of}
 use Rattle.bw_dictionary.proofs.Encoded.{cell_of}
@@ -65,41 +65,33 @@ module _ (cells : List (Option ℤ)) (new : List ℤ) (distinct : AreDistinct (k
               let code = are.each p.0 p.1 in
               ap (λ q. get_or table q 0) p.3 ∙ sym (ap (λ c. unwrap_or c 0) (ap (code_of e) (sym p.2) ∙ code))
 
-  -- where the entries of another dictionary have all of them, each cell has a code there, and the other way round
-  pub cells_coded : (entries : List ℤ) → All (Contains entries) new → All (IsCoded (by.Dictionary entries)) cells
-  cells_coded entries all = all_coded (by.Dictionary entries) cells (λ k d h.
-      let at = (distinct.same (get_or (known cells) k d)).1 (Contains-get_or (known cells) k d h) in
-      let here = all at.0 (get_or (known cells) k d) at.1 in
-      rw at.2 at here)
+-- where a list is distinct values, all of it stands
+pub all_stand : (values new : List ℤ) (stands : List Bool) → AreDistinct values new → ((m : ℕ) → m < length new → StandsAt stands m) → (x : ℤ) → (StandsIn new stands x ↔ Contains values x)
+all_stand values new stands distinct all x = (
+  λ h. (distinct.same x).0 (h.0, h.1, get_or_default new h.0 x (pos 0) h.1 ∙ h.3),
+  λ h. let there = (distinct.same x).1 h in (there.0, there.1, all there.0 there.1, get_or_default new there.0 (pos 0) x there.1 ∙ there.2),
+)
 
-  pub entries_coded : (entries : List ℤ) → All (IsCoded (by.Dictionary entries)) cells → All (Contains entries) new
-  entries_coded entries coded k d h =
-      let there = (distinct.same (get_or new k d)).0 (Contains-get_or new k d h) in
-      let cell = cell_of cells (get_or new k d) there.0 there.1 there.2 in
-      let here : IsCoded (by.Dictionary entries) (get_or cells cell.0 None) = coded cell.0 None cell.1 in
+-- nothing stands where there is nothing
+pub none_stands : (x : ℤ) → (StandsIn [] [] x ↔ Contains [] x)
+none_stands x = (λ h. absurd (omega (arith, h.1)), λ h. absurd (omega (arith, h.1)))
+
+-- the entries of a dictionary that stand are the values of some rows
+module _ (entries : List ℤ) (stands : List Bool) (own : List (Option ℤ)) (stand : (x : ℤ) → (StandsIn entries stands x ↔ Contains (known own) x)) where
+  -- where another dictionary has all that stand, each row has a code there, and the other way round
+  pub standing_coded : (others : List ℤ) → ((x : ℤ) → StandsIn entries stands x → Contains others x) → All (IsCoded (by.Dictionary others)) own
+  standing_coded others all = all_coded (by.Dictionary others) own (λ k d h. all (get_or (known own) k d) ((stand (get_or (known own) k d)).1 (Contains-get_or (known own) k d h)))
+
+  pub coded_standing : (others : List ℤ) → All (IsCoded (by.Dictionary others)) own → (x : ℤ) → StandsIn entries stands x → Contains others x
+  coded_standing others coded x h =
+      let there = (stand x).0 h in
+      let cell = cell_of own x there.0 there.1 there.2 in
+      let here : IsCoded (by.Dictionary others) (get_or own cell.0 None) = coded cell.0 None cell.1 in
       rw cell.2 at here
 
--- entries that stand, and new ones, put together
-module _ (entries : List ℤ) (stands : List Bool) (new union : List ℤ) (moves places : List ℕ) (up : IsAscending entries) (put : IsUnion entries stands new union moves places)
-    (own cells : List (Option ℤ)) (stand : (x : ℤ) → (StandsIn entries stands x ↔ Contains (known own) x)) (distinct : AreDistinct (known cells) new) where
-  pub moves_are : All (IsMoved (by.Dictionary entries) (by.Dictionary union) moves) own
-  moves_are k d h = each (get_or own k None) refl
-    where
-      each : (value : Option ℤ) → get_or own k None ≡ value → IsMoved (by.Dictionary entries) (by.Dictionary union) moves (get_or own k d)
-      each None is = let same : get_or own k d ≡ None = get_or_default own k d None h ∙ is in rw same tt
-      each (Some x) is =
-          let same : get_or own k d ≡ Some x = get_or_default own k d None h ∙ is in
-          let m = (stand x).1 (known_at own k x is) in
-          let code : code_for (by.Dictionary entries) (Some x) ≡ m.0 = ap (λ c. unwrap_or c 0) (entry_at entries x m.0 up m.1 m.3) in
-          let to = put.moved m.0 m.1 m.2 in
-          let there = entry_at union x (get_or moves m.0 0) put.ascending to.0 (to.1 ∙ m.3) in
-          let moved : IsMoved (by.Dictionary entries) (by.Dictionary union) moves (Some x) = rw code (omega (arith, m.1, put.moves_count), there) in
-          rw same moved
-
-  -- by way of their places there, to codes in a third encoding
-  pub moves_through : (e : Encoding) (codes table : List ℕ) → AreCodes (code_of e) union codes → length table ≡ length moves → ((m : ℕ) → StandsAt stands m → get_or table m 0 ≡ get_or codes (get_or moves m 0) 0)
-      → All (IsMoved (by.Dictionary entries) e table) own
-  moves_through e codes table are count through k d h = each (get_or own k None) refl
+  -- a table with the codes of those that stand has that of each row
+  pub standing_moved : IsAscending entries → (e : Encoding) (table : List ℕ) → AreStandingCodes (code_of e) entries stands table → All (IsMoved (by.Dictionary entries) e table) own
+  standing_moved up e table are k d h = each (get_or own k None) refl
     where
       each : (value : Option ℤ) → get_or own k None ≡ value → IsMoved (by.Dictionary entries) e table (get_or own k d)
       each None is = let same : get_or own k d ≡ None = get_or_default own k d None h ∙ is in rw same tt
@@ -107,52 +99,34 @@ module _ (entries : List ℤ) (stands : List Bool) (new union : List ℤ) (moves
           let same : get_or own k d ≡ Some x = get_or_default own k d None h ∙ is in
           let m = (stand x).1 (known_at own k x is) in
           let code : code_for (by.Dictionary entries) (Some x) ≡ m.0 = ap (λ c. unwrap_or c 0) (entry_at entries x m.0 up m.1 m.3) in
-          let to = put.moved m.0 m.1 m.2 in
-          let there : code_of e x ≡ Some (get_or table m.0 0) = ap (code_of e) (sym (to.1 ∙ m.3)) ∙ are.each (get_or moves m.0 0) to.0 ∙ ap Some (sym (through m.0 m.2)) in
-          let moved : IsMoved (by.Dictionary entries) e table (Some x) = rw code (omega (arith, m.1, put.moves_count, count), there) in
+          let there : code_of e x ≡ Some (get_or table m.0 0) = ap (code_of e) (sym m.3) ∙ are.each m.0 m.1 m.2 in
+          let moved : IsMoved (by.Dictionary entries) e table (Some x) = rw code (omega (arith, m.1, are.count), there) in
           rw same moved
 
-  pub union_fits : AreDistinct (known (own ++ cells)) union
-  union_fits = record {
-    ascending = put.ascending;
-    same = λ x. (forth x, back x);
-  }
-    where
-      both : known (own ++ cells) ≡ known own ++ known cells
-      both = filter_map-append (λ value. value) own cells
+-- the entries of two dictionaries that stand, merged, fit the values of both
+pub union_fits : (old : List ℤ) (old_stands : List Bool) (new : List ℤ) (new_stands : List Bool) (union : List ℤ) (moves places : List ℕ) → IsUnion old old_stands new new_stands union moves places → (own cells : List (Option ℤ))
+    → ((x : ℤ) → (StandsIn old old_stands x ↔ Contains (known own) x)) → ((x : ℤ) → (StandsIn new new_stands x ↔ Contains (known cells) x)) → AreDistinct (known (own ++ cells)) union
+union_fits old old_stands new new_stands union moves places put own cells stand new_stand = record {
+  ascending = put.ascending;
+  same = λ x. (forth x, back x);
+}
+  where
+    both : known (own ++ cells) ≡ known own ++ known cells
+    both = filter_map-append (λ value. value) own cells
 
-      forth : (x : ℤ) → Contains union x → Contains (known (own ++ cells)) x
-      forth x h = rw both (elim ((put.members x).0 h) [
-        | inl was ↦ Contains-append_left (known own) (known cells) x ((stand x).0 was)
-        | inr new_one ↦ Contains-append_right (known own) (known cells) x ((distinct.same x).0 new_one)
-      ])
+    forth : (x : ℤ) → Contains union x → Contains (known (own ++ cells)) x
+    forth x h = rw both (elim ((put.members x).0 h) [
+      | inl was ↦ Contains-append_left (known own) (known cells) x ((stand x).0 was)
+      | inr new_one ↦ Contains-append_right (known own) (known cells) x ((new_stand x).0 new_one)
+    ])
 
-      back : (x : ℤ) → Contains (known (own ++ cells)) x → Contains union x
-      back x h = let in_both : Contains (known own ++ known cells) x = rw both at h in
-          (put.members x).1 (elim (Contains-append_cases (known own) (known cells) x in_both) [
-            | inl was ↦ inl ((stand x).1 was)
-            | inr new_one ↦ inr ((distinct.same x).1 new_one)
-          ])
+    back : (x : ℤ) → Contains (known (own ++ cells)) x → Contains union x
+    back x h = let in_both : Contains (known own ++ known cells) x = rw both at h in
+        (put.members x).1 (elim (Contains-append_cases (known own) (known cells) x in_both) [
+          | inl was ↦ inl ((stand x).1 was)
+          | inr new_one ↦ inr ((new_stand x).1 new_one)
+        ])
 
-  pub places_are : AreCodes (entry_code union) new places
-  places_are = record {
-    count = put.places_count;
-    each = λ i h. let to = put.placed i h in entry_at union (get_or new i (pos 0)) (get_or places i 0) put.ascending to.0 to.1;
-  }
-
--- entries that stand, alone
-module _ (entries : List ℤ) (stands : List Bool) (used : List ℤ) (moves places : List ℕ) (up : IsAscending entries) (put : IsUnion entries stands [] used moves places)
-    (own : List (Option ℤ)) (stand : (x : ℤ) → (StandsIn entries stands x ↔ Contains (known own) x)) where
-  pub used_distinct : AreDistinct (known own) used
-  used_distinct = subst (λ xs. AreDistinct (known xs) used) (append-nil own) (union_fits entries stands [] used moves places up put own [] stand none_distinct)
-
-  pub used_moves : (e : Encoding) (codes table : List ℕ) → AreCodes (code_of e) used codes → length table ≡ length moves → ((m : ℕ) → StandsAt stands m → get_or table m 0 ≡ get_or codes (get_or moves m 0) 0)
-      → All (IsMoved (by.Dictionary entries) e table) own
-  used_moves = moves_through entries stands [] used moves places up put own [] stand none_distinct
-
-  pub used_inside : (codes : List ℕ) → length codes ≡ length used → length stands ≡ length entries → (m : ℕ) → StandsAt stands m → get_or moves m 0 < length codes
-  used_inside codes many flags m at =
-      elim (cases_lt m (length entries)) [
-        | inl low ↦ omega (arith, (put.moved m low at).0, many)
-        | inr high ↦ absurd (true≢false (sym at ∙ get_or_past stands m false (omega (arith, high, flags))))
-      ]
+-- where all of a list stands, its codes are those of each
+pub all_codes : (e : Encoding) (new : List ℤ) (stands : List Bool) (codes : List ℕ) → ((m : ℕ) → m < length new → StandsAt stands m) → AreStandingCodes (code_of e) new stands codes → AreCodes (code_of e) new codes
+all_codes e new stands codes all are = record { count = are.count; each = λ i h. are.each i h (all i h) }

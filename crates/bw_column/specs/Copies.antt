@@ -4,7 +4,9 @@ use Rattle.std.specs.List.{All}
 use Rattle.bw_mask.specs.Masks.{MaskRows, len, row_at}
 use Rattle.bw_code.specs.Encodings.{kind_of}
 use Rattle.bw_code.specs.Lists.{made}
+use Rattle.bw_code.specs.declared.kind.Kind.{Kind}
 use Rattle.bw_code.specs.declared.kind.Kind.TheVariants as kind
+use Rattle.bw_code.specs.declared.kind.Layout.{Layout}
 use Rattle.bw_code.specs.declared.kind.Layout.TheVariants as layouts
 use Rattle.bw_column.specs.Codes.{IsCoded}
 use Rattle.bw_column.specs.Columns.{ColumnView}
@@ -25,6 +27,11 @@ masked places values = made (length values) (λ i. if row_at places i then value
 pub record IsMasked (places : MaskRows) (values : List (Option ℤ)) : Type 0 where
   pub long : length values ≡ len places
   pub null : (i : ℕ) → row_at places i ≡ false → value_at values i ≡ None
+
+-- distances in planes are copied to planes, and all other codes to plain ones
+abbrev pub layout_of_copy : Layout → Kind → Layout
+layout_of_copy layouts.V kind.Offset = layouts.V
+layout_of_copy layout by = layouts.P
 
 -- a copy, the step before its values are taken, and the codes by which they are
 pub record CopyPreparation : Type 0 where
@@ -47,8 +54,8 @@ pub record IsCopyPreparedFor (column : ColumnView) (places : MaskRows) (prepared
   pub fits : FitsAfter column prepared.step prepared.copy prepared.codes
   pub ready : IsPreparedFor column (chosen_values places prepared.copy.values) false (step_alone prepared.step)
 
--- a column can take any of another column's values by their codes as they are: both are of kind OFFSET, its layout holds what the
--- other's holds, and each of those values has a code in it
+-- a column can take any of another column's values by their codes as they are: both are of kind OFFSET, its layout holds what
+-- the other's holds, and each of those values has a code in it
 pub record CanCopy (column other : ColumnView) : Type 0 where
   pub own : kind_of column.encoding ≡ kind.Offset
   pub kind_is : kind_of other.encoding ≡ kind.Offset

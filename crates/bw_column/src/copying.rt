@@ -8,21 +8,19 @@ ghost use Rattle.bw_code.specs.declared.encoding.Encoding.TheVariants as by;
 ghost use Rattle.bw_code.specs.declared.kind.Kind.TheVariants as kind;
 ghost use Rattle.bw_column.specs.Codes.{IsCoded};
 ghost use Rattle.bw_column.specs.Columns.{Keeps};
-ghost use Rattle.bw_column.specs.Copies.{FitsAfter, IsCopyPreparedFor, IsMasked, masked, step_alone};
+ghost use Rattle.bw_column.specs.Copies.{FitsAfter, IsCopyPreparedFor, IsMasked, layout_of_copy, masked, step_alone};
 ghost use Rattle.bw_column.specs.Moves.{IsMoved};
 ghost use Rattle.bw_column.specs.Places.{chosen_values, overwritten, put_values};
 ghost use Rattle.bw_column.specs.Preparing.{IsEncodingFor, IsPreparedFor, after};
 ghost use Rattle.bw_column.specs.Values.{IsNullOrHeld, known, widest};
-ghost use Rattle.bw_dictionary.specs.Merging.{StandsAt};
 
 use crate::codes::greatest_code;
 use crate::column::Column;
-use crate::growing::Grown;
 use crate::step::Step;
 use crate::within::has_top;
 use bw_cells::Measured;
 use bw_code::{Encoding, Ends, Kind, Layout, Offset};
-use bw_dictionary::{dictionary_like, find_entries, merge_entries, move_codes};
+use bw_dictionary::{dictionary_like, find_standing, move_codes};
 use bw_mask::{Mask, has_bit};
 use std::alloc::{AllocError, Global};
 use std::marker::Model;
@@ -105,32 +103,9 @@ fn keep_bits(words: &mut [u64; 64], present: u64, rows: u64) -> u64
     present & rows
 }
 
-/// The codes by way of an index: for each entry that stands the code at the index that it moves to.
-fn codes_through(
-    alloc: Global,
-    stands: &[bool],
-    moves: &[u64],
-    codes: &[u64],
-) -> Result<Vec<u64>, AllocError>
-    requires flags { length stands.now ≡ length moves.now }
-    requires inside { (m : ℕ) → StandsAt stands.now m → slice_index moves.now m < length codes.now }
-    ensures count { IfOk result (λ table. length table.items ≡ length moves.now) }
-    ensures each { IfOk result (λ table. (m : ℕ) → StandsAt stands.now m → slice_index table.items m ≡ slice_index codes.now (slice_index moves.now m)) }
-{
-    let mut table = Vec::with_capacity(alloc, moves.len())?;
-    for m in 0..moves.len() {
-        let code = if stands[m] {
-            codes[moves[m] as usize]
-        } else {
-            0
-        };
-        table.push_reserved(code);
-    }
-    Ok(table)
-}
-
 /// The layout of a copy: distances in V stay in V, and all other codes are copied to plain codes.
 fn copied_layout(layout: Layout, kind: Kind) -> Layout
+    ensures is { result ≡ layout_of_copy layout kind }
     ensures held { (values : List (Option ℤ)) → All (IsNullOrHeld layout) values → All (IsNullOrHeld result) values }
     ensures wide { widest layout ≤ widest result }
 {
@@ -159,7 +134,8 @@ impl Column {
         ensures values { IfOk result (λ copy. copy.values ≡ masked places.now self.now.values) }
         ensures masked { IfOk result (λ copy. IsMasked places.now copy.values) }
         ensures held { IfOk result (λ copy. All (IsNullOrHeld self.now.layout) copy.values) }
-        ensures kind { IfOk result (λ copy. kind_of copy.encoding ≡ kind_of self.now.encoding) }
+        ensures encoding { IfOk result (λ copy. copy.encoding ≡ self.now.encoding) }
+        ensures layout { IfOk result (λ copy. copy.layout ≡ layout_of_copy self.now.layout (kind_of self.now.encoding)) }
     {
         let _few = self.len();
         let _sound = self.encoding();
@@ -180,6 +156,7 @@ impl Column {
         requires room { length other.now.values ≤ self.old.room }
         requires few { length other.now.values ≤ 2 ^ 24 }
         ensures values { self.new.values ≡ masked places.now other.now.values }
+        ensures layout { self.new.layout ≡ self.old.layout }
         ensures encoding { self.new.encoding ≡ self.old.encoding }
     {
         let mut at = 0;
@@ -265,7 +242,8 @@ impl Column {
                 Ok(PreparedCopy { step, codes, copy })
             }
             Kind::Dictionary => {
-                let (step, codes) = self.step_and_moves(alloc, places, &copy)?;
+                let (step, moves) = self.step_and_moves(alloc, places, &copy)?;
+                let codes = CopiedCodes::Moved(moves);
                 Ok(PreparedCopy { step, codes, copy })
             }
         }
@@ -292,39 +270,35 @@ impl Column {
             self.reserve(0)?;
             return Ok(Step::Stay);
         }
-        let step = self.step_with(alloc, copy, 0)?;
-        Ok(step)
+        self.step_with(alloc, copy, 0)
     }
 
-    /// The step before a column of kind DICTIONARY takes the values of a copy, and the codes that they then have. Only
-    /// the entries that some row has are looked up or merged. No row is read beyond its code.
+    /// The step before a column of kind DICTIONARY takes the values of a copy, and a table of the codes that they then
+    /// have. Only the entries that some row has are looked up or merged. No row is read beyond its code.
     fn step_and_moves(
         &mut self,
         alloc: Global,
         places: &Mask,
         copy: &Column,
-    ) -> Result<(Step, CopiedCodes), AllocError>
+    ) -> Result<(Step, Vec<u64>), AllocError>
         requires own { kind_of self.old.encoding ≡ kind.Dictionary }
         requires kind { kind_of copy.now.encoding ≡ kind.Dictionary }
         requires masked { IsMasked places.now copy.now.values }
         requires held { All (IsNullOrHeld self.old.layout) copy.now.values }
         ensures prepared { IfOk result (λ both. IsPreparedFor self.new (chosen_values places.now copy.now.values) false (step_alone both.0)) }
-        ensures codes { IfOk result (λ both. FitsAfter self.new both.0 copy.now both.1) }
+        ensures moves { IfOk result (λ both. All (IsMoved copy.now.encoding (after self.new both.0).encoding both.1.items) copy.now.values) }
         ensures keeps { Keeps self.new self.old }
     {
         let _few = self.len();
         let _sound = copy.encoding();
         let entries = copy.entries();
         let stands = copy.standing(alloc, entries)?;
-        let used = merge_entries(alloc, entries, &stands, &[])?;
-        if let Some(codes) = find_entries(alloc, self.entries(), &used.entries)? {
-            let moves = codes_through(alloc, &stands, &used.moves, &codes)?;
+        if let Some(moves) = find_standing(alloc, self.entries(), entries, &stands)? {
             self.reserve(0)?;
-            return Ok((Step::Stay, CopiedCodes::Moved(moves)));
+            return Ok((Step::Stay, moves));
         }
-        let Grown { column, codes } = self.grown(alloc, copy, &used.entries, 0)?;
-        let moves = codes_through(alloc, &stands, &used.moves, &codes)?;
-        Ok((Step::Replace(column), CopiedCodes::Moved(moves)))
+        let grown = self.grown_in(alloc, self.layout(), copy, entries, &stands, 0)?;
+        Ok((Step::Replace(grown.column), grown.codes))
     }
 
     /// Whether each value of another column has a code in this one. Both are of kind OFFSET. Bases and widths may

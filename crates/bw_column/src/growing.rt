@@ -1,19 +1,19 @@
 //! Growing a column's dictionary by other values: the entries that some row still has are merged with the new ones, and
 //! each code is mapped to its new index.
 
-ghost use Rattle.std.specs.Prelude.{All, Contains, IfOk, None, drop, is_some, length, slice_index_or, take, ℕ, ℤ, ◌++◌, ◌+◌, ◌<◌, ◌^◌, ◌↔◌, ◌≡◌, ◌≤◌};
+ghost use Rattle.std.specs.Prelude.{All, Contains, IfOk, IfSome, None, drop, if◌then◌else◌, is_some, length, slice_index, slice_index_or, take, true, ℕ, ℤ, ◌++◌, ◌+◌, ◌<◌, ◌^◌, ◌↔◌, ◌≡◌, ◌≤◌};
 ghost use Rattle.bw_code.specs.Ascending.{IsAscending};
 ghost use Rattle.bw_code.specs.Encodings.{AreCodes, AreDistinct, IsFit, code_of, kind_of, width};
 ghost use Rattle.bw_code.specs.declared.encoding.Encoding.TheVariants as by;
 ghost use Rattle.bw_code.specs.declared.kind.Kind.TheVariants as kinds;
 ghost use Rattle.bw_mask.specs.Masks.{bit_of};
 ghost use Rattle.bw_column.specs.Codes.{codes_for};
-ghost use Rattle.bw_column.specs.Moves.{IsMoved};
+ghost use Rattle.bw_column.specs.Moves.{IsMoved, raised_code};
 ghost use Rattle.bw_column.specs.Values.{IsNullOrHeld, known, widest};
-ghost use Rattle.bw_dictionary.specs.Merging.{StandsAt, StandsIn};
+ghost use Rattle.bw_dictionary.specs.Merging.{AreStandingCodes, StandsAt, StandsIn};
 
 use crate::column::Column;
-use crate::raising::raised_from;
+use crate::raising::{raise_codes, raised_from};
 use bw_cells::Measured;
 use bw_code::{Encoding, Layout};
 use bw_dictionary::{
@@ -31,11 +31,26 @@ fn rows_before(at: usize) -> usize
     (at - 1) % 64 + 1
 }
 
+/// Replaces each code of a block by the table's value at its index, and by 0 where the row's bit isn't set. A table
+/// that only raises the indices from one on isn't read, since its values may be far apart in memory.
+fn map_codes(codes: &mut [u64], present: u64, moves: &[u64], from: Option<usize>)
+    requires few { length codes.old ≤ 64 }
+    requires inside { (k : ℕ) → k < length codes.old → bit_of present k ≡ true → slice_index codes.old k < length moves.now }
+    requires raised { IfSome from (λ place. (m : ℕ) → m < length moves.now → slice_index moves.now m ≡ raised_code place m) }
+    ensures count { length codes.new ≡ length codes.old }
+    ensures each { (k : ℕ) → k < length codes.old → slice_index codes.new k ≡ (if bit_of present k then slice_index moves.now (slice_index codes.old k) else 0) }
+{
+    match from {
+        Some(place) => raise_codes(codes, present, place as u64),
+        None => move_codes(codes, present, moves),
+    }
+}
+
 /// A column whose dictionary has other values, too.
 #[derive(Drop)]
 pub(crate) struct Grown {
     pub(crate) column: Column,
-    /// The codes that the other values have in that dictionary, ascending.
+    /// The codes that the other entries in use have in that dictionary, each at the entry's index.
     pub(crate) codes: Vec<u64>,
 }
 
@@ -103,16 +118,19 @@ impl Column {
     }
 
     /// The same values in a layout and another dictionary, with room for `more` further values. `moves` has the new
-    /// code of each value at the index of its old code.
-    fn moved(
+    /// code of each value at the index of its old code. `from` is the index from which on each moves by one, if that
+    /// is how they move.
+    fn mapped(
         &self,
         alloc: Global,
         layout: Layout,
         encoding: Encoding,
         moves: &[u64],
+        from: Option<usize>,
         more: usize,
     ) -> Result<Column, AllocError>
         requires moved { All (IsMoved self.now.encoding encoding moves.now) self.now.values }
+        requires raised { IfSome from (λ place. (m : ℕ) → m < length moves.now → slice_index moves.now m ≡ raised_code place m) }
         requires narrow { width encoding ≤ widest layout }
         requires held { All (IsNullOrHeld layout) self.now.values }
         requires few { length self.now.values + more ≤ 2 ^ 24 }
@@ -130,15 +148,16 @@ impl Column {
             let n = (self.len() - at).min(64);
             let codes = &mut list[..n];
             let present = self.read_codes(at, codes);
-            move_codes(codes, present, moves);
+            map_codes(codes, present, moves, from);
             column.extend_rows(codes, present);
             at += n;
         }
         Ok(column)
     }
 
-    /// The same, from V to V by planes where one entry is new and each old one is still in use.
-    fn moved_or_raised(
+    /// The same, without looking at the table for each row where no entry moves, or all from one on move by one; from V
+    /// to V then by planes.
+    fn moved(
         &self,
         alloc: Global,
         layout: Layout,
@@ -156,25 +175,29 @@ impl Column {
         ensures encoding { IfOk result (λ c. c.encoding ≡ encoding) }
         ensures room { IfOk result (λ c. length self.now.values + more ≤ c.room) }
     {
+        let from = raised_from(moves);
         if layout == Layout::V && self.layout() == Layout::V {
-            if let Some(place) = raised_from(moves) {
+            if let Some(place) = from {
                 return self.raised(alloc, encoding, place, more);
             }
         }
-        self.moved(alloc, layout, encoding, moves, more)
+        self.mapped(alloc, layout, encoding, moves, from, more)
     }
 
     /// The same values in a layout and a dictionary that includes those of the cells, with room for `more` further
-    /// values. `entries` are the distinct values of the cells.
-    fn grown_in<C: Measured>(
+    /// values. The cells' values are those of the entries that stand.
+    pub(crate) fn grown_in<C: Measured>(
         &self,
         alloc: Global,
         layout: Layout,
         cells: &C,
         entries: &[i64],
+        stands: &[bool],
         more: usize,
     ) -> Result<Grown, AllocError>
-        requires distinct { AreDistinct (known (C.cells cells.now)) entries.now }
+        requires ascending { IsAscending entries.now }
+        requires flags { length stands.now ≡ length entries.now }
+        requires stands { (x : ℤ) → (StandsIn entries.now stands.now x ↔ Contains (known (C.cells cells.now)) x) }
         requires kind { kind_of self.now.encoding ≡ kinds.Dictionary }
         requires own { All (IsNullOrHeld layout) self.now.values }
         requires held { All (IsNullOrHeld layout) (C.cells cells.now) }
@@ -184,21 +207,22 @@ impl Column {
         ensures fits { IfOk result (λ g. IsFit (known (self.now.values ++ C.cells cells.now)) g.column.encoding) }
         ensures kind { IfOk result (λ g. kind_of g.column.encoding ≡ kinds.Dictionary) }
         ensures room { IfOk result (λ g. length self.now.values + more ≤ g.column.room) }
-        ensures codes { IfOk result (λ g. AreCodes (code_of g.column.encoding) entries.now g.codes.items) }
+        ensures codes { IfOk result (λ g. AreStandingCodes (code_of g.column.encoding) entries.now stands.now g.codes.items) }
     {
         let own = self.entries();
-        let stands = self.standing(alloc, own)?;
+        let own_stands = self.standing(alloc, own)?;
         let MergedEntries {
             entries: all,
             moves,
             places: codes,
-        } = merge_entries(alloc, own, &stands, entries)?;
+        } = merge_entries(alloc, own, &own_stands, entries, stands)?;
         let encoding = dictionary_of(all);
-        let column = self.moved_or_raised(alloc, layout, encoding, &moves, more)?;
+        let column = self.moved(alloc, layout, encoding, &moves, more)?;
         Ok(Grown { column, codes })
     }
 
-    /// The same values in a dictionary that includes those of the cells, with room for `more` further values.
+    /// The same values in a dictionary that includes those of the cells, with room for `more` further values. `entries`
+    /// are the distinct values of the cells.
     pub(crate) fn grown<C: Measured>(
         &self,
         alloc: Global,
@@ -218,7 +242,8 @@ impl Column {
         ensures codes { IfOk result (λ g. AreCodes (code_of g.column.encoding) entries.now g.codes.items) }
     {
         let _held = self.len();
-        self.grown_in(alloc, self.layout(), cells, entries, more)
+        let stands = Vec::from_elem(alloc, true, entries.len())?;
+        self.grown_in(alloc, self.layout(), cells, entries, &stands, more)
     }
 
     /// The same values in a layout and a dictionary of only those entries that some row has. No value is read, only
@@ -234,7 +259,7 @@ impl Column {
         let _few = self.len();
         let none = [];
         let cells = none.as_slice();
-        let grown = self.grown_in(alloc, layout, &cells, &[], 0)?;
+        let grown = self.grown_in(alloc, layout, &cells, &[], &[], 0)?;
         Ok(grown.column)
     }
 }

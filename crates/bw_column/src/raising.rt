@@ -1,7 +1,7 @@
-//! One entry more in a dictionary of a column in layout V: the codes from the entry's index on rise by one, plane by plane.
+//! Codes that rise by one from an index on, where a dictionary got one entry more: in layout V plane by plane.
 
-ghost use Rattle.std.specs.Prelude.{All, IfOk, IfSome, drop, is_some, length, nat_le, slice_index, take, ℕ, ◌%◌, ◌&&◌, ◌++◌, ◌+◌, ◌<◌, ◌^◌, ◌≡◌, ◌≤◌, ◌⊎◌};
-ghost use Rattle.bw_mask.specs.Masks.{len, row_at};
+ghost use Rattle.std.specs.Prelude.{All, IfOk, IfSome, drop, if◌then◌else◌, is_some, length, nat_le, slice_index, take, true, ℕ, ◌%◌, ◌&&◌, ◌++◌, ◌+◌, ◌<◌, ◌^◌, ◌≡◌, ◌≤◌, ◌⊎◌};
+ghost use Rattle.bw_mask.specs.Masks.{bit_of, len, row_at};
 ghost use Rattle.bw_code.specs.Encodings.{kind_of, width};
 ghost use Rattle.bw_code.specs.declared.kind.Kind.TheVariants as kinds;
 ghost use Rattle.bw_code.specs.declared.kind.Layout.TheVariants as layouts;
@@ -13,7 +13,7 @@ use crate::column::Column;
 use crate::storage::Codes;
 use bw_cells::Measured;
 use bw_code::{CmpOp, CodeTest, Encoding, Layout, Meter};
-use bw_mask::Mask;
+use bw_mask::{Mask, has_bit};
 use bw_vertical::shift_words;
 use std::alloc::{AllocError, Global};
 
@@ -34,9 +34,25 @@ pub(crate) fn raised_from(moves: &[u64]) -> Option<usize>
     Some(place)
 }
 
+/// Raises each code of a block by one if it is at least `place`, and makes it 0 where the row's bit isn't set.
+pub(crate) fn raise_codes(codes: &mut [u64], present: u64, place: u64)
+    requires few { length codes.old ≤ 64 }
+    requires fit { (k : ℕ) → k < length codes.old → bit_of present k ≡ true → slice_index codes.old k < 2 ^ 63 }
+    ensures count { length codes.new ≡ length codes.old }
+    ensures each { (k : ℕ) → k < length codes.old → slice_index codes.new k ≡ (if bit_of present k then raised_code place (slice_index codes.old k) else 0) }
+{
+    'codes: for i in 0..codes.len() {
+        codes[i] = if has_bit(present, i) {
+            codes[i] + u64::from(place <= codes[i])
+        } else {
+            0
+        };
+    }
+}
+
 impl Column {
     /// The non-null rows whose code is at least an index of its dictionary, or no row if the index is past the last.
-    fn rows_from(&self, alloc: Global, place: usize) -> Result<Mask, AllocError>
+    fn rows_with_code_from(&self, alloc: Global, place: usize) -> Result<Mask, AllocError>
         requires kind { kind_of self.now.encoding ≡ kinds.Dictionary }
         ensures count { IfOk result (λ mask. len mask ≡ length self.now.values) }
         ensures rows { IfOk result (λ mask. (i : ℕ) → row_at mask i ≡ (is_some (value_at self.now.values i) && nat_le place (code_for self.now.encoding (value_at self.now.values i)))) }
@@ -103,7 +119,7 @@ impl Column {
         ensures encoding { IfOk result (λ c. c.encoding ≡ encoding) }
         ensures room { IfOk result (λ c. length self.now.values + more ≤ c.room) }
     {
-        let above = self.rows_from(alloc, place)?;
+        let above = self.rows_with_code_from(alloc, place)?;
         let mut column = Column::with_room(alloc, Layout::V, encoding, self.len() + more)?;
         let mut at = 0;
         while at < self.len() {

@@ -9,7 +9,7 @@ mod ranked_cells;
 mod standing;
 
 pub use entries::{dictionary_like, dictionary_of};
-pub use finding::find_entries;
+pub use finding::{find_entries, find_standing};
 pub use merging::{MergedEntries, merge_entries};
 pub use ranked_cells::{RankedCells, rank_cells};
 pub use standing::{first_unmarked, mark_standing, move_codes};

@@ -1,16 +1,17 @@
-//! Merging the entries of a dictionary that are still in use with new ones.
+//! Merging two lists of entries, of each only those in use.
 
-ghost use Rattle.std.specs.Prelude.{IfOk, IsTrue, List, length, vec_capacity, ℕ, ◌+◌, ◌<◌, ◌≡◌, ◌≤◌};
+ghost use Rattle.std.specs.Prelude.{Bool, IfOk, IsTrue, List, length, vec_capacity, ℕ, ◌+◌, ◌<◌, ◌≡◌, ◌≤◌};
 ghost use Rattle.bw_code.specs.Ascending.{IsAscending};
-ghost use Rattle.bw_dictionary.specs.Merging.{IsTurn, IsUnion, Merging};
-ghost use Rattle.bw_dictionary.specs.declared.merging.Turn.TheVariants.{Old};
+ghost use Rattle.bw_dictionary.specs.Merging.{IsOldNext, IsTurn, IsUnion, Merging};
 
 use std::alloc::{AllocError, Global};
 
 /// Which list the next entry comes from.
 enum Turn {
     /// The next old entry is not in use.
-    Skip,
+    SkipOld,
+    /// The next new entry is not in use.
+    SkipNew,
     /// The next old entry alone.
     Old,
     /// The next new entry alone.
@@ -24,25 +25,36 @@ enum Turn {
 pub struct MergedEntries {
     /// All entries, ascending.
     pub entries: Vec<i64>,
-    /// For each old entry that is still in use its index among all.
+    /// For each old entry that is in use its index among all.
     pub moves: Vec<u64>,
-    /// For each new entry its index among all.
+    /// For each new entry that is in use its index among all.
     pub places: Vec<u64>,
 }
 
 /// Which list the next entry comes from, after i old and j new ones.
-fn turn_of(old: &[i64], stands: &[bool], new: &[i64], i: usize, j: usize) -> Turn
-    requires flags { length stands.now ≡ length old.now }
+fn turn_of(
+    old: &[i64],
+    old_stands: &[bool],
+    new: &[i64],
+    new_stands: &[bool],
+    i: usize,
+    j: usize,
+) -> Turn
+    requires old_flags { length old_stands.now ≡ length old.now }
+    requires new_flags { length new_stands.now ≡ length new.now }
     requires old { i ≤ length old.now }
     requires new { j ≤ length new.now }
     requires some { i + j < length old.now + length new.now }
-    ensures { IsTurn old.now stands.now new.now i j result }
+    ensures { IsTurn old.now old_stands.now new.now new_stands.now i j result }
 {
+    if i < old.len() && !old_stands[i] {
+        return Turn::SkipOld;
+    }
+    if j < new.len() && !new_stands[j] {
+        return Turn::SkipNew;
+    }
     if i == old.len() {
         return Turn::New;
-    }
-    if !stands[i] {
-        return Turn::Skip;
     }
     if j == new.len() {
         return Turn::Old;
@@ -60,7 +72,7 @@ fn turn_of(old: &[i64], stands: &[bool], new: &[i64], i: usize, j: usize) -> Tur
 fn is_old_next(old: &[i64], stands: &[bool], new: &[i64], i: usize, j: usize) -> bool
     requires flags { length stands.now ≡ length old.now }
     requires new { j ≤ length new.now }
-    ensures { IsTrue result → IsTurn old.now stands.now new.now i j Old }
+    ensures { IsTrue result → IsOldNext old.now stands.now new.now i j }
 {
     i < old.len() && stands[i] && (j == new.len() || old[i] < new[j])
 }
@@ -83,12 +95,12 @@ fn take_run(
     requires taken { j ≤ length new.now }
     requires entries_room { length old.now + length new.now ≤ vec_capacity entries.old }
     requires moves_room { length old.now ≤ vec_capacity moves.old }
-    requires merging { (places : List ℕ) × Merging old.now stands.now new.now from j entries.old.items moves.old.items places }
+    requires merging { (new_stands : List Bool) × (places : List ℕ) × Merging old.now stands.now new.now new_stands from j entries.old.items moves.old.items places }
     ensures from { from ≤ result }
     ensures inside { result ≤ length old.now }
     ensures entries_room { vec_capacity entries.old ≤ vec_capacity entries.new }
     ensures moves_room { vec_capacity moves.old ≤ vec_capacity moves.new }
-    ensures merging { (places : List ℕ) → Merging old.now stands.now new.now from j entries.old.items moves.old.items places → Merging old.now stands.now new.now result j entries.new.items moves.new.items places }
+    ensures merging { (new_stands : List Bool) (places : List ℕ) → Merging old.now stands.now new.now new_stands from j entries.old.items moves.old.items places → Merging old.now stands.now new.now new_stands result j entries.new.items moves.new.items places }
 {
     let mut i = from;
     'run: while is_old_next(old, stands, new, i, j) {
@@ -100,17 +112,19 @@ fn take_run(
     i
 }
 
-/// The old entries that are still in use, merged with the new ones.
+/// The entries of both lists that are in use.
 pub fn merge_entries(
     alloc: Global,
     old: &[i64],
-    stands: &[bool],
+    old_stands: &[bool],
     new: &[i64],
+    new_stands: &[bool],
 ) -> Result<MergedEntries, AllocError>
-    requires flags { length stands.now ≡ length old.now }
+    requires old_flags { length old_stands.now ≡ length old.now }
+    requires new_flags { length new_stands.now ≡ length new.now }
     requires old { IsAscending old.now }
     requires new { IsAscending new.now }
-    ensures { IfOk result (λ merged. IsUnion old.now stands.now new.now merged.entries.items merged.moves.items merged.places.items) }
+    ensures { IfOk result (λ merged. IsUnion old.now old_stands.now new.now new_stands.now merged.entries.items merged.moves.items merged.places.items) }
 {
     let mut entries = Vec::with_capacity(alloc, old.len() + new.len())?;
     let mut moves = Vec::with_capacity(alloc, old.len())?;
@@ -119,15 +133,19 @@ pub fn merge_entries(
     let mut j = 0;
     'merge: while i < old.len() || j < new.len() {
         let place = entries.len() as u64;
-        match turn_of(old, stands, new, i, j) {
-            Turn::Skip => {
+        match turn_of(old, old_stands, new, new_stands, i, j) {
+            Turn::SkipOld => {
                 moves.push_reserved(0);
                 i += 1;
+            }
+            Turn::SkipNew => {
+                places.push_reserved(0);
+                j += 1;
             }
             Turn::Old => {
                 entries.push_reserved(old[i]);
                 moves.push_reserved(place);
-                i = take_run(old, stands, new, i + 1, j, &mut entries, &mut moves);
+                i = take_run(old, old_stands, new, i + 1, j, &mut entries, &mut moves);
             }
             Turn::New => {
                 entries.push_reserved(new[j]);

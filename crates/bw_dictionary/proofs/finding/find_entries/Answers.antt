@@ -1,31 +1,19 @@
-use Rattle.std.proofs.Common.{Some, ap, arith, get_or, inl, inr, length, of_z, pos, refl, sym, to_z, true≢false, w64, ◌+◌, ◌<◌, ◌≡◌, ◌≤ℤ◌, ◌∙◌, ◌∷◌, []}
-use Rattle.std.specs.Prelude.{Contains}
+use Rattle.std.proofs.Common.{Some, [], ap, arith, get_or, inl, inr, length, of_z, pos, refl, sym, to_z, true≢false, w64, ◌+◌, ◌<◌, ◌≡◌, ◌∙◌, ◌∷◌}
 use Rattle.std.proofs.lemmas.Bool.{cases_eq}
 use Rattle.std.proofs.lemmas.Int.{ints, to_z-of_z}
 use Rattle.std.proofs.lemmas.List.{get_or_append_left, get_or_default, get_or_push, length-append}
 use Rattle.bw_code.specs.Encodings.{entry_code}
-use Rattle.bw_code.proofs.Entries.{entry_at, entry_is}
+use Rattle.bw_code.proofs.Entries.{entry_is}
 use Rattle.bw_dictionary.specs.Finding.{AreBelow}
-use Rattle.bw_dictionary.proofs.Below.{is_absent}
-use Rattle.bw_dictionary.proofs.finding.find_entries.Goals.{then-at-entries-via-then-at-entries, then-at-entries-via-else-at-entries+then-entries-at}
 use Rattle.bw_dictionary.proofs.finding.find_entries.Goals as goal
 
-pub returns-then-at-entries-clause-all : goal.returns-then-at-entries-clause-all
-returns-then-at-entries-clause-all c =
-    let entries = c.args.entries.now in
+pub returns-in_default-clause-all : goal.returns-in_default-clause-all
+returns-in_default-clause-all c =
     let x = get_or c.args.wanted.now c.wanted.i (pos 0) in
-    let n = c.first_from-at.result in
-    let e = c.first_from-at.ensures in
     let back : to_z w64 (of_z w64 x) ≡ x = search (arith, ints, to_z-of_z) in
-    let below : AreBelow entries x n = rw back at e.before in
-    let from : n < length entries → x ≤ℤ get_or entries n (pos 0) = rw back at e.there in
+    let is = rw back at c.in_default.ensures.is in
     let there : c.wanted.i < length c.args.wanted.now = omega (arith, c.wanted-test.true) in
-    let none : (Contains entries x → ⊥) = is_absent entries x c.requires.entries n below from
-    (elim c.then-at-entries.branch [
-      | then-at-entries-via-then-at-entries w ↦ λ h same. omega (arith, w.if-at-entries.true, h)
-      | then-at-entries-via-else-at-entries+then-entries-at w ↦ λ h same. omega (arith, ints, w.if-entries-at.true, same)
-    ]) in
-    (λ it. absurd (true≢false (sym it)), λ all. absurd (none (all c.wanted.i (pos 0) there)))
+    (λ it. absurd (true≢false (sym it)), λ all. is.1 (all c.wanted.i (pos 0) there))
 
 pub wanted-preserved : goal.wanted-preserved
 wanted-preserved c =
@@ -33,22 +21,17 @@ wanted-preserved c =
     let wanted = c.args.wanted.now in
     let i = c.wanted.i in
     let x = get_or wanted i (pos 0) in
-    let n = c.first_from-at.result in
-    let e = c.first_from-at.ensures in
+    let n = c.in-Some.place in
     let back : to_z w64 (of_z w64 x) ≡ x = search (arith, ints, to_z-of_z) in
-    let below : AreBelow entries x n = rw back at e.before in
+    let below : AreBelow entries x n = rw back at c.in-Some.ensures.before in
+    let code : entry_code entries x ≡ Some n = rw back at c.in-Some.ensures.code in
     let v = c.wanted.invariant in
-    let there : i < length wanted = omega (arith, c.wanted-test.true) in
-    let inside : n < length entries = omega (arith, c.if-at-entries.false, e.inside) in
-    let is : get_or entries n (pos 0) ≡ x = omega (arith, ints, c.if-entries-at.false) in
     record {
-      inside = e.inside;
+      inside = omega (arith, c.in-Some.ensures.inside);
       count = omega (arith, ap length c.push_reserved.ensures.items, length-append c.wanted.places.items (n ∷ []), v.count);
       room = omega (arith, c.push_reserved.ensures.capacity, v.room);
       found = λ k h. elim (cases_eq k i) [
-        | inl same ↦
-            let here = entry_at entries x n c.requires.entries inside is in
-            ap (λ j. entry_code entries (get_or wanted j (pos 0))) same ∙ here ∙ ap Some (sym (ap (λ xs. get_or xs k 0) c.push_reserved.ensures.items ∙ get_or_push c.wanted.places.items n 0 k (v.count ∙ sym same)))
+        | inl same ↦ ap (λ j. entry_code entries (get_or wanted j (pos 0))) same ∙ code ∙ ap Some (sym (ap (λ xs. get_or xs k 0) c.push_reserved.ensures.items ∙ get_or_push c.wanted.places.items n 0 k (v.count ∙ sym same)))
         | inr other ↦
             let before : k < i = omega (arith, h, other) in
             v.found k before ∙ ap Some (sym (ap (λ xs. get_or xs k 0) c.push_reserved.ensures.items ∙ get_or_append_left c.wanted.places.items (n ∷ []) 0 k (omega (arith, before, v.count))))

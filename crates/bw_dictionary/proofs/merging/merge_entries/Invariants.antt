@@ -9,7 +9,7 @@ invariant-merge l = record {
   entries_room : length l.old + length l.new ≤ vec_capacity l.entries;
   moves_room : length l.old ≤ vec_capacity l.moves;
   places_room : length l.new ≤ vec_capacity l.places;
-  merging : Merging l.old l.stands l.new l.i l.j l.entries.items l.moves.items l.places.items;
+  merging : Merging l.old l.old_stands l.new l.new_stands l.i l.j l.entries.items l.moves.items l.places.items;
 }
 
 abbrev pub decreases-merge : goal.decreases-merge

@@ -10,4 +10,4 @@ returns-then-are_many-clause-values c = ap (chosen_values c.args.mask.now) c.in_
 pub returns-then-are_many-clause-fits : goal.returns-then-are_many-clause-fits
 returns-then-are_many-clause-fits c =
     let kind : kind_of c.args.column.now.encoding ≡ c.args.kind = search rules in
-    (c.in_ok-copy_at.ensures.kind ∙ kind, c.in_ok-copy_at.ensures.masked)
+    (ap kind_of c.in_ok-copy_at.ensures.encoding ∙ kind, c.in_ok-copy_at.ensures.masked)

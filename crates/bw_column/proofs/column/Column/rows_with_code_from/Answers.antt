@@ -13,7 +13,7 @@ use Rattle.bw_column.proofs.Chosen.{code_any}
 use Rattle.bw_column.proofs.Raised.{none_above, place_fits}
 use Rattle.bw_column.proofs.Rows.{known_rows}
 use Rattle.bw_column.proofs.Scans.{all_codes}
-use Rattle.bw_column.proofs.column.Column.rows_from.Goals as goal
+use Rattle.bw_column.proofs.column.Column.rows_with_code_from.Goals as goal
 
 none : (n m : ℕ) → get_or (replicate n false) m false ≡ false
 none zero m = refl

@@ -1,5 +1,5 @@
 use Rattle.std.proofs.Common.{drop, length, ◌++◌, ◌+◌, ◌-◌, ◌≡◌, ◌≤◌}
-use Rattle.bw_column.proofs.column.Column.moved.Given as goal
+use Rattle.bw_column.proofs.column.Column.mapped.Given as goal
 
 -- the rows so far are there
 abbrev pub invariant-loop-at : goal.invariant-loop-at
