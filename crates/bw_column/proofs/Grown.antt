@@ -1,13 +1,12 @@
 -- A dictionary that takes in other values: its entries, and the codes there.
-use Rattle.std.proofs.Common.{[], Bool, List, None, Option, Some, ap, arith, false, get_or, inl, inr, length, map, pos, refl, subst, sym, true≢false, ℕ, ℤ, ◌++◌, ◌<◌, ◌≡◌, ◌∙◌}
+use Rattle.std.proofs.Common.{[], Bool, List, None, Option, Some, ap, arith, get_or, inl, inr, length, map, pos, refl, sym, ℕ, ℤ, ◌++◌, ◌<◌, ◌≡◌, ◌∙◌}
 use Rattle.std.specs.List.{All}
 use Rattle.std.specs.Prelude.{Contains, unwrap_or, ◌↔◌}
-use Rattle.std.proofs.lemmas.Bool.{cases_lt}
-use Rattle.std.proofs.lemmas.List.{append-nil, get_or-map, get_or_default, get_or_past, length-map}
+use Rattle.std.proofs.lemmas.List.{get_or-map, get_or_default, length-map}
 use Rattle.std.proofs.lemmas.List.Elements.{Contains-append_cases, Contains-append_left, Contains-append_right, Contains-get_or, filter_map-append}
 use Rattle.bw_cells.proofs.Known.{known_at}
 use Rattle.bw_code.specs.Ascending.{IsAscending}
-use Rattle.bw_code.specs.Encodings.{AreCodes, AreDistinct, HasCode, IsFit, code_of, entry_code, kind_of}
+use Rattle.bw_code.specs.Encodings.{AreCodes, AreDistinct, HasCode, IsFit, code_of, kind_of}
 use Rattle.bw_code.specs.declared.encoding.Encoding.{Encoding}
 use Rattle.bw_code.specs.declared.encoding.Encoding.TheVariants as by
 use Rattle.bw_code.specs.declared.kind.Kind.TheVariants as kinds
@@ -64,6 +63,20 @@ module _ (cells : List (Option ℤ)) (new : List ℤ) (distinct : AreDistinct (k
               let p = place_is k x is in
               let code = are.each p.0 p.1 in
               ap (λ q. get_or table q 0) p.3 ∙ sym (ap (λ c. unwrap_or c 0) (ap (code_of e) (sym p.2) ∙ code))
+
+  -- where the entries of another dictionary have all of them, each cell has a code there, and the other way round
+  pub cells_coded : (entries : List ℤ) → All (Contains entries) new → All (IsCoded (by.Dictionary entries)) cells
+  cells_coded entries all = all_coded (by.Dictionary entries) cells (λ k d h.
+      let at = (distinct.same (get_or (known cells) k d)).1 (Contains-get_or (known cells) k d h) in
+      let here = all at.0 (get_or (known cells) k d) at.1 in
+      rw at.2 at here)
+
+  pub entries_coded : (entries : List ℤ) → All (IsCoded (by.Dictionary entries)) cells → All (Contains entries) new
+  entries_coded entries coded k d h =
+      let there = (distinct.same (get_or new k d)).0 (Contains-get_or new k d h) in
+      let cell = cell_of cells (get_or new k d) there.0 there.1 there.2 in
+      let here : IsCoded (by.Dictionary entries) (get_or cells cell.0 None) = coded cell.0 None cell.1 in
+      rw cell.2 at here
 
 -- where a list is distinct values, all of it stands
 pub all_stand : (values new : List ℤ) (stands : List Bool) → AreDistinct values new → ((m : ℕ) → m < length new → StandsAt stands m) → (x : ℤ) → (StandsIn new stands x ↔ Contains values x)

@@ -270,7 +270,8 @@ impl Column {
             self.reserve(0)?;
             return Ok(Step::Stay);
         }
-        self.step_with(alloc, copy, 0)
+        let step = self.step_with(alloc, copy, 0)?;
+        Ok(step)
     }
 
     /// The step before a column of kind DICTIONARY takes the values of a copy, and a table of the codes that they then

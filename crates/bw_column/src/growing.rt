@@ -243,7 +243,8 @@ impl Column {
     {
         let _held = self.len();
         let stands = Vec::from_elem(alloc, true, entries.len())?;
-        self.grown_in(alloc, self.layout(), cells, entries, &stands, more)
+        let grown = self.grown_in(alloc, self.layout(), cells, entries, &stands, more)?;
+        Ok(grown)
     }
 
     /// The same values in a layout and a dictionary of only those entries that some row has. No value is read, only

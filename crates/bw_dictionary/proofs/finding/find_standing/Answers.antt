@@ -1,4 +1,4 @@
-use Rattle.std.proofs.Common.{Some, [], ap, arith, false, get_or, inl, inr, length, of_z, pos, refl, sym, to_z, true, true≢false, w64, ◌+◌, ◌<◌, ◌≡◌, ◌∙◌, ◌∷◌}
+use Rattle.std.proofs.Common.{Some, [], ap, arith, false, get_or, inl, inr, length, of_z, pos, refl, sym, to_z, true≢false, w64, ◌+◌, ◌<◌, ◌≡◌, ◌∙◌, ◌∷◌}
 use Rattle.std.proofs.lemmas.Bool.{cases_eq}
 use Rattle.std.proofs.lemmas.Int.{ints, to_z-of_z}
 use Rattle.std.proofs.lemmas.List.{get_or_append_left, get_or_default, get_or_push, length-append}

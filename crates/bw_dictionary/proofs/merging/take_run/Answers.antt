@@ -1,4 +1,4 @@
-use Rattle.std.proofs.Common.{List, ap, arith, get_or, length, pos, w64, [], ℕ, ℤ, ◌++◌, ◌<◌, ◌<ℤ◌, ◌≡◌, ◌∙◌, ◌∷◌}
+use Rattle.std.proofs.Common.{ap, arith, get_or, length, pos, w64, [], ℤ, ◌++◌, ◌≡◌, ◌∙◌, ◌∷◌}
 use Rattle.std.proofs.lemmas.Int.{ints, to_z-of_z}
 use mir.Val.{of_z, to_z}
 use Rattle.bw_dictionary.proofs.Union.{took_old}

@@ -1,7 +1,6 @@
-use Rattle.std.proofs.Common.{refl, ℤ, ◌++◌, ◌≡◌, ◌∙◌}
-use Rattle.std.specs.Prelude.{Contains, ◌↔◌}
+use Rattle.std.proofs.Common.{refl, ◌++◌, ◌≡◌, ◌∙◌}
 use Rattle.bw_code.specs.declared.encoding.Encoding.TheVariants as by
-use Rattle.bw_dictionary.specs.Merging.{IsUnion, StandsIn}
+use Rattle.bw_dictionary.specs.Merging.{IsUnion}
 use Rattle.bw_column.specs.Values.{known}
 use Rattle.bw_column.proofs.Grown.{standing_moved, union_fits}
 use Rattle.bw_column.proofs.Narrow.{held_of_both, narrow}
