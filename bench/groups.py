@@ -31,6 +31,7 @@ except ImportError:
 STATEMENTS = {
     "COUNT": "SELECT g, COUNT(*) FROM t GROUP BY g",
     "SUM": "SELECT g, SUM(v) FROM t GROUP BY g",
+    "COUNT, SUM": "SELECT g, COUNT(*), SUM(v) FROM t GROUP BY g",
     "MIN, MAX": "SELECT g, MIN(v), MAX(v) FROM t GROUP BY g",
     "COUNT, half": "SELECT g, COUNT(*) FROM t WHERE v < 0 GROUP BY g",
     "MEDIAN": "SELECT g, MEDIAN(v) FROM t GROUP BY g",
@@ -74,10 +75,12 @@ def numpy_answers(rows: Pairs) -> dict[str, Callable[[], list[Any]]]:
 
     def folded(what: str) -> list[Any]:
         numbers, starts, counts, ordered = sorted_by_groups(values < 0 if what == "COUNT, half" else slice(None))
+        sums = functools.partial(numpy.add.reduceat, ordered, starts, dtype="i8")
         columns = {
             "COUNT": lambda: [counts],
             "COUNT, half": lambda: [counts],
-            "SUM": lambda: [numpy.add.reduceat(ordered, starts, dtype="i8")],
+            "SUM": lambda: [sums()],
+            "COUNT, SUM": lambda: [counts, sums()],
             "MIN, MAX": lambda: [fold.reduceat(ordered, starts) for fold in (numpy.minimum, numpy.maximum)],
         }[what]()
         return [numbers, *columns]
