@@ -1,7 +1,8 @@
 #!/usr/bin/env python3
 """Times an UPDATE of half the rows of a table by values and by a literal, and a REBUILD, in each layout, both kinds and
 both types; and a DELETE of every other row and a SELECT of all of them. sqlite3 does the same in memory, except for the
-REBUILD, in the same run, and the contents of the tables are compared: a difference ends the bench with status 1.
+REBUILD, in the same run, and the contents of the tables are compared: a difference ends the bench with status 1. The
+SELECT is compared with sqlite3's shell, too, which writes the same lines.
 
 Build bitcol first, by `rt run` in crates/bitcol.
 
@@ -16,7 +17,8 @@ from collections.abc import Callable
 from dataclasses import dataclass
 from pathlib import Path
 
-from common import LAYOUTS, Number, data_file, options, random_value
+from common import LAYOUTS, Number, data_file, options, processor_seconds, random_value
+from common import sqlite3 as sqlite3_shell
 from program import Program, rows_of
 from report import Report, figure, require, times
 from tables import Row, csv_file, fill, filled_base, least_of_base
@@ -125,6 +127,21 @@ def time_shape(shape: Shape, words: argparse.Namespace, report: Report) -> None:
     report.table(f"changes-{shape.name}", what, heading, lines)
 
 
+def least_of_shell(shell: str, path: Path, rounds: int) -> tuple[float, str]:
+    """Seconds of the SELECT in sqlite3's shell beyond those that it takes to fill the table, and the lines."""
+    fills, selects, shown = map(data_file, ("shell_fills.sql", "shell_selects.sql", "shell_shown.txt"))
+    fills.write_text(f"CREATE TABLE t (a INT, b INT, c INT, d INT);\n.mode csv\n.import {path} t\n.mode list\n")
+    selects.write_text(f"{fills.read_text()}.separator ,\n{SELECT};\n")
+    command = [shell, ":memory:"]
+    with shown.open("wb") as answers:
+        processor_seconds(command, selects, answers)
+    least = [min(processor_seconds(command, script)[0] for _ in range(rounds)) for script in (selects, fills)]
+    lines = shown.read_text()
+    for file in (fills, selects, shown):
+        file.unlink()
+    return least[0] - least[1], lines
+
+
 def time_rows(words: argparse.Namespace, report: Report) -> None:
     """A table of the DELETE and of the SELECT of all rows, in milliseconds."""
     rows = four_columns(words.rows, of_distances)
@@ -135,6 +152,11 @@ def time_rows(words: argparse.Namespace, report: Report) -> None:
         theirs, answer = least_of_base(base, SELECT, 2)
         require(rows_of(reply) == answer, "SELECT * of all rows")
         lines.append(["SELECT * of four columns", figure(shown * 1e3), figure(theirs * 1e3), times(theirs, shown)])
+        if shell := sqlite3_shell():
+            theirs, written = least_of_shell(shell, path, min(words.rounds, 2))
+            require(reply.splitlines()[1:-1] == written.splitlines(), "SELECT * of all rows in sqlite3's shell")
+            what = "the same in sqlite3's shell"
+            lines.append([what, figure(shown * 1e3), figure(theirs * 1e3), times(theirs, shown)])
         deleted, reply = program.ask(DELETE)
         start = time.process_time()
         count = base.execute(DELETE).rowcount
