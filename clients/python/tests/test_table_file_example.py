@@ -22,8 +22,9 @@ EXAMPLE = Path(__file__).resolve().parents[3] / "examples/table_file.py"
 CHOICES = [(layout, kind) for layout in "PVHS" for kind in ("OFFSET", "DICTIONARY")]
 # More rows than a segment of 256.
 MANY = 300
-# The columns of a table by their names: ends of the type, one value alone, small ones, and no value.
+# The cells of a table's columns, by the columns' names.
 Columns = dict[str, list[Value]]
+# For each type a table with both ends of it, one value alone, small values, and no value.
 FEW: dict[str, Columns] = {
     "INTEGER": {
         "A": [3, None, -1, LEAST, GREATEST, 0, None, 3, 3],
