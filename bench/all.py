@@ -47,6 +47,7 @@ BENCHES = (
     Bench("changes", "changes.py"),
     Bench("dictionaries", "dictionaries.py"),
     Bench("files", "files.py"),
+    Bench("memory", "memory.py"),
     Bench("matrix", "matrix.py"),
     Bench("peers", "peers.py"),
     Bench("tpch", "tpch.py"),

@@ -1,7 +1,8 @@
 #!/usr/bin/env python3
-"""Times an UPDATE of half the rows of a table by values and by a literal, and a REBUILD, in each layout and both kinds;
-and a DELETE of every other row and a SELECT of all of them. sqlite3 does the same in memory, except for the REBUILD, in
-the same run, and the contents of the tables are compared: a difference ends the bench with status 1.
+"""Times an UPDATE of half the rows of a table by values and by a literal, and a REBUILD, in each layout, both kinds and
+both types; and a DELETE of every other row and a SELECT of all of them. sqlite3 does the same in memory, except for the
+REBUILD, in the same run, and the contents of the tables are compared: a difference ends the bench with status 1. The
+SELECT is compared with sqlite3's shell, too, which writes the same lines.
 
 Build bitcol first, by `rt run` in crates/bitcol.
 
@@ -13,9 +14,11 @@ import random
 import sqlite3
 import time
 from collections.abc import Callable
+from dataclasses import dataclass
 from pathlib import Path
 
-from common import LAYOUTS, Number, data_file, options, random_value
+from common import LAYOUTS, Number, data_file, options, processor_seconds, random_value
+from common import sqlite3 as sqlite3_shell
 from program import Program, rows_of
 from report import Report, figure, require, times
 from tables import Row, csv_file, fill, filled_base, least_of_base
@@ -27,8 +30,9 @@ UPDATES = {
 REBUILD = "REBUILD"
 DELETE = "DELETE FROM t WHERE d = 1"
 SELECT = "SELECT * FROM t"
-CONTENT = "SELECT SUM(a), SUM(b), MIN(a), MAX(b), COUNT(*) FROM t WHERE c < 0"
+CONTENT = "SELECT MIN(a), MAX(b), COUNT(*) FROM t WHERE c < 0 AND a <= b"
 ENTRIES = 4_096
+Contents = list[list[tuple[str, ...]]]
 
 
 def of_distances(generator: random.Random) -> int:
@@ -41,7 +45,27 @@ def of_entries(generator: random.Random) -> int:
     return 7 * generator.randrange(ENTRIES) + 5
 
 
-KINDS = {"OFFSET": of_distances, "DICTIONARY": of_entries}
+def of_long_distances(generator: random.Random) -> int:
+    """A value of a column of type BIGINT: any 64-bit integer."""
+    return generator.getrandbits(64) - 2**63
+
+
+@dataclass(frozen=True)
+class Shape:
+    """Columns that are changed: a name, their type and kind, their values, and the layouts that hold them."""
+
+    name: str
+    column_type: str
+    kind: str
+    value: Callable[[random.Random], int]
+    layouts: str = LAYOUTS
+
+
+SHAPES = (
+    Shape("offset", "INTEGER", "OFFSET", of_distances),
+    Shape("dictionary", "INTEGER", "DICTIONARY", of_entries),
+    Shape("bigint", "BIGINT", "OFFSET", of_long_distances, LAYOUTS.replace("H", "")),
+)
 
 
 def four_columns(count: int, value: Callable[[random.Random], int]) -> list[Row]:
@@ -55,9 +79,9 @@ def four_columns(count: int, value: Callable[[random.Random], int]) -> list[Row]
     return [(*pair, generator.choice((-1, 1)), i % 2) for i, pair in enumerate(values)]
 
 
-def changed_base(base: sqlite3.Connection, rounds: int) -> tuple[dict[str, float], list[tuple[str, ...]]]:
-    """Seconds of sqlite3's updates, and the contents of its table after them."""
-    costs = {}
+def changed_base(base: sqlite3.Connection, rounds: int) -> tuple[dict[str, float], Contents]:
+    """Seconds of sqlite3's updates, and the contents of its table after each."""
+    costs, contents = {}, []
     for what, text in UPDATES.items():
         least = float("inf")
         for _ in range(rounds):
@@ -65,38 +89,57 @@ def changed_base(base: sqlite3.Connection, rounds: int) -> tuple[dict[str, float
             base.execute(text)
             least = min(least, time.process_time() - start)
         costs[what] = least
-    return costs, least_of_base(base, CONTENT, 1)[1]
+        contents.append(least_of_base(base, CONTENT, 1)[1])
+    return costs, contents
 
 
-def change(layout: str, kind: str, path: Path, rounds: int) -> tuple[dict[str, float], list[tuple[str, ...]]]:
-    """Seconds of the updates and of a REBUILD in a layout and kind, and the contents of the table after them."""
+def change(layout: str, shape: Shape, path: Path, rounds: int) -> tuple[dict[str, float], Contents]:
+    """Seconds of the updates and of a REBUILD in a layout, and the contents of the table after each update."""
+    costs, contents = {}, []
     with Program() as program:
-        fill(program, "abcd", f"USING {layout} {kind}", path)
-        costs = {what: program.least(text, rounds)[0] for what, text in UPDATES.items()}
-        content = rows_of(program.ask(CONTENT)[1])
+        fill(program, "abcd", f"USING {layout} {shape.kind}", path, column_type=shape.column_type)
+        for what, text in UPDATES.items():
+            costs[what] = program.least(text, rounds)[0]
+            contents.append(rows_of(program.ask(CONTENT)[1]))
         costs[REBUILD] = program.least("REBUILD t", rounds)[0]
-        return costs, content
+    return costs, contents
 
 
-def time_kind(kind: str, words: argparse.Namespace, report: Report) -> None:
-    """A table of the changes in one kind: ns for each value that is set or rebuilt."""
+def time_shape(shape: Shape, words: argparse.Namespace, report: Report) -> None:
+    """A table of the changes of one shape: ns for each value that is set or rebuilt."""
     count, rounds = words.rows, words.rounds
-    rows = four_columns(count, KINDS[kind])
+    rows = four_columns(count, shape.value)
     path = csv_file("changes.csv", rows)
     theirs, wanted = changed_base(filled_base("abcd", rows), rounds)
     own = {}
-    for layout in LAYOUTS:
-        own[layout], content = change(layout, kind, path, rounds)
-        require(content == wanted, f"{layout} {kind}: {content}, sqlite3 {wanted}")
+    for layout in shape.layouts:
+        own[layout], contents = change(layout, shape, path, rounds)
+        require(contents == wanted, f"{layout} {shape.name}: {contents}, sqlite3 {wanted}")
     lines = []
     for what in (*UPDATES, REBUILD):
         scale = 1e9 / count / (4 if what == REBUILD else 1)
-        costs = [own[layout][what] for layout in LAYOUTS]
-        ratios = [times(theirs.get(what), costs[0]), times(theirs.get(what), max(costs))]
-        lines.append([what, *(figure(cost * scale, 2) for cost in costs), *ratios])
-        report.line(f"changes-{kind.lower()}", what, zip(LAYOUTS, (cost * scale for cost in costs)))
-    what = f"{count:,} rows, kind {kind}; ns for each value that is set or built anew"
-    report.table(f"changes-{kind.lower()}", what, ["Statement", *LAYOUTS, "sqlite3, times V", "times the worst"], lines)
+        costs = {layout: own[layout][what] for layout in shape.layouts}
+        ratios = [times(theirs.get(what), costs["V"]), times(theirs.get(what), max(costs.values()))]
+        lines.append([what, *(figure(cost * scale, 2) for cost in costs.values()), *ratios])
+        report.line(f"changes-{shape.name}", what, ((layout, cost * scale) for layout, cost in costs.items()))
+    what = f"{count:,} rows, type {shape.column_type}, kind {shape.kind}; ns for each value that is set or built anew"
+    heading = ["Statement", *shape.layouts, "sqlite3, times V", "times the worst"]
+    report.table(f"changes-{shape.name}", what, heading, lines)
+
+
+def least_of_shell(shell: str, path: Path, rounds: int) -> tuple[float, str]:
+    """Seconds of the SELECT in sqlite3's shell beyond those that it takes to fill the table, and the lines."""
+    fills, selects, shown = map(data_file, ("shell_fills.sql", "shell_selects.sql", "shell_shown.txt"))
+    fills.write_text(f"CREATE TABLE t (a INT, b INT, c INT, d INT);\n.mode csv\n.import {path} t\n.mode list\n")
+    selects.write_text(f"{fills.read_text()}.separator ,\n{SELECT};\n")
+    command = [shell, ":memory:"]
+    with shown.open("wb") as answers:
+        processor_seconds(command, selects, answers)
+    least = [min(processor_seconds(command, script)[0] for _ in range(rounds)) for script in (selects, fills)]
+    lines = shown.read_text()
+    for file in (fills, selects, shown):
+        file.unlink()
+    return least[0] - least[1], lines
 
 
 def time_rows(words: argparse.Namespace, report: Report) -> None:
@@ -109,6 +152,11 @@ def time_rows(words: argparse.Namespace, report: Report) -> None:
         theirs, answer = least_of_base(base, SELECT, 2)
         require(rows_of(reply) == answer, "SELECT * of all rows")
         lines.append(["SELECT * of four columns", figure(shown * 1e3), figure(theirs * 1e3), times(theirs, shown)])
+        if shell := sqlite3_shell():
+            theirs, written = least_of_shell(shell, path, min(words.rounds, 2))
+            require(reply.splitlines()[1:-1] == written.splitlines(), "SELECT * of all rows in sqlite3's shell")
+            what = "the same in sqlite3's shell"
+            lines.append([what, figure(shown * 1e3), figure(theirs * 1e3), times(theirs, shown)])
         deleted, reply = program.ask(DELETE)
         start = time.process_time()
         count = base.execute(DELETE).rowcount
@@ -123,8 +171,8 @@ def main() -> None:
     numbers = Number("rows", 1_000_000, 1_000, "how many rows"), Number("rounds", 5, 1, "how many rounds")
     words = options(__doc__, *numbers)
     report = Report("python3 bench/changes.py")
-    for kind in KINDS:
-        time_kind(kind, words, report)
+    for shape in SHAPES:
+        time_shape(shape, words, report)
     time_rows(words, report)
     report.finish()
     data_file("changes.csv").unlink()

@@ -28,6 +28,7 @@ PLOTS = {
     "groups": Plot("GROUP BY", "groups, and how their numbers lie", "ns a row", is_log_up=True, has_bars=True),
     "changes-offset": Plot("Changes of rows, kind OFFSET", "layout", "ns a value", has_bars=True),
     "changes-dictionary": Plot("Changes of rows, kind DICTIONARY", "layout", "ns a value", has_bars=True),
+    "changes-bigint": Plot("Changes of rows, type BIGINT", "layout", "ns a value", has_bars=True),
     "files-save": Plot("SAVE", "layout", "MB a second", has_bars=True),
     "files-open": Plot("OPEN", "layout", "MB a second", has_bars=True),
 }

@@ -3,8 +3,9 @@
 one, in one run and in each layout: in fresh pages of 4 KB, in fresh huge pages, and in memory that the program has used
 before. It also reports what the kernel takes for a page that is touched for the first time.
 
-The files have two columns of random values of 32 bits, of which one in ten of the second is NULL. For the LOAD of one
-file it also reports the peak memory beyond the bytes of the file. Build bitcol first, by `rt run` in crates/bitcol.
+The files have two columns of random values of 32 bits, of which one in ten of the second is NULL. They are loaded into
+columns of either type. For the LOAD of one file it also reports the peak memory beyond the bytes of the file. Build
+bitcol first, by `rt run` in crates/bitcol.
 
     python3 bench/files.py [FILES [ROWS]]      how many files of how many rows; 4 of 1048576 if not given
 """
@@ -29,7 +30,7 @@ from common import (
 )
 from report import Report, figure, times
 
-TABLE = "CREATE TABLE t (a INT, b INT);\n"
+TYPES = ("INTEGER", "BIGINT")
 # How many more times than once a table is saved or opened: the difference excludes startup and what comes before.
 MORE = 8
 
@@ -110,26 +111,36 @@ def quickest_of(runs: dict) -> dict:
     return {name: tuple(min(each[name][part] for each in found) for part in (0, 1)) for name in runs}
 
 
+def empty_table(column_type: str) -> str:
+    """A statement that creates the table of the files, with columns of this type."""
+    return f"CREATE TABLE t (a {column_type}, b {column_type});\n"
+
+
 def time_loads(paths: list[Path], rows: int, report: Report) -> None:
-    loads = "".join(f"LOAD t FROM '{path}';\n" for path in paths)
+    loads = [f"LOAD t FROM '{path}';\n" for path in paths]
     program = [built("bitcol"), "--stop"]
-    runs = {
-        "one": (program, script_file("load_one.sql", TABLE, f"LOAD t FROM '{paths[0]}';\n")),
-        "loads": (program, script_file("load.sql", TABLE, loads)),
-    }
+    runs = {}
+    for column_type in TYPES:
+        create, name = empty_table(column_type), column_type.lower()
+        runs[column_type, "one"] = program, script_file(f"load_one_{name}.sql", create, loads[0])
+        runs[column_type, "all"] = program, script_file(f"load_{name}.sql", create, *loads)
     if other := sqlite3():
         imports = "".join(f".import {path} t\n" for path in paths)
-        script = script_file("import.sql", TABLE, "BEGIN;\n.mode csv\n", imports, "COMMIT;\n")
+        script = script_file("import.sql", empty_table("INTEGER"), "BEGIN;\n.mode csv\n", imports, "COMMIT;\n")
         runs["sqlite3"] = [other, ":memory:"], script
     found = quickest_of(runs)
-    seconds = {name: took for name, (took, _) in found.items()}
-    # This includes the process itself: the figure for a script of one CREATE is too high, since the process was
-    # Python before.
-    held = found["one"][1] * MEGABYTE - paths[0].stat().st_size
-    cost = seconds["loads"] / (len(paths) * rows * 2) * 1e9
-    line = [figure(cost), times(seconds.get("sqlite3"), seconds["loads"]), figure(held / (rows * 2), 2)]
-    heading = ["ns a value", "sqlite3's .import takes times as long", "bytes a value at the peak, beside the file's"]
-    report.table("loads", f"LOAD of {len(paths)} files of {rows:,} rows", heading, [line])
+    theirs = found["sqlite3"][0] if other else None
+    lines = []
+    for column_type in TYPES:
+        # This includes the process itself: the figure for a script of one CREATE is too high, since the process was
+        # Python before.
+        held = found[column_type, "one"][1] * MEGABYTE - paths[0].stat().st_size
+        took = found[column_type, "all"][0]
+        cost = took / (len(paths) * rows * 2) * 1e9
+        lines.append([column_type, figure(cost), times(theirs, took), figure(held / (rows * 2), 2)])
+    peak = "bytes a value at the peak, beside the file's"
+    heading = ["Columns", "ns a value", "sqlite3's .import takes times as long", peak]
+    report.table("loads", f"LOAD of {len(paths)} files of {rows:,} rows", heading, lines)
 
 
 def time_table(layout: str, which: str, paths: list[Path], rows: int) -> tuple[float, dict[tuple[str, str], float]]:

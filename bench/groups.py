@@ -4,12 +4,14 @@
 A row is a group's number and a random value of 32 bits. Dense groups are the numbers from 0; sparse ones are drawn from
 all of 32 bits, and in the last of them nearly each row is a group. All columns are in one layout. sqlite3 in memory,
 and numpy if it is installed, execute the same in the same run, and the results are compared: a difference ends
-the bench with status 1. Neither has a MEDIAN of groups. Build bitcol first, by `rt run` in crates/bitcol.
+the bench with status 1. Neither has a MEDIAN of groups. A loop in C++ counts dense groups and sums them up in tables
+with an entry for each number, and prints nothing. Build bitcol first, by `rt run` in crates/bitcol.
 
     python3 bench/groups.py [ROWS [ROUNDS]] [--layout V]      how many rows; 4194304 if not given
 """
 
 import argparse
+import array
 import functools
 import random
 import sqlite3
@@ -18,9 +20,11 @@ from collections.abc import Callable
 from dataclasses import dataclass
 from typing import Any
 
-from common import LEAST, MOST, Number, data_file, options
+from common import LEAST, MOST, Number, data_file, kernel, options
 from program import Program, rows_of
+from queries import Query
 from report import Report, figure, require, times
+from stores import Loops
 from tables import csv_file, fill, filled_base, least_of_base
 
 try:
@@ -31,6 +35,7 @@ except ImportError:
 STATEMENTS = {
     "COUNT": "SELECT g, COUNT(*) FROM t GROUP BY g",
     "SUM": "SELECT g, SUM(v) FROM t GROUP BY g",
+    "COUNT, SUM": "SELECT g, COUNT(*), SUM(v) FROM t GROUP BY g",
     "MIN, MAX": "SELECT g, MIN(v), MAX(v) FROM t GROUP BY g",
     "COUNT, half": "SELECT g, COUNT(*) FROM t WHERE v < 0 GROUP BY g",
     "MEDIAN": "SELECT g, MEDIAN(v) FROM t GROUP BY g",
@@ -74,15 +79,32 @@ def numpy_answers(rows: Pairs) -> dict[str, Callable[[], list[Any]]]:
 
     def folded(what: str) -> list[Any]:
         numbers, starts, counts, ordered = sorted_by_groups(values < 0 if what == "COUNT, half" else slice(None))
+        sums = functools.partial(numpy.add.reduceat, ordered, starts, dtype="i8")
         columns = {
             "COUNT": lambda: [counts],
             "COUNT, half": lambda: [counts],
-            "SUM": lambda: [numpy.add.reduceat(ordered, starts, dtype="i8")],
+            "SUM": lambda: [sums()],
+            "COUNT, SUM": lambda: [counts, sums()],
             "MIN, MAX": lambda: [fold.reduceat(ordered, starts) for fold in (numpy.minimum, numpy.maximum)],
         }[what]()
         return [numbers, *columns]
 
     return {what: functools.partial(folded, what) for what in STATEMENTS if what != "MEDIAN"}
+
+
+def in_loops(rows: Pairs, expected: dict[str, list[tuple[str, ...]]]) -> dict[str, float]:
+    """Seconds of a loop in C++ for the statements that it has, over dense groups; none without g++."""
+    program = kernel("ranges")
+    if program is None:
+        return {}
+    loops = Loops({name: array.array("i", column) for name, column in zip("gv", zip(*rows))}, program)
+    found = loops.round([Query("COUNT", group="g"), Query("COUNT, SUM", sums=("v",), group="g")])
+    loops.close()
+    for what, taken in found.items():
+        # The number of rows comes last there.
+        answer = [(row[0], row[-1], *row[1:-1]) for row in taken.answer]
+        require(answer == expected[what], f"{what}: C++ {answer[:5]}, bitcol {expected[what][:5]}")
+    return {what: taken.seconds for what, taken in found.items()}
 
 
 def medians(rows: Pairs) -> list[tuple[str, ...]]:
@@ -102,9 +124,10 @@ def peak(statement: str) -> int:
         return program.peak(statement)
 
 
-def beside(base: sqlite3.Connection, rows: Pairs,
+def beside(base: sqlite3.Connection, shape: Shape, rows: Pairs,
            expected: dict[str, list[tuple[str, ...]]]) -> dict[str, dict[str, float]]:
-    """Seconds of sqlite3 and of numpy for each statement that they have. Their results have to equal bitcol's."""
+    """Seconds of sqlite3, of numpy and of the loop for each statement that they have. Their results have to equal
+    bitcol's."""
     found: dict[str, dict[str, float]] = {"sqlite3": {}}
     for what, text in STATEMENTS.items():
         if what != "MEDIAN":
@@ -118,6 +141,7 @@ def beside(base: sqlite3.Connection, rows: Pairs,
             found["numpy"][what] = time.process_time() - start
             answer = [tuple(map(str, row)) for row in zip(*(column.tolist() for column in columns))]
             require(answer == expected[what], f"{what}: numpy {answer[:5]}, bitcol {expected[what][:5]}")
+    found["C++"] = {} if shape.is_sparse else in_loops(rows, expected)
     return found
 
 
@@ -134,7 +158,7 @@ def time_shape(shape: Shape, words: argparse.Namespace) -> list[list[str | float
         program.do(f"SAVE t TO '{data_file('groups.table')}'")
     peaks = {what: peak(text) for what, text in STATEMENTS.items()}
     require(expected["MEDIAN"] == medians(rows), f"MEDIAN of {shape.name}")
-    others = beside(filled_base("gv", rows), rows, expected)
+    others = beside(filled_base("gv", rows), shape, rows, expected)
     return [
         [shape.name, f"{len(expected['COUNT']):,}", what, own[what] / words.rows * 1e9,
          *(times(costs.get(what), own[what]) for costs in others.values()),
@@ -162,7 +186,7 @@ def main() -> None:
     for what, points in heights.items():
         report.line("groups", what, points)
     what = f"{words.rows:,} rows, layout {words.layout}; ns a row, the others as multiples, and memory at the peak"
-    others = ["sqlite3", *(["numpy"] if numpy else [])]
+    others = ["sqlite3", *(["numpy"] if numpy else []), "C++"]
     heading = ["Group numbers", "groups", "Statement", "bitcol", *others, "bytes a row"]
     report.table("groups", what, heading, lines)
     report.finish()

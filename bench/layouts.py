@@ -19,7 +19,9 @@ FIGURE = re.compile(r"^([PVHS]) (\d+) (\w+) (\d+) ns", re.MULTILINE)
 COUNT = re.compile(r"^count (\d+) ns", re.MULTILINE)
 TOLD = (1, 4, 8, 12, 16, 20, 24, 28, 32, 40, 48, 56, 64)
 IN_LOOPS = (4, 8, 12, 16, 20, 24, 28, 32)
-LOOPS = ("V", "V-branch", "S", "P", "P-count", "memory")
+# The loops in C++, and how the table names them.
+LOOPS = {"V": "C++ V", "V-branch": "V-branch", "H": "C++ H", "S": "C++ S", "P": "C++ P", "P-count": "P-count",
+         "memory": "memory"}
 # How often the two programs take turns.
 TURNS = 4
 Costs = dict[tuple[str, int, str], float]
@@ -67,13 +69,13 @@ def wide_lines(own: Costs) -> list[list[str]]:
 
 
 def scan_lines(own: Costs, loops: dict[tuple[str, int], float]) -> list[list[str]]:
-    """The scans of each width, the loops' times, and V and S as multiples of theirs."""
+    """The scans of each width, the loops' times, and V, H and S as multiples of theirs."""
     lines = []
     for line in work_lines(own, "scan"):
         width = int(line[0])
         best_v = min((loops[name, width] for name in ("V", "V-branch") if (name, width) in loops), default=None)
         ratios = [times(own.get(("V", width, "scan")), best_v),
-                  times(own.get(("S", width, "scan")), loops.get(("S", width)))]
+                  *(times(own.get((name, width, "scan")), loops.get((name, width))) for name in "HS")]
         lines.append([*line, *(figure(loops.get((name, width))) for name in LOOPS), *ratios])
     return lines
 
@@ -86,7 +88,7 @@ def main() -> None:
     told = f"{words.codes:,} codes; ns a code" + (f"; a plain pass that counts: {figure(plain)}" if plain else "")
     place = "memory" if words.codes > 1 << 22 else "caches"
     heading = ["Bits", *LAYOUTS]
-    beside = [*(f"C++ {name}" for name in LOOPS), "V, times", "S, times"]
+    beside = [*LOOPS.values(), "V, times", "H, times", "S, times"]
     report.table(f"scans-in-{place}", told, heading + beside, scan_lines(own, loops))
     if place == "caches":
         for what in ("extend", "read"):
@@ -97,7 +99,7 @@ def main() -> None:
     for layout in LAYOUTS:
         heights = sorted((width, cost) for (name, width, what), cost in own.items() if (name, what) == (layout, "scan"))
         report.line(f"scans-in-{place}", layout, heights)
-    for name in ("V", "S", "P", "memory"):
+    for name in ("V", "H", "S", "P", "memory"):
         heights = [(width, loops[name, width]) for width in IN_LOOPS if (name, width) in loops]
         if heights:
             report.line(f"scans-in-{place}", name if name == "memory" else f"C++ {name}", heights)

@@ -18,7 +18,7 @@ from collections.abc import Callable
 from dataclasses import dataclass
 from pathlib import Path
 
-from common import LAYOUTS, Number, options
+from common import LAYOUTS, LEAST, Number, options
 from program import Program
 from report import Report, figure, require, times
 
@@ -82,6 +82,8 @@ STATEMENTS = (
     Statement("STATS, a < x", "STATS SELECT a FROM t WHERE a < {mid}", shared=False),
     Statement("INSERT, one row", ONE, is_small=True),
     Statement("INSERT, new value", ONE.replace("({x}", "(2147483647"), (REFILL,), is_small=True),
+    # Only the first column is encoded anew: the others have a code for their values.
+    Statement("INSERT, below the least", "INSERT INTO t VALUES ({below}, NULL, NULL, 7)", (REFILL,), is_small=True),
     Statement("DELETE, one row", "DELETE FROM t WHERE d = 1000", (REFILL, ONE), is_small=True),
 )
 
@@ -106,12 +108,14 @@ def rows_of_shape(shape: str, count: int) -> list[Row]:
 
 
 def words_of(rows: list[Row]) -> dict[str, str]:
-    """What the statements' braces stand for: values of the column, at even steps in sorted order."""
+    """What the statements' braces stand for: values of the column, at even steps in sorted order, and the number below
+    the least of them."""
     known = sorted(row[0] for row in rows if row[0] is not None)
     eight, hundred = ([known[i * len(known) // (n + 1)] for i in range(1, n + 1)] for n in (8, 100))
     return {
         "x": str(known[len(known) // 3]),
         "mid": str(known[len(known) // 2]),
+        "below": str(max(known[0] - 1, LEAST)),
         "eight": ", ".join(map(str, eight)),
         "hundred": ", ".join(map(str, hundred)),
     }

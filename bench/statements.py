@@ -2,7 +2,7 @@
 """Times a whole `SELECT a FROM t WHERE a = x` that finds no row, and the scan alone in C++, in one run.
 
 Values of 8 and of 32 bits, in each layout. The scan is the best of the loops of bench/kernels/scans.cpp in the same
-layout; there is none for H, and without g++ they are left out. Build bitcol first, by `rt run` in crates/bitcol.
+layout; without g++ they are left out. Build bitcol first, by `rt run` in crates/bitcol.
 
     python3 bench/statements.py [ROWS [ROUNDS]]      how many rows; 4194304 if not given
 """
@@ -18,7 +18,7 @@ from tables import csv_file, fill
 
 MISSING = 77
 # Which loops a layout is compared with.
-LOOPS = {"V": ("V", "V-branch"), "S": ("S",), "P": ("P",)}
+LOOPS = {"V": ("V", "V-branch"), "H": ("H",), "S": ("S",), "P": ("P",)}
 
 
 def values(bits: int, count: int) -> list[tuple[int]]:
@@ -54,7 +54,7 @@ def main() -> None:
     for bits in (8, 32):
         own, loops = least_costs(bits, words.rows, words.rounds)
         for layout, cost in own.items():
-            beside = min((loops[name, bits] for name in LOOPS.get(layout, ()) if (name, bits) in loops), default=None)
+            beside = min((loops[name, bits] for name in LOOPS[layout] if (name, bits) in loops), default=None)
             lines.append([str(bits), layout, figure(cost), figure(beside), times(cost, beside)])
     heading = ["Bits", "Layout", "statement", "scan in C++", "times"]
     report.table("statements", f"{words.rows:,} rows; ns a row, and how many times as long", heading, lines)

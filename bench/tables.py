@@ -19,10 +19,10 @@ def csv_file(name: str, rows: Iterable[Row]) -> Path:
     return path
 
 
-def fill(program: Program, columns: str, choice: str, path: Path, times: int = 1) -> float:
-    """Creates a table t of these columns, each of this layout and kind, and loads the file this many times. Returns
-    the seconds of the loads."""
-    program.do(f"CREATE TABLE t ({', '.join(f'{column} INT {choice}' for column in columns)})")
+def fill(program: Program, columns: str, choice: str, path: Path, times: int = 1, column_type: str = "INT") -> float:
+    """Creates a table t of these columns, each of this type, layout and kind, and loads the file this many times.
+    Returns the seconds of the loads."""
+    program.do(f"CREATE TABLE t ({', '.join(f'{column} {column_type} {choice}' for column in columns)})")
     return sum(program.ask(f"LOAD t FROM '{path}'")[0] for _ in range(times))
 
 

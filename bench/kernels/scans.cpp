@@ -6,6 +6,8 @@
 //             group a segment is left where no row is equal so far.
 //   V-branch  the same with a branch on the constant's bit in place of a mask of it.
 //   V-all     V that reads every plane.
+//   H         BitWeaving/H: a word has as many codes as fit, each below a bit that is free for a comparison. A segment
+//             of codes of k bits is k + 1 words, whose comparisons are shifted into one word.
 //   S         ByteSlice: a slice is a byte of each code, a segment 32 rows, left after any slice.
 //   P         a loop over codes of 32 bits, to a bit a row.
 //   P-count   a loop that counts them, without a mask.
@@ -82,6 +84,46 @@ __attribute__((noinline)) static void scan_planes(const Planes& planes, uint32_t
         }
         std::memcpy(&found[4 * segment], less, sizeof less);
     }
+}
+
+struct Sections {
+    uint32_t width, rows;
+    size_t segments;
+    std::vector<uint64_t> words;
+};
+
+static Sections sections_of(const Codes& codes, uint32_t width) {
+    const uint32_t words = width + 1, rows = 64 / words * words;
+    const size_t segments = (codes.size() + rows - 1) / rows;
+    Sections made{width, rows, segments, std::vector<uint64_t>(segments * words)};
+    for (size_t row = 0; row < codes.size(); row++) {
+        const size_t here = row % rows;
+        made.words[row / rows * words + here % words] |= uint64_t(codes[row]) << (here / words * words);
+    }
+    return made;
+}
+
+__attribute__((noinline)) static void scan_sections(const Sections& sections, uint32_t constant, Mask& found) {
+    const uint32_t words = sections.width + 1;
+    uint64_t ones = 0;
+    for (uint32_t at = 0; at + words <= 64; at += words) ones |= 1ull << at;
+    const uint64_t below = constant * ones, greatest = ((1ull << sections.width) - 1) * ones;
+    const uint64_t free = ones << sections.width;
+    uint64_t rest = 0;
+    uint32_t filled = 0;
+    size_t word = 0;
+    for (size_t segment = 0; segment < sections.segments; segment++) {
+        const uint64_t* here = sections.words.data() + segment * words;
+        uint64_t rows = 0;
+        for (uint32_t i = 0; i < words; i++) rows |= (((here[i] ^ greatest) + below) & free) >> (sections.width - i);
+        rest |= rows << filled;
+        filled += sections.rows;
+        if (filled < 64) continue;
+        if (word < found.size()) found[word++] = rest;
+        filled -= 64;
+        rest = filled == 0 ? 0 : rows >> (sections.rows - filled);
+    }
+    if (word < found.size()) found[word] = rest;
 }
 
 struct Slices {
@@ -181,6 +223,7 @@ static void time_width(Bench& bench, uint32_t width, double part, std::mt19937_6
     const uint64_t wanted = count_codes(codes, constant);
     Mask found(bench.rows / 64);
     const Planes planes = planes_of(codes, width);
+    const Sections sections = sections_of(codes, width);
     const Slices slices = slices_of(codes, width);
     const double slice_bytes = double(slices.slices.size());
     const auto in_planes = [&](const char* name, auto scan) {
@@ -190,6 +233,9 @@ static void time_width(Bench& bench, uint32_t width, double part, std::mt19937_6
     in_planes("V", scan_planes<true, false>);
     in_planes("V-branch", scan_planes<true, true>);
     in_planes("V-all", scan_planes<false, false>);
+    const double section_bytes = 8.0 * (width + 1) / sections.rows;
+    bench.time("H", width, section_bytes, [&] { scan_sections(sections, constant, found); return found[0]; });
+    expect(count_bits(found), wanted);
     bench.time("S", width, slice_bytes, [&] { scan_slices(slices, constant, found); return found[0]; });
     expect(count_bits(found), wanted);
     bench.time("P", width, 4, [&] { scan_codes(codes, constant, found); return found[0]; });
