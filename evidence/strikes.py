@@ -186,8 +186,10 @@ def strike(crates, clause, kept):
     source = crates / clause.file
     kept.setdefault(source, source.read_text(encoding="utf-8"))
     source.write_text(clause.struck(source.read_text(encoding="utf-8")), encoding="utf-8")
+    # Of a trait's method only the implementations answer it, and no other function of its name.
+    place = f"*CodeColumn/{clause.function}" if clause.answered_in else clause.function
     for crate in clause.crates():
-        for answers in (crates / crate / "proofs").rglob(f"{clause.function}/Answers.antt"):
+        for answers in (crates / crate / "proofs").rglob(f"{place}/Answers.antt"):
             text = answers.read_text(encoding="utf-8")
             rest = without_answers(text, clause.name)
             if rest == text:
