@@ -2,13 +2,15 @@
 """Strikes clauses, one at a time, and shows that the call above needs them.
 
 A clause of a lower call is changed to say nothing (`THING ≡ THING`), in a copy, and what proved it is removed. Then the
-call above must no longer be proved: so it computes its result through the lower call, and not past it. Prove the crates
-first, by `rt all check` at the top: the copy reuses what that kept, and each strike takes 15 to 90 seconds.
+call above must no longer be proved: so it computes its result through the lower call, and not past it. All that the
+call above calls, at any depth, must still be proved, and without the strike the call above itself, too. Only these
+functions are checked, over the sources of all crates, so no crate needs to be proved before.
 
     python3 evidence/strikes.py [WORD ..]      only the strikes whose upper call has one of the words in its name
     python3 evidence/strikes.py --names        proves nothing: whether each clause and each upper call still exists
 """
 
+import os
 import re
 import shutil
 import subprocess
@@ -186,8 +188,10 @@ def strike(crates, clause, kept):
     source = crates / clause.file
     kept.setdefault(source, source.read_text(encoding="utf-8"))
     source.write_text(clause.struck(source.read_text(encoding="utf-8")), encoding="utf-8")
+    # Of a trait's method only the implementations answer it, and no other function of its name.
+    place = f"*CodeColumn/{clause.function}" if clause.answered_in else clause.function
     for crate in clause.crates():
-        for answers in (crates / crate / "proofs").rglob(f"{clause.function}/Answers.antt"):
+        for answers in (crates / crate / "proofs").rglob(f"{place}/Answers.antt"):
             text = answers.read_text(encoding="utf-8")
             rest = without_answers(text, clause.name)
             if rest == text:
@@ -199,16 +203,83 @@ def strike(crates, clause, kept):
                 answers.write_text(rest, encoding="utf-8")
 
 
-def is_refused(crates, tried):
-    """Whether the check reached the upper call and did not prove it; and what it said about that."""
-    words = ["rt", "check", "--jobs", "2", "--only", tried.upper]
+def used_by_crates():
+    """What each crate of the tree uses, by `crates.txt`."""
+    lines = (TOP / "crates.txt").read_text(encoding="utf-8").splitlines()
+    parts = (line.partition(":") for line in lines if line.strip())
+    return {said.split()[0]: used.split() for said, _, used in parts}
+
+
+def libraries_below(crate, uses):
+    """The libraries of the tree that a crate stands on, each after those that it uses itself."""
+    found = {}
+    for library in uses[crate]:
+        if library in uses:
+            found.update(libraries_below(library, uses))
+            found[library] = None
+    return found
+
+
+def words_of_check(crates, crate):
+    """The command that checks functions of a crate over the sources of the libraries below, but for the functions'
+    names."""
+    kit = Path(shutil.which("rt")).resolve().parent.parent
+    uses = used_by_crates()
+    below = libraries_below(crate, uses)
+    of_kit = {"core", "std", *(it for name in (*below, crate) for it in uses[name] if it not in uses)}
+    words = [f"{kit}/bin/rattle", "check", "--crate-name", crate, "src/lib.rt", "--jobs", "2"]
+    words += ["--antt-project", f"{kit}/rattle/logic/antt-project.json", "--logic-built", f"{kit}/logic_built"]
+    words += ["-L", f"dependency={kit}/rlibs"]
+    for name in sorted(of_kit):
+        words += ["--extern", f"{name}={kit}/rlibs/{name}.rlib"]
+    for name in below:
+        words += ["--lib", f"{name}:{','.join(['core', 'std', *uses[name]])}={crates}/{name}/src/lib.rt"]
+    return words
+
+
+def linked(folder, to):
+    """Copies what checks kept. A check replaces a checked module's file and writes to none, so a link will do."""
+
+    def copy(one, other):
+        return os.link(one, other) if one.endswith(".oantt") else shutil.copy2(one, other)
+
+    shutil.copytree(folder, to, copy_function=copy)
+
+
+def check(crates, tried, kept):
+    """Checks the upper call and all that it calls, begun with what other checks kept. Gives which functions are not
+    proved, or None if the check did not come to its end, and what it said."""
+    words = [*words_of_check(crates, tried.crate()), "--only", tried.upper, "--incremental", str(kept)]
     done = subprocess.run(words, cwd=crates / tried.crate(), capture_output=True, text=True, check=False)
     said = done.stdout + done.stderr
-    if "nothing above it was checked" in said:
-        return False, "the upper call was not reached, since a library below it was not proved"
-    there = re.search(r"(?m)^only=\d+ proved=\d+$", said) and f"fn {tried.upper}: proved" not in said
+    ended = re.search(r"(?m)^only=\d+ proved=\d+$", said)
+    return set(re.findall(r"(?m)^fn (\S+): (?!proved)", said)) if ended else None, said
+
+
+def outcome(tried, unproved, said):
+    """Whether the upper call alone was not proved, and the places and goals that the check names."""
+    if unproved is None or f"fn {tried.upper}: could not tell" in said:
+        return False, said[-400:]
+    if unproved != {tried.upper}:
+        return False, f"not proved: {', '.join(sorted(unproved)) or 'none'}"
     told = re.findall(r"(?m)^(?:note: )?\S+:\d+:\d+: .*(?:error|not proved).*$", said)
-    return bool(done.returncode and there), "; ".join(line[:160] for line in told[:2]) or said[-400:]
+    return True, "; ".join(line[:160] for line in told[:2])
+
+
+def try_strike(crates, tried, kept):
+    """Checks the upper call as it is, then without the clauses. Gives whether that was refused, and what was said."""
+    unproved, said = check(crates, tried, kept)
+    if unproved != set():
+        return False, f"without a strike: {outcome(tried, unproved, said)[1]}"
+    texts, room = {}, kept.with_name("struck")
+    for clause in tried.clauses:
+        strike(crates, clause, texts)
+    linked(kept, room)
+    refused, told = outcome(tried, *check(crates, tried, room))
+    shutil.rmtree(room)
+    for file, text in texts.items():
+        file.write_text(text, encoding="utf-8")
+    return refused, told
 
 
 def what_is_gone():
@@ -236,19 +307,11 @@ def main():
     chosen = [it for it in STRIKES if not words or any(word in it.upper for word in words)]
     failed = 0
     with tempfile.TemporaryDirectory(prefix="bitcol-strikes-") as room:
-        crates = Path(room) / "crates"
-        shutil.copytree(TOP / "crates", crates, ignore=shutil.ignore_patterns("rlib"))
-        for name in ("crates.txt", "HANDLES"):
-            shutil.copy(TOP / name, Path(room) / name)
-        subprocess.run(["git", "init", "-q", room], check=True)
+        crates, kept = Path(room) / "crates", Path(room) / "kept"
+        shutil.copytree(TOP / "crates", crates, ignore=shutil.ignore_patterns("out", "must-fail"))
         progress = Progress("strikes", len(chosen))
         for tried in chosen:
-            kept = {}
-            for clause in tried.clauses:
-                strike(crates, clause, kept)
-            refused, said = is_refused(crates, tried)
-            for file, text in kept.items():
-                file.write_text(text, encoding="utf-8")
+            refused, said = try_strike(crates, tried, kept)
             clauses = ", ".join(f"{it.function} {it.name}".strip() for it in tried.clauses)
             progress.clear()
             print(f"{tried.upper} without {clauses}: {'refused' if refused else 'NOT SHOWN'}: {said}", flush=True)
