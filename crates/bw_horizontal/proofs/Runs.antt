@@ -29,17 +29,17 @@ part_stored k first n words part fits long stored anew i d h =
           ]
     ])
 
--- in each word of the run, section t is replaced
-module _ (k row n first t : ℕ) (words part codes : List ℕ) (narrow : k ≤ 32) (run : n + row % segment_rows k % (k + 1) ≤ k + 1)
+-- in each word of the run, section t is replaced: in word m by f m
+module _ (k row n first t : ℕ) (words part : List ℕ) (f : ℕ → ℕ) (narrow : k ≤ 32) (run : n + row % segment_rows k % (k + 1) ≤ k + 1)
     (at : first ≡ word_of k row) (same : t ≡ section_in k row) (fits : first + n ≤ length words) (long : length part ≡ n)
-    (each : (m : ℕ) → m < n → (u : ℕ) → section_of k u (get_or part m 0) ≡ (if u == t then get_or codes m 0 else section_of k u (get_or words (first + m) 0))) where
+    (each : (m : ℕ) → m < n → (u : ℕ) → section_of k u (get_or part m 0) ≡ (if u == t then f m else section_of k u (get_or words (first + m) 0))) where
   abbrev new : List ℕ
   new = put_mid first n words part
 
   low : (i : ℕ) → i < n → row % segment_rows k % (k + 1) + i < k + 1
   low i h = omega (arith, run, h)
 
-  pub run_put : (i : ℕ) → i < n → code_in k new (row + i) ≡ get_or codes i 0
+  pub run_put : (i : ℕ) → i < n → code_in k new (row + i) ≡ f i
   run_put i h =
       code_on k row i narrow (low i h) new
       ∙ ap (λ s. section_of k s (get_or new (word_of k row + i) 0)) (sym same)
@@ -47,7 +47,7 @@ module _ (k row n first t : ℕ) (words part codes : List ℕ) (narrow : k ≤ 3
       ∙ ap (section_of k t) (in_part first n words part 0 fits long (first + i) (omega arith) (omega (arith, h)))
       ∙ ap (λ m. section_of k t (get_or part m 0)) (omega arith)
       ∙ each i h t
-      ∙ ap (λ b. if b then get_or codes i 0 else section_of k t (get_or words (first + i) 0)) (eq-eqb t t refl)
+      ∙ ap (λ b. if b then f i else section_of k t (get_or words (first + i) 0)) (eq-eqb t t refl)
 
   -- another row of such a word is in another section
   beside : (j m : ℕ) → (row ≤ j → row + n ≤ j) → m < n → word_of k j ≡ first + m → section_in k j ≢ t
@@ -70,7 +70,7 @@ module _ (k row n first t : ℕ) (words part codes : List ℕ) (narrow : k ≤ 3
                   let inside : m < n = omega (arith, up, l) in
                   ap (section_of k s) (in_part first n words part 0 fits long w up l)
                   ∙ each m inside s
-                  ∙ ap (λ b. if b then get_or codes m 0 else section_of k s (get_or words (first + m) 0)) (ne_eqb s t (beside j m outside inside here))
+                  ∙ ap (λ b. if b then f m else section_of k s (get_or words (first + m) 0)) (ne_eqb s t (beside j m outside inside here))
                   ∙ ap (λ v. section_of k s (get_or words v 0)) (sym here)
               | inr past ↦ ap (section_of k s) (behind_part first n words part 0 fits long w past)
             ]

@@ -1,11 +1,9 @@
 -- 64 rows in the segments in which they lie.
-use Rattle.std.proofs.Common.{List, ap, arith, false, get_or, if◌then◌else◌, inl, inr, length, refl, replicate, subst, sym, true, ℕ, ◌%◌, ◌*◌, ◌+◌, ◌-◌, ◌/◌, ◌<◌, ◌^◌, ◌≡◌, ◌≢◌, ◌≤◌, ◌∙◌}
+use Rattle.std.proofs.Common.{List, ap, arith, false, get_or, if◌then◌else◌, inl, inr, length, refl, subst, sym, true, ℕ, ◌%◌, ◌*◌, ◌+◌, ◌-◌, ◌/◌, ◌<◌, ◌^◌, ◌≡◌, ◌≢◌, ◌≤◌, ◌∙◌}
 use Rattle.std.specs.List.{All}
-use Rattle.std.proofs.Math.Nat.{div-lt_iff_lt-mul, lt-div-mul-add, mul-div-le, mul-div_cancel, mul-le-mul_right}
+use Rattle.std.proofs.Math.Nat.{mul-div-le, mul-div_cancel, mul-le-mul_right}
 use Rattle.std.proofs.lemmas.Bool.{cases_Bool, cases_lt}
-use Rattle.std.proofs.lemmas.List.{length-replicate}
 use Rattle.std.proofs.lemmas.Nat.{div-add-mod', le-div}
-use Rattle.std.proofs.lemmas.Simd.{get_or-replicate}
 use Rattle.bw_mask.specs.Masks.{bit_of}
 use Rattle.bw_mask.proofs.Bits.{bit_above}
 use Rattle.bw_lane.specs.Sections.{IsStored, section_of, sections_in}
@@ -15,11 +13,8 @@ use Rattle.bw_code.proofs.Lists.{made_at, made_len}
 use Rattle.bw_code.proofs.Runs.{chosen_above, chosen_from, put_here, put_left, put_to, run_is}
 use Rattle.bw_code.specs.Units.{segments_of}
 use Rattle.bw_horizontal.specs.Words.{AreWords, code_in, codes_of, section_in, segment_rows, word_of}
-use Rattle.bw_horizontal.proofs.Places.{rest_low, row_section, row_segment, row_word, rows_pos, section_low}
+use Rattle.bw_horizontal.proofs.Places.{rest_low, rows_pos, section_low}
 use Rattle.bw_horizontal.proofs.Views.{segment_there}
-
-pub rows_least : (k : ℕ) → k ≤ 32 → 32 ≤ segment_rows k
-rows_least k narrow = omega (arith, lt-div-mul-add {a = 64} {b = k + 1} (omega arith))
 
 pub rows_most : (k : ℕ) → segment_rows k ≤ 64
 rows_most k = omega (arith, mul-div-le 64 (k + 1))
@@ -32,62 +27,30 @@ before_row k at j narrow h =
       | inr l ↦ absurd (omega (arith, h, le-div (at / segment_rows k) j (segment_rows k) (rows_pos k narrow) (omega (arith, l, div-add-mod' at (segment_rows k)))))
     ]
 
--- the segments of 64 rows are at most three
-pub span : (k at q : ℕ) → k ≤ 32 → q * segment_rows k < at + 64 → q < at / segment_rows k + 3
-span k at q narrow h =
-    elim (cases_lt q (at / segment_rows k + 3)) [
-      | inl l ↦ l
-      | inr l ↦ absurd (omega (arith, h, mul-le-mul_right {m = at / segment_rows k + 3} {n = q} (segment_rows k) l, div-add-mod' at (segment_rows k), rest_low k at narrow, rows_least k narrow))
-    ]
-
-pub span_words : (k at q : ℕ) → k ≤ 32 → q * segment_rows k < at + 64 → (q - at / segment_rows k) * (k + 1) + (k + 1) ≤ 99
-span_words k at q narrow h =
-    let few : q - at / segment_rows k ≤ 2 = omega (arith, span k at q narrow h) in
-    omega (arith, mul-le-mul_right (k + 1) few, narrow)
-
-pub near_word : (k j : ℕ) → k ≤ 32 → j < segment_rows k + 64 → word_of k j < 99
-near_word k j narrow h =
-    let few : j / segment_rows k < 3 = (div-lt_iff_lt-mul (rows_pos k narrow)).1 (omega (arith, h, rows_least k narrow)) in
-    let low : j % segment_rows k % (k + 1) < k + 1 = omega arith in
-    omega (arith, low, narrow, mul-le-mul_right {m = j / segment_rows k} {n = 2} (k + 1) (omega (arith, few)))
-
--- from the segment of an earlier row on
-pub from_segment : (k at j : ℕ) → k ≤ 32 → at ≤ j → j - at / segment_rows k * segment_rows k ≡ at % segment_rows k + (j - at)
-from_segment k at j narrow h = omega (arith, h, div-add-mod' at (segment_rows k))
-
 pub segment_words : (k n q : ℕ) → k ≤ 32 → q * segment_rows k < n → q * (k + 1) + (k + 1) ≤ segments_of (segment_rows k) n * (k + 1)
 segment_words k n q narrow h =
     let there : q < segments_of (segment_rows k) n = subst (λ m. m < segments_of (segment_rows k) n) (mul-div_cancel q (rows_pos k narrow)) (segment_there (segment_rows k) n (q * segment_rows k) (rows_pos k narrow) h) in
     omega (arith, mul-le-mul_right {m = q + 1} {n = segments_of (segment_rows k) n} (k + 1) (omega (arith, there)))
 
--- one word over and over
-pub all_stored_same : (k n word : ℕ) → IsStored k word → All (IsStored k) (replicate n word)
-all_stored_same k n word stored i d h = subst (IsStored k) (sym (get_or-replicate n i word d (omega (arith, h, length-replicate n word)))) stored
-
--- a segment of words is blended
-module _ (k at rows q own : ℕ) (old words after new : List ℕ) (narrow : k ≤ 32) (first : at / segment_rows k ≤ q)
+-- some rows of a segment of words take a code
+module _ (k at rows q own code : ℕ) (old words after : List ℕ) (narrow : k ≤ 32)
     (bits : (r : ℕ) → r < 64 → bit_of own r ≡ is_chosen at rows (q * segment_rows k + r))
     (inside : (i t : ℕ) → i < k + 1 → t < sections_in k → section_of k t (get_or after (q * (k + 1) + i) 0)
-    ≡ (if bit_of own (i + t * (k + 1)) then section_of k t (get_or new ((q - at / segment_rows k) * (k + 1) + i) 0) else section_of k t (get_or words (q * (k + 1) + i) 0)))
+    ≡ (if bit_of own (i + t * (k + 1)) then code else section_of k t (get_or words (q * (k + 1) + i) 0)))
     (outside : (w : ℕ) → (q * (k + 1) ≤ w → q * (k + 1) + (k + 1) ≤ w) → get_or after w 0 ≡ get_or words w 0) where
-  pub segment_done : (j : ℕ) → j / segment_rows k ≡ q → code_in k words j ≡ code_in k old j → code_in k after j ≡ (if is_chosen at rows j then code_in k new (j - at / segment_rows k * segment_rows k) else code_in k old j)
+  pub segment_done : (j : ℕ) → j / segment_rows k ≡ q → code_in k words j ≡ code_in k old j → code_in k after j ≡ (if is_chosen at rows j then code else code_in k old j)
   segment_done j e kept =
       let rest = j % segment_rows k in
       let i = j % segment_rows k % (k + 1) in
       let t = section_in k j in
-      let from = q - at / segment_rows k in
       let low : i < k + 1 = omega arith in
       let there : t < sections_in k = section_low k j narrow in
       let word : word_of k j ≡ q * (k + 1) + i = ap (λ n. n * (k + 1) + i) e in
       let place : i + t * (k + 1) ≡ rest = omega (arith, div-add-mod' rest (k + 1)) in
       let row : q * segment_rows k + rest ≡ j = ap (λ n. n * segment_rows k + rest) (sym e) ∙ div-add-mod' j (segment_rows k) in
       let bit : bit_of own (i + t * (k + 1)) ≡ is_chosen at rows j = ap (bit_of own) place ∙ bits rest (omega (arith, rest_low k j narrow, rows_most k)) ∙ ap (is_chosen at rows) row in
-      let back : (q - at / segment_rows k) * segment_rows k + at / segment_rows k * segment_rows k ≡ q * segment_rows k = omega (arith, ap (λ n. n * segment_rows k) {x = q - at / segment_rows k + at / segment_rows k} {y = q} (omega (arith, first))) in
-      let moved : segment_rows k * from + (t * (k + 1) + i) ≡ j - at / segment_rows k * segment_rows k = omega (arith, row, place, back) in
-      let code : code_in k new (segment_rows k * from + (t * (k + 1) + i)) ≡ section_of k t (get_or new (from * (k + 1) + i) 0) = rw (row_section k from t i low there, row_segment k from t i low there, row_word k from t i low there) refl in
-      let same : section_of k t (get_or new (from * (k + 1) + i) 0) ≡ code_in k new (j - at / segment_rows k * segment_rows k) = sym code ∙ ap (code_in k new) moved in
       let was : section_of k t (get_or words (q * (k + 1) + i) 0) ≡ code_in k old j = ap (λ w. section_of k t (get_or words w 0)) (sym word) ∙ kept in
-      ap (λ w. section_of k t (get_or after w 0)) word ∙ inside i t low there ∙ rw (bit, same, was) refl
+      ap (λ w. section_of k t (get_or after w 0)) word ∙ inside i t low there ∙ rw (bit, was) refl
 
   pub segment_beside : (j : ℕ) → j / segment_rows k ≢ q → code_in k after j ≡ code_in k words j
   segment_beside j e =

@@ -2,12 +2,28 @@
 
 ghost use Rattle.std.specs.Prelude.{if◌then◌else◌, length, slice_index, ℕ, ◌%◌, ◌*◌, ◌+◌, ◌/◌, ◌<◌, ◌==◌, ◌^◌, ◌≡◌, ◌≤◌};
 ghost use Rattle.std.specs.List.{All};
+ghost use Rattle.bw_mask.specs.Masks.{bit_of};
 ghost use Rattle.bw_code.specs.Columns.{Fit};
-ghost use Rattle.bw_lane.specs.Sections.{IsStored};
+ghost use Rattle.bw_lane.specs.Sections.{IsStored, section_of, sections_in};
 ghost use Rattle.bw_code.specs.Widths.{widest_half};
 ghost use Rattle.bw_horizontal.specs.Words.{code_in, section_in, segment_rows, word_of};
 
 use bw_lane::SectionMasks;
+use bw_mask::has_bit;
+
+/// The word with the code of section `t` replaced if its row is chosen. Both words are made before the choice, so that no
+/// branch is left.
+fn with_chosen(masks: SectionMasks, word: u64, t: u32, code: u64, chosen: bool) -> u64
+    requires narrow { masks.width ≤ widest_half }
+    requires place { t < sections_in masks.width }
+    requires stored { IsStored masks.width word }
+    requires fits { code < 2 ^ masks.width }
+    ensures stored { IsStored masks.width result }
+    ensures codes { (u : ℕ) → section_of masks.width u result ≡ (if u == t then (if chosen then code else section_of masks.width t word) else section_of masks.width u word) }
+{
+    let new = masks.with_code(word, t, code as u32);
+    if chosen { new } else { word }
+}
 
 /// The position of a row's code. Those of the rows after it are found without a division.
 #[derive(Clone, Copy)]
@@ -144,6 +160,27 @@ impl Place {
         let run = &mut words[first..first + codes.len()];
         for i in 0..codes.len() {
             run[i] = self.masks.with_code(run[i], self.section, codes[i] as u32);
+        }
+    }
+
+    /// Of the rows from this one on, all within the run, those whose bit is set take their codes, row i code i. The
+    /// others keep theirs.
+    pub(crate) fn put_chosen(self, words: &mut [u64], rows: u64, codes: &[u64])
+        requires some { 1 ≤ length codes.now }
+        requires run { length codes.now + self.row % segment_rows self.masks.width % (self.masks.width + 1) ≤ self.masks.width + 1 }
+        requires there { (i : ℕ) → i < length codes.now → word_of self.masks.width (self.row + i) < length words.old }
+        requires stored { All (IsStored self.masks.width) words.old }
+        requires fit { Fit self.masks.width codes.now }
+        ensures len { length words.new ≡ length words.old }
+        ensures stored { All (IsStored self.masks.width) words.new }
+        ensures put { (i : ℕ) → i < length codes.now → code_in self.masks.width words.new (self.row + i) ≡ (if bit_of rows i then slice_index codes.now i else code_in self.masks.width words.old (self.row + i)) }
+        ensures other { (j : ℕ) → (self.row ≤ j → self.row + length codes.now ≤ j) → code_in self.masks.width words.new j ≡ code_in self.masks.width words.old j }
+    {
+        let first = self.start + self.word;
+        let run = &mut words[first..first + codes.len()];
+        for i in 0..codes.len() {
+            let chosen = has_bit(rows, i);
+            run[i] = with_chosen(self.masks, run[i], self.section, codes[i], chosen);
         }
     }
 }

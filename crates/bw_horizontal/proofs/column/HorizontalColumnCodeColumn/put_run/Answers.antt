@@ -1,15 +1,15 @@
 use Rattle.std.proofs.Common.{ap, arith, false, get_or, length, ℕ, ◌+◌, ◌-◌, ◌≡◌, ◌≤◌, ◌∙◌}
 use Rattle.bw_code.specs.Columns.{is_chosen}
 use Rattle.bw_code.proofs.Runs.{chosen_from}
-use Rattle.bw_horizontal.proofs.Spans.{codes_blended, segment_words, words_blended}
-use Rattle.bw_horizontal.proofs.Views.{count_is, written}
+use Rattle.bw_horizontal.proofs.Spans.{codes_blended, words_blended}
+use Rattle.bw_horizontal.proofs.Views.{count_is, word_there, written}
 use Rattle.bw_horizontal.proofs.column.HorizontalColumnCodeColumn.put_run.Goals as goal
 
 pub put_run-requires-clause-there : goal.put_run-requires-clause-there
-put_run-requires-clause-there c q h =
+put_run-requires-clause-there c j h =
     let inside = c.self.inside in
     let low : c.args.at + length c.args.codes.now ≤ inside.len = grind (arith, count_is) in
-    rw c.deref_mut.ensures.value (omega (arith, segment_words inside.width inside.len q c.self.invariant.narrow (omega (arith, h, low)), c.self.invariant.segments.count))
+    rw c.deref_mut.ensures.value (omega (arith, word_there inside.width inside.len j c.self.invariant.narrow (omega (arith, h, low)), c.self.invariant.segments.count))
 
 pub invariant_of-self : goal.invariant_of-self
 invariant_of-self c =

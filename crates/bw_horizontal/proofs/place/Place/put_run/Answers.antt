@@ -61,7 +61,7 @@ returns-clause-put c i h =
     let first = place.start + place.word in
     let at : first ≡ word_of k place.row = omega (arith, place.start_is, place.word_is) in
     let there : first + n ≤ length words = omega (arith, at, run_there k place.row n (length words) place.narrow c.requires.some c.requires.run c.requires.there) in
-    run_put k place.row (first + n - first) first place.section words c.loop-i.run c.args.codes.now place.narrow (omega (arith, c.requires.run)) at place.section_is (omega (arith, there)) (omega (arith, c.loop-i.invariant.len))
+    run_put k place.row (first + n - first) first place.section words c.loop-i.run (λ m. get_or c.args.codes.now m 0) place.narrow (omega (arith, c.requires.run)) at place.section_is (omega (arith, there)) (omega (arith, c.loop-i.invariant.len))
     (λ m low. c.loop-i.invariant.put m (omega (arith, low, c.loop-i-test.false))) i (omega (arith, h))
 
 pub returns-clause-other : goal.returns-clause-other
@@ -73,5 +73,5 @@ returns-clause-other c j outside =
     let first = place.start + place.word in
     let at : first ≡ word_of k place.row = omega (arith, place.start_is, place.word_is) in
     let there : first + n ≤ length words = omega (arith, at, run_there k place.row n (length words) place.narrow c.requires.some c.requires.run c.requires.there) in
-    run_other k place.row (first + n - first) first place.section words c.loop-i.run c.args.codes.now place.narrow (omega (arith, c.requires.run)) at place.section_is (omega (arith, there)) (omega (arith, c.loop-i.invariant.len))
+    run_other k place.row (first + n - first) first place.section words c.loop-i.run (λ m. get_or c.args.codes.now m 0) place.narrow (omega (arith, c.requires.run)) at place.section_is (omega (arith, there)) (omega (arith, c.loop-i.invariant.len))
     (λ m low. c.loop-i.invariant.put m (omega (arith, low, c.loop-i-test.false))) j (λ l. omega (arith, outside l))
