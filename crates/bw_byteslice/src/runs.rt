@@ -1,6 +1,6 @@
 //! Writing codes to some of 64 rows: in each slice only their bytes change.
 
-ghost use Rattle.std.specs.Prelude.{[], false, length, slice_index, slice_index_or, true, vec_capacity, vec_len, ℕ, ◌*◌, ◌+◌, ◌-◌, ◌<◌, ◌^◌, ◌≡◌, ◌≤◌};
+ghost use Rattle.std.specs.Prelude.{[], false, length, slice_index, slice_index_or, true, vec_capacity, vec_len, ℕ, ◌%◌, ◌*◌, ◌+◌, ◌-◌, ◌<◌, ◌^◌, ◌≡◌, ◌≤◌};
 ghost use Rattle.bw_mask.specs.Masks.{bit_of};
 ghost use Rattle.bw_code.specs.Columns.{Fit};
 ghost use Rattle.bw_code.specs.Units.{digit};
@@ -10,19 +10,36 @@ ghost use Rattle.bw_byteslice.specs.Storing.{byte_of, bytes_of, capacities_of};
 
 use crate::shift::{byte_at, raise};
 use crate::storage::{put_bytes, raise_codes, raise_parts};
-use bw_mask::has_bit;
 
 /// The greatest number of rows in a run.
 const RUN: usize = 64;
 
-/// Whether each row is chosen: row i where bit i is set.
+/// For each of 64 rows the byte of `rows` that has the row's bit, and a byte in which that bit alone is set.
+fn spread(rows: u64, bytes: &mut [u8; 64], bits: &mut [u8; 64])
+    ensures bytes { (r : ℕ) → r < 64 → bit_of (slice_index bytes.new r) (r % 8) ≡ bit_of rows r }
+    ensures bits { (r : ℕ) → r < 64 → slice_index bits.new r ≡ 2 ^ (r % 8) }
+{
+    for k in 0..8 {
+        let byte = (rows >> (8 * k) & 0xff) as u8;
+        for b in 0..8 {
+            bytes[8 * k + b] = byte;
+            bits[8 * k + b] = 1 << b;
+        }
+    }
+}
+
+/// Whether each row is chosen: row i where bit i is set. A loop over bytes is vectorized; a loop that shifts the word for
+/// each row is not.
 fn choose(rows: u64, chosen: &mut [bool])
     requires few { length chosen.old ≤ 64 }
     ensures len { length chosen.new ≡ length chosen.old }
     ensures each { (r : ℕ) → r < length chosen.old → slice_index_or chosen.new r false ≡ bit_of rows r }
 {
+    let mut bytes = [0; RUN];
+    let mut bits = [0; RUN];
+    spread(rows, &mut bytes, &mut bits);
     for r in 0..chosen.len() {
-        chosen[r] = has_bit(rows, r);
+        chosen[r] = bytes[r] & bits[r] != 0;
     }
 }
 
