@@ -1,5 +1,6 @@
 pub mod Blends
 pub mod Costs
+pub mod FullWords
 pub mod Gathered
 pub mod Marks
 pub mod Pairs

@@ -8,6 +8,7 @@ ghost use Rattle.bw_code.specs.Columns.{Fit, is_chosen};
 ghost use Rattle.bw_code.specs.Widths.{widest_half};
 ghost use Rattle.bw_horizontal.specs.Words.{code_in, segment_rows, word_of};
 
+use crate::full_words::{self, FULL};
 use crate::place::Place;
 use bw_lane::SectionMasks;
 
@@ -57,8 +58,8 @@ fn rows_from(rows: u64, at: usize, start: usize) -> u64
     }
 }
 
-/// Row at + i takes code i where bit i of `rows` is set.
-pub(crate) fn put_run(words: &mut [u64], width: u32, at: usize, rows: u64, codes: &[u64])
+/// Row at + i takes code i where bit i of `rows` is set, run by run.
+fn put_runs(words: &mut [u64], width: u32, at: usize, rows: u64, codes: &[u64])
     requires narrow { width ≤ widest_half }
     requires few { length codes.now ≤ 64 }
     requires within { at + length codes.now ≤ 2 ^ 24 }
@@ -80,8 +81,8 @@ pub(crate) fn put_run(words: &mut [u64], width: u32, at: usize, rows: u64, codes
     }
 }
 
-/// Row at + i takes the code where bit i of `rows` is set. No bit is set for rows from `end` on.
-pub(crate) fn fill_run(words: &mut [u64], width: u32, at: usize, end: usize, rows: u64, code: u64)
+/// Row at + i takes the code where bit i of `rows` is set, segment by segment. No bit is set for rows from `end` on.
+fn fill_segments(words: &mut [u64], width: u32, at: usize, end: usize, rows: u64, code: u64)
     requires some { 1 ≤ width }
     requires narrow { width ≤ widest_half }
     requires few { end ≤ 2 ^ 24 }
@@ -107,5 +108,47 @@ pub(crate) fn fill_run(words: &mut [u64], width: u32, at: usize, end: usize, row
         fill_segment(segment, masks, chosen, new);
         q += 1;
         start += rows_in;
+    }
+}
+
+/// Row at + i takes code i where bit i of `rows` is set.
+pub(crate) fn put_run(words: &mut [u64], width: u32, at: usize, rows: u64, codes: &[u64])
+    requires narrow { width ≤ widest_half }
+    requires few { length codes.now ≤ 64 }
+    requires within { at + length codes.now ≤ 2 ^ 24 }
+    requires given { (i : ℕ) → length codes.now ≤ i → bit_of rows i ≡ false }
+    requires fit { Fit width codes.now }
+    requires there { (j : ℕ) → j < at + length codes.now → word_of width j < length words.old }
+    requires stored { All (IsStored width) words.old }
+    ensures len { length words.new ≡ length words.old }
+    ensures stored { All (IsStored width) words.new }
+    ensures codes { (j : ℕ) → code_in width words.new j ≡ (if is_chosen at rows j then slice_index codes.now (j - at) else code_in width words.old j) }
+{
+    if width == FULL {
+        full_words::put_run(words, at, rows, codes);
+    } else {
+        put_runs(words, width, at, rows, codes);
+    }
+}
+
+/// Row at + i takes the code where bit i of `rows` is set. No bit is set for rows from `end` on.
+pub(crate) fn fill_run(words: &mut [u64], width: u32, at: usize, end: usize, rows: u64, code: u64)
+    requires some { 1 ≤ width }
+    requires narrow { width ≤ widest_half }
+    requires few { end ≤ 2 ^ 24 }
+    requires begin { at ≤ end }
+    requires end { end ≤ at + 64 }
+    requires none { (j : ℕ) → end ≤ j → is_chosen at rows j ≡ false }
+    requires fits { code < 2 ^ width }
+    requires there { (q : ℕ) → q * segment_rows width < end → q * (width + 1) + (width + 1) ≤ length words.old }
+    requires stored { All (IsStored width) words.old }
+    ensures len { length words.new ≡ length words.old }
+    ensures stored { All (IsStored width) words.new }
+    ensures codes { (j : ℕ) → code_in width words.new j ≡ (if is_chosen at rows j then code else code_in width words.old j) }
+{
+    if width == FULL {
+        full_words::fill_run(words, at, end, rows, code);
+    } else {
+        fill_segments(words, width, at, end, rows, code);
     }
 }

@@ -3,6 +3,7 @@
 
 mod blending;
 mod column;
+mod full_words;
 mod gather;
 mod pair;
 mod place;

@@ -7,6 +7,7 @@ ghost use Rattle.bw_code.specs.Units.{segments_of};
 ghost use Rattle.bw_code.specs.Widths.{widest_half};
 ghost use Rattle.bw_horizontal.specs.Words.{code_in, segment_rows, word_of};
 
+use crate::full_words::{self, FULL};
 use crate::place::Place;
 
 /// The least width of codes that are written and read run by run.
@@ -128,14 +129,18 @@ fn read_runs(words: &[u64], width: u32, at: usize, out: &mut [u64])
     }
 }
 
-/// Fills `out` with the codes of the rows from `at` on. Narrow codes have short runs, which do not pay off.
+/// Fills `out` with the codes of the rows from `at` on. Narrow codes have short runs, which do not pay off; the widest
+/// have a word each.
 pub(crate) fn read_codes(words: &[u64], width: u32, at: usize, out: &mut [u64])
     requires narrow { width ≤ widest_half }
     requires few { at + length out.old ≤ 2 ^ 24 }
     requires there { (j : ℕ) → j < at + length out.old → word_of width j < length words.now }
+    requires stored { All (IsStored width) words.now }
     ensures { (i : ℕ) → i < length out.old → slice_index out.new i ≡ code_in width words.now (at + i) }
 {
-    if width < LEAST_IN_RUNS {
+    if width == FULL {
+        full_words::read(words, at, out);
+    } else if width < LEAST_IN_RUNS {
         read_rows(words, width, at, out);
     } else {
         read_runs(words, width, at, out);

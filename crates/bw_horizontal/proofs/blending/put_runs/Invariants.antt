@@ -3,7 +3,7 @@ use Rattle.std.specs.List.{All}
 use Rattle.bw_mask.specs.Masks.{bit_of}
 use Rattle.bw_lane.specs.Sections.{IsStored}
 use Rattle.bw_horizontal.specs.Words.{code_in}
-use Rattle.bw_horizontal.proofs.blending.put_run.Given as goal
+use Rattle.bw_horizontal.proofs.blending.put_runs.Given as goal
 
 -- the codes so far
 abbrev pub invariant-runs : goal.invariant-runs

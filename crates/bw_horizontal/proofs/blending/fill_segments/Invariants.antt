@@ -3,7 +3,7 @@ use Rattle.std.specs.List.{All}
 use Rattle.bw_lane.specs.Sections.{IsStored}
 use Rattle.bw_code.specs.Columns.{is_chosen}
 use Rattle.bw_horizontal.specs.Words.{code_in, segment_rows}
-use Rattle.bw_horizontal.proofs.blending.fill_run.Given as goal
+use Rattle.bw_horizontal.proofs.blending.fill_segments.Given as goal
 
 -- the segments before this one are filled, and the others are as they were
 abbrev pub invariant-segments : goal.invariant-segments
