@@ -30,7 +30,7 @@ fn spread(rows: u64, bytes: &mut [u8; 64], bits: &mut [u8; 64])
 
 /// Whether each row is chosen: row i where bit i is set. A loop over bytes is vectorized; a loop that shifts the word for
 /// each row is not.
-fn choose(rows: u64, chosen: &mut [bool])
+fn choose_few(rows: u64, chosen: &mut [bool])
     requires few { length chosen.old ≤ 64 }
     ensures len { length chosen.new ≡ length chosen.old }
     ensures each { (r : ℕ) → r < length chosen.old → slice_index_or chosen.new r false ≡ bit_of rows r }
@@ -43,10 +43,37 @@ fn choose(rows: u64, chosen: &mut [bool])
     }
 }
 
+/// The same for 64 rows.
+fn choose_64(rows: u64, chosen: &mut [bool])
+    requires whole { length chosen.old ≡ 64 }
+    ensures len { length chosen.new ≡ length chosen.old }
+    ensures each { (r : ℕ) → r < 64 → slice_index_or chosen.new r false ≡ bit_of rows r }
+{
+    let mut bytes = [0; RUN];
+    let mut bits = [0; RUN];
+    spread(rows, &mut bytes, &mut bits);
+    for r in 0..RUN {
+        chosen[r] = bytes[r] & bits[r] != 0;
+    }
+}
+
+/// Whether each row is chosen: row i where bit i is set.
+fn choose(rows: u64, chosen: &mut [bool])
+    requires few { length chosen.old ≤ 64 }
+    ensures len { length chosen.new ≡ length chosen.old }
+    ensures each { (r : ℕ) → r < length chosen.old → slice_index_or chosen.new r false ≡ bit_of rows r }
+{
+    if chosen.len() == RUN {
+        choose_64(rows, chosen);
+    } else {
+        choose_few(rows, chosen);
+    }
+}
+
 /// Writes bytes, each where its row is chosen. The others stay. Not inlined: inlined into its callers, the loop is not
 /// vectorized.
 #[inline(never)]
-fn put_chosen(kept: &mut [u8], chosen: &[bool], bytes: &[u8])
+fn put_few_chosen(kept: &mut [u8], chosen: &[bool], bytes: &[u8])
     requires chosen { length chosen.now ≡ length kept.old }
     requires long { length kept.old ≤ length bytes.now }
     ensures len { length kept.new ≡ length kept.old }
@@ -58,6 +85,38 @@ fn put_chosen(kept: &mut [u8], chosen: &[bool], bytes: &[u8])
     for r in 0..kept.len() {
         let ones = 0_u8.wrapping_sub(u8::from(chosen[r]));
         kept[r] = (kept[r] & !ones) | (bytes[r] & ones);
+    }
+}
+
+/// The same for 64 rows.
+#[inline(never)]
+fn put_64_chosen(kept: &mut [u8], chosen: &[bool], bytes: &[u8])
+    requires whole { length kept.old ≡ 64 }
+    requires chosen { length chosen.now ≡ length kept.old }
+    requires long { length kept.old ≤ length bytes.now }
+    ensures len { length kept.new ≡ length kept.old }
+    ensures put { (r : ℕ) → r < length kept.old → slice_index_or chosen.now r false ≡ true → slice_index kept.new r ≡ slice_index bytes.now r }
+    ensures kept { (r : ℕ) → slice_index_or chosen.now r false ≡ false → slice_index kept.new r ≡ slice_index kept.old r }
+{
+    for r in 0..RUN {
+        let ones = 0_u8.wrapping_sub(u8::from(chosen[r]));
+        kept[r] = (kept[r] & !ones) | (bytes[r] & ones);
+    }
+}
+
+/// Writes bytes, each where its row is chosen. The others stay.
+fn put_chosen(kept: &mut [u8], chosen: &[bool], bytes: &[u8])
+    requires chosen { length chosen.now ≡ length kept.old }
+    requires long { length kept.old ≤ length bytes.now }
+    ensures len { length kept.new ≡ length kept.old }
+    ensures put { (r : ℕ) → r < length kept.old → slice_index_or chosen.now r false ≡ true → slice_index kept.new r ≡ slice_index bytes.now r }
+    ensures kept { (r : ℕ) → slice_index_or chosen.now r false ≡ false → slice_index kept.new r ≡ slice_index kept.old r }
+{
+    // Most calls have a whole run, and are faster where the length is known.
+    if kept.len() == RUN {
+        put_64_chosen(kept, chosen, bytes);
+    } else {
+        put_few_chosen(kept, chosen, bytes);
     }
 }
 

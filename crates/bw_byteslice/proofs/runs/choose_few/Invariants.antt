@@ -1,6 +1,6 @@
 use Rattle.std.proofs.Common.{false, get_or, length, ℕ, ◌<◌, ◌≡◌}
 use Rattle.bw_mask.specs.Masks.{bit_of}
-use Rattle.bw_byteslice.proofs.runs.choose.Given as goal
+use Rattle.bw_byteslice.proofs.runs.choose_few.Given as goal
 
 -- the rows before this one are looked at
 abbrev pub invariant-loop-r : goal.invariant-loop-r

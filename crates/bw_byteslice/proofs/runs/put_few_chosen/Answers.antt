@@ -1,7 +1,7 @@
 use Rattle.std.proofs.Common.{ap, arith, bit_and, bit_or, false, get_or, get_or-set_other, get_or-set_same, inl, inr, length, length-set, set, subst, sym, ◌%◌, ◌+◌, ◌-◌, ◌<◌, ◌≡◌, ◌∙◌}
 use Rattle.std.proofs.lemmas.Bool.{cases_eq}
 use Rattle.bw_byteslice.proofs.Blends.{blend, blend_kept, blend_put, blend_small}
-use Rattle.bw_byteslice.proofs.runs.put_chosen.Goals as goal
+use Rattle.bw_byteslice.proofs.runs.put_few_chosen.Goals as goal
 
 pub loop-r-preserved : goal.loop-r-preserved
 loop-r-preserved c =

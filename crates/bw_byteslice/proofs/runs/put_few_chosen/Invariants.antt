@@ -1,5 +1,5 @@
 use Rattle.std.proofs.Common.{false, get_or, length, true, ℕ, ◌<◌, ◌≡◌}
-use Rattle.bw_byteslice.proofs.runs.put_chosen.Given as goal
+use Rattle.bw_byteslice.proofs.runs.put_few_chosen.Given as goal
 
 -- the bytes before this one are put, and the others are as they were
 abbrev pub invariant-loop-r : goal.invariant-loop-r

@@ -1,7 +1,7 @@
 use Rattle.std.proofs.Common.{ap, arith, below_more, bit_and, false, get_or, get_or-set_other, get_or-set_same, length, length-set, not, set, ◌%◌, ◌<◌, ◌==◌, ◌≡◌, ◌∙◌}
 use Rattle.bw_mask.specs.Masks.{bit_of}
 use Rattle.bw_byteslice.proofs.Blends.{bit_tested}
-use Rattle.bw_byteslice.proofs.runs.choose.Goals as goal
+use Rattle.bw_byteslice.proofs.runs.choose_few.Goals as goal
 
 pub loop-r-preserved : goal.loop-r-preserved
 loop-r-preserved c =
