@@ -1,5 +1,7 @@
 -- The rows of a column: what each says of its value.
 use Rattle.std.proofs.Common.{◌≡◌, ℕ, ℤ, ◌<◌, Bool, true, false, inl, inr, refl, sym, ap, ◌∙◌, arith, Option, Some, None, is_some, unwrap_or}
+use Rattle.std.specs.Bool.{then_some}
+use Rattle.std.specs.Prelude.{option_map}
 use Rattle.std.specs.List.{All}
 use Rattle.std.specs.Option.{IsSome}
 use Rattle.std.proofs.lemmas.Bool.{cases_lt}
@@ -43,6 +45,10 @@ module _ (e : Encoding) where
   code_again code true h = sym (ap (λ (o : Option ℕ). unwrap_or o 0) h.0)
   code_again code false h = h
 
+  pub code_where : (code : ℕ) (b : Bool) → IsRowCode e code b → then_some b code ≡ option_map (λ x. code_for e (Some x)) (value_from e code b)
+  code_where code true h = ap Some (code_again code true h)
+  code_where code false h = refl
+
   pub has_code : IsEncoding e → (code : ℕ) (b : Bool) → IsRowCode e code b → IsCoded e (value_from e code b)
   has_code sound code true h = (coded e sound (value_of e code)).0 (rw h.0 refl)
   has_code sound code false h = tt
@@ -69,6 +75,9 @@ module _ {l : Layout} (e : Encoding) (codes : CodeList) (nonnull : MaskRows) (ar
             let none : value_at (values_from e codes nonnull) i ≡ None = get_or_past (values_from e codes nonnull) i None (omega (arith, made_len (count codes) (λ j. value_from e (code_at codes j) (row_at nonnull j)))) in
             get_or_past codes.codes i 0 h ∙ ap (code_for e) (sym none)
       ]
+
+  pub row_code : (i : ℕ) → i < count codes → then_some (row_at nonnull i) (code_at codes i) ≡ option_map (λ x. code_for e (Some x)) (value_at (values_from e codes nonnull) i)
+  row_code i h = code_where e (code_at codes i) (row_at nonnull i) (are.each i h) ∙ ap (option_map (λ x. code_for e (Some x))) (sym (value_of_row i))
 
   pub row_held : All (IsNullOrHeld l) (values_from e codes nonnull)
   row_held = are.held

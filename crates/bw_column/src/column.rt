@@ -1,6 +1,6 @@
 //! A column of integers and nulls.
 
-ghost use Rattle.std.specs.Prelude.{All, is_some, length, slice_set, ℕ, ◌<◌, ◌^◌, ◌≡◌, ◌≤◌};
+ghost use Rattle.std.specs.Prelude.{All, Some, is_some, length, option_map, slice_set, ℕ, ◌<◌, ◌^◌, ◌≡◌, ◌≤◌};
 ghost use Rattle.bw_mask.specs.Masks.{SameShape, bit_of, len, row_at};
 ghost use Rattle.bw_code.specs.Encodings.{IsEncoding, kind_of, width};
 ghost use Rattle.bw_column.specs.Codes.{IsCoded, code_for, codes_for};
@@ -86,6 +86,15 @@ impl Column {
         ensures held { IsNullOrHeld self.now.layout result }
     {
         value(&self.encoding, self.codes.get(i), self.nonnull.get(i))
+    }
+
+    /// The code of row i; `None` for a null.
+    #[tactic(auto, using(bw_code::proofs::Lists::made_len))]
+    pub fn code(&self, i: usize) -> Option<u64>
+        requires { i < length self.now.values }
+        ensures { result ≡ option_map (λ x. code_for self.now.encoding (Some x)) (value_at self.now.values i) }
+    {
+        self.nonnull.get(i).then_some(self.codes.get(i))
     }
 
     /// `out` becomes the rows whose code has bit i set. Bit 0 is the lowest. The code of a null is 0.

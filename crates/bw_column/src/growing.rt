@@ -56,7 +56,7 @@ pub(crate) struct Grown {
 
 impl Column {
     /// The values that have a code in a column of kind DICTIONARY, ascending. The index of each is its code.
-    pub(crate) fn entries(&self) -> &[i64]
+    pub fn entries(&self) -> &[i64]
         requires { kind_of self.now.encoding ≡ kinds.Dictionary }
         ensures is { self.now.encoding ≡ by.Dictionary result.now }
         ensures ascending { IsAscending result.now }
@@ -69,7 +69,7 @@ impl Column {
 
     /// Fills `codes` with the codes of at most 64 rows from row `at` on, and returns which of the rows are non-null.
     #[tactic(auto, using(bw_code::proofs::Lists::made_len))]
-    pub(crate) fn read_codes(&self, at: usize, codes: &mut [u64]) -> u64
+    pub fn read_codes(&self, at: usize, codes: &mut [u64]) -> u64
         requires few { length codes.old ≤ 64 }
         requires there { at + length codes.old ≤ length self.now.values }
         ensures codes { codes.new ≡ take (length codes.old) (drop at (codes_for self.now.encoding self.now.values)) }

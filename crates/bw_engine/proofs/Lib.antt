@@ -1,6 +1,8 @@
 mod Added
 mod After
+pub mod CellLaws
 pub mod Chosen
+pub mod CodeLaws
 pub mod Columns
 pub mod Copies
 pub mod Counted

@@ -1,37 +1,42 @@
 -- The values of a column in the found slots, measured in runs.
-use Rattle.std.proofs.Common.{All, Bool, FitsSigned, List, None, Option, Some, [], ap, append-nil, arith, drop, get_or, if◌then◌else◌, is_some, length, map, nat_lt, refl, subst, sym, take, true, false, w64, ℕ, ℤ, ◌&&◌, ◌++◌, ◌+◌, ◌<◌, ◌∙◌, ◌∷◌, ◌≡◌, ◌≤◌}
+use Rattle.std.proofs.Common.{All, Bool, FitsSigned, IfSome, List, None, Some, [], ap, append-nil, arith, drop, get_or, if◌then◌else◌, is_some, length, map, nat_lt, subst, sym, take, true, false, w64, ℕ, ℤ, ◌&&◌, ◌++◌, ◌+◌, ◌<◌, ◌∙◌, ◌∷◌, ◌≡◌, ◌≤◌}
 use Rattle.std.specs.Int.{from_bool}
 use Rattle.std.proofs.lemmas.Bool.{lt-ltb}
 use Rattle.std.proofs.lemmas.List.{get_or-drop, get_or-map, get_or-take, length-drop, length-take-le}
-use Rattle.std.proofs.lemmas.List.Elements.{All-drop, All-take}
+use Rattle.std.proofs.lemmas.List.Elements.{All-cons, All-head, All-nil, All-tail}
 use Rattle.bw_mask.specs.Masks.{MaskRows, bit_of, row_at}
 use Rattle.bw_cells.specs.Distances.{distance_from}
+use Rattle.bw_cells.specs.SetFunctions.{known}
 use Rattle.bw_code.specs.declared.kind.Layout.{Layout}
 use Rattle.bw_column.specs.Values as columns
-use Rattle.bw_column.proofs.Chosen.{holds_any}
 use Rattle.bw_column.proofs.Held.{storable}
 use Rattle.bw_table.specs.Slots.{Slot, slot_at}
 use Rattle.bw_groups.specs.Runs.{AreFilled, IsMeasured}
+use Rattle.bw_groups.proofs.Entries.{known_at}
 use Rattle.bw_model.specs.Store.{Value, value_at}
 use Rattle.bw_engine.specs.Runs.{lines_from, slot_line, value_line}
+use Rattle.bw_engine.proofs.CellLaws.{drop_all, take_all}
 use Rattle.bw_engine.proofs.RunLaws.{lines_more, lines_same}
 
-pub fits_in : (layout : Layout) (values : List Value) → All (columns.IsNullOrHeld layout) values → (i : ℕ) (x : ℤ) → columns.value_at values i ≡ Some x → FitsSigned w64 x
-fits_in layout values held i x is =
-    let fits = storable layout (columns.value_at values i) (holds_any (columns.IsNullOrHeld layout) values tt held i) in
-    rw is at fits
+pub values_fit : (layout : Layout) (values : List Value) → All (columns.IsNullOrHeld layout) values → All (FitsSigned w64) (known values)
+values_fit layout [] held = All-nil (FitsSigned w64)
+values_fit layout (None ∷ values) held = values_fit layout values (All-tail (columns.IsNullOrHeld layout) None values held)
+values_fit layout (Some x ∷ values) held =
+    All-cons (FitsSigned w64) x (known values) (storable layout (Some x) (All-head (columns.IsNullOrHeld layout) (Some x) values held)) (values_fit layout values (All-tail (columns.IsNullOrHeld layout) (Some x) values held))
 
--- a run of a column, measured as it lies
-pub measured_whole : (base : ℤ) (layout : Layout) (values run : List Value) (at present : ℕ) (out : List ℕ) → All (columns.IsNullOrHeld layout) values → at + 64 ≤ length values → take 64 (drop at values) ≡ run → out ≡ map (distance_from base) (take 64 (drop at values))
-    → ((i : ℕ) → bit_of present i ≡ is_some (get_or (take 64 (drop at values)) i None)) → IsMeasured base run 64 present out
-measured_whole base layout values run at present out held inside is far there =
-    let own = take 64 (drop at values) in
-    let count : length own ≡ 64 = length-take-le 64 (drop at values) (omega (arith, inside, length-drop at values)) in
-    let all = All-take (columns.IsNullOrHeld layout) 64 (drop at values) (All-drop (columns.IsNullOrHeld layout) at values held) in
+pub fits_at : (cells : List Value) → All (FitsSigned w64) (known cells) → (i : ℕ) (x : ℤ) → columns.value_at cells i ≡ Some x → FitsSigned w64 x
+fits_at cells fit i x is = subst (λ cell. IfSome cell (FitsSigned w64)) is (known_at (FitsSigned w64) cells fit i)
+
+-- a run of cells, measured as it lies
+pub measured_whole : (base : ℤ) (cells run : List Value) (at present : ℕ) (out : List ℕ) → All (FitsSigned w64) (known cells) → at + 64 ≤ length cells → take 64 (drop at cells) ≡ run → out ≡ map (distance_from base) (take 64 (drop at cells))
+    → ((i : ℕ) → bit_of present i ≡ is_some (get_or (take 64 (drop at cells)) i None)) → IsMeasured base run 64 present out
+measured_whole base cells run at present out fit inside is far there =
+    let own = take 64 (drop at cells) in
+    let count : length own ≡ 64 = length-take-le 64 (drop at cells) (omega (arith, inside, length-drop at cells)) in
     subst (λ r. IsMeasured base r 64 present out) is (record {
       few = omega (arith, count);
       long = sym count;
-      fits = fits_in layout own all;
+      fits = fits_at own (take_all (FitsSigned w64) 64 (drop at cells) (drop_all (FitsSigned w64) at cells fit));
       there = λ i h. there i;
       far = λ i h. ap (λ ns. get_or ns i 0) far ∙ get_or-map (distance_from base) own i None 0 h;
     })

@@ -1,3 +1,4 @@
+pub mod Codes
 pub mod Counting
 pub mod Files
 pub mod Folds

@@ -1,7 +1,7 @@
 -- Slots that are shown in runs: the values of 64 slots are read column by column, and shown row by row.
 use Rattle.std.specs.Prelude.{Bool, List, [], length, map, min, slice_index_or, ℕ, ◌*◌, ◌+◌, ◌-◌, ◌/◌, ◌<◌, ◌∷◌, ◌≡◌}
 use Rattle.std.specs.List.{filter, range_with_len}
-use Rattle.bw_table.specs.Slots.{Slot, slot_at}
+use Rattle.bw_table.specs.Slots.{Slot, live_slot, slot_at}
 use Rattle.bw_sql.specs.Rows.{joined}
 use Rattle.bw_column.specs.Values as columns
 use Rattle.bw_model.specs.Store.{Row, Value, value_at}
@@ -34,3 +34,11 @@ pub record AreRead (slots : List Slot) (places : List ℕ) (at n : ℕ) (runs : 
 -- the values of one column in the slots that pass, as one list per run of 64 slots
 abbrev pub found_runs : ℕ → List Slot → (ℕ → Bool) → List (List Value)
 found_runs place slots passes = map (λ q. lines_from (slot_line (place ∷ []) slots) passes (64 * q) (min (length slots - 64 * q) 64)) (range_with_len 0 ((length slots + 63) / 64))
+
+-- slots of a single column with these cells
+abbrev pub slots_of : List Value → List Slot
+slots_of cells = map (λ cell. live_slot (cell ∷ [])) cells
+
+-- the cells of those of 64 slots, from slot `at` on, that pass
+abbrev pub found_run : List Value → (ℕ → Bool) → ℕ → List Value
+found_run cells passes at = lines_from (slot_line (0 ∷ []) (slots_of cells)) passes at (min (length (slots_of cells) - at) 64)

@@ -2,18 +2,25 @@
 
 ghost use Rattle.std.specs.Prelude.{All, Contains, IfOk, IfSome, OnOk, Some, length, map, slice_index_or, ◌<◌, ◌≡◌};
 ghost use Rattle.bw_mask.specs.Masks.{len, row_at};
+ghost use Rattle.bw_code.specs.Encodings.{kind_of};
+ghost use Rattle.bw_code.specs.declared.kind.Kind.TheVariants as kinds;
 ghost use Rattle.bw_groups.specs.Grouping.{AreGroups};
+ghost use Rattle.bw_groups.specs.Runs.{values_in};
 ghost use Rattle.bw_model.specs.Groups.{groups_by};
 ghost use Rattle.bw_sql.specs.Rows.{joined};
 ghost use Rattle.bw_engine.specs.Folds.{IsItemWithin, told_in};
 ghost use Rattle.bw_engine.specs.Found.{rows_where};
+ghost use Rattle.bw_engine.specs.Runs.{found_runs, slots_of};
 ghost use Rattle.bw_engine.specs.GroupLines.{AskForItems, IsAskedIn, TellGroups, cells_to, column_in, told_at};
 ghost use Rattle.bw_engine.specs.Stores.{rows_of_slots};
 ghost use Rattle.bw_engine.specs.declared.grouped.GroupedColumn.{GroupedColumn as AnyColumn};
 
-use crate::found_column::FoundColumn;
+use crate::code_cells::CodeCells;
+use crate::found_cells::FoundCells;
 use crate::set_functions::{cell, told_by, wide};
 use bw_aggregate::Asked;
+use bw_code::Kind;
+use bw_column::Column;
 use bw_groups::{Folds, Groups};
 use bw_mask::Mask;
 use bw_model::Cell;
@@ -45,8 +52,8 @@ pub(crate) fn group_cells(
     cells_of_groups(alloc, table, plan.items.as_slice(), found, &groups)
 }
 
-/// The groups of the found slots by the values of the column at index `by`. Those values are freed once the groups are
-/// built.
+/// The groups of the found slots by the values of the column at index `by`. The codes of a dictionary are ranks of its
+/// values, so rows are grouped by the codes, and the groups get the values at the end.
 fn groups_of(
     alloc: Global,
     table: &Table<Name>,
@@ -60,12 +67,37 @@ fn groups_of(
 {
     // The number of slots is bounded.
     let _few = table.slot_count();
-    let column = FoundColumn {
-        table,
-        place: by,
-        found,
-    };
-    Groups::of(alloc, &column)
+    let column = table.column(by);
+    match column.kind() {
+        Kind::Offset => Groups::of(
+            alloc,
+            &FoundCells {
+                cells: column,
+                found,
+            },
+        ),
+        Kind::Dictionary => groups_by_codes(alloc, column, found),
+    }
+}
+
+/// The groups of the found rows of a column of kind DICTIONARY.
+fn groups_by_codes(alloc: Global, column: &Column, found: &Mask) -> Result<Groups, AllocError>
+    requires kind { kind_of column.now.encoding ≡ kinds.Dictionary }
+    requires found { len found.now ≡ length column.now.values }
+    ensures groups { IfOk result (AreGroups (values_in (found_runs 0 (slots_of column.now.values) (row_at found.now)))) }
+    ensures rows { IfOk result (λ groups. length groups.ranks ≡ length (values_in (found_runs 0 (slots_of column.now.values) (row_at found.now)))) }
+{
+    let _few = column.len();
+    let _coded = column.encoding();
+    let codes = CodeCells { column };
+    let groups = Groups::of(
+        alloc,
+        &FoundCells {
+            cells: &codes,
+            found,
+        },
+    )?;
+    Ok(groups.through(column.entries()))
 }
 
 /// The cells that the items show for these groups of the found slots.
@@ -173,9 +205,8 @@ fn grouped_column(
     ensures place { IfOk result (λ column. column.place ≡ place) }
     ensures tell { IfOk result (λ column. TellGroups (rows_where (row_at found.now) (rows_of_slots table.now.slots)) groups.now items.now column.place column.folds) }
 {
-    let column = FoundColumn {
-        table,
-        place,
+    let column = FoundCells {
+        cells: table.column(place),
         found,
     };
     let folds = Folds::of(alloc, groups, &column, asked_of(items, place))?;

@@ -1,13 +1,14 @@
 //! The engine: tables in memory, and the statements that create, fill, change, read and drop them.
 #![tactic(auto)]
 
+mod code_cells;
 mod create;
 mod delete;
 mod drop;
 mod engine;
 mod file_answer;
 mod found;
-mod found_column;
+mod found_cells;
 mod grouped;
 mod insert;
 mod laws;
@@ -22,6 +23,7 @@ mod save;
 mod select;
 mod set_functions;
 mod shown;
+mod slot_cells;
 mod stats;
 mod table;
 mod update;

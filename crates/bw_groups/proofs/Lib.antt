@@ -2,6 +2,7 @@ pub mod Counts
 pub mod Distances
 pub mod Distinct
 pub mod Ends
+pub mod Entries
 pub mod Grouped
 pub mod KnownMore
 pub mod Measured

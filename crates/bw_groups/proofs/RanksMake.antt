@@ -21,7 +21,7 @@ later : (a b : Bool) → b ≡ true → (a || b) ≡ true
 later true b g = refl
 later false b g = g
 
-has_at : (xs : List ℤ) (k : ℕ) (z d : ℤ) → k < length xs → get_or xs k d ≡ z → has xs z ≡ true
+pub has_at : (xs : List ℤ) (k : ℕ) (z d : ℤ) → k < length xs → get_or xs k d ≡ z → has xs z ≡ true
 has_at [] k z d h is = absurd (omega (arith, h))
 has_at (x ∷ xs) zero z d h is = let test : int_eq z x ≡ true = grind (arith, ints, is) in ap (λ b. b || has xs z) test
 has_at (x ∷ xs) (suc k) z d h is = later (int_eq z x) (has xs z) (has_at xs k z d (omega (arith, h)) is)
@@ -34,7 +34,7 @@ at_has (x ∷ xs) z d there = by (int_eq z x) refl there (at_has xs z d)
     by true e g next = let is : x ≡ z = grind (arith, ints, e) in (0, omega arith, is)
     by false e g next = let rest = next g in (suc rest.0, omega (arith, rest.1), rest.2)
 
-both_ways : (a b : Bool) → (a ≡ true → b ≡ true) → (b ≡ true → a ≡ true) → a ≡ b
+pub both_ways : (a b : Bool) → (a ≡ true → b ≡ true) → (b ≡ true → a ≡ true) → a ≡ b
 both_ways true b h g = sym (h refl)
 both_ways false true h g = g refl
 both_ways false false h g = refl

@@ -1,4 +1,5 @@
 pub mod Arranging
+pub mod Entries
 pub mod Folding
 pub mod Grouping
 pub mod Runs

@@ -1,7 +1,9 @@
 //! Groups of rows by the values of a column.
 
-ghost use Rattle.std.specs.Prelude.{All, IfOk, IfSome, None, length, slice_index_or, ◌<◌, ◌^◌, ◌≡◌, ◌≤◌};
+ghost use Rattle.std.specs.Prelude.{All, IfOk, IfSome, List, None, Option, length, option_map, slice_index_or, ℤ, ◌<◌, ◌^◌, ◌≡◌, ◌≤◌};
 ghost use Rattle.bw_cells.specs.SetFunctions.{known};
+ghost use Rattle.bw_code.specs.Ascending.{IsAscending};
+ghost use Rattle.bw_groups.specs.Entries.{IsIndexOf, entries_of, entry_of};
 ghost use Rattle.bw_groups.specs.Grouping.{AreCounted, AreGroups, rows_in};
 ghost use Rattle.bw_groups.specs.Runs.{IsWithin, values_in};
 
@@ -100,6 +102,26 @@ impl Groups {
         })
     }
 
+    /// The groups of the same rows by entries of a list, where they are grouped by the entries' indices so far. Since
+    /// the entries ascend, the groups and their order stay, and only their values change. Takes no memory.
+    pub fn through(self, entries: &[i64]) -> Groups
+        requires ascending { IsAscending entries.now }
+        requires inside { All (IsIndexOf entries.now) (known self.values) }
+        ensures groups { (indices : List (Option ℤ)) → AreGroups indices self → AreGroups (entries_of entries.now indices) result }
+        ensures rows { result.ranks ≡ self.ranks }
+    {
+        let Groups {
+            values,
+            times,
+            ranks,
+        } = self;
+        Groups {
+            values: entries_at(values, entries),
+            times,
+            ranks,
+        }
+    }
+
     /// The number of groups.
     pub fn len(&self) -> usize
         ensures { result ≡ length self.now.values }
@@ -145,6 +167,28 @@ fn scale_of<C: ValueRuns>(column: &C) -> Option<Scale>
 {
     match column.bounds() {
         Some(ends) => Scale::between(ends),
+        None => None,
+    }
+}
+
+/// Replaces each of some indices by the entry at it.
+fn entries_at(mut values: Vec<Option<i64>>, entries: &[i64]) -> Vec<Option<i64>>
+    requires { All (IsIndexOf entries.now) (known values.items) }
+    ensures { result.items ≡ entries_of entries.now values.items }
+{
+    'groups: for g in 0..values.len() {
+        values[g] = entry_at(values[g], entries);
+    }
+    values
+}
+
+/// The entry at an index; `None` for NULL.
+fn entry_at(index: Option<i64>, entries: &[i64]) -> Option<i64>
+    requires { IfSome index (IsIndexOf entries.now) }
+    ensures { result ≡ option_map (entry_of entries.now) index }
+{
+    match index {
+        Some(index) => Some(entries[index as usize]),
         None => None,
     }
 }
