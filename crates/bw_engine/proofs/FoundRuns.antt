@@ -1,26 +1,21 @@
 -- The values of a column in the found slots, in runs.
-use Rattle.std.proofs.Common.{All, Bool, IfSome, List, None, Option, Some, [], ap, arith, cond, count_by, false, filter, get_or, if◌then◌else◌, inl, inr, is_some, length, map, min, not, refl, subst, suc, sym, true, zero, ℕ, ℤ, ◌&&◌, ◌*◌, ◌++◌, ◌+◌, ◌-◌, ◌/◌, ◌<◌, ◌||◌, ◌∙◌, ◌∷◌, ◌≡◌, ◌≤◌}
+use Rattle.std.proofs.Common.{Bool, List, [], ap, arith, cond, count_by, false, filter, get_or, if◌then◌else◌, inl, inr, is_some, length, map, min, not, refl, suc, sym, true, zero, ℕ, ◌&&◌, ◌*◌, ◌++◌, ◌+◌, ◌-◌, ◌/◌, ◌<◌, ◌||◌, ◌∙◌, ◌∷◌, ◌≡◌, ◌≤◌}
 use Rattle.std.specs.List.{list_all, list_any, range_with_len}
 use Rattle.std.proofs.lemmas.Bool.{cases_eq, cases_lt, true≢false}
 use Rattle.std.proofs.lemmas.List.{length-map}
-use Rattle.std.proofs.lemmas.List.Elements.{All-cons, All-head, All-tail}
 use Rattle.std.proofs.lemmas.List.FromFn.{get_or-map-range_with_len, length-map-range_with_len}
 use Rattle.bw_mask.specs.Masks.{MaskRows, len, row_at}
-use Rattle.bw_code.specs.Fittings.{AreEnds}
-use Rattle.bw_column.specs.Extremes.{AreBounds}
 use Rattle.bw_column.specs.Values as columns
 use Rattle.bw_aggregate.proofs.Counting.{count_cons}
 use Rattle.bw_cells.specs.SetFunctions.{known}
-use Rattle.bw_code.specs.declared.ends.Ends.{Ends}
-use Rattle.bw_groups.specs.Runs.{IsWithin, values_in}
-use Rattle.bw_table.specs.Slots.{Slot, slot_at, slot_column}
-use Rattle.bw_model.specs.Store.{Row, Value, value_at}
+use Rattle.bw_groups.specs.Runs.{values_in}
+use Rattle.bw_table.specs.Slots.{Slot, slot_at}
+use Rattle.bw_model.specs.Store.{Value, value_at}
 use Rattle.bw_engine.specs.Found.{rows_where}
 use Rattle.bw_engine.specs.GroupLines.{column_in}
 use Rattle.bw_engine.specs.Runs.{found_runs, lines_from, slot_line}
 use Rattle.bw_engine.specs.Stores.{rows_of_slots}
 use Rattle.bw_engine.proofs.GroupShows.{joined_singles, rows_few}
-use Rattle.bw_engine.proofs.SetRows.{same_value}
 use Rattle.bw_engine.proofs.RunLaws.{in_list, lines_join, lines_where, one_line, values_few}
 
 module _ (place : ℕ) (slots : List Slot) (passes : ℕ → Bool) where
@@ -137,39 +132,6 @@ pub runs_counted : (place : ℕ) (slots : List Slot) (found : MaskRows) → len 
 runs_counted place slots found all =
     let rows : length (rows_of_slots slots) ≡ length slots = length-map slots (λ slot. slot.row) in
     runs_long place slots (row_at found) ∙ where_count found.rows (rows_of_slots slots) (omega (arith, all, rows))
-
--- what holds of all values in the slots holds of those in the found ones
-module _ (P : ℤ → Type 0) where
-  tail_all : (value : Value) (values : List Value) → All P (known (value ∷ values)) → All P (known values)
-  tail_all None values all = all
-  tail_all (Some x) values all = All-tail P x (known values) all
-
-  value_all : (value : Value) (values others : List Value) → All P (known (value ∷ values)) → All P (known others) → All P (known (value ∷ others))
-  value_all None values others all rest = rest
-  value_all (Some x) values others all rest = All-cons P x (known others) (All-head P x (known values) all) rest
-
-  found_all : (place : ℕ) (passes : ℕ → Bool) (rows : List Row) → All P (known (map (λ row. columns.value_at row place) rows)) → All P (known (column_in (rows_where passes rows) place))
-  found_all place passes [] all = all
-  found_all place passes (row ∷ rows) all = by (passes 0) (found_all place (λ i. passes (suc i)) rows (tail_all (columns.value_at row place) (map (λ r. columns.value_at r place) rows) all))
-    where
-      by : (b : Bool) → All P (known (column_in (rows_where (λ i. passes (suc i)) rows) place))
-          → All P (known (column_in (if b then row ∷ rows_where (λ i. passes (suc i)) rows else rows_where (λ i. passes (suc i)) rows) place))
-      by true rest =
-          subst (λ v. All P (known (v ∷ column_in (rows_where (λ i. passes (suc i)) rows) place))) (same_value row place)
-          (value_all (columns.value_at row place) (map (λ r. columns.value_at r place) rows) (column_in (rows_where (λ i. passes (suc i)) rows) place) all rest)
-      by false rest = rest
-
--- ends between which the values of a column lie bound those in the found slots
-pub runs_bounded : (place : ℕ) (slots : List Slot) (passes : ℕ → Bool) (ends : Option Ends) → AreBounds (known (slot_column slots place)) ends → IfSome ends (λ bounds. All (IsWithin bounds) (known (values_in (found_runs place slots passes))))
-runs_bounded place slots passes None are = tt
-runs_bounded place slots passes (Some ends) are =
-    subst (λ values. All (IsWithin ends) (known values)) (sym (runs_column place slots passes))
-    (found_all (IsWithin ends) place passes (rows_of_slots slots) are)
-
--- so do its least and its greatest value
-pub runs_ended : (place : ℕ) (slots : List Slot) (passes : ℕ → Bool) (ends : Option Ends) → AreEnds (known (slot_column slots place)) ends → IfSome ends (λ bounds. All (IsWithin bounds) (known (values_in (found_runs place slots passes))))
-runs_ended place slots passes None are = tt
-runs_ended place slots passes (Some ends) are = runs_bounded place slots passes (Some ends) (λ k d h. (are.0.bound k d h, are.1.bound k d h))
 
 -- one that is true
 any_at : (tests : List Bool) → list_any (λ test. test) tests ≡ true → (i : ℕ) × (i < length tests) × (get_or tests i false ≡ true)

@@ -1,4 +1,4 @@
-use Rattle.std.proofs.Common.{List, Option, [], arith, length, of_z, replicate, subst, sym, to_z, w64, ℕ, ℤ, ◌++◌, ◌+◌, ◌<◌, ◌∙◌, ◌∷◌, ◌≡◌, ◌≤◌}
+use Rattle.std.proofs.Common.{Option, [], arith, of_z, replicate, subst, sym, to_z, w64, ℕ, ℤ, ◌++◌, ◌+◌, ◌<◌, ◌∙◌, ◌∷◌, ◌≡◌, ◌≤◌}
 use Rattle.std.proofs.lemmas.Int.{ints, to_z-of_z}
 use Rattle.bw_mask.specs.Masks.{bit_of}
 use Rattle.bw_groups.specs.Runs.{AreFilled, IsMeasured}

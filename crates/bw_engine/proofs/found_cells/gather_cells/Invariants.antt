@@ -1,4 +1,4 @@
-use Rattle.std.proofs.Common.{length, of_z, to_z, w64, ◌≡◌, ◌≤◌}
+use Rattle.std.proofs.Common.{◌≡◌, ◌≤◌}
 use Rattle.bw_mask.specs.Masks.{bit_of}
 use Rattle.bw_groups.specs.Runs.{AreFilled}
 use Rattle.bw_engine.specs.Runs.{lines_from, value_line}

@@ -1,4 +1,4 @@
-use Rattle.std.proofs.Common.{Bool, List, None, Option, Some, [], ap, arith, get_or, if◌then◌else◌, inl, inr, length, refl, sym, take, to_z, w64, ℤ, ◌++◌, ◌+◌, ◌<◌, ◌∙◌, ◌∷◌, ◌≡◌}
+use Rattle.std.proofs.Common.{Bool, None, Some, [], ap, arith, get_or, if◌then◌else◌, inl, inr, length, sym, to_z, w64, ◌++◌, ◌+◌, ◌<◌, ◌∙◌, ◌∷◌, ◌≡◌}
 use Rattle.std.proofs.lemmas.Bool.{cases_Bool}
 use Rattle.std.proofs.lemmas.List.{take_all, take_more}
 use Rattle.bw_groups.proofs.Measured.{measured_none, measured_some}

@@ -1,4 +1,4 @@
-use Rattle.std.proofs.Common.{List, None, Option, get_or, length, pos, take, ℕ, ℤ, ◌<◌, ◌≡◌}
+use Rattle.std.proofs.Common.{List, Option, pos, take, ℤ, ◌<◌, ◌≡◌}
 use Rattle.bw_groups.specs.Runs.{IsMeasured}
 use Rattle.bw_engine.proofs.found_cells.put_measured.Given as goal
 

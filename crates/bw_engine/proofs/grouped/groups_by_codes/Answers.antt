@@ -1,4 +1,4 @@
-use Rattle.std.proofs.Common.{ap, arith, length, subst, sym, ◌∙◌}
+use Rattle.std.proofs.Common.{ap, arith, length, subst, ◌∙◌}
 use Rattle.bw_mask.specs.Masks.{row_at}
 use Rattle.bw_groups.specs.Entries.{IsIndexOf}
 use Rattle.bw_groups.specs.Grouping.{AreGroups}

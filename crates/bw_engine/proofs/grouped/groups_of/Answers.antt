@@ -1,13 +1,12 @@
-use Rattle.std.proofs.Common.{IfOk, List, Option, ap, arith, length, map, subst, ℤ, ◌∙◌, ◌≡◌, ◌≤◌, ◌^◌}
+use Rattle.std.proofs.Common.{IfOk, ap, arith, length, map, subst, ◌∙◌, ◌≡◌, ◌≤◌, ◌^◌}
 use Rattle.std.proofs.lemmas.List.{length-map}
 use Rattle.bw_mask.specs.Masks.{row_at}
 use Rattle.bw_column.specs.Values as columns
 use Rattle.bw_groups.specs.Grouping.{AreGroups}
-use Rattle.bw_groups.specs.Runs.{values_in}
 use Rattle.bw_table.specs.Slots.{Slot}
 use Rattle.bw_model.specs.Store.{Row, value_at}
 use Rattle.bw_engine.specs.Found.{rows_where}
-use Rattle.bw_engine.specs.Runs.{found_runs, slots_of}
+use Rattle.bw_engine.specs.Runs.{slots_of}
 use Rattle.bw_engine.specs.Stores.{rows_of_slots}
 use Rattle.bw_engine.proofs.CellLaws.{column_found, slots_long}
 use Rattle.bw_engine.proofs.FoundRuns.{runs_few}

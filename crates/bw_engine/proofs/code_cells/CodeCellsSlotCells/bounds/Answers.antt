@@ -1,4 +1,4 @@
-use Rattle.std.proofs.Common.{All, arith, length, of_z, pos, rules, subst, sym, to_z, w64, ◌<◌, ◌≡◌, ◌^◌, ◌≤ℤ◌}
+use Rattle.std.proofs.Common.{All, arith, length, pos, rules, subst, sym, to_z, w64, ◌<◌, ◌≡◌, ◌^◌, ◌≤ℤ◌}
 use Rattle.std.proofs.lemmas.Int.{to_z_pos}
 use Rattle.bw_cells.specs.SetFunctions.{known}
 use Rattle.bw_code.specs.Encodings.{IsEncoding}

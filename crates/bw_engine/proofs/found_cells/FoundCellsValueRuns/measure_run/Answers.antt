@@ -3,7 +3,7 @@ use Rattle.std.proofs.lemmas.Int.{ints, to_z-of_z}
 use Rattle.bw_mask.specs.Masks.{row_at}
 use Rattle.bw_groups.specs.Runs.{IsMeasured}
 use Rattle.bw_groups.proofs.Measured.{none_measured}
-use Rattle.bw_engine.specs.Runs.{found_run, found_runs, slot_line, slots_of}
+use Rattle.bw_engine.specs.Runs.{found_runs, slot_line, slots_of}
 use Rattle.bw_engine.proofs.CellLaws.{slots_long}
 use Rattle.bw_engine.proofs.FoundRuns.{run_at, runs_count}
 use Rattle.bw_engine.proofs.RunLaws.{word_none}

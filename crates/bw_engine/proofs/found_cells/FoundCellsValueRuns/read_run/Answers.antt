@@ -1,4 +1,4 @@
-use Rattle.std.proofs.Common.{OnOk, [], ap, arith, get_or, length, pos, ◌≡◌, ◌≤◌}
+use Rattle.std.proofs.Common.{[], ap, arith, get_or, length, ◌≡◌, ◌≤◌}
 use Rattle.std.proofs.lemmas.Result.{on_ok_weaker}
 use Rattle.bw_mask.specs.Masks.{row_at}
 use Rattle.bw_engine.specs.Runs.{found_runs, slots_of}
