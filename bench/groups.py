@@ -2,12 +2,13 @@
 """Times GROUP BY over dense and sparse values, with few groups and many, and reports the peak memory.
 
 A row is a group's number and a random value of 32 bits. Dense groups are the numbers from 0; sparse ones are drawn from
-all of 32 bits, and in the last of them nearly each row is a group. All columns are in one layout. sqlite3 in memory,
-and numpy if it is installed, execute the same in the same run, and the results are compared: a difference ends
-the bench with status 1. Neither has a MEDIAN of groups. A loop in C++ counts dense groups and sums them up in tables
-with an entry for each number, and prints nothing. Build bitcol first, by `rt run` in crates/bitcol.
+all of 32 bits, and in the last of them nearly each row is a group. All columns are in one layout; the numbers may be in
+a DICTIONARY. sqlite3 in memory, and numpy if it is installed, execute the same in the same run, and the results are
+compared: a difference ends the bench with status 1. Neither has a MEDIAN of groups. A loop in C++ counts dense groups
+and sums them up in tables with an entry for each number, and prints nothing. Build bitcol first, by `rt run` in
+crates/bitcol.
 
-    python3 bench/groups.py [ROWS [ROUNDS]] [--layout V]      how many rows; 4194304 if not given
+    python3 bench/groups.py [ROWS [ROUNDS]] [--layout V] [--kind OFFSET]      how many rows; 4194304 if not given
 """
 
 import argparse
@@ -25,7 +26,7 @@ from program import Program, rows_of
 from queries import Query
 from report import Report, figure, require, times
 from stores import Loops
-from tables import csv_file, fill, filled_base, least_of_base
+from tables import csv_file, filled_base, least_of_base
 
 try:
     import numpy
@@ -151,7 +152,8 @@ def time_shape(shape: Shape, words: argparse.Namespace) -> list[list[str | float
     path = csv_file("groups.csv", rows)
     own, expected = {}, {}
     with Program() as program:
-        fill(program, "gv", f"USING {words.layout}", path)
+        program.do(f"CREATE TABLE t (g INT USING {words.layout} {words.kind}, v INT USING {words.layout})",
+                   f"LOAD t FROM '{path}'")
         for what, text in STATEMENTS.items():
             own[what], reply = program.least(text, words.rounds)
             expected[what] = rows_of(reply)
@@ -169,6 +171,8 @@ def time_shape(shape: Shape, words: argparse.Namespace) -> list[list[str | float
 
 def more(parser: argparse.ArgumentParser) -> None:
     parser.add_argument("--layout", default="V", choices="VHSP", help="the layout of both columns; V if not given")
+    parser.add_argument("--kind", default="OFFSET", choices=["OFFSET", "DICTIONARY"],
+                        help="the kind of encoding of the groups' numbers; OFFSET if not given")
 
 
 def main() -> None:
@@ -185,7 +189,8 @@ def main() -> None:
             lines.append([figure(cell) if isinstance(cell, float) else cell for cell in line])
     for what, points in heights.items():
         report.line("groups", what, points)
-    what = f"{words.rows:,} rows, layout {words.layout}; ns a row, the others as multiples, and memory at the peak"
+    what = (f"{words.rows:,} rows, layout {words.layout}, numbers in kind {words.kind}; ns a row, the others as "
+            "multiples, and memory at the peak")
     others = ["sqlite3", *(["numpy"] if numpy else []), "C++"]
     heading = ["Group numbers", "groups", "Statement", "bitcol", *others, "bytes a row"]
     report.table("groups", what, heading, lines)
