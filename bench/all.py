@@ -44,6 +44,7 @@ BENCHES = (
     Bench("pairs", "pairs.py"),
     Bench("functions", "functions.py"),
     Bench("groups", "groups.py"),
+    Bench("groups-dictionary", "groups.py", ("2097152", "2", "--kind", "DICTIONARY")),
     Bench("changes", "changes.py"),
     Bench("dictionaries", "dictionaries.py"),
     Bench("files", "files.py"),

@@ -26,6 +26,8 @@ PLOTS = {
     "scans-in-memory": Plot("Scans of 16,777,216 codes", "bits of a code", "ns a row"),
     "rows": Plot("Statements over more and more rows", "rows", "ns a row", is_log_across=True, is_log_up=True),
     "groups": Plot("GROUP BY", "groups, and how their numbers lie", "ns a row", is_log_up=True, has_bars=True),
+    "groups-dictionary": Plot("GROUP BY a DICTIONARY", "groups, and how their numbers lie", "ns a row", is_log_up=True,
+                              has_bars=True),
     "changes-offset": Plot("Changes of rows, kind OFFSET", "layout", "ns a value", has_bars=True),
     "changes-dictionary": Plot("Changes of rows, kind DICTIONARY", "layout", "ns a value", has_bars=True),
     "changes-bigint": Plot("Changes of rows, type BIGINT", "layout", "ns a value", has_bars=True),

@@ -169,6 +169,11 @@ def time_shape(shape: Shape, words: argparse.Namespace) -> list[list[str | float
     ]
 
 
+def given(words: argparse.Namespace) -> list[str]:
+    """The words of the command line that say how the groups' numbers are kept, if that isn't the usual way."""
+    return [] if words.kind == "OFFSET" else ["--kind", words.kind]
+
+
 def more(parser: argparse.ArgumentParser) -> None:
     parser.add_argument("--layout", default="V", choices="VHSP", help="the layout of both columns; V if not given")
     parser.add_argument("--kind", default="OFFSET", choices=["OFFSET", "DICTIONARY"],
@@ -178,7 +183,7 @@ def more(parser: argparse.ArgumentParser) -> None:
 def main() -> None:
     numbers = Number("rows", 1 << 22, 1_000, "how many rows"), Number("rounds", 3, 1, "how many rounds")
     words = options(__doc__, *numbers, more=more)
-    report = Report("python3 bench/groups.py")
+    report = Report(" ".join(["python3 bench/groups.py", *given(words)]))
     if numpy is None:
         report.note("numpy is not installed: left out")
     lines: list[list[str]] = []
@@ -187,16 +192,17 @@ def main() -> None:
         for line in time_shape(shape, words):
             heights[str(line[2])].append((shape.name, float(line[3])))
             lines.append([figure(cell) if isinstance(cell, float) else cell for cell in line])
+    name = "groups" if words.kind == "OFFSET" else "groups-dictionary"
     for what, points in heights.items():
-        report.line("groups", what, points)
+        report.line(name, what, points)
     what = (f"{words.rows:,} rows, layout {words.layout}, numbers in kind {words.kind}; ns a row, the others as "
             "multiples, and memory at the peak")
     others = ["sqlite3", *(["numpy"] if numpy else []), "C++"]
     heading = ["Group numbers", "groups", "Statement", "bitcol", *others, "bytes a row"]
-    report.table("groups", what, heading, lines)
+    report.table(name, what, heading, lines)
     report.finish()
-    for name in ("groups.csv", "groups.table"):
-        data_file(name).unlink()
+    for file in ("groups.csv", "groups.table"):
+        data_file(file).unlink()
 
 
 if __name__ == "__main__":
