@@ -1,3 +1,4 @@
+pub mod AnswerCells
 pub mod Codes
 pub mod Counting
 pub mod Files

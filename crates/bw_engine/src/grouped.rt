@@ -8,6 +8,8 @@ ghost use Rattle.bw_groups.specs.Grouping.{AreGroups};
 ghost use Rattle.bw_groups.specs.Runs.{values_in};
 ghost use Rattle.bw_model.specs.Groups.{groups_by};
 ghost use Rattle.bw_sql.specs.Rows.{joined};
+ghost use Rattle.bw_model.specs.Select.{shown};
+ghost use Rattle.bw_engine.specs.AnswerCells.{collected};
 ghost use Rattle.bw_engine.specs.Folds.{IsItemWithin, told_in};
 ghost use Rattle.bw_engine.specs.Found.{rows_where};
 ghost use Rattle.bw_engine.specs.Runs.{found_runs, slots_of};
@@ -15,15 +17,15 @@ ghost use Rattle.bw_engine.specs.GroupLines.{AskForItems, IsAskedIn, TellGroups,
 ghost use Rattle.bw_engine.specs.Stores.{rows_of_slots};
 ghost use Rattle.bw_engine.specs.declared.grouped.GroupedColumn.{GroupedColumn as AnyColumn};
 
+use crate::answer_cells::AnswerCells;
 use crate::code_cells::CodeCells;
 use crate::found_cells::FoundCells;
-use crate::set_functions::{cell, told_by, wide};
+use crate::set_functions::{told_by, wide};
 use bw_aggregate::Asked;
 use bw_code::Kind;
 use bw_column::Column;
 use bw_groups::{Folds, Groups};
 use bw_mask::Mask;
-use bw_model::Cell;
 use bw_plan::{FunctionPlan, GroupItem, GroupPlan};
 use bw_sql::{Name, SetFunction};
 use bw_table::Table;
@@ -42,11 +44,11 @@ pub(crate) fn group_cells(
     table: &Table<Name>,
     plan: &GroupPlan,
     found: &Mask,
-) -> Result<Vec<Cell>, AllocError>
+) -> Result<AnswerCells, AllocError>
     requires found { len found.now ≡ length table.now.slots }
     requires by { plan.now.by < length table.now.headers }
     requires items { All (IsItemWithin (length table.now.headers)) plan.now.items.items }
-    ensures { IfOk result (λ cells. cells.items ≡ joined (map (λ group. map (told_in group) plan.now.items.items) (groups_by (Some plan.now.by) (rows_where (row_at found.now) (rows_of_slots table.now.slots))))) }
+    ensures { IfOk result (λ cells. collected cells ≡ joined (map (λ group. map (told_in group) plan.now.items.items) (groups_by (Some plan.now.by) (rows_where (row_at found.now) (rows_of_slots table.now.slots))))) }
 {
     let groups = groups_of(alloc, table, plan.by, found)?;
     cells_of_groups(alloc, table, plan.items.as_slice(), found, &groups)
@@ -107,17 +109,17 @@ fn cells_of_groups(
     items: &[GroupItem],
     found: &Mask,
     groups: &Groups,
-) -> Result<Vec<Cell>, AllocError>
+) -> Result<AnswerCells, AllocError>
     requires found { len found.now ≡ length table.now.slots }
     requires items { All (IsItemWithin (length table.now.headers)) items.now }
     requires ranks { length groups.now.ranks ≡ length (rows_where (row_at found.now) (rows_of_slots table.now.slots)) }
-    ensures { IfOk result (λ cells. cells.items ≡ cells_to (rows_where (row_at found.now) (rows_of_slots table.now.slots)) groups.now items.now (length groups.now.values)) }
+    ensures { IfOk result (λ cells. collected cells ≡ cells_to (rows_where (row_at found.now) (rows_of_slots table.now.slots)) groups.now items.now (length groups.now.values)) }
 {
     let mut columns = Vec::new(alloc);
-    let mut cells = Vec::with_capacity(alloc, groups.len().saturating_mul(items.len()))?;
+    let mut cells = AnswerCells::with_capacity(alloc, groups.len().saturating_mul(items.len()))?;
     'groups: for g in 0..groups.len() {
         'items: for i in 0..items.len() {
-            let cell = item_cell(
+            let number = item_number(
                 alloc,
                 table,
                 items,
@@ -127,14 +129,14 @@ fn cells_of_groups(
                 g,
                 &mut columns,
             )?;
-            cells.push(cell)?;
+            cells.push(alloc, number)?;
         }
     }
     Ok(cells)
 }
 
-/// What `item`, one of `items`, shows for group `g`.
-fn item_cell(
+/// The number that `item`, one of `items`, shows for group `g`; `None` is NULL.
+fn item_number(
     alloc: Global,
     table: &Table<Name>,
     items: &[GroupItem],
@@ -143,25 +145,25 @@ fn item_cell(
     groups: &Groups,
     g: usize,
     columns: &mut Vec<GroupedColumn>,
-) -> Result<Cell, AllocError>
+) -> Result<Option<i128>, AllocError>
     requires found { len found.now ≡ length table.now.slots }
     requires item { IsItemWithin (length table.now.headers) item }
     requires among { Contains items.now item }
     requires ranks { length groups.now.ranks ≡ length (rows_where (row_at found.now) (rows_of_slots table.now.slots)) }
     requires group { g < length groups.now.values }
     requires columns { All (λ column. TellGroups (rows_where (row_at found.now) (rows_of_slots table.now.slots)) groups.now items.now column.place column.folds) columns.old.items }
-    ensures cell { IfOk result (λ cell. cell ≡ told_at (rows_where (row_at found.now) (rows_of_slots table.now.slots)) groups.now g item) }
+    ensures number { IfOk result (λ number. shown number ≡ told_at (rows_where (row_at found.now) (rows_of_slots table.now.slots)) groups.now g item) }
     ensures columns { OnOk result (All (λ column. TellGroups (rows_where (row_at found.now) (rows_of_slots table.now.slots)) groups.now items.now column.place column.folds) columns.new.items) }
 {
     match item {
-        GroupItem::Value => Ok(cell(wide(groups.value(g)))),
+        GroupItem::Value => Ok(wide(groups.value(g))),
         GroupItem::Function(FunctionPlan::CountRows) => {
-            Ok(Cell::Number(groups.row_count(g) as i128))
+            Ok(Some(groups.row_count(g) as i128))
         }
         GroupItem::Function(FunctionPlan::Of(function, place)) => {
             let i = column_at(alloc, table, items, place, found, groups, columns)?;
             let summary = columns[i].folds.summary(g);
-            Ok(cell(told_by(function, &summary)))
+            Ok(told_by(function, &summary))
         }
     }
 }

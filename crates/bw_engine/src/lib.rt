@@ -1,6 +1,7 @@
 //! The engine: tables in memory, and the statements that create, fill, change, read and drop them.
 #![tactic(auto)]
 
+mod answer_cells;
 mod code_cells;
 mod create;
 mod delete;

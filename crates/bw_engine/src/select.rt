@@ -79,7 +79,7 @@ fn shown_answer(
         }
         ShownPlan::Groups(plan) => {
             let cells = group_cells(alloc, table.stored(), plan, found)?;
-            Ok(Answer::new(headings, cells))
+            Ok(cells.answer(headings))
         }
     }
 }

@@ -48,6 +48,17 @@ fn groups_at_the_ends_of_64_bits(rt: HostRuntime) {
 }
 
 #[test]
+fn sums_that_do_not_fit_64_bits_among_others(rt: HostRuntime) {
+    let script =
+        "CREATE TABLE t (a INT {using}, b BIGINT {using}); INSERT INTO t VALUES (4, -9223372036854775808), (3, 9223372036854775807), (1, 5), (3, 1), (2, NULL), \
+         (NULL, 7), (4, 0); SELECT a, SUM(b), COUNT(b) FROM t GROUP BY a; SELECT SUM(b), a FROM t WHERE NOT a = 3 GROUP BY a;";
+    let replies =
+        "ok\nok 7\nA,SUM(B),COUNT(B)\n1,5,1\n2,NULL,0\n3,9223372036854775808,2\n4,-9223372036854775808,2\nNULL,7,1\nrows 5\n\
+         SUM(B),A\n5,1\nNULL,2\n-9223372036854775808,4\nrows 3\n";
+    check_bigint_layings(&rt, script, replies);
+}
+
+#[test]
 fn what_groups_refuse(rt: HostRuntime) {
     check_examples(
         &rt,

@@ -5,6 +5,7 @@ use Rattle.bw_mask.specs.Masks.{row_at}
 use Rattle.bw_model.specs.Select.{shown}
 use Rattle.bw_model.specs.Groups.{groups_by}
 use Rattle.bw_sql.specs.Rows.{joined}
+use Rattle.bw_engine.specs.AnswerCells.{collected}
 use Rattle.bw_engine.specs.Folds.{number_by, told_in}
 use Rattle.bw_engine.specs.Found.{rows_where}
 use Rattle.bw_engine.specs.Stores.{rows_of_slots}
@@ -41,14 +42,14 @@ group_cells-requires-clause-by c = let places = rw c.in-Groups.is at c.requires.
 pub group_cells-requires-clause-items : goal.group_cells-requires-clause-items
 group_cells-requires-clause-items c = let places = rw c.in-Groups.is at c.requires.places in rw c.stored-in-Groups.ensures places.1
 
-pub new-requires-in-Groups : goal.new-requires-in-Groups
-new-requires-in-Groups c =
+pub answer-requires : goal.answer-requires
+answer-requires c =
     let items = c.in-Groups.plan.items.items in
     let groups = groups_by (Some c.in-Groups.plan.by) (rows_where (row_at c.args.found.now) (rows_of_slots c.args.table.now.slots)) in
     let width = length c.args.headings.items in
     let wide : width ≡ length items = rw c.in-Groups.is at c.requires.wide in
-    let flat : c.in_ok-cells-in-Groups.cells.items ≡ joined (map (λ group. map (told_in group) items) groups) = rw c.stored-in-Groups.ensures at c.in_ok-cells-in-Groups.ensures in
-    whole_answer (map (λ group. map (told_in group) items) groups) c.in_ok-cells-in-Groups.cells.items width c.requires.some (subst (λ w. All (λ line. length line ≡ w) (map (λ group. map (told_in group) items) groups)) (sym wide) (group_lines_wide items groups)) flat
+    let flat : collected c.in_ok-cells-in-Groups.cells ≡ joined (map (λ group. map (told_in group) items) groups) = rw c.stored-in-Groups.ensures at c.in_ok-cells-in-Groups.ensures in
+    whole_answer (map (λ group. map (told_in group) items) groups) (collected c.in_ok-cells-in-Groups.cells) width c.requires.some (subst (λ w. All (λ line. length line ≡ w) (map (λ group. map (told_in group) items) groups)) (sym wide) (group_lines_wide items groups)) flat
 
 pub returns-in_ok-cells-in-Groups-clause-lines : goal.returns-in_ok-cells-in-Groups-clause-lines
 returns-in_ok-cells-in-Groups-clause-lines c =
@@ -56,6 +57,6 @@ returns-in_ok-cells-in-Groups-clause-lines c =
     let groups = groups_by (Some c.in-Groups.plan.by) (rows_where (row_at c.args.found.now) (rows_of_slots c.args.table.now.slots)) in
     let width = length c.args.headings.items in
     let wide : width ≡ length items = rw c.in-Groups.is at c.requires.wide in
-    let flat : c.in_ok-cells-in-Groups.cells.items ≡ joined (map (λ group. map (told_in group) items) groups) = rw c.stored-in-Groups.ensures at c.in_ok-cells-in-Groups.ensures in
+    let flat : collected c.in_ok-cells-in-Groups.cells ≡ joined (map (λ group. map (told_in group) items) groups) = rw c.stored-in-Groups.ensures at c.in_ok-cells-in-Groups.ensures in
     rw c.in-Groups.is
-    (c.new-in-Groups.ensures.lines ∙ lines_answer (map (λ group. map (told_in group) items) groups) c.in_ok-cells-in-Groups.cells.items width c.requires.some (subst (λ w. All (λ line. length line ≡ w) (map (λ group. map (told_in group) items) groups)) (sym wide) (group_lines_wide items groups)) flat)
+    (c.answer.ensures.lines ∙ lines_answer (map (λ group. map (told_in group) items) groups) (collected c.in_ok-cells-in-Groups.cells) width c.requires.some (subst (λ w. All (λ line. length line ≡ w) (map (λ group. map (told_in group) items) groups)) (sym wide) (group_lines_wide items groups)) flat)

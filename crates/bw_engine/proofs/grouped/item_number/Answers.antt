@@ -8,10 +8,10 @@ use Rattle.bw_engine.specs.Found.{rows_where}
 use Rattle.bw_engine.specs.GroupLines.{TellGroups, told_at}
 use Rattle.bw_engine.specs.Stores.{rows_of_slots}
 use Rattle.bw_engine.specs.declared.grouped.GroupedColumn.{GroupedColumn}
-use Rattle.bw_engine.proofs.grouped.item_cell.Goals as goal
+use Rattle.bw_engine.proofs.grouped.item_number.Goals as goal
 
-pub returns-in_ok-i-in-Function-Of-clause-cell : goal.returns-in_ok-i-in-Function-Of-clause-cell
-returns-in_ok-i-in-Function-Of-clause-cell c =
+pub returns-in_ok-i-in-Function-Of-clause-number : goal.returns-in_ok-i-in-Function-Of-clause-number
+returns-in_ok-i-in-Function-Of-clause-number c =
     let rows = rows_where (row_at c.args.found.now) (rows_of_slots c.args.table.now.slots) in
     let groups = c.args.groups.now in
     let items = c.args.items.now in
@@ -26,6 +26,5 @@ returns-in_ok-i-in-Function-Of-clause-cell c =
     let here : column.place ≡ place = ap (λ (one : GroupedColumn). one.place) c.index.ensures ∙ at.1 column in
     let told : TellGroups rows groups items column.place column.folds = subst (λ (one : GroupedColumn). TellGroups rows groups items one.place one.folds) (sym c.index.ensures) (c.in_ok-i-in-Function-Of.ensures.columns i column at.0) in
     let tell : TellGroups rows groups items place column.folds = subst (λ p. TellGroups rows groups items p column.folds) here told in
-    c.cell-in-Function-Of.ensures
-    ∙ ap shown (c.told_by.ensures ∙ ap (told_by f) (c.summary-summary.ensures c.summary-summary.result) ∙ tell.each g f c.summary-summary.result c.requires.group there)
+    ap shown (c.told_by.ensures ∙ ap (told_by f) (c.summary-summary.ensures c.summary-summary.result) ∙ tell.each g f c.summary-summary.result c.requires.group there)
     ∙ ap (told_at rows groups g) (sym is)
