@@ -72,11 +72,7 @@ fn narrow(number: Option<i128>) -> Option<Value>
 }
 
 /// The cells of the values, with room for `count`.
-fn cells_of_values(
-    alloc: Global,
-    values: &[Value],
-    count: usize,
-) -> Result<Vec<Cell>, AllocError>
+fn cells_of_values(alloc: Global, values: &[Value], count: usize) -> Result<Vec<Cell>, AllocError>
     ensures { IfOk result (λ cells. cells.items ≡ shown_all values.now) }
 {
     let mut cells = Vec::with_capacity(alloc, count)?;

@@ -157,9 +157,7 @@ fn item_number(
 {
     match item {
         GroupItem::Value => Ok(wide(groups.value(g))),
-        GroupItem::Function(FunctionPlan::CountRows) => {
-            Ok(Some(groups.row_count(g) as i128))
-        }
+        GroupItem::Function(FunctionPlan::CountRows) => Ok(Some(groups.row_count(g) as i128)),
         GroupItem::Function(FunctionPlan::Of(function, place)) => {
             let i = column_at(alloc, table, items, place, found, groups, columns)?;
             let summary = columns[i].folds.summary(g);
