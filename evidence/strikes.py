@@ -34,6 +34,8 @@ class Clause:
     name: str
     thing: str
     answered_in: tuple = ()
+    # The folder of its answers, where other functions have its name.
+    answers: str = ""
 
     def crates(self):
         return self.answered_in or (self.file.split("/")[0],)
@@ -92,6 +94,11 @@ def of_words():
 def of_words_put():
     """The codes of a column in V after words of planes were put at some rows."""
     return Clause("bw_vertical/src/column.rt", "put_words", "codes", "self.new")
+
+
+def of_group_plane():
+    """Which plane of a group is lent, of a column in V."""
+    return Clause("bw_aggregate/src/plane.rt", "of", "", "result", answers="GroupPlane/of")
 
 
 def of_segments():
@@ -157,8 +164,9 @@ STRIKES = [
     Strike("bw_column::storage::Codes::plane", (of_every_column("plane", "rows", "out.new"),)),
     Strike("bw_column::column::Column::plane", (of_column("plane", "storage.rt", "rows", "out.new"),)),
     Strike("bw_aggregate::middle::descend_in_copies", (of_column("plane", "column.rt", "rows", "out.new"),)),
-    Strike("bw_aggregate::middle::descend_in_place", (of_planes(),)),
-    Strike("bw_aggregate::plane::plane_at", (of_planes(),)),
+    Strike("bw_aggregate::plane::GroupPlane::of", (of_planes(),)),
+    Strike("bw_aggregate::middle::descend_in_place", (of_group_plane(),)),
+    Strike("bw_aggregate::plane::plane_at", (of_group_plane(),)),
     Strike("bw_aggregate::plane_sums::planes_sum", (of_segments(),)),
     Strike("bw_aggregate::nearest_planes::nearest_of", (of_segments(),)),
     Strike("bw_table::table::Table::fetch", (of_column("get", "column.rt", "is", "result"),)),
@@ -189,7 +197,7 @@ def strike(crates, clause, kept):
     kept.setdefault(source, source.read_text(encoding="utf-8"))
     source.write_text(clause.struck(source.read_text(encoding="utf-8")), encoding="utf-8")
     # Of a trait's method only the implementations answer it, and no other function of its name.
-    place = f"*CodeColumn/{clause.function}" if clause.answered_in else clause.function
+    place = f"*CodeColumn/{clause.function}" if clause.answered_in else clause.answers or clause.function
     for crate in clause.crates():
         for answers in (crates / crate / "proofs").rglob(f"{place}/Answers.antt"):
             text = answers.read_text(encoding="utf-8")
