@@ -1,5 +1,5 @@
 -- Where no value is null, each group has as many values as rows.
-use Rattle.std.proofs.Common.{Bool, List, None, Option, Some, [], arith, cond, false, get_or, if◌then◌else◌, is_some, length, map, refl, sym, true, ℕ, ℤ, ◌&&◌, ◌+◌, ◌==◌, ◌∙◌, ◌∷◌, ◌≡◌}
+use Rattle.std.proofs.Common.{Bool, List, None, Option, Some, [], arith, cond, false, if◌then◌else◌, is_some, length, map, refl, sym, true, ℕ, ℤ, ◌&&◌, ◌+◌, ◌==◌, ◌∙◌, ◌∷◌, ◌≡◌}
 use Rattle.std.specs.List.{items_where_true, list_all}
 use Rattle.std.proofs.lemmas.Bool.{true≢false}
 use Rattle.std.proofs.lemmas.List.{get_or_default}

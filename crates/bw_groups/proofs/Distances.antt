@@ -1,5 +1,5 @@
 -- Distances from a base that no value is below tell the values.
-use Rattle.std.proofs.Common.{All, IfOk, List, None, Ok, Err, Option, Result, Some, [], ap, arith, filter_map, length, map, option_map, pos, refl, suc, zero, ℤ, ℕ, ◌+ℤ◌, ◌-ℤ◌, ◌<◌, ◌∙◌, ◌∷◌, ◌≡◌, ◌≤ℤ◌, unsigned_abs}
+use Rattle.std.proofs.Common.{All, List, None, Option, Some, [], arith, filter_map, map, option_map, pos, refl, ℤ, ◌+ℤ◌, ◌-ℤ◌, ◌∷◌, ◌≡◌, ◌≤ℤ◌, unsigned_abs}
 use Rattle.std.proofs.lemmas.Int.{ints}
 use Rattle.std.proofs.lemmas.List.Elements.{All-head, All-tail}
 use Rattle.bw_cells.specs.SetFunctions.{known}

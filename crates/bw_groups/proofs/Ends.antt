@@ -1,5 +1,5 @@
 -- The least, the greatest and the middle of values, by their place in ascending order.
-use Rattle.std.proofs.Common.{All, Bool, List, None, Option, Some, [], ap, arith, cond, count_by, false, get_or, int_le, length, pos, refl, suc, sym, true, zero, ℕ, ℤ, ◌++◌, ◌+◌, ◌-◌, ◌/◌, ◌<◌, ◌≡◌, ◌<ℤ◌, ◌≤◌, ◌≤ℤ◌, ◌∙◌, ◌∷◌, Contains}
+use Rattle.std.proofs.Common.{Bool, List, Some, [], arith, cond, count_by, false, get_or, int_le, length, refl, suc, true, zero, ℕ, ℤ, ◌++◌, ◌+◌, ◌-◌, ◌<◌, ◌≡◌, ◌<ℤ◌, ◌∙◌, ◌∷◌}
 use Rattle.std.specs.Prelude.{int_lt, slice_get}
 use Rattle.std.specs.List.Sorted.{IsPermutation}
 use Rattle.std.specs.Cmp.{int_ranks}
@@ -7,13 +7,12 @@ use Rattle.std.specs.Ordering.{MatchOrdering, int_cmp, is_lt}
 use Rattle.std.specs.declared.cmp.Ordering.{Ordering}
 use Rattle.std.specs.declared.cmp.Ordering.TheVariants.{Less, Equal, Greater}
 use Rattle.std.proofs.lemmas.Int.{ints}
-use Rattle.std.proofs.lemmas.List.Elements.{All-head, All-tail}
 use Rattle.std.proofs.lemmas.List.Sorted.{sum_by-IsPermutation}
 use Rattle.std.proofs.lemmas.List.Sums.{count_by-le-length, sum_by-append}
 use Rattle.bw_code.specs.Encodings.{IsGreatest, IsLeast}
-use Rattle.bw_cells.specs.SetFunctions.{greatest, least, median, sorted}
+use Rattle.bw_cells.specs.SetFunctions.{greatest, least, sorted}
 use Rattle.bw_aggregate.proofs.Counting.{count_cons, count_no, count_yes}
-use Rattle.bw_aggregate.proofs.Ranks.{IsRanked, ranked-sorted}
+use Rattle.bw_aggregate.proofs.Ranks.{ranked-sorted}
 
 none_pass : (p : ℤ → Bool) (xs : List ℤ) → ((k : ℕ) (d : ℤ) → k < length xs → p (get_or xs k d) ≡ false) → count_by p xs ≡ 0
 none_pass p [] h = refl

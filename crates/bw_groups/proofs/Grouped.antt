@@ -1,21 +1,19 @@
 -- Rows by the ranks of the numbers that stand for their values.
-use Rattle.std.proofs.Common.{Bool, List, None, Option, Some, [], ap, arith, cond, count_by, false, get_or, length, map, nat_eq, pos, refl, sym, true, ℕ, ℤ, inl, inr, ◌++◌, ◌+◌, ◌+ℤ◌, ◌-◌, ◌<◌, ◌<ℤ◌, ◌==◌, ◌≡◌, ◌≤◌, ◌∙◌, ◌∷◌, not, w64, FitsSigned, if◌then◌else◌, ◌^◌, ◌≤ℤ◌, All, Contains, subst, suc}
+use Rattle.std.proofs.Common.{Bool, List, None, Option, Some, [], ap, arith, cond, false, get_or, length, map, pos, refl, sym, true, ℕ, ℤ, inl, inr, ◌++◌, ◌+◌, ◌+ℤ◌, ◌-◌, ◌<◌, ◌==◌, ◌≡◌, ◌≤◌, ◌∙◌, ◌∷◌, not, if◌then◌else◌, ◌^◌, ◌≤ℤ◌, All, subst, suc}
 use Rattle.std.specs.List.{dedup, dedup_from, list_any}
 use Rattle.std.specs.Ordering.{int_eq}
 use Rattle.std.specs.Prelude.{is_none}
 use Rattle.std.proofs.lemmas.Bool.{cases_eq, cases_lt}
 use Rattle.std.proofs.lemmas.Bool.Decides.{nat_tests}
 use Rattle.std.proofs.lemmas.Int.{ints}
-use Rattle.std.proofs.lemmas.List.{ext_get_or, get_or-map, get_or_append_left, get_or_push, length-append, length-map}
-use Rattle.std.proofs.lemmas.List.Sums.{sum_by-cons}
+use Rattle.std.proofs.lemmas.List.{get_or-map, get_or_append_left, get_or_push, length-append, length-map}
 use Rattle.std.proofs.lemmas.List.Elements.{All-head, All-tail}
 use Rattle.bw_aggregate.proofs.Counting.{count_cons}
 use Rattle.bw_aggregate.proofs.Ranks.{length-sorted}
 use Rattle.bw_cells.specs.SetFunctions.{known, sorted}
-use Rattle.bw_rank.specs.Ranks.{AreRanked, AreRanks, times_in}
-use Rattle.bw_rank.specs.declared.ranked.Ranked.{Ranked}
+use Rattle.bw_rank.specs.Ranks.{AreRanks, times_in}
 use Rattle.bw_model.specs.Groups.{group_values, is_same}
-use Rattle.bw_groups.specs.Grouping.{AreCounted, AreGroups, Grouping, rows_in}
+use Rattle.bw_groups.specs.Grouping.{AreCounted, AreGroups, rows_in}
 use Rattle.bw_groups.specs.Spreading.{ranks_over}
 use Rattle.bw_groups.proofs.RanksMake.{Climbs, apart, entries_are, same_test}
 use Rattle.bw_groups.proofs.Spread.{all_known, known_few, no_nulls, nulls_there, rows_known, rows_null, same_known, same_null, spread_inside, spread_length}

@@ -1,5 +1,5 @@
 -- Ranks of numbers that stand for integers in their order make the groups of these integers.
-use Rattle.std.proofs.Common.{All, Bool, Contains, List, [], ap, arith, count_by, false, get_or, inl, inr, length, map, refl, suc, sym, true, zero, ℕ, ℤ, ◌+◌, ◌<◌, ◌<ℤ◌, ◌==◌, ◌||◌, ◌≡◌, ◌≤◌, ◌∙◌, ◌∷◌}
+use Rattle.std.proofs.Common.{Bool, List, [], ap, arith, false, get_or, inl, inr, length, map, refl, suc, sym, true, zero, ℕ, ℤ, ◌+◌, ◌<◌, ◌<ℤ◌, ◌==◌, ◌||◌, ◌≡◌, ◌∙◌, ◌∷◌}
 use Rattle.std.specs.List.{dedup}
 use Rattle.std.specs.Ordering.{int_eq}
 use Rattle.std.specs.List.Sorted.{IsStrictlyIncreasing}

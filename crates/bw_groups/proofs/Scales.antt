@@ -1,5 +1,5 @@
 -- Ranks of values as numbers on a scale make the groups of the values.
-use Rattle.std.proofs.Common.{All, Bool, List, None, Option, Some, [], ap, append-nil, arith, false, get_or, if◌then◌else◌, length, map, nat_eq, pos, refl, subst, suc, sym, true, unsigned_abs, zero, inl, inr, ℕ, ℤ, ◌&&◌, ◌++◌, ◌+ℤ◌, ◌<ℤ◌, ◌<◌, ◌==◌, ◌^◌, ◌||◌, ◌∙◌, ◌∷◌, ◌≡◌, ◌≤◌, ◌≤ℤ◌}
+use Rattle.std.proofs.Common.{All, Bool, List, None, Option, Some, [], ap, append-nil, arith, false, get_or, if◌then◌else◌, length, map, pos, refl, subst, suc, sym, true, unsigned_abs, zero, inl, inr, ℕ, ℤ, ◌&&◌, ◌++◌, ◌+ℤ◌, ◌<ℤ◌, ◌<◌, ◌==◌, ◌^◌, ◌||◌, ◌∙◌, ◌∷◌, ◌≡◌, ◌≤◌, ◌≤ℤ◌}
 use Rattle.std.specs.List.{dedup, list_any}
 use Rattle.std.specs.Ordering.{int_eq}
 use Rattle.std.specs.Prelude.{is_none, unwrap_or, ◌-ℤ◌}

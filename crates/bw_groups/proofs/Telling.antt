@@ -11,7 +11,7 @@ use Rattle.bw_cells.specs.SetFunctions.{known}
 use Rattle.bw_code.specs.Fittings.{AreEnds}
 use Rattle.bw_groups.specs.Folding.{AreFolds}
 use Rattle.bw_groups.specs.Grouping.{members}
-use Rattle.bw_groups.proofs.Placing.{known_few, members-push}
+use Rattle.bw_groups.proofs.Members.{known_few, members-push}
 
 -- a null adds nothing, in whichever group
 null_adds : (xs : List ℤ) (b : Bool) → xs ++ known (cond b (None ∷ []) []) ≡ xs

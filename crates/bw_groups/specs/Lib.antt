@@ -1,7 +1,8 @@
-pub mod Arranging
 pub mod Entries
 pub mod Folding
 pub mod Grouping
+pub mod Lists
+pub mod Parts
 pub mod Runs
 pub mod Scales
 pub mod Spreading

@@ -9,8 +9,8 @@ ghost use Rattle.bw_groups.specs.Grouping.{members};
 ghost use Rattle.bw_groups.specs.Runs.{values_in};
 
 use crate::fold::{fold_each, fold_if};
-use crate::grouped_values::medians_of;
 use crate::groups::Groups;
+use crate::median::medians_if;
 use crate::value_runs::ValueRuns;
 use bw_aggregate::{Asked, Summary};
 use bw_code::Ends;
@@ -53,7 +53,7 @@ impl Folds {
         let counts = counts_of(alloc, groups, column)?;
         let sums = fold_if::<i128, C>(alloc, asked.sum, groups, column)?;
         let ends = fold_if::<Option<Ends>, C>(alloc, asks_ends(asked), groups, column)?;
-        let medians = medians_of(alloc, asked.median, groups, column)?;
+        let medians = medians_if(alloc, asked.median, groups, &counts, column)?;
         Ok(Folds::from_parts(asked, counts, sums, ends, medians))
     }
 

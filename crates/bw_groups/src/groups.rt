@@ -139,7 +139,9 @@ impl Groups {
 
     /// The group number of each row.
     pub(crate) fn ranks(&self) -> &[u32]
-        ensures { result.now ≡ self.now.ranks }
+        ensures ranks { result.now ≡ self.now.ranks }
+        ensures few { length result.now ≤ 2 ^ 24 }
+        ensures inside { All (λ r. r < length self.now.values) result.now }
     {
         &self.ranks
     }

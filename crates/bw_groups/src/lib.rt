@@ -4,11 +4,13 @@
 mod column_values;
 mod fold;
 mod folds;
-mod grouped_values;
+mod grouped_number;
 mod groups;
+mod lists;
 mod measured_run;
 mod median;
 mod numbers;
+mod parts;
 mod scale;
 mod value_runs;
 

@@ -1,4 +1,4 @@
-use Rattle.std.proofs.Common.{All, [], ap, arith, drop, get_or, length, length-append, length-take, pos, refl, subst, sym, take, ◌++◌, ◌+◌, ◌-◌, ◌<◌, ◌∙◌, ◌≡◌, ◌≤◌}
+use Rattle.std.proofs.Common.{All, [], ap, arith, drop, get_or, length, pos, refl, subst, sym, take, ◌++◌, ◌+◌, ◌-◌, ◌<◌, ◌∙◌, ◌≡◌, ◌≤◌}
 use Rattle.std.proofs.lemmas.List.{length-drop, length-take-le, take_all}
 use Rattle.std.proofs.lemmas.List.Elements.{All-drop, All-take}
 use Rattle.bw_groups.specs.Folding.{AreFolds}
@@ -38,7 +38,7 @@ slice_bounds-fold_run-end g c =
     let runs = g.C.ValueRuns.runs c.args.column.now in
     let low : c.runs.q < length runs = omega (arith, c.runs-test.true, c.run_count-q-end.ensures) in
     let inside = run_inside runs c.runs.q c.runs.at (get_or runs c.runs.q []) low refl c.runs.invariant.at in
-    omega (arith, inside, c.measure_run-len.ensures.long, c.requires, ap length c.ranks-ranks.ensures)
+    omega (arith, inside, c.measure_run-len.ensures.long, c.requires, ap length c.ranks-ranks.ensures.ranks)
 
 pub fold_run-requires : goal.fold_run-requires
 fold_run-requires g c =
@@ -49,10 +49,10 @@ fold_run-requires g c =
     let end = at + c.measure_run-len.result.len in
     let low : c.runs.q < length runs = omega (arith, c.runs-test.true, c.run_count-q-end.ensures) in
     let inside = run_inside runs c.runs.q at run low refl c.runs.invariant.at in
-    let many = ap length c.ranks-ranks.ensures in
+    let many = ap length c.ranks-ranks.ensures.ranks in
     let part = length-take-le (end - at) (drop at ranks) (omega (arith, length-drop at ranks, inside, c.measure_run-len.ensures.long, c.requires, many)) in
     let front = length-take-le at ranks (omega (arith, inside, c.requires, many)) in
-    let all : All (λ r. r < length c.runs.folds.items) ranks = λ k d h. let one = rw (sym c.ranks-ranks.ensures) at c.times.ensures.counted.inside k d h in omega (arith, one, c.times.ensures.count, c.runs.invariant.count) in
+    let all : All (λ r. r < length c.runs.folds.items) ranks = λ k d h. let one = rw (sym c.ranks-ranks.ensures.ranks) at c.times.ensures.counted.inside k d h in omega (arith, one, c.times.ensures.count, c.runs.invariant.count) in
     record {
       few = omega (arith, part, c.measure_run-len.ensures.long, c.measure_run-len.ensures.few);
       inside = All-take (λ r. r < length c.runs.folds.items) (end - at) (drop at ranks) (All-drop (λ r. r < length c.runs.folds.items) at ranks all);
@@ -77,7 +77,7 @@ runs-preserved g c =
     let end = at + n in
     let low : c.runs.q < length runs = omega (arith, c.runs-test.true, c.run_count-q-end.ensures) in
     let inside = run_inside runs c.runs.q at run low refl c.runs.invariant.at in
-    let many = ap length c.ranks-ranks.ensures in
+    let many = ap length c.ranks-ranks.ensures.ranks in
     let long : n ≡ length run = c.measure_run-len.ensures.long in
     let part = length-take-le (end - at) (drop at ranks) (omega (arith, length-drop at ranks, inside, long, c.requires, many)) in
     let front = length-take-le at ranks (omega (arith, inside, c.requires, many)) in
@@ -99,6 +99,6 @@ returns-clause-tells g c =
     let runs = g.C.ValueRuns.runs c.args.column.now in
     let folds = c.runs.folds.items in
     let all = runs_all runs c.runs.q (omega (arith, c.runs-test.false, c.run_count-q-end.ensures)) in
-    let most : length ranks ≤ c.runs.at = omega (arith, c.runs.invariant.at, ap length all, c.requires, ap length c.ranks-ranks.ensures) in
-    subst (λ xs. AreFolds g.F.Fold.tells xs (values_in runs) folds) (take_all c.runs.at ranks most ∙ c.ranks-ranks.ensures)
+    let most : length ranks ≤ c.runs.at = omega (arith, c.runs.invariant.at, ap length all, c.requires, ap length c.ranks-ranks.ensures.ranks) in
+    subst (λ xs. AreFolds g.F.Fold.tells xs (values_in runs) folds) (take_all c.runs.at ranks most ∙ c.ranks-ranks.ensures.ranks)
     (subst (λ ys. AreFolds g.F.Fold.tells (take c.runs.at ranks) ys folds) all c.runs.invariant.tells)

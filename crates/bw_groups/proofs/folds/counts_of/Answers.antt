@@ -1,5 +1,4 @@
-use Rattle.std.proofs.Common.{ap, length, subst, sym, ◌∙◌, ◌≡◌}
-use Rattle.bw_groups.specs.Folding.{AreFolds, IsCount}
+use Rattle.std.proofs.Common.{ap, length, sym, ◌∙◌}
 use Rattle.bw_groups.specs.Runs.{values_in}
 use Rattle.bw_groups.proofs.Counts.{times_count}
 use Rattle.bw_groups.proofs.folds.counts_of.Goals as goal

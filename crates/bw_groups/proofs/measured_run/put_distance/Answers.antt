@@ -1,4 +1,4 @@
-use Rattle.std.proofs.Common.{ap, arith, false, is_some, nat_lt, refl, true, ◌∙◌, ◌≡◌, Bool, Option, ℤ}
+use Rattle.std.proofs.Common.{ap, false, nat_lt, refl, true, ◌∙◌, ◌≡◌, Bool}
 use Rattle.std.specs.Int.{from_bool}
 use Rattle.bw_groups.proofs.Measured.{filled_more, still_filled}
 use Rattle.bw_groups.proofs.measured_run.put_distance.Goals as goal

@@ -1,4 +1,4 @@
-use Rattle.std.proofs.Common.{Some, None, ap, arith, get_or, length, of_z, option_map, sym, take, to_z, w64, [], ◌++◌, ◌<◌, ◌∙◌, ◌∷◌, ◌≡◌, unsigned_abs, filter_map, Option, ℤ, ℕ}
+use Rattle.std.proofs.Common.{None, ap, arith, get_or, length, of_z, option_map, sym, take, to_z, w64, [], ◌++◌, ◌<◌, ◌∙◌, ◌∷◌, ◌≡◌, unsigned_abs, filter_map, Option, ℤ, ℕ}
 use Rattle.std.specs.Prelude.{◌-ℤ◌}
 use Rattle.std.proofs.lemmas.Int.{ints, to_z-of_z}
 use Rattle.std.proofs.lemmas.List.{take_all}

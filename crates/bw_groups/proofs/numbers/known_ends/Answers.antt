@@ -1,4 +1,4 @@
-use Rattle.std.proofs.Common.{All, Some, ap, arith, get_or, length, of_z, pos, rules, subst, sym, take, to_z, w64, ◌<◌, ◌∙◌, ◌≡◌, ◌≤ℤ◌, [], ◌∷◌}
+use Rattle.std.proofs.Common.{All, arith, length, of_z, subst, sym, take, to_z, w64, ◌<◌, ◌∙◌, ◌≡◌, ◌≤ℤ◌, [], ◌∷◌}
 use Rattle.std.proofs.lemmas.Int.{ints, to_z-of_z}
 use Rattle.std.proofs.lemmas.List.{take_all}
 use Rattle.std.proofs.lemmas.List.Elements.{All-append, All-cons, All-nil}

@@ -1,4 +1,4 @@
-use Rattle.std.proofs.Common.{ap, arith, get_or, is_some, length, sym, ◌<◌, ◌≡◌, ◌∙◌}
+use Rattle.std.proofs.Common.{ap, arith, is_some, length, sym, ◌<◌, ◌∙◌}
 use Rattle.std.proofs.lemmas.List.{get_or_read}
 use Rattle.bw_groups.proofs.Spread.{all_known, more_known, more_null, rank_there}
 use Rattle.bw_groups.proofs.numbers.spread.Goals.{then-is_some+in_ok-push, else-is_some+in_ok-push-2}

@@ -1,5 +1,4 @@
-use Rattle.std.proofs.Common.{[], ap, arith, get_or, length, sym, take, ◌++◌, ◌<◌, ◌∙◌, ◌≡◌}
-use Rattle.bw_groups.specs.Runs.{values_in}
+use Rattle.std.proofs.Common.{[], ap, arith, get_or, length, sym, ◌++◌, ◌<◌, ◌∙◌}
 use Rattle.bw_groups.proofs.Runs.{runs_all, runs_more, runs_none}
 use Rattle.bw_groups.proofs.column_values.ColumnValues.of.Goals as goal
 

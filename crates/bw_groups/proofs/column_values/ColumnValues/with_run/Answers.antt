@@ -1,4 +1,4 @@
-use Rattle.std.proofs.Common.{ap, arith, false, is_some, length, map, pos, take, ◌++◌, ◌<◌, ◌∙◌, ◌≡◌}
+use Rattle.std.proofs.Common.{ap, arith, false, is_some, length, map, pos, take, ◌++◌, ◌∙◌, ◌≡◌}
 use Rattle.bw_groups.proofs.Values.{front_is, number_of, values_more}
 use Rattle.bw_groups.proofs.column_values.ColumnValues.with_run.Goals as goal
 

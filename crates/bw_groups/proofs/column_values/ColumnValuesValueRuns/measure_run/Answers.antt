@@ -1,4 +1,4 @@
-use Rattle.std.proofs.Common.{List, None, Option, [], ap, arith, drop, get_or, length, map, min, of_z, replicate, subst, sym, take, to_z, w64, ℕ, ℤ, ◌*◌, ◌++◌, ◌+◌, ◌-◌, ◌/◌, ◌<◌, ◌∙◌, ◌≡◌, ◌∷◌}
+use Rattle.std.proofs.Common.{List, None, Option, [], ap, arith, drop, get_or, length, map, min, of_z, replicate, subst, sym, take, to_z, w64, ℕ, ℤ, ◌*◌, ◌++◌, ◌+◌, ◌/◌, ◌<◌, ◌∙◌, ◌≡◌, ◌∷◌}
 use Rattle.std.specs.List.{range_with_len}
 use Rattle.std.proofs.lemmas.Int.{ints, to_z-of_z}
 use Rattle.std.proofs.lemmas.List.{get_or-drop, length-drop, take_min, take_more}

@@ -1,4 +1,4 @@
-use Rattle.std.proofs.Common.{drop, length, take, ◌≡◌}
+use Rattle.std.proofs.Common.{drop, take}
 use Rattle.bw_groups.specs.Runs.{AreFilled}
 use Rattle.bw_groups.proofs.column_values.ColumnValuesValueRuns.measure_run.Given as goal
 

@@ -1,4 +1,4 @@
-use Rattle.std.proofs.Common.{None, [], ap, arith, drop, get_or, length, length-take, min, sym, take, ◌*◌, ◌++◌, ◌+◌, ◌-◌, ◌/◌, ◌<◌, ◌∙◌, ◌≡◌, ◌∷◌}
+use Rattle.std.proofs.Common.{None, [], ap, arith, drop, length, length-take, min, sym, take, ◌*◌, ◌++◌, ◌+◌, ◌/◌, ◌<◌, ◌∙◌, ◌≡◌, ◌∷◌}
 use Rattle.std.proofs.lemmas.List.{get_or-drop, length-drop, take_min, take_more}
 use Rattle.std.proofs.lemmas.List.FromFn.{get_or-map-range_with_len, length-map-range_with_len}
 use Rattle.bw_groups.proofs.Runs.{take_none}

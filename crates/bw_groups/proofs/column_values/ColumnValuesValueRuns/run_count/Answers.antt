@@ -1,4 +1,4 @@
-use Rattle.std.proofs.Common.{arith, drop, length, sym, take, ◌*◌, ◌+◌, ◌/◌, ◌∙◌, ◌≡◌}
+use Rattle.std.proofs.Common.{arith, drop, length, take, ◌*◌, ◌+◌, ◌/◌}
 use Rattle.std.proofs.lemmas.List.FromFn.{length-map-range_with_len}
 use Rattle.bw_groups.proofs.column_values.ColumnValuesValueRuns.run_count.Goals as goal
 

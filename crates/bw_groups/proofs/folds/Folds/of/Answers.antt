@@ -1,4 +1,4 @@
-use Rattle.std.proofs.Common.{None, ap, arith, get_or, length, pos, subst, sym, ◌<◌, ◌∙◌, ◌≡◌}
+use Rattle.std.proofs.Common.{None, ap, arith, get_or, length, pos, subst, sym, ◌<◌, ◌∙◌}
 use Rattle.bw_aggregate.specs.Summaries.{IsSummary}
 use Rattle.bw_cells.specs.SetFunctions.{known}
 use Rattle.bw_groups.specs.Grouping.{members}

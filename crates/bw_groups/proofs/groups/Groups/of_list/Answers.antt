@@ -1,11 +1,8 @@
-use Rattle.std.proofs.Common.{Bool, List, Option, arith, cond, false, get_or, length, map, pos, sym, true, ℕ, ℤ, ◌+ℤ◌, ◌+◌, ◌-◌, ◌==◌, ◌≡◌, ◌≤◌, ◌∙◌, ap, not, Some, None, ◌++◌, ◌∷◌, [], if◌then◌else◌}
+use Rattle.std.proofs.Common.{Bool, List, Option, arith, cond, false, length, map, pos, sym, true, ℕ, ℤ, ◌+ℤ◌, ◌+◌, ◌-◌, ◌==◌, ◌≡◌, ◌∙◌, ap, not, Some, None, ◌++◌, ◌∷◌, [], if◌then◌else◌}
 use Rattle.std.proofs.lemmas.Bool.Decides.{nat_tests}
 use Rattle.std.proofs.lemmas.List.{length-append, length-map}
-use Rattle.std.specs.List.{list_any}
-use Rattle.std.specs.Prelude.{is_none}
 use Rattle.bw_cells.specs.SetFunctions.{known}
 use Rattle.bw_rank.specs.Ranks.{AreRanked, times_in}
-use Rattle.bw_groups.specs.Grouping.{AreCounted}
 use Rattle.bw_groups.specs.Spreading.{ranks_over}
 use Rattle.bw_groups.proofs.Grouped.{are_groups, counted_known, counted_null, entries_within, few_entries, group_count, many, null_test, ranks_many}
 use Rattle.bw_groups.proofs.Spread.{known_few, spread_length}

@@ -1,10 +1,9 @@
-use Rattle.std.proofs.Common.{All, List, ap, arith, get_or, length, map, pos, subst, sym, ℕ, ℤ, ◌+ℤ◌, ◌<◌, ◌<ℤ◌, ◌^◌, ◌∙◌, ◌≡◌, ◌≤◌}
-use Rattle.std.proofs.lemmas.Int.{ints}
+use Rattle.std.proofs.Common.{All, List, ap, arith, get_or, length, map, pos, subst, sym, ℕ, ◌+ℤ◌, ◌^◌, ◌∙◌, ◌≤◌}
 use Rattle.std.proofs.lemmas.List.{length-map}
 use Rattle.bw_cells.specs.SetFunctions.{known}
 use Rattle.bw_rank.specs.Ranks.{times_in}
 use Rattle.bw_groups.specs.Runs.{values_in}
-use Rattle.bw_groups.specs.Scales.{IsBelowNull, number_on, value_on}
+use Rattle.bw_groups.specs.Scales.{number_on, value_on}
 use Rattle.bw_groups.proofs.Scales.{below_null, counted, entries_few, few_numbers, scaled_groups, stand}
 use Rattle.bw_groups.proofs.groups.Groups.on_scale.Goals as goal
 
