@@ -11,6 +11,7 @@ pub mod Members
 pub mod PartRows
 pub mod Places
 pub mod RanksMake
+pub mod Reordered
 pub mod Runs
 pub mod Scales
 pub mod Spread

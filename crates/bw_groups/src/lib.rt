@@ -7,6 +7,7 @@ mod folds;
 mod grouped_number;
 mod groups;
 mod lists;
+mod lower_median;
 mod measured_run;
 mod median;
 mod numbers;

@@ -53,12 +53,11 @@ fn medians_of<C: ValueRuns>(
     let bits = part_bits(counts.len());
     let parts = parts_of(alloc, ranks, counts, bits, column)?;
     let mut medians = Vec::with_capacity(alloc, counts.len())?;
-    let mut scratch = Vec::new(alloc);
     'parts: for p in 0..parts.len() {
         let first = medians.len();
         let count = (counts.len() - first).min(1 << bits);
-        let lists = lists_of(alloc, parts.list(p), &counts[first..first + count], bits)?;
-        put_medians(&mut medians, &lists, &mut scratch)?;
+        let mut lists = lists_of(alloc, parts.list(p), &counts[first..first + count], bits)?;
+        put_medians(&mut medians, &mut lists)?;
     }
     Ok(medians)
 }
@@ -86,45 +85,20 @@ fn lists_of(
 {
     let mut lists = Lists::with_room(alloc, counts, rows.len(), 0)?;
     'rows: for i in 0..rows.len() {
-        let GroupedNumber { group, number } = rows[i];
-        lists.put((group % (1 << bits)) as usize, number);
+        let row = rows[i];
+        lists.put((row.group() % (1 << bits)) as usize, row.number());
     }
     Ok(lists)
 }
 
-/// Appends the lower median of each list; 0 for one without items.
-fn put_medians(
-    medians: &mut Vec<i64>,
-    lists: &Lists<i64>,
-    scratch: &mut Vec<i64>,
-) -> Result<(), AllocError>
-    ensures len { OnOk result (length medians.new.items ≡ length medians.old.items + length lists.now.lists) }
+/// Appends the lower median of each list; 0 for one without items. The lists are put in another order.
+fn put_medians(medians: &mut Vec<i64>, lists: &mut Lists<i64>) -> Result<(), AllocError>
+    ensures len { OnOk result (length medians.new.items ≡ length medians.old.items + length lists.old.lists) }
     ensures keeps { OnOk result ((g : ℕ) → g < length medians.old.items → slice_index_or medians.new.items g (pos 0) ≡ slice_index_or medians.old.items g (pos 0)) }
-    ensures each { OnOk result ((k : ℕ) → k < length lists.now.lists → 0 < length (slice_index_or lists.now.lists k []) → median (slice_index_or lists.now.lists k []) ≡ Some (slice_index_or medians.new.items (length medians.old.items + k) (pos 0))) }
+    ensures each { OnOk result ((k : ℕ) → k < length lists.old.lists → 0 < length (slice_index_or lists.old.lists k []) → median (slice_index_or lists.old.lists k []) ≡ Some (slice_index_or medians.new.items (length medians.old.items + k) (pos 0))) }
 {
     'lists: for k in 0..lists.len() {
-        medians.push(median_of_any(lists.list(k), scratch)?)?;
+        medians.push(lists.lower_median(k))?;
     }
     Ok(())
-}
-
-/// The lower median of the values; 0 if there are none.
-fn median_of_any(values: &[i64], scratch: &mut Vec<i64>) -> Result<i64, AllocError>
-    ensures { IfOk result (λ value. 0 < length values.now → median values.now ≡ Some value) }
-{
-    if values.is_empty() {
-        return Ok(0);
-    }
-    lower_median(values, scratch)
-}
-
-/// The lower median of some values, by quickselect in a list that is overwritten.
-fn lower_median(values: &[i64], scratch: &mut Vec<i64>) -> Result<i64, AllocError>
-    requires { 0 < length values.now }
-    ensures { IfOk result (λ value. median values.now ≡ Some value) }
-{
-    scratch.clear();
-    scratch.extend_from_slice(values)?;
-    let (_, value, _) = scratch.select_nth_unstable((values.len() - 1) / 2);
-    Ok(*value)
 }

@@ -1,10 +1,9 @@
-use Rattle.std.proofs.Common.{ap, arith, of_z, sym, to_z, w64, ◌≡◌, ◌∙◌, ◌++◌, ◌∷◌, subst}
+use Rattle.std.proofs.Common.{ap, arith, of_z, sym, to_z, w64, ◌≡◌, ◌∙◌}
 use Rattle.std.proofs.lemmas.Int.{ints, to_z-of_z}
 use Rattle.std.specs.Prelude.{slice_get, slice_index_or}
-use Rattle.std.specs.List.Sorted.{IsPermutation}
 use Rattle.bw_cells.specs.SetFunctions.{sorted}
 use Rattle.bw_groups.proofs.Ends.{lower_is, middle_told}
-use Rattle.bw_groups.proofs.median.lower_median.Goals as goal
+use Rattle.bw_groups.proofs.lower_median.lower_median.Goals as goal
 
 pub returns : goal.returns
 returns c =
@@ -12,10 +11,8 @@ returns c =
     let value = c.select_nth_unstable-value.result.1.now in
     let rest = c.select_nth_unstable-value.result.2.now in
     let back : to_z w64 (of_z w64 value) ≡ value = search (arith, ints, to_z-of_z) in
-    let given : c.deref_mut.result.now ≡ c.args.values.now = c.deref_mut.ensures.value ∙ c.in_ok-extend_from_slice.ensures.items ∙ ap (λ xs. xs ++ c.args.values.now) c.clear.ensures.items in
-    let moved : IsPermutation c.args.values.now (front ++ value ∷ rest) = subst (λ xs. IsPermutation xs (front ++ value ∷ rest)) given c.select_nth_unstable-value.ensures.permutation in
     rw back
     (ap (slice_get (sorted c.args.values.now)) (sym c.select_nth_unstable-value.ensures.front_len)
-    ∙ middle_told c.args.values.now front rest value moved
+    ∙ middle_told c.args.values.now front rest value c.select_nth_unstable-value.ensures.permutation
     (λ k d l. lower_is value (slice_index_or front k d) ∙ c.select_nth_unstable-value.ensures.partitioned.0 k d l)
     (λ k d l. lower_is (slice_index_or rest k d) value ∙ c.select_nth_unstable-value.ensures.partitioned.1 k d l))
