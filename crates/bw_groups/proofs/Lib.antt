@@ -17,7 +17,7 @@ pub mod Scales
 pub mod Spread
 pub mod Starts
 pub mod Summing
-pub mod Sums
 pub mod Telling
+pub mod Totals
 pub mod Values
 pub mod Widths

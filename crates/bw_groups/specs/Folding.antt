@@ -1,11 +1,13 @@
 -- The set functions of the values of each group.
-use Rattle.std.specs.Prelude.{Bool, List, None, Option, Some, if◌then◌else◌, length, map, not, pos, slice_index, slice_index_or, ℕ, ℤ, ◌&&◌, ◌<◌, ◌==◌, ◌≡◌}
+use Rattle.std.specs.Prelude.{Bool, List, None, Option, Some, if◌then◌else◌, length, map, not, pos, slice_index, slice_index_or, unsigned_abs, ℕ, ℤ, ◌&&◌, ◌<◌, ◌==◌, ◌^◌, ◌≡◌, ◌≤◌}
 use Rattle.std.specs.List.{range_with_len}
 use Rattle.bw_aggregate.specs.declared.summary.Asked.{Asked}
 use Rattle.bw_aggregate.specs.declared.summary.Summary.{Summary}
-use Rattle.bw_cells.specs.SetFunctions.{known}
+use Rattle.bw_cells.specs.SetFunctions.{known, total}
 use Rattle.bw_code.specs.declared.ends.Ends.{Ends}
 use Rattle.bw_groups.specs.Grouping.{members}
+use Rattle.bw_groups.specs.declared.sums.Sums.{Sums}
+use Rattle.bw_groups.specs.declared.sums.Sums.TheVariants.{Narrow, Wide}
 
 -- each fold is that of the non-null values in its group
 abbrev pub AreFolds : {F : Type 0} → (F → List ℤ → Type 0) → List ℕ → List (Option ℤ) → List F → Type 0
@@ -14,6 +16,19 @@ AreFolds {F} tells ranks column folds = (g : ℕ) (d : F) → g < length folds �
 -- it is the number of the values
 abbrev pub IsCount : ℕ → List ℤ → Type 0
 IsCount count values = count ≡ length values
+
+-- a value is at most 2^38 from 0
+abbrev pub IsSmall : ℤ → Type 0
+IsSmall x = unsigned_abs x ≤ 2 ^ 38
+
+-- it is the sum of the values
+abbrev pub IsSum : ℤ → List ℤ → Type 0
+IsSum sum values = sum ≡ total values
+
+-- the sums of the groups, in 64 bits or in 128
+abbrev pub sums_in : Sums → List ℤ
+sums_in (Narrow sums) = sums.items
+sums_in (Wide sums) = sums.items
 
 -- a result for this number of values, if it is asked for and there are any
 abbrev pub if_any : {A : Type 0} → Bool → ℕ → A → Option A

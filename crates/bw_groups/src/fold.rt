@@ -3,7 +3,7 @@
 ghost use Rattle.std.specs.Prelude.{All, IfOk, IsTrue, List, Option, [], false, if◌then◌else◌, length, pos, unsigned_abs, ℕ, ℤ, ◌*◌, ◌+ℤ◌, ◌+◌, ◌++◌, ◌<◌, ◌^◌, ◌∷◌, ◌≡◌, ◌≤◌};
 ghost use Rattle.bw_code.specs.Fittings.{AreEnds};
 ghost use Rattle.bw_cells.specs.SetFunctions.{total};
-ghost use Rattle.bw_groups.specs.Folding.{AreFolds};
+ghost use Rattle.bw_groups.specs.Folding.{AreFolds, IsSmall};
 ghost use Rattle.bw_groups.specs.Runs.{IsMeasured, values_in};
 
 use crate::groups::Groups;
@@ -53,6 +53,19 @@ impl Fold for i128 {
     // The number of a NULL is 0, so each is added without a branch.
     fn with(self, number: i64, _is_there: bool) -> i128 {
         add(self, number)
+    }
+}
+
+/// The sum of the values, if each is at most 2^38 from 0: the sum of so few of them fits 64 bits.
+impl Fold for i64 {
+    ghost tells = { λ sum values. All IsSmall values → sum ≡ total values };
+
+    fn none() -> i64 {
+        0
+    }
+
+    fn with(self, number: i64, _is_there: bool) -> i64 {
+        self.wrapping_add(number)
     }
 }
 

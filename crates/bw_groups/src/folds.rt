@@ -4,13 +4,15 @@ ghost use Rattle.std.specs.Prelude.{IfOk, IsTrue, None, Some, [], if◌then◌el
 ghost use Rattle.bw_aggregate.specs.Summaries.{IsSummary};
 ghost use Rattle.bw_aggregate.specs.declared.summary.Summary.{Summary as AnySummary};
 ghost use Rattle.bw_cells.specs.SetFunctions.{known, median};
-ghost use Rattle.bw_groups.specs.Folding.{AreFolds, IsCount, greatest_in, if_any, least_in, summaries, summary_by};
+ghost use Rattle.bw_groups.specs.Folding.{AreFolds, IsCount, greatest_in, if_any, least_in, summaries, summary_by, sums_in};
 ghost use Rattle.bw_groups.specs.Grouping.{members};
 ghost use Rattle.bw_groups.specs.Runs.{values_in};
 
+use crate::entry::entry;
 use crate::fold::{fold_each, fold_if};
 use crate::groups::Groups;
 use crate::median::medians_if;
+use crate::sums::Sums;
 use crate::value_runs::ValueRuns;
 use bw_aggregate::{Asked, Summary};
 use bw_code::Ends;
@@ -23,7 +25,7 @@ use std::marker::Model;
 pub struct Folds {
     asked: Asked,
     counts: Vec<u32>,
-    sums: Vec<i128>,
+    sums: Sums,
     ends: Vec<Option<Ends>>,
     medians: Vec<i64>,
 }
@@ -31,11 +33,11 @@ pub struct Folds {
 impl Model for Folds {
     ghost use Rattle.std.specs.Prelude.{List};
     ghost use Rattle.bw_aggregate.specs.declared.summary.Summary.{Summary};
-    ghost use Rattle.bw_groups.specs.Folding.{summaries};
+    ghost use Rattle.bw_groups.specs.Folding.{summaries, sums_in};
 
     ghost Value = { List Summary };
 
-    ghost view = { λ folds. summaries folds.asked folds.counts.items folds.sums.items folds.ends.items folds.medians.items };
+    ghost view = { λ folds. summaries folds.asked folds.counts.items (sums_in folds.sums) folds.ends.items folds.medians.items };
 }
 
 impl Folds {
@@ -51,7 +53,7 @@ impl Folds {
         ensures summaries { IfOk result (λ folds. (g : ℕ) (d : AnySummary) → g < length groups.now.values → IsSummary asked (known (members groups.now.ranks (values_in (C.runs column.now)) g)) (slice_index_or folds g d)) }
     {
         let counts = counts_of(alloc, groups, column)?;
-        let sums = fold_if::<i128, C>(alloc, asked.sum, groups, column)?;
+        let sums = Sums::if_asked(alloc, asked.sum, groups, column)?;
         let ends = fold_if::<Option<Ends>, C>(alloc, asks_ends(asked), groups, column)?;
         let medians = medians_if(alloc, asked.median, groups, &counts, column)?;
         Ok(Folds::from_parts(asked, counts, sums, ends, medians))
@@ -60,11 +62,11 @@ impl Folds {
     fn from_parts(
         asked: Asked,
         counts: Vec<u32>,
-        sums: Vec<i128>,
+        sums: Sums,
         ends: Vec<Option<Ends>>,
         medians: Vec<i64>,
     ) -> Folds
-        ensures { result ≡ summaries asked counts.items sums.items ends.items medians.items }
+        ensures { result ≡ summaries asked counts.items (sums_in sums) ends.items medians.items }
     {
         Folds {
             asked,
@@ -83,7 +85,7 @@ impl Folds {
         summary_by(
             self.asked,
             entry(&self.counts, g, 0),
-            entry(&self.sums, g, 0),
+            self.sums.get(g),
             entry(&self.ends, g, None),
             entry(&self.medians, g, 0),
         )
@@ -113,13 +115,6 @@ fn asks_ends(asked: Asked) -> bool
     ensures { result ≡ (asked.least || asked.greatest) }
 {
     asked.least || asked.greatest
-}
-
-/// Entry `g` of a list, or `none` past its end.
-fn entry<T: Copy>(list: &[T], g: usize, none: T) -> T
-    ensures { result ≡ slice_index_or list.now g none }
-{
-    if g < list.len() { list[g] } else { none }
 }
 
 /// The summary of values with this number, sum, ends and lower median, as far as it is asked for.

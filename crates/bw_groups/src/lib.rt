@@ -2,6 +2,7 @@
 #![tactic(auto)]
 
 mod column_values;
+mod entry;
 mod fold;
 mod folds;
 mod grouped_number;
@@ -13,6 +14,7 @@ mod median;
 mod numbers;
 mod parts;
 mod scale;
+mod sums;
 mod value_runs;
 
 pub use column_values::ColumnValues;

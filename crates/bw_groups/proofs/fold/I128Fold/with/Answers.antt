@@ -3,7 +3,7 @@ use Rattle.std.specs.Int.{w128}
 use Rattle.std.proofs.lemmas.Bool.{cases_Bool}
 use Rattle.std.proofs.lemmas.Int.{ints, to_z-of_z}
 use Rattle.std.proofs.lemmas.List.{length_push}
-use Rattle.bw_groups.proofs.Sums.{total_push}
+use Rattle.bw_groups.proofs.Totals.{total_push}
 use Rattle.bw_groups.proofs.fold.I128Fold.with.Goals as goal
 
 pub returns : goal.returns
