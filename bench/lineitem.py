@@ -1,4 +1,4 @@
-"""The rows of TPC-H's lineitem as integers, by the rules of its specification (clause 4.2.3), as CSV files.
+"""The rows of TPC-H's lineitem as integers, by the rules of its specification, as CSV files.
 
 Money is in cents, discount and tax in hundredths, dates are days from 1992-01-01, return flags are A 0, N 1 and R
 2, and line statuses F 0 and O 1. After the columns of the specification come four that the queries compute there:

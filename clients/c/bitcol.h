@@ -1,6 +1,7 @@
 /* bitcol inside a program: an in-memory store that answers scripts.
  *
- * What each call returns is proved for every argument. The caller's obligations, which are not checked:
+ * What a store answers is proved; the README of the crate bitcol_c says of each call how far. bitcol_set_budget and
+ * bitcol_used are C and not proved. The caller's obligations, which are not checked:
  * - a store was opened by bitcol_open and has not been closed by bitcol_close;
  * - a store is used by one call at a time; between two calls it may move to another thread;
  * - no pointer is null, not even one to zero bytes, and each points to as many bytes as the call is told;

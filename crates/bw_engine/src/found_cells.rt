@@ -13,9 +13,8 @@ use bw_mask::{Mask, has_bit};
 use bw_sql::Value;
 use std::alloc::AllocError;
 
-/// If at most this many of 64 slots are found, their cells are fetched one by one; reading the whole run would be
-/// slower.
-const FEW: u32 = 16;
+/// If at most this many of 64 slots are found, their cells are fetched one by one; reading whole runs would be slower.
+pub(crate) const FEW: u32 = 16;
 
 /// Cells of slots, and which of the slots are found. A run holds the cells of the found slots among 64.
 #[derive(Drop)]

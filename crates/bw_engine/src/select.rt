@@ -28,7 +28,7 @@ use bw_sql::{Name, Select, SelectItem, SelectItems};
 use indexmap::IndexMap;
 use std::alloc::{AllocError, Global};
 
-/// Returns the found rows in insertion order.
+/// Answers a SELECT.
 pub(crate) fn select(
     alloc: Global,
     tables: &IndexMap<Name, Table>,

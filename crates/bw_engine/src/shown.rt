@@ -10,15 +10,12 @@ ghost use Rattle.bw_engine.specs.Found.{rows_where};
 ghost use Rattle.bw_engine.specs.Runs.{AreRead, line_across, lines_from, slot_line};
 ghost use Rattle.bw_engine.specs.Stores.{rows_of_slots};
 
+use crate::found_cells::FEW;
 use bw_column::Column;
 use bw_mask::{Mask, has_bit};
 use bw_sql::{Name, Value};
 use bw_table::Table;
 use std::alloc::{AllocError, Global};
-
-/// If at most this many of 64 slots are found, their values are fetched one by one; reading whole runs of the columns
-/// would be slower.
-const FEW: u32 = 16;
 
 /// The values of one column in 64 slots.
 type Run = [Value; 64];
