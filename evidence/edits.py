@@ -6,8 +6,9 @@
 
 `rt ci` tries the edits in `crates/NAME/must-fail/`. Those in `evidence/edits/NAME/` show what another edit shows,
 change a getter, a constructor or a clone, or are of a crate that takes too long to prove for the gate; they have the
-same form, and their `file:` is relative to the crate. Each is tried by `rt ci` itself, on a copy of the tree in which they replace the gate's own. What the gate proved on this
-machine is not proved again, so run `rt ci` first: then all of them take about half an hour on four processors.
+same form, and their `file:` is relative to the crate. Each is tried by `rt ci` itself, on a copy of the tree in which
+they replace the gate's own. What the gate proved on this machine is not proved again, so run `rt ci` first: then all of
+them take about half an hour on four processors.
 
 The last line says how many were refused. The exit status is 0 if all were.
 """
