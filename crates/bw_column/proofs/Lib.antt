@@ -24,7 +24,9 @@ pub mod Overwriting
 pub mod PairRows
 pub mod Pieces
 pub mod Raised
+pub mod RaisedHere
 pub mod Ranks
+pub mod Rebased
 pub mod Repeated
 pub mod Rises
 pub mod Rows

@@ -33,9 +33,9 @@ lent_layout (lent.V codes) = layouts.V
 lent_layout (lent.H codes) = layouts.H
 lent_layout (lent.S codes) = layouts.S
 
--- where codes can be rebased in place: plain codes that take as many bytes as before, and planes where the width stays
+-- where codes can be rebased in place: plain codes that take as many bytes as before, and the others where the width stays
 abbrev pub ShiftsTo : Layout → ℕ → ℕ → Type 0
 ShiftsTo layouts.P old new = (new ≤ widest_half) ↔ (old ≤ widest_half)
 ShiftsTo layouts.V old new = new ≡ old
-ShiftsTo layouts.H old new = ⊥
-ShiftsTo layouts.S old new = ⊥
+ShiftsTo layouts.H old new = new ≡ old
+ShiftsTo layouts.S old new = new ≡ old

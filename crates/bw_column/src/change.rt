@@ -14,7 +14,6 @@ ghost use Rattle.bw_column.specs.Values.{IsNullOrHeld, known};
 use crate::column::Column;
 use crate::copying::spans;
 use crate::ended::EndedCells;
-use crate::growing::Grown;
 use crate::kept::{KeptCodes, find_codes};
 use crate::step::Step;
 use bw_cells::{Cells, Measured};
@@ -128,9 +127,8 @@ impl Column {
             let step = Step::Stay;
             return Ok(Prepared { step, codes });
         }
-        let Grown { column, codes } = self.grown(alloc, values, &ranked.entries, more)?;
-        let codes = KeptCodes::Places(ranked.codes(alloc, values, &codes)?);
-        let step = Step::Replace(column);
+        let (step, table) = self.step_to_entries(alloc, values, &ranked.entries, more)?;
+        let codes = KeptCodes::Places(ranked.codes(alloc, values, &table)?);
         Ok(Prepared { step, codes })
     }
 

@@ -16,6 +16,7 @@ ghost use Rattle.bw_column.specs.Values.{IsNullOrHeld, known, widest};
 
 use crate::codes::greatest_code;
 use crate::column::Column;
+use crate::growing::EntriesInUse;
 use crate::step::Step;
 use crate::within::has_top;
 use bw_cells::Measured;
@@ -298,7 +299,17 @@ impl Column {
             self.reserve(0)?;
             return Ok((Step::Stay, moves));
         }
-        let grown = self.grown_in(alloc, self.layout(), copy, entries, &stands, 0)?;
+        let own_entries = self.entries();
+        let own_stands = self.standing(alloc, own_entries)?;
+        let own = EntriesInUse {
+            entries: own_entries,
+            stands: &own_stands,
+        };
+        let others = EntriesInUse {
+            entries,
+            stands: &stands,
+        };
+        let grown = self.grown_in(alloc, self.layout(), own, copy, others, 0)?;
         Ok((Step::Replace(grown.column), grown.codes))
     }
 

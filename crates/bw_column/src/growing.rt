@@ -46,6 +46,15 @@ fn map_codes(codes: &mut [u64], present: u64, moves: &[u64], from: Option<usize>
     }
 }
 
+/// The entries of a dictionary, and which of them some row has.
+#[derive(Clone, Copy)]
+pub(crate) struct EntriesInUse<'a> {
+    pub(crate) entries: &'a [i64],
+    pub(crate) stands: &'a [bool],
+    ghost ascending: { IsAscending entries.now },
+    ghost flags: { length stands.now ≡ length entries.now },
+}
+
 /// A column whose dictionary has other values, too.
 #[derive(Drop)]
 pub(crate) struct Grown {
@@ -185,21 +194,20 @@ impl Column {
     }
 
     /// The same values in a layout and a dictionary that includes those of the cells, with room for `more` further
-    /// values. The cells' values are those of the entries that stand.
+    /// values. `own` are the entries of the column that some row has, and `others` those that some cell has.
     pub(crate) fn grown_in<C: Measured>(
         &self,
         alloc: Global,
         layout: Layout,
+        own: EntriesInUse<'_>,
         cells: &C,
-        entries: &[i64],
-        stands: &[bool],
+        others: EntriesInUse<'_>,
         more: usize,
     ) -> Result<Grown, AllocError>
-        requires ascending { IsAscending entries.now }
-        requires flags { length stands.now ≡ length entries.now }
-        requires stands { (x : ℤ) → (StandsIn entries.now stands.now x ↔ Contains (known (C.cells cells.now)) x) }
-        requires kind { kind_of self.now.encoding ≡ kinds.Dictionary }
-        requires own { All (IsNullOrHeld layout) self.now.values }
+        requires own { self.now.encoding ≡ by.Dictionary own.entries.now }
+        requires own_stands { (x : ℤ) → (StandsIn own.entries.now own.stands.now x ↔ Contains (known self.now.values) x) }
+        requires others { (x : ℤ) → (StandsIn others.entries.now others.stands.now x ↔ Contains (known (C.cells cells.now)) x) }
+        requires own_held { All (IsNullOrHeld layout) self.now.values }
         requires held { All (IsNullOrHeld layout) (C.cells cells.now) }
         requires few { length self.now.values + more ≤ 2 ^ 24 }
         ensures values { IfOk result (λ g. g.column.values ≡ self.now.values) }
@@ -207,31 +215,37 @@ impl Column {
         ensures fits { IfOk result (λ g. IsFit (known (self.now.values ++ C.cells cells.now)) g.column.encoding) }
         ensures kind { IfOk result (λ g. kind_of g.column.encoding ≡ kinds.Dictionary) }
         ensures room { IfOk result (λ g. length self.now.values + more ≤ g.column.room) }
-        ensures codes { IfOk result (λ g. AreStandingCodes (code_of g.column.encoding) entries.now stands.now g.codes.items) }
+        ensures codes { IfOk result (λ g. AreStandingCodes (code_of g.column.encoding) others.entry.entries.now others.entry.stands.now g.codes.items) }
     {
-        let own = self.entries();
-        let own_stands = self.standing(alloc, own)?;
         let MergedEntries {
-            entries: all,
+            entries,
             moves,
             places: codes,
-        } = merge_entries(alloc, own, &own_stands, entries, stands)?;
-        let encoding = dictionary_of(all);
+        } = merge_entries(
+            alloc,
+            own.entries,
+            own.stands,
+            others.entries,
+            others.stands,
+        )?;
+        let encoding = dictionary_of(entries);
         let column = self.moved(alloc, layout, encoding, &moves, more)?;
         Ok(Grown { column, codes })
     }
 
-    /// The same values in a dictionary that includes those of the cells, with room for `more` further values. `entries`
-    /// are the distinct values of the cells.
+    /// The same values in a dictionary that includes those of the cells, with room for `more` further values. `own` are
+    /// the entries of the column that some row has, and `entries` are the distinct values of the cells.
     pub(crate) fn grown<C: Measured>(
         &self,
         alloc: Global,
+        own: EntriesInUse<'_>,
         cells: &C,
         entries: &[i64],
         more: usize,
     ) -> Result<Grown, AllocError>
+        requires own { self.now.encoding ≡ by.Dictionary own.entries.now }
+        requires own_stands { (x : ℤ) → (StandsIn own.entries.now own.stands.now x ↔ Contains (known self.now.values) x) }
         requires distinct { AreDistinct (known (C.cells cells.now)) entries.now }
-        requires kind { kind_of self.now.encoding ≡ kinds.Dictionary }
         requires held { All (IsNullOrHeld self.now.layout) (C.cells cells.now) }
         requires few { length self.now.values + more ≤ 2 ^ 24 }
         ensures values { IfOk result (λ g. g.column.values ≡ self.now.values) }
@@ -243,8 +257,11 @@ impl Column {
     {
         let _held = self.len();
         let stands = Vec::from_elem(alloc, true, entries.len())?;
-        let grown = self.grown_in(alloc, self.layout(), cells, entries, &stands, more)?;
-        Ok(grown)
+        let others = EntriesInUse {
+            entries,
+            stands: &stands,
+        };
+        self.grown_in(alloc, self.layout(), own, cells, others, more)
     }
 
     /// The same values in a layout and a dictionary of only those entries that some row has. No value is read, only
@@ -258,9 +275,19 @@ impl Column {
         ensures kind { IfOk result (λ c. kind_of c.encoding ≡ kinds.Dictionary) }
     {
         let _few = self.len();
+        let entries = self.entries();
+        let stands = self.standing(alloc, entries)?;
+        let own = EntriesInUse {
+            entries,
+            stands: &stands,
+        };
         let none = [];
         let cells = none.as_slice();
-        let grown = self.grown_in(alloc, layout, &cells, &[], &[], 0)?;
+        let others = EntriesInUse {
+            entries: &[],
+            stands: &[],
+        };
+        let grown = self.grown_in(alloc, layout, own, &cells, others, 0)?;
         Ok(grown.column)
     }
 }

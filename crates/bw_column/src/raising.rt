@@ -52,7 +52,11 @@ pub(crate) fn raise_codes(codes: &mut [u64], present: u64, place: u64)
 
 impl Column {
     /// The non-null rows whose code is at least an index of its dictionary, or no row if the index is past the last.
-    fn rows_with_code_from(&self, alloc: Global, place: usize) -> Result<Mask, AllocError>
+    pub(crate) fn rows_with_code_from(
+        &self,
+        alloc: Global,
+        place: usize,
+    ) -> Result<Mask, AllocError>
         requires kind { kind_of self.now.encoding ≡ kinds.Dictionary }
         ensures count { IfOk result (λ mask. len mask ≡ length self.now.values) }
         ensures rows { IfOk result (λ mask. (i : ℕ) → row_at mask i ≡ (is_some (value_at self.now.values i) && nat_le place (code_for self.now.encoding (value_at self.now.values i)))) }

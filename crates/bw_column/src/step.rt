@@ -12,6 +12,7 @@ ghost use Rattle.bw_column.specs.Storing.{ShiftsTo};
 ghost use Rattle.bw_column.specs.Values.{IsNullOrHeld, known, widest};
 
 use crate::column::Column;
+use crate::entry_step::Raise;
 use bw_cells::{Measured, ends_of_both};
 use bw_code::{Encoding, Kind, Layout, Offset};
 use bw_dictionary::rank_cells;
@@ -24,6 +25,8 @@ pub(crate) enum Step {
     Stay,
     /// Its codes are rebased where they lie.
     Shift(Offset),
+    /// Its dictionary gets one entry more, for which codes rise where they lie.
+    Raise(Raise),
     /// Another column replaces it: the same values, encoded again.
     Replace(Column),
 }
@@ -69,8 +72,8 @@ impl Column {
             }
             Kind::Dictionary => {
                 let ranked = rank_cells(alloc, values)?;
-                let grown = self.grown(alloc, values, &ranked.entries, more)?;
-                Ok(Step::Replace(grown.column))
+                let (step, _) = self.step_to_entries(alloc, values, &ranked.entries, more)?;
+                Ok(step)
             }
         }
     }
@@ -97,8 +100,7 @@ impl Column {
     {
         match self.layout() {
             Layout::P => (bits <= 32) == (self.encoding.width() <= 32),
-            Layout::V => bits == self.encoding.width(),
-            Layout::H | Layout::S => false,
+            Layout::V | Layout::H | Layout::S => bits == self.encoding.width(),
         }
     }
 
@@ -150,6 +152,7 @@ impl Column {
         match step {
             Step::Stay => {}
             Step::Shift(offset) => self.shift_to(offset),
+            Step::Raise(raise) => self.raise_to(raise),
             Step::Replace(column) => *self = column,
         }
     }

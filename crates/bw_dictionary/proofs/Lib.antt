@@ -1,3 +1,4 @@
+pub mod Added
 pub mod Below
 pub mod Encoded
 pub mod Moved

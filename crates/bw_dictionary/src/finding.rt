@@ -80,7 +80,7 @@ fn index_from(entries: &[i64], at: usize, x: i64) -> Option<usize>
 
 /// The first index from `at` on whose entry is not below an integer, by galloping (Bentley and Yao, 1976), since many
 /// wanted integers are near each other: by steps that double, and then by bisection of the last step.
-fn first_from(entries: &[i64], at: usize, x: i64) -> usize
+pub(crate) fn first_from(entries: &[i64], at: usize, x: i64) -> usize
     requires entries { IsAscending entries.now }
     requires inside { at ≤ length entries.now }
     requires before { AreBelow entries.now x at }

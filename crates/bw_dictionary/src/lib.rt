@@ -2,12 +2,14 @@
 //! merging entries with others; and looking up entries in others.
 #![tactic(auto)]
 
+mod adding;
 mod entries;
 mod finding;
 mod merging;
 mod ranked_cells;
 mod standing;
 
+pub use adding::{AddedEntry, add_entry};
 pub use entries::{dictionary_like, dictionary_of};
 pub use finding::{find_entries, find_standing};
 pub use merging::{MergedEntries, merge_entries};

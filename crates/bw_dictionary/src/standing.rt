@@ -43,11 +43,17 @@ pub fn move_codes(codes: &mut [u64], present: u64, moves: &[u64])
     ensures count { length codes.new ≡ length codes.old }
     ensures each { (k : ℕ) → k < length codes.old → slice_index codes.new k ≡ (if bit_of present k then slice_index moves.now (slice_index codes.old k) else 0) }
 {
+    if moves.is_empty() {
+        codes.fill(0);
+        return;
+    }
+    let last = moves.len() - 1;
+    // Two loops without a branch: in one, the compiler would read the table only where the bit is set, and where rows
+    // are present in no order each other branch would be mispredicted.
     'codes: for i in 0..codes.len() {
-        codes[i] = if has_bit(present, i) {
-            moves[codes[i] as usize]
-        } else {
-            0
-        };
+        codes[i] = moves[(codes[i] as usize).min(last)];
+    }
+    'present: for i in 0..codes.len() {
+        codes[i] = if has_bit(present, i) { codes[i] } else { 0 };
     }
 }

@@ -6,7 +6,6 @@ use Rattle.std.proofs.lemmas.List.{drop_more, get_or-drop, get_or_default, lengt
 use Rattle.std.proofs.lemmas.List.Elements.{All-head, All-tail}
 use Rattle.std.proofs.lemmas.Map.Entries.{lookup_head, lookup_tail}
 use Rattle.bw_mask.specs.Masks.{MaskRows, len}
-use Rattle.bw_code.specs.Encodings.{kind_of}
 use Rattle.bw_code.proofs.Lists.{made_len}
 use Rattle.bw_column.specs.Codes.{IsCoded}
 use Rattle.bw_column.specs.Columns.{ColumnView, Keeps}
@@ -16,9 +15,10 @@ use Rattle.bw_column.specs.declared.copying.CopiedCodes.{CopiedCodes}
 use Rattle.bw_column.specs.declared.copying.CopiedCodes.TheVariants.{Distances, Moved}
 use Rattle.bw_column.specs.declared.kept.KeptCodes.{KeptCodes}
 use Rattle.bw_column.specs.declared.step.Step.{Step}
-use Rattle.bw_column.specs.declared.step.Step.TheVariants.{Replace, Shift, Stay}
+use Rattle.bw_column.specs.declared.step.Step.TheVariants.{Raise, Replace, Shift, Stay}
 use Rattle.bw_column.specs.Places.{chosen_values, overwritten, put_at}
 use Rattle.bw_column.proofs.Ordered.{all_chosen}
+use Rattle.bw_column.proofs.RaisedHere.{can_raise_still}
 use Rattle.bw_table.specs.Changes.{places, set_of, value_for}
 use Rattle.bw_table.specs.Slots.{row_of}
 use Rattle.bw_table.specs.Halves.{AllKept}
@@ -58,6 +58,17 @@ module _ (new old : ColumnView) (values : List (Option ℤ)) (keeps : Keeps new 
     few = omega (arith, is.few, ap length keeps.values);
     room = omega (arith, is.room, keeps.room, ap length keeps.values);
   }
+  still_ready_by (Raise raise) codes is = record {
+    can = can_raise_still old new raise keeps.values keeps.encoding is.can;
+    same = refl;
+    layout = refl;
+    encoding = rw (keeps.values, keeps.encoding) is.encoding;
+    coded = is.coded;
+    codes = is.codes;
+    held = rw keeps.layout is.held;
+    few = omega (arith, is.few, ap length keeps.values);
+    room = omega (arith, is.room, keeps.room, ap length keeps.values);
+  }
   still_ready_by (Replace column) codes is = record {
     can = tt;
     same = is.same ∙ sym keeps.values;
@@ -79,6 +90,8 @@ module _ (new old : ColumnView) (keeps : Keeps new old) where
   fits_kept copy Stay (Moved moves) is = rw keeps.encoding is
   fits_kept copy (Shift offset) Distances is = is
   fits_kept copy (Shift offset) (Moved moves) is = is
+  fits_kept copy (Raise raise) Distances is = is
+  fits_kept copy (Raise raise) (Moved moves) is = is
   fits_kept copy (Replace column) Distances is = is
   fits_kept copy (Replace column) (Moved moves) is = is
 

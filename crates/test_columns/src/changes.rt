@@ -247,6 +247,9 @@ fn copies_that_need_another_encoding(rt: HostRuntime) {
     ] {
         check_taken(&rt, &values, &others, &all, &others);
     }
+    // Another base, with which codes keep their width.
+    let others = [Some(9), Some(11), None];
+    check_taken(&rt, &[Some(10), None, Some(12)], &others, &all, &others);
     // A value that isn't taken needs no code.
     let far = [Some(-2_000_000_000), Some(11), Some(2_000_000_000)];
     check_taken(

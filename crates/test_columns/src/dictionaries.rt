@@ -153,10 +153,11 @@ fn dictionaries_take_in_others(rt: HostRuntime) {
 }
 
 /// Below all, between them, above all, at each place, and none that is new.
-const NEW_VALUES: [[Option<i64>; 3]; 6] = [
+const NEW_VALUES: [[Option<i64>; 3]; 7] = [
     [Some(-1), None, Some(-1)],
     [Some(25), Some(15), Some(25)],
-    [Some(41), None, None],
+    [Some(61), None, None],
+    [None, Some(45), None],
     [Some(35), Some(-5), Some(99)],
     [Some(10), Some(40), Some(10)],
     [None, None, None],
@@ -164,7 +165,8 @@ const NEW_VALUES: [[Option<i64>; 3]; 6] = [
 
 #[test]
 fn dictionaries_take_in_few(rt: HostRuntime) {
-    let values = [Some(40), Some(10), None, Some(20), Some(30), Some(10)];
+    // Five entries: with one more, codes keep their width.
+    let values = [Some(40), Some(10), None, Some(20), Some(30), Some(60)];
     for layout in LAYOUTS {
         check_grown(&rt, layout, &[], &values);
         for more in NEW_VALUES {

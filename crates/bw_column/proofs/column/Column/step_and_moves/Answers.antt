@@ -48,8 +48,11 @@ returns-in-Some-clause-moves c =
     rw (c.entries-entries.ensures.is, c.reserve.ensures.keeps.encoding, c.entries.ensures.is)
     (standing_moved entries stands values c.in_ok-stands.ensures.stands c.entries-entries.ensures.ascending (by.Dictionary others) c.in-Some.moves.items are)
 
-pub grown_in-requires-clause-stands : goal.grown_in-requires-clause-stands
-grown_in-requires-clause-stands c = rw c.deref-2.ensures.value c.in_ok-stands.ensures.stands
+pub grown_in-requires-clause-own_stands : goal.grown_in-requires-clause-own_stands
+grown_in-requires-clause-own_stands c = rw c.deref-2.ensures.value c.in_ok-own_stands.ensures.stands
+
+pub grown_in-requires-clause-others : goal.grown_in-requires-clause-others
+grown_in-requires-clause-others c = rw c.deref-3.ensures.value c.in_ok-stands.ensures.stands
 
 pub returns-clause-prepared : goal.returns-clause-prepared
 returns-clause-prepared c =
@@ -88,4 +91,4 @@ returns-clause-moves c =
     let stands = c.in_ok-stands.stands.items in
     let grown = c.in_ok-grown.grown in
     rw c.entries-entries.ensures.is
-    (standing_moved entries stands values c.in_ok-stands.ensures.stands c.entries-entries.ensures.ascending grown.column.encoding grown.codes.items (rw c.deref-2.ensures.value at c.in_ok-grown.ensures.codes))
+    (standing_moved entries stands values c.in_ok-stands.ensures.stands c.entries-entries.ensures.ascending grown.column.encoding grown.codes.items (rw c.deref-3.ensures.value at c.in_ok-grown.ensures.codes))
