@@ -8,9 +8,8 @@ ghost use Rattle.bw_aggregate.specs.Descents.{front};
 ghost use Rattle.bw_aggregate.specs.Digits.{IsAmong, front_count};
 ghost use Rattle.bw_aggregate.specs.Runs.{IsRun};
 
-use crate::runs::is_in;
 use bw_code::CodeColumn;
-use bw_mask::Mask;
+use bw_mask::{Mask, has_bit};
 
 /// The number of spare counters after those of the digits.
 pub(crate) const SPARE: usize = 64;
@@ -40,7 +39,7 @@ fn place_of(codes: &[u64], rows: u64, i: usize, digits: Digits) -> usize
     ensures within { result < digits.many + 64 }
 {
     let digit = (codes[i] >> digits.below).wrapping_sub(digits.first) as usize;
-    if is_in(rows, i) {
+    if has_bit(rows, i) {
         digit
     } else {
         digits.many + i

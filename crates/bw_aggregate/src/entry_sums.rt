@@ -11,10 +11,9 @@ ghost use Rattle.bw_aggregate.specs.Chosen.{chosen};
 ghost use Rattle.bw_aggregate.specs.Entries.{AreFound, AreSummed};
 ghost use Rattle.bw_aggregate.specs.Runs.{value_total};
 
-use crate::runs::is_in;
 use bw_code::CodeColumn;
 use bw_column::{Column, Storage};
-use bw_mask::Mask;
+use bw_mask::{Mask, has_bit};
 
 /// The dictionary entry of row `i` of a run; 0 if the row isn't selected.
 // Uses a product, since which rows are selected is unpredictable and a conditional would compile to a branch.
@@ -24,7 +23,7 @@ fn entry_in(entries: &[i64], codes: &[u64], rows: u64, i: usize) -> i64
     requires found { All (λ code. code < length entries.now) codes.now }
     ensures { result ≡ (if bit_of rows i then slice_index_or entries.now (slice_index codes.now i) (pos 0) else pos 0) }
 {
-    entries[codes[i] as usize] * i64::from(is_in(rows, i))
+    entries[codes[i] as usize] * i64::from(has_bit(rows, i))
 }
 
 /// The sum of the entries of a run's selected rows.

@@ -5,7 +5,7 @@ ghost use Rattle.bw_mask.specs.Masks.{bit_of};
 ghost use Rattle.bw_aggregate.specs.Ends.{AreNearest};
 
 use crate::end::{Distances, End, distance};
-use crate::runs::is_in;
+use bw_mask::has_bit;
 
 /// The smaller of `best` and the row's distance if the row is selected, else `best`.
 // Without a branch, since which rows are selected is unpredictable, and so that the next row waits only for the
@@ -43,7 +43,7 @@ fn nearest_of_some(codes: &[u64], rows: u64, top: u64, best: Distances) -> Dista
         mut greatest,
     } = best;
     'codes: for i in 0..codes.len() {
-        let is_in = is_in(rows, i);
+        let is_in = has_bit(rows, i);
         least = nearer(least, is_in, distance(End::Least, top, codes[i]));
         greatest = nearer(greatest, is_in, distance(End::Greatest, top, codes[i]));
     }

@@ -5,14 +5,7 @@ ghost use Rattle.bw_mask.specs.Masks.{bit_of};
 ghost use Rattle.bw_code.specs.Widths.{widest_code};
 ghost use Rattle.bw_aggregate.specs.Runs.{IsRun, code_sum, lower_half, upper_half};
 
-/// Whether row `i` of a run is selected.
-#[tactic(auto, using(bw_mask::proofs::Bits::bit_test))]
-pub(crate) fn is_in(rows: u64, i: usize) -> bool
-    requires { i < 64 }
-    ensures { result ≡ bit_of rows i }
-{
-    rows >> i & 1 == 1
-}
+use bw_mask::has_bit;
 
 /// The code of row `i` of a run; 0 if the row isn't selected.
 // Reads the code in either case, so that choosing needs no branch: which rows are selected is unpredictable.
@@ -22,7 +15,7 @@ fn code_in(codes: &[u64], rows: u64, i: usize) -> u64
     ensures { result ≡ (if bit_of rows i then slice_index codes.now i else 0) }
 {
     let code = codes[i];
-    if is_in(rows, i) { code } else { 0 }
+    if has_bit(rows, i) { code } else { 0 }
 }
 
 /// The sum of the codes of a run's selected rows.

@@ -13,10 +13,11 @@ use crate::code_ends::{Values, values_in};
 use crate::codes::{read_codes, words_at};
 use crate::plane_parts::plane_parts;
 use crate::presence::has_spare_bit;
-use crate::row_bits::{bits_of_rows, has_bit};
+use crate::row_bits::bits_of_rows;
 use crate::stray::has_stray_bit;
 use bw_cells::{Cells, Measured, distances_in_run};
 use bw_code::{ColumnType, Ends, Offset};
+use bw_mask::has_bit;
 use std::marker::Model;
 
 /// A column of planes, lent from the file's bytes. Contracts see the list of its cells.

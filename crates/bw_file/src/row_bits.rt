@@ -35,12 +35,3 @@ fn low_bits(n: usize) -> u64
 {
     if n == 0 { 0 } else { u64::MAX >> (64 - n) }
 }
-
-/// Whether bit i is set.
-#[inline]
-pub(crate) fn has_bit(word: u64, i: usize) -> bool
-    requires { i < 64 }
-    ensures { result ≡ bit_of word i }
-{
-    word >> i & 1 == 1
-}

@@ -5,3 +5,4 @@ pub mod Pairs
 pub mod Places
 pub mod Tables
 pub mod Views
+pub mod Within

