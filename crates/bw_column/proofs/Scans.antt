@@ -3,9 +3,9 @@ use Rattle.std.proofs.Common.{Bool, None, Option, Some, ap, arith, count_by, fal
 use Rattle.std.specs.Prelude.{if◌then◌else◌}
 use Rattle.std.proofs.lemmas.List.{get_or-map, get_or_default, length-map, same_lists}
 use Rattle.bw_mask.specs.Masks.{MaskRows, len, row_at}
-use Rattle.bw_mask.specs.Truth.{truth_of_bool}
+use Rattle.bw_mask.specs.Truth.{is_value, truth_of_bool}
 use Rattle.bw_mask.specs.Truths.{truth_from}
-use Rattle.bw_mask.specs.declared.truth_value.TruthValue.TheVariants.{Unknown}
+use Rattle.bw_mask.specs.declared.truth_value.TruthValue.TheVariants.{True, Unknown}
 use Rattle.bw_code.specs.Columns.{CodeList, code_at, count}
 use Rattle.bw_code.specs.Encodings.{code_of, value_of}
 use Rattle.bw_code.proofs.UnitLemmas.{count_rows}
@@ -20,7 +20,7 @@ use Rattle.bw_column.specs.Comparisons.{compare_so, compared, holds_of, truth_of
 use Rattle.bw_column.specs.Values.{value_at}
 use Rattle.bw_code.proofs.Lists.{made_len}
 use Rattle.bw_column.proofs.Rows.{known_rows, row_codes, value_of_row}
-use Rattle.std.proofs.lemmas.Bool.{cases_lt}
+use Rattle.std.proofs.lemmas.Bool.{both_ways, cases_lt}
 use Rattle.std.proofs.lemmas.List.{get_or_past, take_all}
 
 -- tests of the same rows are one
@@ -71,6 +71,28 @@ split_truth holds true (Some x) t f a b = rw (b, a) (one (holds x))
     one : (h : Bool) → truth_from h (not h) ≡ truth_of_bool h
     one true = refl
     one false = refl
+
+-- the needed rows where a test holds of a value that is there are those where its truth is true
+pub met_true : (holds : ℤ → Bool) (need : Bool) (value : Option ℤ) → (need && holds_of holds value) ≡ (need && is_value (truth_of holds value) True)
+met_true holds need None = refl
+met_true holds need (Some x) = ap (λ b. need && b) (one (holds x))
+  where
+    one : (h : Bool) → h ≡ is_value (truth_of_bool h) True
+    one true = refl
+    one false = refl
+
+pub known_true : (holds : ℤ → Bool) (need : Bool) (value : Option ℤ) → ((need && is_some value) && holds_of holds value) ≡ (need && is_value (truth_of holds value) True)
+known_true holds false value = refl
+known_true holds true None = refl
+known_true holds true (Some x) = met_true holds true (Some x)
+
+pub all_there : (need there : Bool) → (need ≡ true → there ≡ true) → need ≡ (need && there)
+all_there true there all = sym (all refl)
+all_there false there all = refl
+
+pub both_there : (need there : Bool) → (need && there) ≡ true → there ≡ true
+both_there true there h = h
+both_there false there h = absurd (both_ways false refl h)
 
 pub apart : (known t f : Bool) → f ≡ (known && not t) → t ≡ true → f ≡ false
 apart true t f is h = is ∙ ap not h

@@ -3,10 +3,10 @@ use Rattle.std.specs.Prelude.{Bool, List, None, Option, Some, false, if◌then�
 use Rattle.std.specs.List.{list_any}
 use Rattle.std.specs.Ordering.{int_eq}
 use Rattle.bw_mask.specs.Masks.{MaskRows, len, row_at}
-use Rattle.bw_mask.specs.Truth.{truth_of_bool}
+use Rattle.bw_mask.specs.Truth.{is_value, truth_of_bool}
 use Rattle.bw_mask.specs.Truths.{truth_at}
 use Rattle.bw_mask.specs.declared.truth_value.TruthValue.{TruthValue}
-use Rattle.bw_mask.specs.declared.truth_value.TruthValue.TheVariants.{Unknown}
+use Rattle.bw_mask.specs.declared.truth_value.TruthValue.TheVariants.{True, Unknown}
 use Rattle.bw_code.specs.Tests.{int_compares}
 use Rattle.bw_code.specs.declared.compare.CmpOp.{CmpOp}
 
@@ -44,3 +44,8 @@ is_listed entries value = truth_of (λ x. list_any (λ entry. int_eq x entry) en
 pub record AreTruthsAt (need : MaskRows) (truth : ℕ → TruthValue) (truths : List TruthValue) : Type 0 where
   pub len : length truths ≡ len need
   pub rows : (i : ℕ) → truth_at truths i ≡ (if row_at need i then truth i else Unknown)
+
+-- the needed rows where a condition is true
+pub record AreTrueAt (need : MaskRows) (truth : ℕ → TruthValue) (found : MaskRows) : Type 0 where
+  pub len : len found ≡ len need
+  pub rows : (i : ℕ) → row_at found i ≡ (row_at need i && is_value (truth i) True)

@@ -17,6 +17,7 @@ mod ends;
 mod entry_step;
 mod extending;
 mod filling;
+mod finding;
 mod growing;
 mod kept;
 mod lent_planes;

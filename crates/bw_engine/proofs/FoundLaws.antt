@@ -7,11 +7,9 @@ use Rattle.std.proofs.lemmas.List.{length-map}
 use Rattle.std.proofs.lemmas.List.Sums.{sum_by-cons}
 use Rattle.bw_mask.specs.Masks.{MaskRows, len, row_at}
 use Rattle.bw_mask.specs.Truth.{is_value}
-use Rattle.bw_mask.specs.Truths.{truth_at}
-use Rattle.bw_mask.specs.declared.truth_value.TruthValue.{TruthValue}
-use Rattle.bw_mask.specs.declared.truth_value.TruthValue.TheVariants.{True, Unknown}
+use Rattle.bw_mask.specs.declared.truth_value.TruthValue.TheVariants.{True}
 use Rattle.bw_mask.proofs.Bits.{and_true}
-use Rattle.bw_column.specs.Comparisons.{AreTruthsAt}
+use Rattle.bw_column.specs.Comparisons.{AreTrueAt}
 use Rattle.bw_table.specs.Slots.{Slot, slot_at}
 use Rattle.bw_sql.specs.Rows.{joined}
 use Rattle.bw_model.specs.Select.{shown}
@@ -64,16 +62,8 @@ module _ (slots : List Slot) (live : MaskRows) (long : len live ≡ length slots
   pub live_found : AreFoundIn slots None live
   live_found = (long, λ i within. each i within ∙ sym (and_true (slot_at slots i).live))
 
-  true_if : (b : Bool) (truth : TruthValue) → is_value (if b then truth else Unknown) True ≡ (b && is_value truth True)
-  true_if true truth = refl
-  true_if false truth = refl
-
-  pub true_found : (plan : Plan) (truths : List TruthValue) (mask : MaskRows) → AreTruthsAt live (truth_in plan slots) truths → len mask ≡ length truths → ((i : ℕ) → row_at mask i ≡ is_value (truth_at truths i) True) → AreFoundIn slots (Some plan) mask
-  true_found plan truths mask are lens rows = (
-    lens ∙ are.len ∙ long,
-    λ i within.
-        rows i
-        ∙ ap (λ t. is_value t True) (are.rows i)
-        ∙ true_if (row_at live i) (truth_in plan slots i)
-        ∙ ap (λ b. b && is_value (truth_in plan slots i) True) (each i within),
+  pub true_found : (plan : Plan) (mask : MaskRows) → AreTrueAt live (truth_in plan slots) mask → AreFoundIn slots (Some plan) mask
+  true_found plan mask are = (
+    are.len ∙ long,
+    λ i within. are.rows i ∙ ap (λ b. b && is_value (truth_in plan slots i) True) (each i within),
   )

@@ -9,7 +9,7 @@ ghost use Rattle.bw_plan.specs.Plans.{plan_of};
 use crate::table::Table;
 use bw_code::Meter;
 use bw_mask::Mask;
-use bw_plan::{RowCondition, evaluate};
+use bw_plan::{RowCondition, find};
 use bw_table::Slots;
 use std::alloc::{AllocError, Global};
 
@@ -41,5 +41,5 @@ fn true_slots(
     ensures { IfOk result (AreFoundIn slots.now.slots (Some (plan_of condition.now))) }
 {
     let mut meter = Meter::new();
-    Ok(evaluate(alloc, condition, slots, live, &mut meter)?.into_trues())
+    find(alloc, condition, slots, live, &mut meter)
 }

@@ -35,18 +35,18 @@ pub(crate) fn found_values(
     let count = found.count().saturating_mul(places.len());
     let mut values = Vec::with_capacity(alloc, count)?;
     let mut runs = vec![in alloc; [None; 64]; places.len()]?;
-    let words = found.words();
-    for q in 0..words.len() {
-        if words[q] != 0 {
-            show_slots(&mut values, &mut runs, table, places, found, 64 * q)?;
-        }
+    let end = found.len();
+    let mut at = 0;
+    while let Some(slot) = found.next_from(at) {
+        let start = slot - slot % 64;
+        show_slots(&mut values, &mut runs, table, places, found, start)?;
+        at = end.min(start + 64);
     }
     Ok(values)
 }
 
 /// Appends the values of the found slots among the next 64, starting at slot `at`.
-// Not inlined into the loop over the words: that would keep the loop's counter in memory, and most words have no found
-// slot.
+// Not inlined into the loop over the found slots: that would keep the loop's counter in memory.
 #[inline(never)]
 pub(crate) fn show_slots(
     values: &mut Vec<Value>,

@@ -1,5 +1,6 @@
 pub mod Comparing
 pub mod Counting
+pub mod FoundRows
 pub mod Headings
 pub mod Lines
 pub mod Listing

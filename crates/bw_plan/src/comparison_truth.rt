@@ -16,7 +16,7 @@ use bw_mask::{Mask, Truth, TruthValue};
 use bw_sql::{CompareOp, Value};
 
 /// The comparison for an operator.
-fn comparison(sign: CompareOp) -> CmpOp
+pub(crate) fn comparison(sign: CompareOp) -> CmpOp
     ensures { result ≡ cmp_of sign }
 {
     match sign {

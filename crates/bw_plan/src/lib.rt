@@ -4,6 +4,7 @@
 mod comparison_truth;
 mod delete;
 mod evaluation;
+mod finding;
 mod grouping;
 mod headers;
 mod insert;
@@ -22,6 +23,7 @@ mod words;
 
 pub use delete::resolve_delete;
 pub use evaluation::evaluate;
+pub use finding::find;
 pub use grouping::{GroupItem, GroupPlan};
 pub use headers::Headers;
 pub use insert::resolve_insert;

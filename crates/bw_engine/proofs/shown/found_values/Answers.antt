@@ -1,47 +1,50 @@
-use Rattle.std.proofs.Common.{ap, append-nil, arith, drop, length, length-append, length-drop, length-take, min, sym, ◌*◌, ◌++◌, ◌+◌, ◌-◌, ◌<◌, ◌∙◌, ◌≡◌}
-use Rattle.bw_mask.specs.Masks.{row_at}
+use Rattle.std.proofs.Common.{ap, append-nil, arith, drop, length, length-append, length-drop, length-take, min, sym, ◌%◌, ◌++◌, ◌+◌, ◌-◌, ◌<◌, ◌≤◌, ◌∙◌, ◌≡◌}
+use Rattle.bw_mask.specs.Masks.{len, row_at}
+use Rattle.bw_column.proofs.Overwriting.{below_len}
 use Rattle.bw_engine.specs.Runs.{lines_from, slot_line}
-use Rattle.bw_engine.proofs.RunLaws.{lines_join, lines_where, word_none}
+use Rattle.bw_engine.proofs.RunLaws.{lines_join, lines_none, lines_where}
 use Rattle.bw_engine.proofs.shown.found_values.Goals as goal
-use Rattle.bw_engine.proofs.shown.found_values.Goals.{then-words-q-ne0+in_ok-show_slots, else-words-q-ne0}
 
-pub loop-q-preserved : goal.loop-q-preserved
-loop-q-preserved c =
-    let slots = c.args.table.now.slots in
-    let line = slot_line c.args.places.now slots in
+pub loop-slot-preserved : goal.loop-slot-preserved
+loop-slot-preserved c =
+    let line = slot_line c.args.places.now c.args.table.now.slots in
     let passes = row_at c.args.found.now in
-    let q = c.loop-q.q in
-    let runs = c.loop-q.runs in
-    let total = length slots in
-    let n = min (total - 64 * q) 64 in
-    let inside : 64 * q < total = omega (arith, c.words-words.ensures.count, c.loop-q-test.true, c.requires.found) in
-    let more : lines_from line passes 0 (min (64 * (q + 1)) total) ≡ lines_from line passes 0 (min (64 * q) total) ++ lines_from line passes (64 * q) n =
-    lines_join line passes (min (64 * q) total) n 0 (min (64 * (q + 1)) total) (64 * q) (omega (arith, inside)) (omega (arith, inside)) in
-    elim c.if-words-q-ne0.branch [
-      | then-words-q-ne0+in_ok-show_slots w ↦
-          let new = w.show_slots.new.runs in
-          rw (w.values-is, w.runs-is) (record {
-            count =
-                omega (arith, length-take runs.len (new ++ drop (length new) runs.items), length-append new (drop (length new) runs.items), length-drop (length new) runs.items, w.in_ok-show_slots.ensures.runs, ap length w.deref_mut.ensures.value, runs.ok.0, c.loop-q.invariant.count);
-            values = w.in_ok-show_slots.ensures.values ∙ ap (λ l. l ++ lines_from line passes (64 * q) n) c.loop-q.invariant.values ∙ sym more;
-          })
-      | else-words-q-ne0 w ↦
-          let none = word_none line passes c.words-words.result.now q n (omega arith) c.words-words.ensures.rows w.if-words-q-ne0.false in
-          rw (w.values-is, w.runs-is) (record {
-            count = c.loop-q.invariant.count;
-            values =
-                c.loop-q.invariant.values
-                ∙ sym (append-nil (lines_from line passes 0 (min (64 * q) total)))
-                ∙ ap (λ l. lines_from line passes 0 (min (64 * q) total) ++ l) (sym none)
-                ∙ sym more;
-          })
-    ]
+    let at = c.loop-slot.at in
+    let is = c.in-Some.ensures in
+    let slot = c.in-Some.slot in
+    let start = slot - slot % 64 in
+    let total = length c.args.table.now.slots in
+    let n = min (total - start) 64 in
+    let next = c.min-at.result in
+    let runs = c.loop-slot.runs in
+    let new = c.show_slots.new.runs in
+    let old = c.loop-slot.invariant in
+    let low : slot < len c.args.found.now = below_len c.args.found.now slot is.1 in
+    let whole : at % 64 ≡ 0 = old.whole (omega (arith, low, is.0)) in
+    let after : at ≤ start = omega (arith, is.0, whole) in
+    let gap : lines_from line passes 0 start ≡ lines_from line passes 0 at =
+    lines_join line passes at (start - at) 0 start at (omega (arith, after)) (omega arith)
+    ∙ ap (λ l. lines_from line passes 0 at ++ l) (lines_none line passes (start - at) at (λ i h. is.2 (at + i) (omega arith) (omega (arith, h, after))))
+    ∙ append-nil (lines_from line passes 0 at) in
+    let more : lines_from line passes 0 next ≡ lines_from line passes 0 start ++ lines_from line passes start n =
+    lines_join line passes start n 0 next start (omega (arith, low, c.requires.found, c.min-at.ensures, c.len-end.ensures)) (omega arith) in
+    record {
+      at = omega (arith, low, c.min-at.ensures, c.len-end.ensures);
+      whole = λ h. omega (arith, h, c.min-at.ensures, c.len-end.ensures);
+      count =
+          omega (arith, length-take runs.len (new ++ drop (length new) runs.items), length-append new (drop (length new) runs.items), length-drop (length new) runs.items, c.in_ok-show_slots.ensures.runs, ap length c.deref_mut.ensures.value, runs.ok.0, old.count);
+      values = c.in_ok-show_slots.ensures.values ∙ ap (λ l. l ++ lines_from line passes start n) (old.values ∙ sym gap) ∙ sym more;
+    }
 
 pub returns : goal.returns
 returns c =
     let slots = c.args.table.now.slots in
-    let q = c.loop-q.q in
-    let all : min (64 * q) (length slots) ≡ length slots = omega (arith, c.words-words.ensures.count, c.loop-q-test.false, c.requires.found) in
-    c.loop-q.invariant.values
-    ∙ ap (λ n. lines_from (slot_line c.args.places.now slots) (row_at c.args.found.now) 0 n) all
-    ∙ lines_where c.args.places.now (row_at c.args.found.now) slots
+    let line = slot_line c.args.places.now slots in
+    let passes = row_at c.args.found.now in
+    let at = c.loop-slot.at in
+    let total = length slots in
+    let all : lines_from line passes 0 total ≡ lines_from line passes 0 at =
+    lines_join line passes at (total - at) 0 total at (omega (arith, c.loop-slot.invariant.at, c.requires.found)) (omega arith)
+    ∙ ap (λ l. lines_from line passes 0 at ++ l) (lines_none line passes (total - at) at (λ i h. c.in_default.ensures (at + i) (omega arith)))
+    ∙ append-nil (lines_from line passes 0 at) in
+    c.loop-slot.invariant.values ∙ sym all ∙ lines_where c.args.places.now passes slots
