@@ -12,9 +12,9 @@ use std::process::Abort;
 const ALL: u64 = u64::MAX;
 
 /// The layouts that hold BIGINTs.
-const LAYOUTS: [Layout; 3] = [Layout::P, Layout::V, Layout::S];
+pub(crate) const LAYOUTS: [Layout; 3] = [Layout::P, Layout::V, Layout::S];
 
-const KINDS: [Kind; 2] = [Kind::Offset, Kind::Dictionary];
+pub(crate) const KINDS: [Kind; 2] = [Kind::Offset, Kind::Dictionary];
 
 /// The column of the INTEGERs.
 const SMALL: (Layout, Kind) = (Layout::H, Kind::Offset);

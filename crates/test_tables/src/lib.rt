@@ -13,6 +13,8 @@ mod loaded;
 #[cfg(test)]
 mod random;
 #[cfg(test)]
+mod random_bigints;
+#[cfg(test)]
 mod seen;
 #[cfg(test)]
 mod units;

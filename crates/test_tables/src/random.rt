@@ -45,7 +45,7 @@ impl Random {
         LAYOUTS[(self.next() >> 8) as usize & 3]
     }
 
-    fn kind(&mut self) -> Kind {
+    pub(crate) fn kind(&mut self) -> Kind {
         if self.next() >> 8 & 1 == 0 {
             Kind::Offset
         } else {
@@ -53,11 +53,11 @@ impl Random {
         }
     }
 
-    fn column(&mut self) -> usize {
+    pub(crate) fn column(&mut self) -> usize {
         (self.next() >> 8) as usize % 3
     }
 
-    fn to(&mut self) -> To {
+    pub(crate) fn to(&mut self) -> To {
         if self.next() >> 8 & 1 == 0 {
             To::Value(self.cell())
         } else {
@@ -66,7 +66,7 @@ impl Random {
     }
 
     /// About one row in eight.
-    fn few(&mut self) -> u64 {
+    pub(crate) fn few(&mut self) -> u64 {
         self.next() & self.next() & self.next()
     }
 }
@@ -78,7 +78,7 @@ struct Pair {
     rows: Vec<Row>,
 }
 
-fn is_picked(word: u64, row: usize) -> bool {
+pub(crate) fn is_picked(word: u64, row: usize) -> bool {
     word >> (row % 64) & 1 == 1
 }
 
