@@ -14,13 +14,6 @@ pub fn word_between(from: i64, to: i64) -> u64
     from.cast_unsigned().wrapping_sub(to.cast_unsigned())
 }
 
-/// The code, plus `by` where it moves, modulo 2^64.
-fn moved(code: u64, moves: bool, by: u64) -> u64
-    ensures { result ≡ moved by moves code }
-{
-    code.wrapping_add(if moves { by } else { 0 })
-}
-
 /// Adds `by` to each of at most 64 codes whose bit is set.
 fn shift_block(codes: &mut [u32], rows: u64, by: u64)
     requires few { length codes.old ≤ 64 }
@@ -28,8 +21,10 @@ fn shift_block(codes: &mut [u32], rows: u64, by: u64)
     ensures len { length codes.new ≡ length codes.old }
     ensures codes { (i : ℕ) → i < length codes.old → slice_index codes.new i ≡ moved by (bit_of rows i) (slice_index codes.old i) }
 {
+    // Each sum fits 32 bits, so that it is the same modulo 2^32, and a register holds four.
+    let low = (by % 0x1_0000_0000) as u32;
     for i in 0..codes.len() {
-        codes[i] = moved(u64::from(codes[i]), has_bit(rows, i), by) as u32;
+        codes[i] = codes[i].wrapping_add(if has_bit(rows, i) { low } else { 0 });
     }
 }
 
@@ -54,7 +49,7 @@ fn shift_wide_block(codes: &mut [u64], rows: u64, by: u64)
     ensures codes { (i : ℕ) → i < length codes.old → slice_index codes.new i ≡ moved by (bit_of rows i) (slice_index codes.old i) }
 {
     for i in 0..codes.len() {
-        codes[i] = moved(codes[i], has_bit(rows, i), by);
+        codes[i] = codes[i].wrapping_add(if has_bit(rows, i) { by } else { 0 });
     }
 }
 
