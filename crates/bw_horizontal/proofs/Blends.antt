@@ -17,7 +17,7 @@ use Rattle.bw_lane.proofs.Sectionwise.{base, room_more, section_first, section_n
 section_xor : (k t a b : ℕ) → section_of k t (bit_xor a b) ≡ bit_xor (section_of k t a) (section_of k t b)
 section_xor k t a b = ap (λ n. n % base k) (xor_shr a b (t * (k + 1))) ∙ xor_mod (a / 2 ^ (t * (k + 1))) (b / 2 ^ (t * (k + 1))) (k + 1)
 
-section_and : (k t a b : ℕ) → section_of k t (bit_and a b) ≡ bit_and (section_of k t a) (section_of k t b)
+pub section_and : (k t a b : ℕ) → section_of k t (bit_and a b) ≡ bit_and (section_of k t a) (section_of k t b)
 section_and k t a b = ap (λ n. n % base k) (and_shr a b (t * (k + 1))) ∙ and_mod (a / 2 ^ (t * (k + 1))) (b / 2 ^ (t * (k + 1))) (k + 1)
 
 -- each section is 0 or 1

@@ -7,5 +7,7 @@ pub mod Pairs
 pub mod Places
 pub mod Rows
 pub mod Runs
+pub mod Shifted
 pub mod Spans
+pub mod Sums
 pub mod Views

@@ -36,8 +36,7 @@ segment_words k n q narrow h =
 module _ (k at rows q own code : ℕ) (old words after : List ℕ) (narrow : k ≤ 32)
     (bits : (r : ℕ) → r < 64 → bit_of own r ≡ is_chosen at rows (q * segment_rows k + r))
     (inside : (i t : ℕ) → i < k + 1 → t < sections_in k → section_of k t (get_or after (q * (k + 1) + i) 0)
-    ≡ (if bit_of own (i + t * (k + 1)) then code else section_of k t (get_or words (q * (k + 1) + i) 0)))
-    (outside : (w : ℕ) → (q * (k + 1) ≤ w → q * (k + 1) + (k + 1) ≤ w) → get_or after w 0 ≡ get_or words w 0) where
+    ≡ (if bit_of own (i + t * (k + 1)) then code else section_of k t (get_or words (q * (k + 1) + i) 0))) where
   pub segment_done : (j : ℕ) → j / segment_rows k ≡ q → code_in k words j ≡ code_in k old j → code_in k after j ≡ (if is_chosen at rows j then code else code_in k old j)
   segment_done j e kept =
       let rest = j % segment_rows k in
@@ -52,14 +51,16 @@ module _ (k at rows q own code : ℕ) (old words after : List ℕ) (narrow : k �
       let was : section_of k t (get_or words (q * (k + 1) + i) 0) ≡ code_in k old j = ap (λ w. section_of k t (get_or words w 0)) (sym word) ∙ kept in
       ap (λ w. section_of k t (get_or after w 0)) word ∙ inside i t low there ∙ rw (bit, was) refl
 
-  pub segment_beside : (j : ℕ) → j / segment_rows k ≢ q → code_in k after j ≡ code_in k words j
-  segment_beside j e =
-      let low : j % segment_rows k % (k + 1) < k + 1 = omega arith in
-      ap (section_of k (section_in k j)) (outside (word_of k j) (λ up.
-      elim (cases_lt (j / segment_rows k) q) [
-        | inl l ↦ absurd (omega (arith, up, low, mul-le-mul_right {m = j / segment_rows k + 1} {n = q} (k + 1) (omega (arith, l))))
-        | inr l ↦ omega (arith, low, mul-le-mul_right {m = q + 1} {n = j / segment_rows k} (k + 1) (omega (arith, l, e)))
-      ]))
+-- the rows of other segments, where only the words of one change
+pub segment_beside : (k q : ℕ) (words after : List ℕ) → ((w : ℕ) → (q * (k + 1) ≤ w → q * (k + 1) + (k + 1) ≤ w) → get_or after w 0 ≡ get_or words w 0)
+    → (j : ℕ) → j / segment_rows k ≢ q → code_in k after j ≡ code_in k words j
+segment_beside k q words after outside j e =
+    let low : j % segment_rows k % (k + 1) < k + 1 = omega arith in
+    ap (section_of k (section_in k j)) (outside (word_of k j) (λ up.
+    elim (cases_lt (j / segment_rows k) q) [
+      | inl l ↦ absurd (omega (arith, up, low, mul-le-mul_right {m = j / segment_rows k + 1} {n = q} (k + 1) (omega (arith, l))))
+      | inr l ↦ omega (arith, low, mul-le-mul_right {m = q + 1} {n = j / segment_rows k} (k + 1) (omega (arith, l, e)))
+    ]))
 
 -- no row from the end of 64 on is chosen, where none is after the last
 pub none_behind : (n at rows end : ℕ) → rows < 2 ^ 64 → (end < n → at + 64 ≤ end) → ((r : ℕ) → bit_of rows r ≡ true → at + r < n) → (j : ℕ) → end ≤ j → is_chosen at rows j ≡ false

@@ -14,7 +14,7 @@ use bw_lane::SectionMasks;
 
 /// The word with the codes of some sections replaced by those of `new`: of the sections whose lowest bit is set in
 /// `rows`.
-fn blended(masks: SectionMasks, word: u64, new: u64, rows: u64) -> u64
+pub(crate) fn blended(masks: SectionMasks, word: u64, new: u64, rows: u64) -> u64
     requires some { 1 ≤ masks.width }
     requires word { IsStored masks.width word }
     requires new { IsStored masks.width new }

@@ -1,9 +1,10 @@
 //! The column of codes side by side in words.
 
-ghost use Rattle.std.specs.Prelude.{length, nat_lt, slice_index, ℕ, ◌%◌, ◌&&◌, ◌*◌, ◌+◌, ◌≡◌};
-ghost use Rattle.bw_mask.specs.Masks.{bit_of};
+ghost use Rattle.std.specs.Prelude.{length, nat_lt, pos, slice_index, ℕ, ◌%◌, ◌&&◌, ◌*◌, ◌+◌, ◌-ℤ◌, ◌<◌, ◌^◌, ◌≡◌};
+ghost use Rattle.bw_mask.specs.Masks.{bit_of, len, row_at};
 ghost use Rattle.bw_lane.specs.Sections.{sections_in};
-ghost use Rattle.bw_code.specs.Columns.{code_at, count};
+ghost use Rattle.bw_code.specs.Columns.{code_at, count, KeepsShape};
+ghost use Rattle.bw_code.specs.Shifts.{shifted, StaysBelow};
 ghost use Rattle.bw_code.specs.declared.kind.Layout.TheVariants as layouts;
 ghost use Rattle.bw_code.specs.Units.{segments_of};
 ghost use Rattle.bw_code.specs.Widths.{widest_half};
@@ -11,11 +12,12 @@ ghost use Rattle.bw_horizontal.specs.Words.{row_of_bit, segment_rows};
 
 use crate::pair::pair_from;
 use crate::place::Place;
+use crate::rebasing::shift_codes;
 use crate::scan::scan_from;
 use crate::source::WordSource;
 use crate::storage::{fill_up, put_codes, read_codes, words_for};
 use crate::{blending, planes};
-use bw_code::{CmpOp, CodeColumn, CodeTest, Meter, Source};
+use bw_code::{CmpOp, CodeColumn, CodeTest, Meter, Source, word_between};
 use bw_mask::Mask;
 use std::alloc::{AllocError, Global};
 use std::marker::Model;
@@ -55,6 +57,18 @@ impl HorizontalColumn {
             words,
         } = self;
         words
+    }
+
+    /// Rebases the code of each of the rows. Each rebased code fits the column's width, too. Takes no memory.
+    #[tactic(auto, using(crate::proofs::Views::count_is))]
+    pub fn shift(&mut self, rows: &Mask, from: i64, to: i64)
+        requires rows { len rows.now ≡ count self.old }
+        requires fit { (i : ℕ) → i < count self.old → StaysBelow (2 ^ self.old.width) (shifted (from -ℤ to) (row_at rows.now i) (code_at self.old i)) }
+        ensures shape { KeepsShape self.new self.old }
+        ensures count { count self.new ≡ count self.old }
+        ensures codes { (i : ℕ) → i < count self.old → pos (code_at self.new i) ≡ shifted (from -ℤ to) (row_at rows.now i) (code_at self.old i) }
+    {
+        shift_codes(&mut self.words, self.width, rows, word_between(from, to));
     }
 }
 

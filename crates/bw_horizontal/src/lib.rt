@@ -8,6 +8,7 @@ mod gather;
 mod pair;
 mod place;
 mod planes;
+mod rebasing;
 mod scan;
 mod source;
 mod storage;

@@ -70,8 +70,8 @@ segments-preserved c =
       | inl l ↦ before_part first n words part 0 fits long w l
       | inr up ↦ behind_part first n words part 0 fits long w (omega (arith, apart up))
     ] in
-    let here = segment_done k at rows q own c.args.code old words after narrow bits inside outside in
-    let beside = segment_beside k at rows q own c.args.code old words after narrow bits inside outside in
+    let here = segment_done k at rows q own c.args.code old words after narrow bits inside in
+    let beside = segment_beside k q words after outside in
     record {
       from = omega (arith, c.segments.invariant.from);
       start = omega (arith, start);
