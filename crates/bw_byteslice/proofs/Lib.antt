@@ -1,6 +1,7 @@
 pub mod BitPlanes
 pub mod Blends
 pub mod Bytes
+pub mod Carrying
 pub mod Chosen
 pub mod Halves
 pub mod InUnits
@@ -9,6 +10,7 @@ pub mod Numbers
 pub mod Pairs
 pub mod Planes
 pub mod Raised
+pub mod Rebased
 pub mod Replacing
 pub mod Rooms
 pub mod Scanned

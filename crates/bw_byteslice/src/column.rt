@@ -1,8 +1,9 @@
 //! The column of layout S.
 
-ghost use Rattle.std.specs.Prelude.{[], length, slice_index, slice_index_or, ℕ, ◌*◌, ◌+◌, ◌-◌, ◌/◌, ◌<◌, ◌^◌, ◌≡◌, ◌≤◌};
-ghost use Rattle.bw_mask.specs.Masks.{bit_of, row_in};
-ghost use Rattle.bw_code.specs.Columns.{code_at, count};
+ghost use Rattle.std.specs.Prelude.{[], length, pos, slice_index, slice_index_or, ℕ, ◌*◌, ◌+◌, ◌-◌, ◌-ℤ◌, ◌/◌, ◌<◌, ◌^◌, ◌≡◌, ◌≤◌};
+ghost use Rattle.bw_mask.specs.Masks.{bit_of, len, row_at, row_in};
+ghost use Rattle.bw_code.specs.Columns.{KeepsShape, code_at, count};
+ghost use Rattle.bw_code.specs.Shifts.{StaysBelow, shifted};
 ghost use Rattle.bw_code.specs.Units.{digit, segments_of};
 ghost use Rattle.bw_code.specs.Widths.{widest_code};
 ghost use Rattle.bw_code.specs.declared.kind.Layout.TheVariants as layouts;
@@ -10,11 +11,12 @@ ghost use Rattle.bw_byteslice.specs.Slices.{shift_of, slices_of};
 
 use crate::pair::pair_from;
 use crate::plane_source::SlicePlanes;
+use crate::rebasing::shift_codes;
 use crate::scan::scan_from;
 use crate::shift::{shift_of, slices_of};
 use crate::source::SliceSource;
 use crate::{plane, reading, runs, storage};
-use bw_code::{CmpOp, CodeColumn, CodeTest, Meter, Source};
+use bw_code::{CmpOp, CodeColumn, CodeTest, Meter, Source, word_between};
 use bw_mask::Mask;
 use std::alloc::{AllocError, Global};
 use std::marker::Model;
@@ -75,6 +77,18 @@ impl SliceColumn {
         ensures none { result.reads ≡ 0 }
     {
         SlicePlanes::new(&self.slices, self.width, self.len)
+    }
+
+    /// Rebases the code of each of the rows. Each rebased code fits the column's width, too. Takes no memory.
+    pub fn shift(&mut self, rows: &Mask, from: i64, to: i64)
+        requires rows { len rows.now ≡ count self.old }
+        requires fit { (i : ℕ) → i < count self.old → StaysBelow (2 ^ self.old.width) (shifted (from -ℤ to) (row_at rows.now i) (code_at self.old i)) }
+        ensures shape { KeepsShape self.new self.old }
+        ensures count { count self.new ≡ count self.old }
+        ensures codes { (i : ℕ) → i < count self.old → pos (code_at self.new i) ≡ shifted (from -ℤ to) (row_at rows.now i) (code_at self.old i) }
+    {
+        let by = word_between(from, to);
+        shift_codes(&mut self.slices, self.width, self.len, rows, by);
     }
 }
 

@@ -7,6 +7,7 @@ mod pair;
 mod plane;
 mod plane_source;
 mod reading;
+mod rebasing;
 mod rows;
 mod runs;
 mod scan;

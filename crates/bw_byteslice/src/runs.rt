@@ -12,20 +12,36 @@ use crate::shift::{byte_at, raise};
 use crate::storage::{put_bytes, raise_codes, raise_parts};
 
 /// The greatest number of rows in a run.
-const RUN: usize = 64;
+pub(crate) const RUN: usize = 64;
 
-/// For each of 64 rows the byte of `rows` that has the row's bit, and a byte in which that bit alone is set.
-fn spread(rows: u64, bytes: &mut [u8; 64], bits: &mut [u8; 64])
-    ensures bytes { (r : ℕ) → r < 64 → bit_of (slice_index bytes.new r) (r % 8) ≡ bit_of rows r }
-    ensures bits { (r : ℕ) → r < 64 → slice_index bits.new r ≡ 2 ^ (r % 8) }
+/// For each row of a word a byte with one bit set: the bit that the row has in its byte of the word.
+#[rattlefmt::skip]
+static BITS: [u8; RUN] = [
+    1, 2, 4, 8, 16, 32, 64, 128, 1, 2, 4, 8, 16, 32, 64, 128,
+    1, 2, 4, 8, 16, 32, 64, 128, 1, 2, 4, 8, 16, 32, 64, 128,
+    1, 2, 4, 8, 16, 32, 64, 128, 1, 2, 4, 8, 16, 32, 64, 128,
+    1, 2, 4, 8, 16, 32, 64, 128, 1, 2, 4, 8, 16, 32, 64, 128,
+];
+
+/// For each of 64 rows the byte of `rows` that has the row's bit.
+pub(crate) fn spread(rows: u64, bytes: &mut [u8; 64])
+    ensures { (r : ℕ) → r < 64 → bit_of (slice_index bytes.new r) (r % 8) ≡ bit_of rows r }
 {
     for k in 0..8 {
         let byte = (rows >> (8 * k) & 0xff) as u8;
         for b in 0..8 {
             bytes[8 * k + b] = byte;
-            bits[8 * k + b] = 1 << b;
         }
     }
+}
+
+/// Whether the bit of row r is set in the row's byte of a word.
+#[inline]
+pub(crate) fn has_row(byte: u8, r: usize) -> bool
+    requires { r < 64 }
+    ensures { result ≡ bit_of byte (r % 8) }
+{
+    byte & BITS[r] != 0
 }
 
 /// Whether each row is chosen: row i where bit i is set. A loop over bytes is vectorized; a loop that shifts the word for
@@ -36,10 +52,9 @@ fn choose_few(rows: u64, chosen: &mut [bool])
     ensures each { (r : ℕ) → r < length chosen.old → slice_index_or chosen.new r false ≡ bit_of rows r }
 {
     let mut bytes = [0; RUN];
-    let mut bits = [0; RUN];
-    spread(rows, &mut bytes, &mut bits);
+    spread(rows, &mut bytes);
     for r in 0..chosen.len() {
-        chosen[r] = bytes[r] & bits[r] != 0;
+        chosen[r] = has_row(bytes[r], r);
     }
 }
 
@@ -50,10 +65,9 @@ fn choose_64(rows: u64, chosen: &mut [bool])
     ensures each { (r : ℕ) → r < 64 → slice_index_or chosen.new r false ≡ bit_of rows r }
 {
     let mut bytes = [0; RUN];
-    let mut bits = [0; RUN];
-    spread(rows, &mut bytes, &mut bits);
+    spread(rows, &mut bytes);
     for r in 0..RUN {
-        chosen[r] = bytes[r] & bits[r] != 0;
+        chosen[r] = has_row(bytes[r], r);
     }
 }
 
