@@ -26,7 +26,6 @@ pub mod Pieces
 pub mod Raised
 pub mod RaisedHere
 pub mod Ranks
-pub mod Rebased
 pub mod Repeated
 pub mod Rises
 pub mod Rows

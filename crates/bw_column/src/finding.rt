@@ -77,6 +77,7 @@ impl Column {
         let test = self.encoding().test(op, constant);
         self.find(alloc, test, need, meter)
     }
+
     /// The needed rows whose value lies between `low` and `high`, both inclusive, as in `rows_compared`. Where `low` is
     /// above `high`, no value does.
     pub fn rows_between(

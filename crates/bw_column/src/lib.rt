@@ -25,7 +25,6 @@ mod pair_codes;
 mod pairs;
 mod raising;
 mod reading;
-mod rebasing;
 mod runs;
 mod split;
 mod step;

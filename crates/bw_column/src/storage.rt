@@ -13,7 +13,6 @@ ghost use Rattle.bw_column.specs.Values.{widest};
 ghost use Rattle.bw_code.specs.declared.kind.Layout.TheVariants as layouts;
 ghost use Rattle.bw_vertical.specs.Planes.{code_by};
 
-use crate::rebasing::shift_codes;
 use bw_byteslice::SliceColumn;
 use bw_code::{CmpOp, CodeColumn, CodeTest, Layout, Meter, PlainColumn};
 use bw_horizontal::HorizontalColumn;
@@ -308,8 +307,8 @@ impl Codes {
         match self {
             Codes::P(codes) => codes.shift(rows, from, to, width),
             Codes::V(codes) => codes.shift(rows, from, to),
-            Codes::H(codes) => shift_codes(codes, rows, from, to),
-            Codes::S(codes) => shift_codes(codes, rows, from, to),
+            Codes::H(codes) => codes.shift(rows, from, to),
+            Codes::S(codes) => codes.shift(rows, from, to),
         }
     }
 }

@@ -4,10 +4,10 @@ use Rattle.bw_mask.specs.Masks.{bit_of, row_at}
 use Rattle.bw_vertical.specs.Storage.{KeepsSizes, code_of, is_set, lists, word_of}
 use Rattle.bw_vertical.proofs.shifting.shift_codes.Given as goal
 
--- the words so far are done, and the others are as they were
-abbrev pub invariant-loop-w : goal.invariant-loop-w
-invariant-loop-w l = record {
-  done : (i j : ℕ) → i < l.k → j < 64 * l.w → is_set l.k (lists l.groups.items) i j ≡ bit_of (code_of l.k (lists l.fn.groups.items) j + (if row_at l.rows j then l.by else 0)) (l.k - 1 - i);
-  left : (i v : ℕ) → i < l.k → l.w ≤ v → word_of l.k (lists l.groups.items) i v ≡ word_of l.k (lists l.fn.groups.items) i v;
+-- the segments so far are done, and the others are as they were
+abbrev pub invariant-loop-q : goal.invariant-loop-q
+invariant-loop-q l = record {
+  done : (i j : ℕ) → i < l.k → j < 256 * l.q → is_set l.k (lists l.groups.items) i j ≡ bit_of (code_of l.k (lists l.fn.groups.items) j + (if row_at l.rows j then l.by else 0)) (l.k - 1 - i);
+  left : (i v : ℕ) → i < l.k → 4 * l.q ≤ v → word_of l.k (lists l.groups.items) i v ≡ word_of l.k (lists l.fn.groups.items) i v;
   sizes : KeepsSizes l.groups.items l.fn.groups.items;
 }
