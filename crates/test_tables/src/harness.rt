@@ -354,6 +354,12 @@ pub(crate) fn check_last<R: Abort + AllocGlobal>(
     assert!(rt; table.slot_count() == slots);
 }
 
+/// A number of `width` bits with a sign. Its distance from the least one is made of the upper bits of `distance`.
+pub(crate) fn value_at(distance: u64, width: u32) -> i64 {
+    let spare = 64_u32.wrapping_sub(width) % 64;
+    (i64::MIN >> spare).wrapping_add_unsigned(distance >> spare)
+}
+
 /// The base and width of a column of kind OFFSET; `None` if there is no such column.
 pub(crate) fn span_of(table: &Table<usize>, column: usize) -> Option<(i64, u32)> {
     if column >= table.headers().len() {

@@ -5,7 +5,11 @@
 #[cfg(test)]
 mod bigints;
 #[cfg(test)]
+mod conditions;
+#[cfg(test)]
 mod examples;
+#[cfg(test)]
+mod finding;
 #[cfg(test)]
 mod harness;
 #[cfg(test)]

@@ -65,6 +65,19 @@ impl Random {
         }
     }
 
+    /// No distance, the greatest, a single bit, all bits up to one, or more often any distance.
+    pub(crate) fn distance(&mut self) -> u64 {
+        let word = self.next();
+        let place = (word >> 8) % 64;
+        match word % 8 {
+            0 => 0,
+            1 => u64::MAX,
+            2 => 1 << place,
+            3 => u64::MAX >> place,
+            _ => self.next(),
+        }
+    }
+
     /// About one row in eight.
     pub(crate) fn few(&mut self) -> u64 {
         self.next() & self.next() & self.next()

@@ -4,7 +4,8 @@
 
 use crate::bigints::{KINDS, LAYOUTS};
 use crate::harness::{
-    To, delete, fill, insert_wide, rebuild, rows_of, set_one, set_two, span_of, wide, wide_table_of,
+    To, delete, fill, insert_wide, rebuild, rows_of, set_one, set_two, span_of, value_at, wide,
+    wide_table_of,
 };
 use crate::random::{Random, is_picked};
 use crate::seen::{see, see_at};
@@ -21,32 +22,13 @@ const WIDTHS: [u32; 7] = [33, 40, 41, 48, 57, 63, 64];
 /// How often a table is changed while its values take so many bits.
 const CHANGES: usize = 20;
 
-/// A number of `width` bits with a sign. Its distance from the least one is made of the upper bits of `distance`.
-fn value_at(distance: u64, width: u32) -> i64 {
-    let spare = 64_u32.wrapping_sub(width) % 64;
-    (i64::MIN >> spare).wrapping_add_unsigned(distance >> spare)
-}
-
-/// No distance, the greatest, a single bit, all bits up to one, or more often any distance.
-fn some_distance(random: &mut Random) -> u64 {
-    let word = random.next();
-    let place = (word >> 8) % 64;
-    match word % 8 {
-        0 => 0,
-        1 => u64::MAX,
-        2 => 1 << place,
-        3 => u64::MAX >> place,
-        _ => random.next(),
-    }
-}
-
 /// Null, one of a few values, or more often any value of so many bits.
 fn some_cell(random: &mut Random, width: u32) -> Option<i64> {
     let word = random.next();
     match word % 8 {
         0 => None,
         1 | 2 => Some((word >> 16 & 15) as i64 - 4),
-        _ => Some(value_at(some_distance(random), width)),
+        _ => Some(value_at(random.distance(), width)),
     }
 }
 

@@ -1,6 +1,7 @@
 //! What conditions read of a column in each layout: of planes, words of sections and slices, as many units as the rows
 //! of a segment need; of plain codes, one unit for each needed row that isn't NULL.
 
+use crate::conditions::{number, two};
 use crate::harness::{Cell, insert, table_of};
 use crate::random::LAYOUTS;
 use crate::seen::{see, see_at};
@@ -65,17 +66,6 @@ fn compared(op: CompareOp, constant: i64) -> RowCondition {
     RowCondition::Test(Predicate::Compare(column(), op, number(constant)))
 }
 
-fn two<R: Abort + AllocGlobal>(
-    rt: &R,
-    first: RowCondition,
-    second: RowCondition,
-) -> Vec<RowCondition> {
-    let mut parts = Vec::new(rt.alloc());
-    parts.push(first).expect(rt, "memory");
-    parts.push(second).expect(rt, "memory");
-    parts
-}
-
 #[test]
 fn a_comparison_is_one_scan(rt: HostRuntime) {
     let below = compared(CompareOp::Lt, 128);
@@ -130,10 +120,6 @@ fn an_entry_is_looked_for_where_none_before_it_is_found(rt: HostRuntime) {
     }
     let listed = Predicate::In(column(), entries);
     see_predicate(&rt, listed, [32 + 31, 8 + 8, 9 + 9, 1 + 1]);
-}
-
-fn number(value: i64) -> Source {
-    Source::Constant(Some(value))
 }
 
 #[test]
