@@ -1,5 +1,5 @@
 -- Codes counted from another base: what those of a segment are then, and those of a column.
-use Rattle.std.proofs.Common.{Bool, List, ap, arith, false, get_or, if◌then◌else◌, length, pos, refl, sym, true, ℕ, ℤ, ◌%◌, ◌*◌, ◌+◌, ◌-◌, ◌/◌, ◌<◌, ◌^◌, ◌≡◌, ◌≤◌, ◌∙◌}
+use Rattle.std.proofs.Common.{Bool, List, ap, arith, false, get_or, if◌then◌else◌, length, pos, sym, ℕ, ℤ, ◌%◌, ◌*◌, ◌+◌, ◌-◌, ◌/◌, ◌<◌, ◌^◌, ◌≡◌, ◌≤◌, ◌∙◌}
 use Rattle.std.specs.List.{All}
 use Rattle.std.proofs.Math.Nat.{mod-eq_of_lt}
 use Rattle.std.proofs.Math.Pow.{mod-mod-pow, pow_mono}
@@ -7,8 +7,7 @@ use Rattle.std.proofs.lemmas.List.{get_or_past}
 use Rattle.std.proofs.lemmas.Nat.{div-add-mod', pow_pos}
 use Rattle.bw_mask.specs.Masks.{MaskRows, bit_of, len, row_at}
 use Rattle.bw_lane.specs.Sections.{IsStored, section_of, sections_in}
-use Rattle.bw_code.specs.Lists.{made}
-use Rattle.bw_code.specs.Shifts.{IsWord, StaysBelow, moved, shifted}
+use Rattle.bw_code.specs.Shifts.{IsWord, StaysBelow, shifted}
 use Rattle.bw_code.proofs.Lists.{made_at}
 use Rattle.bw_code.proofs.Moving.{moved_is}
 use Rattle.bw_horizontal.specs.Words.{AreWords, code_in, codes_of, section_in, segment_rows, word_of}

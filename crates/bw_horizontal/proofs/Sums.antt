@@ -1,10 +1,10 @@
 -- The codes of two words added section by section.
-use Rattle.std.proofs.Common.{Bool, ap, arith, bit_and, false, if◌then◌else◌, refl, sym, true, ℕ, ◌%◌, ◌*◌, ◌+◌, ◌-◌, ◌<◌, ◌^◌, ◌≡◌, ◌∙◌}
+use Rattle.std.proofs.Common.{Bool, ap, arith, bit_and, false, if◌then◌else◌, refl, sym, true, ℕ, ◌%◌, ◌+◌, ◌-◌, ◌<◌, ◌^◌, ◌≡◌, ◌∙◌}
 use Rattle.std.proofs.Math.Nat.{add-mod-mod, mod-eq_of_lt}
 use Rattle.std.proofs.lemmas.Nat.{and_le_l, and_mask, mod_below, pow_pos}
 use Rattle.bw_lane.specs.Sections.{IsStored, section_of, sections_in}
 use Rattle.bw_lane.proofs.Kernels.{doubled, room}
-use Rattle.bw_lane.proofs.Sectionwise.{HoldsCodes, IsSectionwise, base, sectionwise}
+use Rattle.bw_lane.proofs.Sectionwise.{HoldsCodes, IsSectionwise, sectionwise}
 use Rattle.bw_horizontal.proofs.Blends.{section_and}
 
 holds : (k word : ℕ) → IsStored k word → HoldsCodes k (sections_in k) word

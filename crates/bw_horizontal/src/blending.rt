@@ -1,6 +1,6 @@
 //! Writing codes to some of 64 rows: all sections of a word at once.
 
-ghost use Rattle.std.specs.Prelude.{false, if◌then◌else◌, length, slice_index, ℕ, ◌%◌, ◌*◌, ◌+◌, ◌-◌, ◌/◌, ◌<◌, ◌^◌, ◌≡◌, ◌≤◌};
+ghost use Rattle.std.specs.Prelude.{false, if◌then◌else◌, length, slice_index, ℕ, ◌*◌, ◌+◌, ◌-◌, ◌/◌, ◌<◌, ◌^◌, ◌≡◌, ◌≤◌};
 ghost use Rattle.std.specs.List.{All};
 ghost use Rattle.bw_mask.specs.Masks.{bit_of};
 ghost use Rattle.bw_lane.specs.Sections.{IsStored, section_of, sections_in};

@@ -1,6 +1,6 @@
 //! Tables with columns called 0, 1, 2 and so on, changed and read. If memory runs out, the test fails.
 
-ghost use Rattle.std.specs.Prelude.{All, IsTrue, length, slice_index_or, vec_len, ℕ, ◌%◌, ◌<◌, ◌≡◌};
+ghost use Rattle.std.specs.Prelude.{All, IsTrue, length, ℕ, ◌%◌, ◌<◌, ◌≡◌};
 ghost use Rattle.bw_code.specs.Types.{IsNullOrOfType, holds_its_type, types_of};
 ghost use Rattle.bw_code.specs.declared.kind.ColumnType.TheVariants.{Integer};
 ghost use Rattle.bw_column.specs.Values.{value_at};

@@ -65,7 +65,7 @@ loop-q-preserved c =
     let each = rw c.new-masks.ensures at c.constant-more.ensures.each in
     let bits : (r : ℕ) → r < segment_rows k → bit_of own r ≡ row_at c.args.rows.now (q * segment_rows k + r) = λ r h. c.bits.ensures r ∙ rw (lt-ltb r (segment_rows k) h) refl in
     let inside : (i t : ℕ) → i < k + 1 → t < sections_in k → section_of k t (get_or after (first + i) 0)
-        ≡ (section_of k t (get_or words (first + i) 0) + (if bit_of own (i + t * (k + 1)) then c.args.by % 2 ^ k else 0)) % 2 ^ k = λ i t low h.
+    ≡ (section_of k t (get_or words (first + i) 0) + (if bit_of own (i + t * (k + 1)) then c.args.by % 2 ^ k else 0)) % 2 ^ k = λ i t low h.
     ap (section_of k t) (in_part first n words part 0 fits long (first + i) (omega arith) (omega (arith, low)) ∙ ap (λ m. get_or part m 0) (omega arith))
     ∙ codes i t low h
     ∙ ap (λ x. (section_of k t (get_or mid i 0) + (if bit_of own (i + t * (k + 1)) then x else 0)) % 2 ^ k) (each t h ∙ c.low_code.ensures)

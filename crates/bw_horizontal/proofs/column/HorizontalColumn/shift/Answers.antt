@@ -1,4 +1,4 @@
-use Rattle.std.proofs.Common.{FitsSigned, ap, arith, length, of_z, refl, sym, to_z, w64, ℕ, ℤ, ◌-ℤ◌, ◌≡◌, ◌∙◌}
+use Rattle.std.proofs.Common.{FitsSigned, ap, arith, length, of_z, sym, to_z, w64, ℕ, ℤ, ◌-ℤ◌, ◌≡◌, ◌∙◌}
 use Rattle.std.proofs.lemmas.Int.{to_z-of_z}
 use Rattle.bw_mask.specs.Masks.{len}
 use Rattle.bw_code.specs.Columns.{count}
