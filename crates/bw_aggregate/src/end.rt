@@ -1,6 +1,6 @@
 //! The two ends of sorted codes.
 
-ghost use Rattle.std.specs.Prelude.{true, ◌-◌, ◌<◌, ◌^◌, ◌≡◌, ◌≤◌};
+ghost use Rattle.std.specs.Prelude.{true, ◌-◌, ◌^◌, ◌≡◌, ◌≤◌};
 ghost use Rattle.bw_aggregate.specs.Ends.{distance};
 
 /// Which end of the sorted codes is wanted.

@@ -1,6 +1,6 @@
 //! The least and the greatest value of some rows, by the distances of their codes from the ends.
 
-ghost use Rattle.std.specs.Prelude.{All, None, Some, if◌then◌else◌, is_some, length, slice_get, slice_index, true, ◌&&◌, ◌-◌, ◌<◌, ◌^◌, ◌≡◌, ◌≤◌};
+ghost use Rattle.std.specs.Prelude.{All, None, Some, if◌then◌else◌, is_some, length, slice_get, slice_index, true, ◌&&◌, ◌-◌, ◌<◌, ◌^◌, ◌≡◌};
 ghost use Rattle.bw_mask.specs.Masks.{len, row_at};
 ghost use Rattle.bw_code.specs.Encodings.{width};
 ghost use Rattle.bw_column.specs.Codes.{codes_for};

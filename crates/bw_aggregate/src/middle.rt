@@ -1,9 +1,8 @@
 //! The lower median, found in the planes of the codes, in place or in copies, or by digits.
 
-ghost use Rattle.std.specs.Prelude.{All, IfOk, List, Some, length, ℕ, ◌+◌, ◌-◌, ◌/◌, ◌<◌, ◌^◌, ◌≡◌, ◌≤◌};
+ghost use Rattle.std.specs.Prelude.{All, IfOk, List, Some, length, ℕ, ◌-◌, ◌/◌, ◌<◌, ◌^◌, ◌≡◌, ◌≤◌};
 ghost use Rattle.std.specs.List.{items_where_true};
 ghost use Rattle.bw_mask.specs.Masks.{len};
-ghost use Rattle.bw_code.specs.Columns.{Fit};
 ghost use Rattle.bw_code.specs.Encodings.{width};
 ghost use Rattle.bw_code.specs.Units.{segments_of};
 ghost use Rattle.bw_column.specs.Codes.{codes_for};

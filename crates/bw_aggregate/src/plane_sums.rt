@@ -2,7 +2,7 @@
 
 ghost use Rattle.std.specs.Prelude.{All, Bool, List, length, sum, true, ℕ, ◌&&◌, ◌*◌, ◌+◌, ◌-◌, ◌<◌, ◌^◌, ◌≡◌, ◌≤◌};
 ghost use Rattle.bw_mask.specs.Masks.{row_in};
-ghost use Rattle.bw_code.specs.Columns.{Fit, count};
+ghost use Rattle.bw_code.specs.Columns.{count};
 ghost use Rattle.bw_code.specs.Units.{segments_of};
 ghost use Rattle.bw_code.specs.Widths.{widest_code};
 ghost use Rattle.bw_aggregate.specs.Left.{codes_between};

@@ -1,6 +1,6 @@
 //! Several set functions of a column's values in some rows at once.
 
-ghost use Rattle.std.specs.Prelude.{All, IfOk, None, if◌then◌else◌, length, ◌+◌, ◌-◌, ◌/◌, ◌<◌, ◌≡◌, ◌≤◌, ◌^◌};
+ghost use Rattle.std.specs.Prelude.{All, IfOk, None, if◌then◌else◌, length, ◌-◌, ◌/◌, ◌<◌, ◌≡◌, ◌≤◌, ◌^◌};
 ghost use Rattle.bw_mask.specs.Masks.{len};
 ghost use Rattle.bw_code.specs.Units.{segments_of};
 ghost use Rattle.bw_column.specs.Values.{IsNullOrHeld};

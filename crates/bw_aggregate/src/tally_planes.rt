@@ -3,7 +3,7 @@
 
 ghost use Rattle.std.specs.Prelude.{Bool, List, false, length, sum, true, ◌&&◌, ◌*◌, ◌+◌, ◌-◌, ◌<◌, ◌^◌, ◌≡◌, ◌≤◌};
 ghost use Rattle.bw_mask.specs.Masks.{len, row_at};
-ghost use Rattle.bw_code.specs.Columns.{Fit, count};
+ghost use Rattle.bw_code.specs.Columns.{count};
 ghost use Rattle.bw_code.specs.Units.{segments_of};
 ghost use Rattle.bw_code.specs.Widths.{widest_code};
 ghost use Rattle.bw_aggregate.specs.Left.{codes_between};

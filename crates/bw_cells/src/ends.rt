@@ -1,6 +1,6 @@
 //! The least and the greatest of cells.
 
-ghost use Rattle.std.specs.Prelude.{List, ℤ, ◌++◌, ◌≡◌};
+ghost use Rattle.std.specs.Prelude.{List, ℤ, ◌++◌};
 ghost use Rattle.bw_code.specs.Fittings.{AreEnds};
 ghost use Rattle.bw_cells.specs.Known.{known};
 

@@ -1,9 +1,8 @@
 //! Building columns from values.
 
-ghost use Rattle.std.specs.Prelude.{[], All, IfOk, OnOk, is_some, length, map, ℕ, ◌++◌, ◌+◌, ◌<◌, ◌^◌, ◌≡◌, ◌≤◌};
+ghost use Rattle.std.specs.Prelude.{[], All, IfOk, OnOk, length, ◌+◌, ◌<◌, ◌^◌, ◌≡◌, ◌≤◌};
 ghost use Rattle.bw_code.specs.Encodings.{IsFit, kind_of, width};
 ghost use Rattle.bw_code.specs.declared.kind.Kind.TheVariants as kinds;
-ghost use Rattle.bw_column.specs.Codes.{IsCoded, codes_for};
 ghost use Rattle.bw_column.specs.Columns.{Keeps};
 ghost use Rattle.bw_column.specs.Values.{IsNullOrHeld, known, widest};
 

@@ -1,15 +1,14 @@
 //! Appending values to a column, and overwriting some of its values. All that may run out of memory is done first.
 
-ghost use Rattle.std.specs.Prelude.{All, IfOk, IsTrue, OnOk, count_by, true, false, length, ℕ, ◌++◌, ◌+◌, ◌<◌, ◌^◌, ◌↔◌, ◌≡◌, ◌≤◌};
-ghost use Rattle.bw_code.specs.Encodings.{IsFit, kind_of, width};
+ghost use Rattle.std.specs.Prelude.{All, IfOk, IsTrue, count_by, true, false, length, ◌++◌, ◌+◌, ◌<◌, ◌^◌, ◌↔◌, ◌≡◌, ◌≤◌};
+ghost use Rattle.bw_code.specs.Encodings.{kind_of};
 ghost use Rattle.bw_code.specs.declared.kind.Kind.TheVariants as kinds;
 ghost use Rattle.bw_mask.specs.Masks.{len};
-ghost use Rattle.bw_column.specs.Codes.{IsCoded, codes_for};
+ghost use Rattle.bw_column.specs.Codes.{IsCoded};
 ghost use Rattle.bw_column.specs.Columns.{Keeps};
-ghost use Rattle.bw_column.specs.Keeping.{AreKept};
 ghost use Rattle.bw_column.specs.Places.{overwritten};
 ghost use Rattle.bw_column.specs.Preparing.{IsEncodingFor, IsPreparedFor, more};
-ghost use Rattle.bw_column.specs.Values.{IsNullOrHeld, known};
+ghost use Rattle.bw_column.specs.Values.{IsNullOrHeld};
 
 use crate::column::Column;
 use crate::copying::spans;

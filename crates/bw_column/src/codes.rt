@@ -1,7 +1,7 @@
 //! Encoding many values at a time.
 
 ghost use Rattle.std.specs.Bool.{OnTrue};
-ghost use Rattle.std.specs.Prelude.{All, IfSome, IsSome, IsTrue, is_some, length, map, replicate, ◌++◌, ◌+◌, ◌-◌, ◌^◌, ◌↔◌, ◌≡◌, ◌≤◌};
+ghost use Rattle.std.specs.Prelude.{All, IfSome, IsSome, IsTrue, is_some, length, replicate, ◌-◌, ◌^◌, ◌↔◌, ◌≡◌};
 ghost use Rattle.bw_code.specs.declared.encoding.Encoding.TheVariants as by;
 ghost use Rattle.bw_column.specs.Codes.{IsCoded, code_for, codes_for};
 

@@ -1,7 +1,7 @@
 //! Comparing a column at the needed rows, without taking memory.
 
 ghost use Rattle.std.specs.Prelude.{length, ℕ, ℤ, Bool, ◌≡◌, Some};
-ghost use Rattle.bw_mask.specs.Masks.{len, row_at};
+ghost use Rattle.bw_mask.specs.Masks.{len};
 ghost use Rattle.bw_code.specs.Encodings.{code_of, width};
 ghost use Rattle.bw_code.specs.Meters.{raised};
 ghost use Rattle.bw_code.specs.Tests.{TestFits, meets};

@@ -8,7 +8,7 @@ ghost use Rattle.bw_code.specs.declared.encoding.Encoding.TheVariants as by;
 ghost use Rattle.bw_code.specs.declared.kind.Kind.TheVariants as kind;
 ghost use Rattle.bw_column.specs.Codes.{IsCoded};
 ghost use Rattle.bw_column.specs.Columns.{Keeps};
-ghost use Rattle.bw_column.specs.Copies.{FitsAfter, IsCopyPreparedFor, IsMasked, layout_of_copy, masked, step_alone};
+ghost use Rattle.bw_column.specs.Copies.{IsCopyPreparedFor, IsMasked, layout_of_copy, masked, step_alone};
 ghost use Rattle.bw_column.specs.Moves.{IsMoved};
 ghost use Rattle.bw_column.specs.Places.{chosen_values, overwritten, put_values};
 ghost use Rattle.bw_column.specs.Preparing.{IsEncodingFor, IsPreparedFor, after};

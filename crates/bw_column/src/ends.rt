@@ -1,6 +1,6 @@
 //! The least and the greatest value of a column, found from its codes.
 
-ghost use Rattle.std.specs.Prelude.{Bool, length, slice_index, true, ℕ, ◌^◌, ◌-◌, ◌<◌, ◌≡◌, ◌≤◌};
+ghost use Rattle.std.specs.Prelude.{Bool, length, slice_index, true, ℕ, ◌-◌, ◌<◌, ◌≡◌, ◌≤◌};
 ghost use Rattle.bw_mask.specs.Masks.{bit_of, row_at};
 ghost use Rattle.bw_code.specs.Columns.{code_at, count};
 ghost use Rattle.bw_code.specs.Fittings.{AreEnds};

@@ -1,6 +1,4 @@
 //! The step to a dictionary that includes other values.
-
-ghost use Rattle.std.specs.Bool.{OnTrue};
 ghost use Rattle.std.specs.Prelude.{All, Contains, IfOk, IfSome, [], length, ℤ, ◌++◌, ◌+◌, ◌^◌, ◌↔◌, ◌∷◌, ◌≡◌, ◌≤◌};
 ghost use Rattle.bw_code.specs.Encodings.{AreCodes, AreDistinct, IsFit, code_of, kind_of};
 ghost use Rattle.bw_code.specs.declared.encoding.Encoding.TheVariants as by;

@@ -1,6 +1,6 @@
 //! The planes of a column as they lie in memory: those of kind OFFSET in layout V.
 
-ghost use Rattle.std.specs.Prelude.{IfSome, None, drop, is_some, length, map, slice_index, slice_index_or, take, true, ℕ, ◌%◌, ◌+◌, ◌<◌, ◌≡◌, ◌≤◌, ◌⊎◌};
+ghost use Rattle.std.specs.Prelude.{IfSome, None, drop, is_some, map, slice_index, slice_index_or, take, true, ℕ, ◌%◌, ◌+◌, ◌<◌, ◌≡◌, ◌≤◌, ◌⊎◌};
 ghost use Rattle.bw_mask.specs.Masks.{bit_of};
 ghost use Rattle.bw_cells.specs.Distances.{distance_from};
 ghost use Rattle.bw_code.specs.Columns.{count};

@@ -1,15 +1,15 @@
 //! Splitting the needed non-null rows into those where a comparison holds and the others.
 
-ghost use Rattle.std.specs.Prelude.{Bool, Some, is_some, length, not, true, ℕ, ℤ, ◌&&◌, ◌+◌, ◌<◌, ◌≡◌, ◌≤◌};
+ghost use Rattle.std.specs.Prelude.{Bool, Some, is_some, length, not, true, ℕ, ℤ, ◌&&◌, ◌≡◌};
 ghost use Rattle.std.specs.List.{list_any};
 ghost use Rattle.std.specs.Ordering.{int_eq};
-ghost use Rattle.bw_mask.specs.Masks.{SameShape, bit_of, len, row_at};
+ghost use Rattle.bw_mask.specs.Masks.{SameShape, len, row_at};
 ghost use Rattle.bw_code.specs.Encodings.{code_of, test_of, width};
 ghost use Rattle.bw_code.specs.Meters.{raised};
 ghost use Rattle.bw_code.specs.Tests.{TestFits, meets};
 ghost use Rattle.bw_code.specs.declared.compare.CmpOp.TheVariants as op;
 ghost use Rattle.bw_column.specs.Comparisons.{holds_of};
-ghost use Rattle.bw_column.specs.Costs.{needed_known, units_of_columns, units_of_list, units_of_test};
+ghost use Rattle.bw_column.specs.Costs.{needed_known, units_of_list, units_of_test};
 ghost use Rattle.bw_column.specs.Values.{value_at};
 
 use crate::column::Column;

@@ -1,6 +1,6 @@
 //! Putting one integer among the entries of a dictionary.
 
-ghost use Rattle.std.specs.Prelude.{Contains, IfOk, length, ◌≡◌};
+ghost use Rattle.std.specs.Prelude.{Contains, IfOk};
 ghost use Rattle.bw_code.specs.Ascending.{IsAscending};
 ghost use Rattle.bw_dictionary.specs.Adding.{IsEntryAdded};
 

@@ -1,6 +1,6 @@
 //! The distinct integers among cells, and the index of each cell's integer among them.
 
-ghost use Rattle.std.specs.Prelude.{All, FitsSigned, IfOk, [], drop, length, map, pos, take, ◌+◌, ◌+ℤ◌, ◌^◌, ◌≡◌, ◌≤◌, ◌≤ℤ◌};
+ghost use Rattle.std.specs.Prelude.{All, IfOk, [], drop, length, map, pos, take, ◌+◌, ◌+ℤ◌, ◌^◌, ◌≡◌, ◌≤◌, ◌≤ℤ◌};
 ghost use Rattle.bw_cells.specs.Distances.{distance_from};
 ghost use Rattle.bw_cells.specs.Known.{known};
 ghost use Rattle.bw_code.specs.Encodings.{IsGreatest, IsLeast};

@@ -1,7 +1,5 @@
 //! The codes of a dictionary in place of its values.
-
-ghost use Rattle.std.specs.Int.{w64};
-ghost use Rattle.std.specs.Prelude.{if◌then◌else◌, length, pos, slice_index, ℕ, ◌<◌, ◌≡◌, ◌≤◌};
+ghost use Rattle.std.specs.Prelude.{if◌then◌else◌, length, slice_index, ℕ, ◌<◌, ◌≡◌, ◌≤◌};
 ghost use Rattle.bw_code.specs.Encodings.{kind_of};
 ghost use Rattle.bw_code.specs.declared.kind.Kind.TheVariants as kinds;
 ghost use Rattle.bw_engine.specs.Codes.{codes_in, rebased};

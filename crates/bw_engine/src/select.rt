@@ -1,13 +1,13 @@
 //! SELECT.
 
-ghost use Rattle.std.specs.Prelude.{◌≡◌, ◌<◌, length, map, option_map, IfOk};
+ghost use Rattle.std.specs.Prelude.{◌≡◌, ◌<◌, length, map, IfOk};
 ghost use Rattle.bw_mask.specs.Masks.{len, row_at};
 ghost use Rattle.bw_model.specs.Refusals.{select_tests};
 ghost use Rattle.bw_model.specs.Select.{answer, heading_of, shown_items};
 ghost use Rattle.bw_model.specs.Store.{names};
 ghost use Rattle.bw_model.specs.declared.answer.Heading.TheVariants.{Column};
 ghost use Rattle.bw_model.specs.declared.reply.Reply.TheVariants.{Rows};
-ghost use Rattle.bw_sql.specs.Tree.{condition_of, items_of, select_of, statement_of};
+ghost use Rattle.bw_sql.specs.Tree.{items_of, select_of, statement_of};
 ghost use Rattle.bw_sql.specs.declared.tree.Statement.TheVariants as statements;
 ghost use Rattle.bw_engine.specs.Folds.{IsShownWithin, lines_by, plan_width};
 ghost use Rattle.bw_engine.specs.Found.{rows_where};

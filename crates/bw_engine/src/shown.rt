@@ -2,7 +2,6 @@
 
 ghost use Rattle.std.specs.Prelude.{All, IfOk, OnOk, length, map, min, ℕ, ◌+◌, ◌++◌, ◌-◌, ◌<◌, ◌^◌, ◌≡◌, ◌≤◌};
 ghost use Rattle.bw_mask.specs.Masks.{bit_of, len, row_at};
-ghost use Rattle.bw_table.specs.Slots.{slot_at};
 ghost use Rattle.bw_sql.specs.Rows.{joined};
 ghost use Rattle.bw_column.specs.Values as columns;
 ghost use Rattle.bw_model.specs.Store.{value_at};

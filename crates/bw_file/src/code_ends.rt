@@ -1,6 +1,6 @@
 //! The least and the greatest code of a column of planes, and the values that codes stand for.
 
-ghost use Rattle.std.specs.Prelude.{All, Bool, IfSome, None, Option, false, length, pos, ℕ, ℤ, ◌*◌, ◌+ℤ◌, ◌+◌, ◌<◌, ◌≡◌, ◌≤◌};
+ghost use Rattle.std.specs.Prelude.{All, IfSome, None, Option, length, pos, ℤ, ◌*◌, ◌+ℤ◌, ◌+◌, ◌<◌, ◌≡◌, ◌≤◌};
 ghost use Rattle.bw_cells.specs.Known.{known};
 ghost use Rattle.bw_code.specs.Fittings.{AreEnds};
 ghost use Rattle.bw_code.specs.Types.{IsNullOrOfType, IsOfType};

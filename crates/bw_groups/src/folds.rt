@@ -1,6 +1,6 @@
 //! Set functions of a column's values in each group.
 
-ghost use Rattle.std.specs.Prelude.{IfOk, IsTrue, None, Some, [], if◌then◌else◌, length, slice_index_or, ℕ, ◌<◌, ◌||◌, ◌≡◌};
+ghost use Rattle.std.specs.Prelude.{IfOk, None, Some, if◌then◌else◌, length, slice_index_or, ℕ, ◌<◌, ◌||◌, ◌≡◌};
 ghost use Rattle.bw_aggregate.specs.Summaries.{IsSummary};
 ghost use Rattle.bw_aggregate.specs.declared.summary.Summary.{Summary as AnySummary};
 ghost use Rattle.bw_cells.specs.SetFunctions.{known, median};

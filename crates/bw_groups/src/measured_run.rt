@@ -1,6 +1,6 @@
 //! A run of values as distances above a base.
 
-ghost use Rattle.std.specs.Prelude.{FitsSigned, List, Option, Some, [], is_some, length, ℕ, ℤ, ◌+◌, ◌++◌, ◌<◌, ◌∷◌, ◌≡◌};
+ghost use Rattle.std.specs.Prelude.{FitsSigned, List, Option, Some, [], is_some, ℕ, ℤ, ◌+◌, ◌++◌, ◌<◌, ◌∷◌, ◌≡◌};
 ghost use Rattle.std.specs.Int.{w64};
 ghost use Rattle.bw_cells.specs.Distances.{distance_from};
 ghost use Rattle.bw_groups.specs.Runs.{AreFilled, IsMeasured};

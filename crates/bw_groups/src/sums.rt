@@ -1,6 +1,6 @@
 //! The sums of a column's values in each group.
 
-ghost use Rattle.std.specs.Prelude.{All, IfOk, IsTrue, Some, length, pos, slice_index_or, ℤ, ◌≡◌};
+ghost use Rattle.std.specs.Prelude.{IfOk, IsTrue, Some, length, pos, slice_index_or, ℤ, ◌≡◌};
 ghost use Rattle.bw_code.specs.declared.ends.Ends.{Ends as Bounds};
 ghost use Rattle.bw_groups.specs.Folding.{AreFolds, IsSmall, IsSum, sums_in};
 ghost use Rattle.bw_groups.specs.Runs.{IsWithin, values_in};

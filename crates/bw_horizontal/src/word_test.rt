@@ -1,6 +1,6 @@
 //! What is asked of each word of a scan, prepared before the first one.
 
-ghost use Rattle.std.specs.Prelude.{bit_and, ℕ, ◌≡◌};
+ghost use Rattle.std.specs.Prelude.{ℕ, ◌≡◌};
 ghost use Rattle.bw_lane.specs.Marking.{marks};
 ghost use Rattle.bw_lane.specs.Sections.{IsStored, holds};
 ghost use Rattle.bw_code.specs.Tests.{TestFits, code_compares, meets};

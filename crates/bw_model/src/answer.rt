@@ -1,6 +1,6 @@
 //! The rows that a statement returns.
 
-ghost use Rattle.std.specs.Prelude.{◌≡◌, ◌*◌, ◌<◌, ℕ, length};
+ghost use Rattle.std.specs.Prelude.{◌≡◌, ◌*◌, ◌<◌, length};
 ghost use Rattle.bw_model.specs.Answers.{AreWholeLines, lines_of};
 ghost use Rattle.bw_model.specs.Cells.{cells_in, cells_kept, shown_all};
 
@@ -59,7 +59,7 @@ pub struct Answer {
 }
 
 impl Model for Answer {
-    ghost use Rattle.std.specs.Prelude.{List, length};
+    ghost use Rattle.std.specs.Prelude.{length};
     ghost use Rattle.bw_model.specs.declared.answer.Heading.{Heading};
     ghost use Rattle.bw_model.specs.declared.answer.Cell.{Cell};
     ghost use Rattle.bw_model.specs.Answers.{AreWholeLines, Shown, lines_of};

@@ -1,9 +1,7 @@
 //! Laws of conditions: what BETWEEN and IN stand for, and NULL in an IN list.
 
-ghost use Rattle.std.specs.Prelude.{◌≡◌, [], false, is_none, List, map, Some, true};
+ghost use Rattle.std.specs.Prelude.{◌≡◌, [], is_none, List, map, Some, true};
 ghost use Rattle.std.specs.List.{list_any};
-ghost use Rattle.bw_mask.specs.declared.truth_value.TruthValue.TheVariants.{True};
-ghost use Rattle.bw_mask.specs.Truth.{is_value};
 ghost use Rattle.bw_model.specs.Condition.{found_rows, truth_at};
 ghost use Rattle.bw_model.specs.Store.{Header as AnyHeader, Row as AnyRow, Table as AnyTable, Value as AnyValue};
 ghost use Rattle.bw_lex.specs.declared.token.CompareOp.TheVariants.{Eq, Ge, Le};

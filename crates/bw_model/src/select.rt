@@ -1,7 +1,6 @@
 //! What a SELECT returns.
 
 ghost use Rattle.std.specs.Prelude.{◌≡◌, ◌<◌, [], ◌∷◌, ◌++◌, IfOk, OnOk, length, map};
-ghost use Rattle.bw_model.specs.Answers.{AreWholeLines};
 ghost use Rattle.bw_model.specs.Select.{answer, columns_in, function_heading, has_functions, heading_of, is_column, line_of, lines_for, said_in, said_of, shown, shown_items};
 ghost use Rattle.bw_sql.specs.Rows.{joined};
 ghost use Rattle.bw_sql.specs.Tree.{items_of, select_of};

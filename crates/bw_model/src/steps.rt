@@ -1,7 +1,6 @@
 //! The effect of a statement.
 
-ghost use Rattle.std.specs.Prelude.{◌≡◌, IfOk, MatchOption, OnErr, length, map, position};
-ghost use Rattle.std.specs.Str.{bytes_eq};
+ghost use Rattle.std.specs.Prelude.{◌≡◌, IfOk, MatchOption, OnErr, length, map};
 ghost use Rattle.bw_model.specs.Insert.{target_columns, with_rows};
 ghost use Rattle.bw_model.specs.Contents.{lines_in};
 ghost use Rattle.bw_model.specs.Refusals.{first_that_holds, insert_tests, load_tests};

@@ -3,7 +3,6 @@
 ghost use Rattle.std.specs.Prelude.{IfOk, Some, false, map, ◌≡◌};
 ghost use Rattle.std.specs.List.{list_any};
 ghost use Rattle.bw_model.specs.Refusals.{grouping_is_missing, is_other_column, shows_mixed};
-ghost use Rattle.bw_model.specs.Store.{place_of};
 ghost use Rattle.bw_plan.specs.Selections.{grouped_item, is_ungrouped};
 ghost use Rattle.bw_sql.specs.Tree.{items_of};
 

@@ -4,7 +4,7 @@ ghost use Rattle.std.specs.Prelude.{◌≡◌};
 ghost use Rattle.std.specs.List.{list_any};
 ghost use Rattle.bw_model.specs.Changes.{chosen_header};
 ghost use Rattle.bw_model.specs.Refusals.{is_too_narrow};
-ghost use Rattle.bw_model.specs.Store.{Header as AnyHeader, header_of};
+ghost use Rattle.bw_model.specs.Store.{header_of};
 
 use crate::headers::Headers;
 use crate::words::{layout_of, layout_or, type_of};

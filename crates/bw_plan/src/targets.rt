@@ -1,6 +1,6 @@
 //! The target columns of an INSERT, and whether its values are of their types.
 
-ghost use Rattle.std.specs.Prelude.{All as Every, IsTrue, get_or, length, ◌<◌, ◌≡◌};
+ghost use Rattle.std.specs.Prelude.{All as Every, get_or, length, ◌<◌, ◌≡◌};
 ghost use Rattle.std.specs.List.{list_all};
 ghost use Rattle.bw_code.specs.Types.{are_of_types, is_null_or_of_type};
 ghost use Rattle.bw_code.specs.declared.kind.ColumnType.{ColumnType as AnyType};

@@ -1,7 +1,7 @@
 //! Parses the words of the command line.
 
 ghost use Rattle.std.specs.Prelude.{◌≡◌, IfOk, map};
-ghost use Rattle.clap.specs.Words.{app_of, found_of, kind_of, rows_of};
+ghost use Rattle.clap.specs.Words.{app_of, found_of, rows_of};
 ghost use Rattle.bw_program.specs.Command.{command_app, fault_by, rows_ask};
 ghost use Rattle.bw_program.specs.Words.{Answers, asked_by, asked_of, on_error_of};
 

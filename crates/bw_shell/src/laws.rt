@@ -1,12 +1,12 @@
 //! Laws about the definitions.
 
-ghost use Rattle.std.specs.Prelude.{◌≡◌, ◌≢◌, ◌+◌, ◌++◌, ◌<◌, ◌⊎◌, ℕ, All, Bool, IsSome, List, None, Option, Some, [], length, map};
+ghost use Rattle.std.specs.Prelude.{◌≡◌, ◌≢◌, ◌+◌, ◌++◌, ◌<◌, ◌⊎◌, ℕ, All, Bool, IsSome, List, None, Some, [], length, map};
 ghost use Rattle.std.specs.List.{flat_map};
 ghost use Rattle.bw_lex.specs.Parts.{AreParts};
 ghost use Rattle.bw_lex.specs.declared.script.Part.{Part as AnyPart};
 ghost use Rattle.bw_engine.specs.Counting.{units_of};
 ghost use Rattle.bw_sql.specs.Statements.{Says};
-ghost use Rattle.bw_sql.specs.Tree.{ConditionTree, ItemsTree, SelectTree, StatementTree, open_table, save, select, stats};
+ghost use Rattle.bw_sql.specs.Tree.{SelectTree, StatementTree, open_table, save, select, stats};
 ghost use Rattle.bw_model.specs.FileUse.{reads, use_in};
 ghost use Rattle.bw_model.specs.ReplyText.{reply_text};
 ghost use Rattle.bw_model.specs.Step.{outcome_of};

@@ -1,7 +1,6 @@
 //! The text of a reply. It is written piece by piece, without allocating.
 
-ghost use Rattle.std.specs.Prelude.{◌≡◌, ◌++◌, ◌<◌, ◌*◌, ℕ, List, codes, decimal, length};
-ghost use Rattle.bw_model.specs.Answers.{Shown};
+ghost use Rattle.std.specs.Prelude.{◌++◌, ◌<◌, ◌*◌, codes, decimal};
 ghost use Rattle.bw_model.specs.ReplyText.{answer_text, call_text, heading_text, line, refusal_text, reply_text, with_commas};
 ghost use Rattle.bw_shell.specs.Writing.{Wrote};
 

@@ -1,6 +1,6 @@
 //! Writes bytes and numbers completely, or up to the point where the writer fails.
 
-ghost use Rattle.std.specs.Prelude.{◌≡◌, decimal};
+ghost use Rattle.std.specs.Prelude.{decimal};
 ghost use Rattle.bw_shell.specs.Writing.{Wrote};
 
 use itoa::Buffer;

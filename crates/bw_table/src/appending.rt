@@ -1,7 +1,6 @@
 //! Appends rows to all columns in two steps: first every allocation, then the writes, which can't fail.
 
-ghost use Rattle.std.specs.Prelude.{All, IfOk, length, map, replicate, slice_index_or, true, vec_len, ℕ, ◌++◌, ◌+◌, ◌<◌, ◌^◌, ◌≡◌, ◌≤◌};
-ghost use Rattle.std.specs.List.{range_with_len};
+ghost use Rattle.std.specs.Prelude.{All, IfOk, length, replicate, slice_index_or, true, vec_len, ℕ, ◌++◌, ◌+◌, ◌<◌, ◌^◌, ◌≡◌, ◌≤◌};
 ghost use Rattle.bw_mask.specs.Masks.{len};
 ghost use Rattle.bw_column.specs.Columns.{ColumnView};
 ghost use Rattle.bw_column.specs.Values.{IsNullOrHeld};

@@ -1,6 +1,6 @@
 //! The values of a column in the rows of a mask, as cells that are read where they are: no list of them is built.
 
-ghost use Rattle.std.specs.Prelude.{IfOk, drop, length, map, slice_index, take, ℕ, ◌*◌, ◌++◌, ◌+◌, ◌<◌, ◌^◌, ◌≡◌, ◌≤◌};
+ghost use Rattle.std.specs.Prelude.{IfOk, drop, length, map, take, ◌*◌, ◌++◌, ◌+◌, ◌<◌, ◌^◌, ◌≡◌, ◌≤◌};
 ghost use Rattle.bw_mask.specs.Masks.{MaskRows, len};
 ghost use Rattle.bw_column.specs.Places.{chosen_values};
 ghost use Rattle.bw_column.specs.Values.{value_at};

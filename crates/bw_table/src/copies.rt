@@ -1,6 +1,6 @@
 //! Whether copied values are of the type of their target column.
 
-ghost use Rattle.std.specs.Prelude.{All, IsTrue, length, map, slice_index, true, ℕ, ◌<◌, ◌^◌, ◌↔◌, ◌≡◌, ◌≤◌};
+ghost use Rattle.std.specs.Prelude.{All, IsTrue, length, slice_index, true, ℕ, ◌<◌, ◌^◌, ◌↔◌, ◌≡◌, ◌≤◌};
 ghost use Rattle.bw_mask.specs.Masks.{bit_of, len, row_at};
 ghost use Rattle.bw_code.specs.Types.{IsNullOrOfType, types_of};
 ghost use Rattle.bw_code.specs.declared.kind.ColumnType.TheVariants.{Integer};

@@ -1,7 +1,7 @@
 //! The values of a column in the rows of a mask.
 
 ghost use Rattle.std.specs.Prelude.{IfOk, length, take, vec_len, ◌<◌, ◌≡◌, ◌≤◌};
-ghost use Rattle.bw_mask.specs.Masks.{bit_of, len};
+ghost use Rattle.bw_mask.specs.Masks.{len};
 ghost use Rattle.bw_column.specs.Places.{chosen_values};
 ghost use Rattle.bw_table.specs.Sets.{picked};
 

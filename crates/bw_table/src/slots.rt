@@ -1,6 +1,6 @@
 //! The slots of a table, stored by columns.
 
-ghost use Rattle.std.specs.Prelude.{All, Err, IfOk, MatchResult, OnErr, OnOk, [], length, map, slice_index_or, ℕ, ◌+◌, ◌<◌, ◌^◌, ◌≡◌, ◌≢◌, ◌≤◌};
+ghost use Rattle.std.specs.Prelude.{All, Err, IfOk, OnErr, OnOk, [], length, map, slice_index_or, ℕ, ◌+◌, ◌<◌, ◌^◌, ◌≡◌, ◌≢◌, ◌≤◌};
 ghost use Rattle.std.specs.List.{AllPairs};
 ghost use Rattle.bw_mask.specs.Masks.{len, row_at};
 ghost use Rattle.bw_code.specs.Encodings.{kind_of};

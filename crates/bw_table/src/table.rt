@@ -1,13 +1,13 @@
 //! A table of slots.
 
-ghost use Rattle.std.specs.Prelude.{All, Err, IfOk, IsTrue, OnErr, OnOk, [], false, length, map, slice_index_or, true, ℕ, ◌<◌, ◌^◌, ◌≡◌, ◌≢◌, ◌≤◌};
+ghost use Rattle.std.specs.Prelude.{All, Err, IfOk, IsTrue, OnErr, OnOk, [], false, length, map, slice_index_or, true, ℕ, ◌<◌, ◌≡◌, ◌≢◌, ◌≤◌};
 ghost use Rattle.std.specs.List.{AllPairs, AllZip};
 ghost use Rattle.bw_mask.specs.Masks.{len, row_at};
 ghost use Rattle.bw_code.specs.Encodings.{kind_of};
 ghost use Rattle.bw_code.specs.Types.{IsNullOrOfType, IsRowOf, IsTyped, holds, holds_its_type, types_of};
 ghost use Rattle.bw_code.specs.declared.encoding.Encoding.{Encoding};
 ghost use Rattle.bw_column.specs.Values.{IsNullOrHeld, value_at};
-ghost use Rattle.bw_table.specs.Changes.{AreInserted, AreRebuilt, AreUpdated, IsFull, IsSetTo, choice_of, chosen_layout, copies_fit, slots_without};
+ghost use Rattle.bw_table.specs.Changes.{AreInserted, AreRebuilt, AreUpdated, IsFull, IsSetTo, copies_fit, slots_without};
 ghost use Rattle.bw_table.specs.Opening.{AreFitted, rows_across};
 ghost use Rattle.bw_table.specs.Sets.{AreEmpty};
 ghost use Rattle.bw_table.specs.Slots.{live_slot, live_slots, slot_at, slot_column, slot_limit};

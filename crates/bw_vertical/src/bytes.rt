@@ -3,7 +3,7 @@
 //! The intermediate form is the bytes of the codes, 64 at once: a vector holds bytes of four times as many rows as
 //! whole codes.
 
-ghost use Rattle.std.specs.Prelude.{[], cond, false, length, not, slice_index, slice_index_or, true, ℕ, ◌%◌, ◌*◌, ◌+◌, ◌-◌, ◌/◌, ◌<◌, ◌^◌, ◌≡◌, ◌≤◌};
+ghost use Rattle.std.specs.Prelude.{[], cond, length, not, slice_index, slice_index_or, ℕ, ◌%◌, ◌*◌, ◌+◌, ◌-◌, ◌/◌, ◌<◌, ◌^◌, ◌≡◌, ◌≤◌};
 ghost use Rattle.bw_mask.specs.Masks.{bit_of};
 ghost use Rattle.bw_code.specs.Widths.{widest_code, widest_half};
 ghost use Rattle.bw_vertical.specs.Exchanges.{Exchanges};

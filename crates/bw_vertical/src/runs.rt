@@ -1,6 +1,6 @@
 //! Writing codes to some rows of a word, all at once.
 
-ghost use Rattle.std.specs.Prelude.{[], if◌then◌else◌, length, slice_index, slice_index_or, true, vec_len, ℕ, ◌%◌, ◌*◌, ◌+◌, ◌-◌, ◌/◌, ◌<◌, ◌^◌, ◌≡◌, ◌≢◌, ◌≤◌};
+ghost use Rattle.std.specs.Prelude.{if◌then◌else◌, length, slice_index, true, vec_len, ℕ, ◌*◌, ◌+◌, ◌-◌, ◌/◌, ◌<◌, ◌^◌, ◌≡◌, ◌≢◌, ◌≤◌};
 ghost use Rattle.bw_mask.specs.Masks.{bit_of};
 ghost use Rattle.bw_code.specs.Widths.{widest_code};
 ghost use Rattle.bw_vertical.specs.Storage.{HasSegment, KeepsSizes, groups_of, is_set, lists, word_of};

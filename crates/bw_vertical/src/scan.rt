@@ -1,7 +1,7 @@
 //! Scans of planes from the highest down, as long as a needed row is undecided (BitWeaving/V: Li and Patel, SIGMOD
 //! 2013).
 
-ghost use Rattle.std.specs.Prelude.{[], if◌then◌else◌, length, max, nat_le, nat_lt, not, true, slice_index_or, ℕ, ◌%◌, ◌&&◌, ◌*◌, ◌+◌, ◌-◌, ◌<◌, ◌==◌, ◌^◌, ◌||◌, ◌≡◌, ◌≤◌};
+ghost use Rattle.std.specs.Prelude.{[], if◌then◌else◌, length, max, nat_le, nat_lt, not, true, slice_index_or, ℕ, ◌&&◌, ◌*◌, ◌+◌, ◌-◌, ◌<◌, ◌==◌, ◌^◌, ◌||◌, ◌≡◌, ◌≤◌};
 ghost use Rattle.bw_mask.specs.Masks.{SameShape, bit_of, len, row_at, row_in};
 ghost use Rattle.bw_code.specs.Tests.{TestFits, meets};
 ghost use Rattle.bw_code.specs.Units.{agreement, by_planes, cost_of, scan_units, segment_units, segments_of, some_below};

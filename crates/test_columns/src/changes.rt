@@ -1,6 +1,6 @@
 //! Overwrites values in rows of several words, in each layout and kind, and compares with a plain list.
 
-ghost use Rattle.std.specs.Prelude.{length, vec_len, ◌≡◌};
+ghost use Rattle.std.specs.Prelude.{vec_len, ◌≡◌};
 ghost use Rattle.bw_mask.specs.Masks.{len};
 
 use crate::columns::{check_value, check_values, column_of, see_values};
