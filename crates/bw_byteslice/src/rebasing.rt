@@ -35,8 +35,7 @@ fn add_carrying(a: u8, b: u8, carry: u8) -> (u8, u8)
 }
 
 /// Adds to each byte the bits of `byte` that are in the row's byte of `ones`, and the row's carry. The carries become
-/// those to the slice above. Not inlined: inlined into its callers, the loop is not vectorized.
-#[inline(never)]
+/// those to the slice above.
 fn add_to_few(bytes: &mut [u8], ones: &[u8; 64], byte: u8, carries: &mut [u8; 64])
     requires few { length bytes.old ≤ 64 }
     requires low { (r : ℕ) → r < 64 → slice_index carries.old r ≤ 1 }
@@ -53,7 +52,6 @@ fn add_to_few(bytes: &mut [u8], ones: &[u8; 64], byte: u8, carries: &mut [u8; 64
 }
 
 /// The same for 64 bytes.
-#[inline(never)]
 fn add_to_64(bytes: &mut [u8], ones: &[u8; 64], byte: u8, carries: &mut [u8; 64])
     requires whole { length bytes.old ≡ 64 }
     requires low { (r : ℕ) → r < 64 → slice_index carries.old r ≤ 1 }

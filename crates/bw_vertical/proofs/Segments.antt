@@ -12,6 +12,7 @@ use Rattle.bw_vertical.proofs.Placing.{elsewhere, group_is, in_its_group, word_i
 
 -- group g has m planes in segment q
 module _ (k q g m : ℕ) (vs : List (Vec (List ℕ) Global)) (v : Vec (List ℕ) Global) (within : g < length vs) (read : v ≡ get_or vs g v) (m_is : m ≡ planes_in k g) where
+  -- a row of one of them
   row_in_group : (i j : ℕ) → i / 4 ≡ g → j < 256 → row_in (get_or v.items (q * m + i % 4) []) j ≡ is_set k (lists vs) i (256 * q + j)
   row_in_group i j group h =
       ap (λ n. row_in (get_or v.items (q * n + i % 4) []) j) m_is
@@ -19,6 +20,7 @@ module _ (k q g m : ℕ) (vs : List (Vec (List ℕ) Global)) (v : Vec (List ℕ)
       ∙ ap (λ p. row_in (get_or (get_or (lists vs) p []) (q * planes_in k p + i % 4) []) j) (sym group)
       ∙ plane_row k q i j (lists vs) h
 
+  -- they lie within the group
   pub fits_group : (old : List (List (List ℕ))) → HasSegment k old q → 4 * g < k → length (get_or (lists vs) g []) ≡ length (get_or old g []) → q * m + m ≤ length v.items
   fits_group old there some size =
       let room : (q + 1) * m ≤ length (get_or old g []) = subst (λ n. (q + 1) * n ≤ length (get_or old g [])) (sym m_is) (there g some) in

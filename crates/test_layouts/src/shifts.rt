@@ -1,4 +1,4 @@
-//! Rebased codes, in the columns that have such a call, compared with plain sums.
+//! Rebased codes, in each layout, compared with plain sums.
 
 ghost use Rattle.std.specs.Prelude.{length, slice_index, vec_len, ℕ, ◌-ℤ◌, ◌<◌, ◌^◌, ◌↔◌, ◌≡◌, ◌≤◌};
 ghost use Rattle.bw_mask.specs.Masks.{len, row_at};
@@ -7,7 +7,9 @@ ghost use Rattle.bw_code.specs.Shifts.{StaysBelow, shifted};
 
 use crate::codes::{cut, need_of};
 use crate::seen::see_at;
+use bw_byteslice::SliceColumn;
 use bw_code::{CodeColumn, PlainColumn};
+use bw_horizontal::HorizontalColumn;
 use bw_mask::Mask;
 use bw_vertical::VerticalColumn;
 use std::process::Abort;
@@ -16,8 +18,13 @@ use std::process::Abort;
 const ROWS: usize = 300;
 
 /// Widths of the codes before and after, a low and a high code, and the bases before and after.
-const MOVES: [(u32, u32, (u64, u64), (i64, i64)); 18] = [
+const MOVES: [(u32, u32, (u64, u64), (i64, i64)); 23] = [
     (5, 5, (3, 30), (10, 9)),
+    (8, 8, (0, 0xfe), (1, 0)),
+    (10, 10, (0x100, 0x3ff), (-0x100, 0)),
+    (16, 16, (1, 0xff), (0, -0xff00)),
+    (17, 17, (0xffff, 0x1_fffe), (-4, -5)),
+    (31, 31, (1, 0x7fff_ffff), (-1, 0)),
     (32, 32, (1, 0xffff_ffff), (i64::MIN, i64::MIN + 1)),
     (32, 1, (0xffff_fffe, 0xffff_ffff), (0, 0xffff_fffe)),
     (1, 32, (0, 1), (0xffff_fffe, 0)),
@@ -153,6 +160,46 @@ fn check_planes<R: Abort + AllocGlobal>(
     check_moved(rt, codes, rows, from, to, column);
 }
 
+fn check_words<R: Abort + AllocGlobal>(
+    rt: &R,
+    width: u32,
+    codes: &[u64],
+    rows: &Mask,
+    from: i64,
+    to: i64,
+)
+    requires some { 1 ≤ width }
+    requires narrow { width ≤ 32 }
+    requires fit { Fit width codes.now }
+    requires few { length codes.now ≡ 300 }
+    requires rows { len rows.now ≡ length codes.now }
+{
+    let mut column: HorizontalColumn = column_with(rt, width, codes);
+    check_fit(rt, width, codes, rows, from, to);
+    column.shift(rows, from, to);
+    check_moved(rt, codes, rows, from, to, column);
+}
+
+fn check_slices<R: Abort + AllocGlobal>(
+    rt: &R,
+    width: u32,
+    codes: &[u64],
+    rows: &Mask,
+    from: i64,
+    to: i64,
+)
+    requires some { 1 ≤ width }
+    requires narrow { width ≤ 64 }
+    requires fit { Fit width codes.now }
+    requires few { length codes.now ≡ 300 }
+    requires rows { len rows.now ≡ length codes.now }
+{
+    let mut column: SliceColumn = column_with(rt, width, codes);
+    check_fit(rt, width, codes, rows, from, to);
+    column.shift(rows, from, to);
+    check_moved(rt, codes, rows, from, to, column);
+}
+
 fn check_plain<R: Abort + AllocGlobal>(
     rt: &R,
     width: u32,
@@ -187,6 +234,32 @@ fn shifted_planes(rt: HostRuntime) {
         if bits == *after {
             let codes = codes_between(&rt, bits, *low, *high);
             check_planes(&rt, bits, &codes, &rows, *from, *to);
+        }
+    }
+}
+
+/// So do words of codes side by side.
+#[test]
+fn shifted_words(rt: HostRuntime) {
+    let rows = need_of(&rt, ROWS);
+    for (width, after, (low, high), (from, to)) in &MOVES {
+        let bits = (*width).clamp(1, 32);
+        if bits == *after {
+            let codes = codes_between(&rt, bits, *low, *high);
+            check_words(&rt, bits, &codes, &rows, *from, *to);
+        }
+    }
+}
+
+/// So do slices of bytes.
+#[test]
+fn shifted_slices(rt: HostRuntime) {
+    let rows = need_of(&rt, ROWS);
+    for (width, after, (low, high), (from, to)) in &MOVES {
+        let bits = (*width).clamp(1, 64);
+        if bits == *after {
+            let codes = codes_between(&rt, bits, *low, *high);
+            check_slices(&rt, bits, &codes, &rows, *from, *to);
         }
     }
 }

@@ -76,9 +76,9 @@ impl Span {
         }
     }
 
-    /// Numbers to compare with, given a value that a row has: that value, the ends of the span, and its middle; the
-    /// numbers next below and above the span; one as far above the value as the span has numbers, so that their distances
-    /// from the least number have the same lower bits; and the ends of 64 bits.
+    /// Numbers to compare with, given a value that a row has: that value, the ends of the span and its middle; the
+    /// numbers next below and above the span; one as far above the value as the span has numbers, so that the distances
+    /// of both from the least number have the same lower bits; and the ends of 64 bits.
     fn constants(self, value: i64) -> [i64; 9] {
         [
             value,
