@@ -1,9 +1,9 @@
-use Rattle.std.proofs.Common.{Bool, ap, arith, false, get_or, if◌then◌else◌, inl, inr, length, pow_pos, refl, subst, sym, List, ℕ, ◌*◌, ◌+◌, ◌-◌, ◌/◌, ◌<◌, ◌^◌, ◌≡◌, ◌≤◌, ◌∙◌}
+use Rattle.std.proofs.Common.{Bool, ap, arith, false, get_or, if◌then◌else◌, inl, inr, pow_pos, refl, subst, sym, List, ℕ, ◌*◌, ◌+◌, ◌-◌, ◌/◌, ◌<◌, ◌^◌, ◌≡◌, ◌≤◌, ◌∙◌}
 use Rattle.std.proofs.lemmas.Bool.{both_ways, cases_Bool, cases_lt}
 use Rattle.std.proofs.lemmas.List.{get_or_past}
 use Rattle.bw_mask.specs.Masks.{bit_of}
 use Rattle.bw_mask.proofs.Bits.{bit_above}
-use Rattle.bw_code.specs.Columns.{CodeList, is_chosen}
+use Rattle.bw_code.specs.Columns.{is_chosen}
 use Rattle.bw_code.specs.Lists.{made}
 use Rattle.bw_code.proofs.Lists.{made_at, made_len}
 use Rattle.bw_code.proofs.Runs.{chosen_below, chosen_from, none_put}
