@@ -31,8 +31,12 @@ pub(crate) fn found_values(
     requires places { All (λ place. place < length table.now.headers) places.now }
     ensures { IfOk result (λ values. values.items ≡ joined (map (λ row. map (λ place. value_at row place) places.now) (rows_where (row_at found.now) (rows_of_slots table.now.slots)))) }
 {
-    let count = found.count().saturating_mul(places.len());
-    let mut values = Vec::with_capacity(alloc, count)?;
+    let count = found.count();
+    let mut values = Vec::with_capacity(alloc, count.saturating_mul(places.len()))?;
+    // The found slots are counted faster than they are gone through.
+    if count == 0 {
+        return Ok(values);
+    }
     let mut runs = vec![in alloc; [None; 64]; places.len()]?;
     let end = found.len();
     let mut at = 0;

@@ -1,5 +1,7 @@
-use Rattle.std.proofs.Common.{ap, append-nil, arith, drop, length, length-append, length-drop, length-take, min, sym, ◌%◌, ◌++◌, ◌+◌, ◌-◌, ◌<◌, ◌≤◌, ◌∙◌, ◌≡◌}
-use Rattle.bw_mask.specs.Masks.{len, row_at}
+use Rattle.std.proofs.Common.{[], ap, append-nil, arith, count_by, drop, false, inl, inr, length, length-append, length-drop, length-take, min, sym, ◌%◌, ◌++◌, ◌+◌, ◌-◌, ◌<◌, ◌≤◌, ℕ, ◌∙◌, ◌≡◌}
+use Rattle.std.proofs.lemmas.Bool.{cases_Bool}
+use Rattle.bw_mask.specs.Masks.{MaskRows, len, row_at}
+use Rattle.bw_column.proofs.Filled.{some_set}
 use Rattle.bw_column.proofs.Overwriting.{below_len}
 use Rattle.bw_engine.specs.Runs.{lines_from, slot_line}
 use Rattle.bw_engine.proofs.RunLaws.{lines_join, lines_none, lines_where}
@@ -35,6 +37,18 @@ loop-slot-preserved c =
           omega (arith, length-take runs.len (new ++ drop (length new) runs.items), length-append new (drop (length new) runs.items), length-drop (length new) runs.items, c.in_ok-show_slots.ensures.runs, ap length c.deref_mut.ensures.value, runs.ok.0, old.count);
       values = c.in_ok-show_slots.ensures.values ∙ ap (λ l. l ++ lines_from line passes start n) (old.values ∙ sym gap) ∙ sym more;
     }
+
+-- where no slot is counted, none is found
+none_found : (found : MaskRows) (i : ℕ) → count_by (λ row. row) found.rows ≡ 0 → row_at found i ≡ false
+none_found found i none = elim (cases_Bool (row_at found i)) [ inl set ↦ absurd (omega (arith, none, some_set found i set)) | inr e ↦ e ]
+
+pub returns-then-count-eq0 : goal.returns-then-count-eq0
+returns-then-count-eq0 c =
+    let slots = c.args.table.now.slots in
+    let line = slot_line c.args.places.now slots in
+    let passes = row_at c.args.found.now in
+    let none : lines_from line passes 0 (length slots) ≡ [] = lines_none line passes (length slots) 0 (λ i h. none_found c.args.found.now (0 + i) (sym c.count-count.ensures.rows ∙ c.if-count-eq0.true)) in
+    c.in_ok-values.ensures.items ∙ sym none ∙ lines_where c.args.places.now passes slots
 
 pub returns : goal.returns
 returns c =
