@@ -53,23 +53,22 @@ mod_more y n =
     ap (λ p. y % p) (pow_bytes (n + 1) ∙ ap (λ e. 2 ^ e) more) ∙ mod-pow-add y 8 (8 * n) ∙ ap (λ p. y / p % 256 * p + y % p) (sym (pow_bytes n))
 
 -- before the last byte there is no carry
-pub carry_none : (m y carry : ℕ) (byte : ℕ → ℕ) → carry ≡ 0 → low_of m 0 byte + carry * 256 ^ 0 ≡ low_of m 0 byte + y % 256 ^ 0
-carry_none m y carry byte none = rw (pow-zero 256) (omega (arith, none))
+pub carry_none : (m y carry : ℕ) (old new : ℕ → ℕ) → carry ≡ 0 → low_of m 0 new + carry * 256 ^ 0 ≡ low_of m 0 old + y % 256 ^ 0
+carry_none m y carry old new none = rw (pow-zero 256) (omega (arith, none, low_none m old, low_none m new))
 
 -- byte m - 1 - n of the sum, and the carry to the byte above
 pub carry_more : (m n y carry next added : ℕ) (old now new : ℕ → ℕ) → n < m
     → added ≡ digit 256 m y (m - 1 - n)
-    → now (m - 1 - n) ≡ old (m - 1 - n)
-    → new (m - 1 - n) ≡ (now (m - 1 - n) + added + carry) % 256
-    → next ≡ (now (m - 1 - n) + added + carry) / 256
+    → new (m - 1 - n) ≡ (old (m - 1 - n) + added + carry) % 256
+    → next ≡ (old (m - 1 - n) + added + carry) / 256
     → ((i : ℕ) → m - n ≤ i → i < m → new i ≡ now i)
     → low_of m n now + carry * 256 ^ n ≡ low_of m n old + y % 256 ^ n
     → low_of m (n + 1) new + next * 256 ^ (n + 1) ≡ low_of m (n + 1) old + y % 256 ^ (n + 1)
-carry_more m n y carry next added old now new h added_is left here above same before =
+carry_more m n y carry next added old now new h added_is here above same before =
     let i = m - 1 - n in
     let place : m - 1 - i ≡ n = omega (arith, h) in
     let digit_is : added ≡ y / 256 ^ n % 256 = added_is ∙ ap (λ e. y / 256 ^ e % 256) place in
-    let total : new i + next * 256 ≡ old i + added + carry = omega (arith, here, above, left) in
+    let total : new i + next * 256 ≡ old i + added + carry = omega (arith, here, above) in
     let more : n + 1 ≡ suc n = omega arith in
     let high : next * 256 ^ (n + 1) ≡ next * (256 ^ n * 256) = ap (λ p. next * p) (ap (λ e. 256 ^ e) more ∙ pow-suc 256 n) in
     let lows : low_of m n new ≡ low_of m n now = low_same m n new now (omega (arith, h)) same in

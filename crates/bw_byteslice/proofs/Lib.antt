@@ -3,6 +3,7 @@ pub mod Blends
 pub mod Bytes
 pub mod Carrying
 pub mod Chosen
+pub mod Copied
 pub mod Halves
 pub mod InUnits
 pub mod Keeping
@@ -17,3 +18,4 @@ pub mod Scanned
 pub mod Steps
 pub mod Views
 pub mod Words
+pub mod Zeros

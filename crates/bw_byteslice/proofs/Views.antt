@@ -69,6 +69,10 @@ module _ (k own n : ℕ) (slices : List (Vec ℕ Global)) (column : CodeList) (s
   pub also_code : (i : ℕ) → code_of k (bytes_of slices) i ≡ get_or column.codes i 0
   also_code i = subst (λ w. code_of w (bytes_of slices) i ≡ get_or column.codes i 0) own_is (code_is own n slices column stored is i)
 
+  -- and that has as many codes as m
+  pub stored_beside : (m : ℕ) → length column.codes ≡ m → AreSlices k m (bytes_of slices)
+  stored_beside m long = subst (λ r. AreSlices k r (bytes_of slices)) (sym (count_is own n slices column stored is) ∙ long) also_stored
+
 pub capacity_count : (slices : List (Vec ℕ Global)) → length (capacities_of slices) ≡ length slices
 capacity_count slices = length-map slices (λ v. vec_capacity v)
 

@@ -1,6 +1,6 @@
 //! The column of layout S.
 
-ghost use Rattle.std.specs.Prelude.{[], length, pos, slice_index, slice_index_or, ℕ, ◌*◌, ◌+◌, ◌-◌, ◌-ℤ◌, ◌/◌, ◌<◌, ◌^◌, ◌≡◌, ◌≤◌};
+ghost use Rattle.std.specs.Prelude.{[], if◌then◌else◌, length, pos, replicate, slice_index, slice_index_or, ℕ, ◌*◌, ◌+◌, ◌++◌, ◌-◌, ◌-ℤ◌, ◌/◌, ◌<◌, ◌^◌, ◌≡◌, ◌≤◌};
 ghost use Rattle.bw_mask.specs.Masks.{bit_of, len, row_at, row_in};
 ghost use Rattle.bw_code.specs.Columns.{KeepsShape, code_at, count};
 ghost use Rattle.bw_code.specs.Shifts.{StaysBelow, shifted};
@@ -9,6 +9,7 @@ ghost use Rattle.bw_code.specs.Widths.{widest_code};
 ghost use Rattle.bw_code.specs.declared.kind.Layout.TheVariants as layouts;
 ghost use Rattle.bw_byteslice.specs.Slices.{shift_of, slices_of};
 
+use crate::copying::copy_codes;
 use crate::pair::pair_from;
 use crate::plane_source::SlicePlanes;
 use crate::rebasing::shift_codes;
@@ -89,6 +90,43 @@ impl SliceColumn {
     {
         let by = word_between(from, to);
         shift_codes(&mut self.slices, self.width, self.len, rows, by);
+    }
+
+    /// Appends n rows with code 0, within the room.
+    pub fn extend_zeros(&mut self, n: usize)
+        requires room { count self.old + n ≤ self.old.room }
+        requires few { count self.old + n ≤ 2 ^ 24 }
+        ensures shape { KeepsShape self.new self.old }
+        ensures codes { self.new.codes ≡ self.old.codes ++ replicate n 0 }
+    {
+        let rows = self.len + n;
+        // Bytes past the last row are zeros already.
+        storage::grow(&mut self.slices, whole_segments(rows));
+        self.len = rows;
+    }
+
+    /// The code of each of `rows` becomes that of the same row of another column of this width, rebased where the row
+    /// is in `moved`. Each of these codes fits the width. Takes no memory.
+    pub fn copy_rows(&mut self, other: &SliceColumn, rows: &Mask, moved: &Mask, from: i64, to: i64)
+        requires width { other.now.width ≡ self.old.width }
+        requires count { count other.now ≡ count self.old }
+        requires rows { len rows.now ≡ count self.old }
+        requires moved { len moved.now ≡ count self.old }
+        requires fit { (i : ℕ) → i < count self.old → StaysBelow (2 ^ self.old.width) (shifted (from -ℤ to) (row_at moved.now i) (code_at other.now i)) }
+        ensures shape { KeepsShape self.new self.old }
+        ensures count { count self.new ≡ count self.old }
+        ensures codes { (i : ℕ) → i < count self.old → pos (code_at self.new i) ≡ (if row_at rows.now i then shifted (from -ℤ to) (row_at moved.now i) (code_at other.now i) else pos (code_at self.old i)) }
+    {
+        let by = word_between(from, to);
+        copy_codes(
+            &mut self.slices,
+            &other.slices,
+            self.width,
+            self.len,
+            rows,
+            moved,
+            by,
+        );
     }
 }
 

@@ -2,6 +2,7 @@
 #![tactic(auto)]
 
 mod column;
+mod copying;
 mod laws;
 mod pair;
 mod plane;

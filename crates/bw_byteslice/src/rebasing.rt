@@ -10,7 +10,7 @@ use crate::shift::{byte_at, shift_of};
 use bw_mask::Mask;
 
 /// For each of 64 rows a byte: all ones if the row's bit is set, else 0.
-fn spread_ones(rows: u64, ones: &mut [u8; 64])
+pub(crate) fn spread_ones(rows: u64, ones: &mut [u8; 64])
     ensures { (r : ℕ) → r < 64 → slice_index ones.new r ≡ (if bit_of rows r then 255 else 0) }
 {
     let mut bytes = [0; RUN];
@@ -52,7 +52,7 @@ fn add_to_few(bytes: &mut [u8], ones: &[u8; 64], byte: u8, carries: &mut [u8; 64
 }
 
 /// The same for 64 bytes.
-fn add_to_64(bytes: &mut [u8], ones: &[u8; 64], byte: u8, carries: &mut [u8; 64])
+pub(crate) fn add_to_64(bytes: &mut [u8], ones: &[u8; 64], byte: u8, carries: &mut [u8; 64])
     requires whole { length bytes.old ≡ 64 }
     requires low { (r : ℕ) → r < 64 → slice_index carries.old r ≤ 1 }
     ensures len { length bytes.new ≡ length bytes.old }

@@ -72,7 +72,7 @@ fn choose_64(rows: u64, chosen: &mut [bool])
 }
 
 /// Whether each row is chosen: row i where bit i is set.
-fn choose(rows: u64, chosen: &mut [bool])
+pub(crate) fn choose(rows: u64, chosen: &mut [bool])
     requires few { length chosen.old ≤ 64 }
     ensures len { length chosen.new ≡ length chosen.old }
     ensures each { (r : ℕ) → r < length chosen.old → slice_index_or chosen.new r false ≡ bit_of rows r }
@@ -135,7 +135,7 @@ fn put_chosen(kept: &mut [u8], chosen: &[bool], bytes: &[u8])
 }
 
 /// The chosen rows from `at` on get these bytes in a slice.
-fn put_in_slice(slice: &mut Vec<u8>, at: usize, chosen: &[bool], bytes: &[u8])
+pub(crate) fn put_in_slice(slice: &mut Vec<u8>, at: usize, chosen: &[bool], bytes: &[u8])
     requires there { at + length chosen.now ≤ length slice.old.items }
     requires long { length chosen.now ≤ length bytes.now }
     ensures len { length slice.new.items ≡ length slice.old.items }

@@ -38,6 +38,7 @@ loop-p-preserved c =
     let below : p < m = c.loop-p-test.true in
     let within : i < length slices = omega arith in
     let was : get_or (bytes_of slices) i [] ≡ slice.items = read_is (λ v. v.items) [] slices i within slice c.index_mut-slice.ensures.value in
+    let left : (r : ℕ) → get_or slice.items (at + r) 0 ≡ byte_of (bytes_of old) (at + r) i = λ r. ap (λ xs. get_or xs (at + r) 0) (sym was) ∙ inv.left i (at + r) (omega (arith, below)) in
     let added : ℕ → ℕ = λ r. bit_and c.byte_at.result (get_or ones r 0) in
     let small : (j : ℕ) → get_or new.items j 0 < 256 = λ j.
     elim (cases_lt j at) [
@@ -61,9 +62,8 @@ loop-p-preserved c =
           let added_is : added r ≡ digit 256 m (if bit_of rows r then number else 0) i =
           ap (λ b. bit_and b (get_or ones r 0)) c.byte_at.ensures ∙ ap (bit_and (digit 256 m number i)) (c.spread_ones.ensures r (omega (arith, h, c.requires.few))) ∙ let_through (bit_of rows r) number m i in
           carry_more m p (if bit_of rows r then number else 0) (get_or c.loop-p.carries r 0) (get_or c.add_to_slice.new.carries r 0) (added r) (byte_of (bytes_of old) (at + r)) (byte_of (bytes_of slices) (at + r)) (byte_of (bytes_of after) (at + r)) below added_is
-          (inv.left i (at + r) (omega (arith, below)))
-          (ap (λ xs. get_or xs (at + r) 0) (new_is (λ v. v.items) [] slices i within new) ∙ c.add_to_slice.ensures.bytes r h ∙ ap (λ xs. (get_or xs (at + r) 0 + added r + get_or c.loop-p.carries r 0) % 256) (sym was))
-          (c.add_to_slice.ensures.carries r h ∙ ap (λ xs. (get_or xs (at + r) 0 + added r + get_or c.loop-p.carries r 0) / 256) (sym was))
+          (ap (λ xs. get_or xs (at + r) 0) (new_is (λ v. v.items) [] slices i within new) ∙ c.add_to_slice.ensures.bytes r h ∙ ap (λ b. (b + added r + get_or c.loop-p.carries r 0) % 256) (left r))
+          (c.add_to_slice.ensures.carries r h ∙ ap (λ b. (b + added r + get_or c.loop-p.carries r 0) / 256) (left r))
           (λ h up _. ap (λ xs. get_or xs (at + r) 0) (rest_is (λ v. v.items) [] slices i within new h (λ e. omega (arith, e, up, below))))
           (inv.sums r h);
       left = λ h j l. each_is (λ v. v.items) [] slices i within new (λ h xs. h < m - (p + 1) → get_or xs j 0 ≡ byte_of (bytes_of old) j h)
@@ -81,7 +81,7 @@ loop-p-init c =
       len = λ i. refl;
       bytes = c.requires.bytes;
       low = λ r h. subst (λ x. x ≤ 1) (sym (none r h)) (omega arith);
-      sums = λ r h. carry_none c.len-m.result (if bit_of c.args.rows r then c.args.number else 0) (get_or (replicate {A = ℕ} 64 0) r 0) (byte_of (bytes_of c.args.slices.now.items) (c.args.at + r)) (none r (omega (arith, h, c.requires.few)));
+      sums = λ r h. carry_none c.len-m.result (if bit_of c.args.rows r then c.args.number else 0) (get_or (replicate {A = ℕ} 64 0) r 0) (byte_of (bytes_of c.args.slices.now.items) (c.args.at + r)) (byte_of (bytes_of c.args.slices.now.items) (c.args.at + r)) (none r (omega (arith, h, c.requires.few)));
       left = λ i j h. refl;
       others = λ i j h. refl;
     }

@@ -1,15 +1,10 @@
-use Rattle.std.proofs.Common.{FitsSigned, ap, arith, length, of_z, refl, subst, to_z, w64, ℕ, ℤ, ◌-ℤ◌, ◌<◌, ◌∙◌, ◌≡◌, ◌≤◌}
-use Rattle.std.proofs.lemmas.Int.{to_z-of_z}
+use Rattle.std.proofs.Common.{ap, arith, length, refl, subst, ◌-ℤ◌, ◌<◌, ◌∙◌, ◌≡◌, ◌≤◌}
 use Rattle.bw_mask.specs.Masks.{len}
-use Rattle.bw_code.specs.Shifts.{IsWord}
 use Rattle.bw_code.proofs.Lists.{made_len}
 use Rattle.bw_byteslice.specs.Storing.{bytes_of, capacities_of, code_of, room_of}
-use Rattle.bw_byteslice.proofs.Rebased.{codes_shifted, slices_moved}
+use Rattle.bw_byteslice.proofs.Rebased.{codes_shifted, slices_moved, word_of_bases}
 use Rattle.bw_byteslice.proofs.Views.{byte_count, count_is}
 use Rattle.bw_byteslice.proofs.column.SliceColumn.shift.Goals as goal
-
-word : (from to : ℤ) (r : ℕ) → FitsSigned w64 from → FitsSigned w64 to → IsWord (to_z w64 (of_z w64 from) -ℤ to_z w64 (of_z w64 to)) r → IsWord (from -ℤ to) r
-word from to r f t is code sum p q e = is code sum p q (rw (to_z-of_z w64 from f, to_z-of_z w64 to t) e)
 
 pub shift_codes-requires-clause-rows : goal.shift_codes-requires-clause-rows
 shift_codes-requires-clause-rows c = c.requires.rows ∙ count_is c.self.inside.width c.self.inside.len c.self.inside.slices.items c.args.self.now c.self.invariant c.self.view_is
@@ -33,7 +28,7 @@ returns-clause-codes c =
     let s = c.self.inside in
     let old = bytes_of s.slices.items in
     let fit = rw (← c.self.view_is) at c.requires.fit in
-    let word_is = word c.args.from c.args.to c.word_between-by.result c.ranges.from c.ranges.to c.word_between-by.ensures in
+    let word_is = word_of_bases c.args.from c.args.to c.word_between-by.result c.ranges.from c.ranges.to c.word_between-by.ensures in
     rw (← c.self.view_is) (λ i h.
     codes_shifted s.width s.len c.word_between-by.result old (bytes_of c.shift_codes.new.slices.items) c.args.rows.now c.self.invariant c.shift_codes.ensures.numbers (c.args.from -ℤ c.args.to) word_is
     i (subst (λ m. i < m) (made_len s.len (code_of s.width old)) h) (fit i h))
