@@ -1,7 +1,7 @@
 -- Numbers added bit by bit from the lowest on, with what is carried.
-use Rattle.std.proofs.Common.{Bool, ap, arith, cond, false, refl, suc, sym, true, ℕ, ◌%◌, ◌&&◌, ◌*◌, ◌+◌, ◌/◌, ◌==◌, ◌^◌, ◌||◌, ◌∙◌, ◌≡◌, pow_pos}
+use Rattle.std.proofs.Common.{Bool, ap, arith, cond, false, refl, suc, sym, true, ℕ, ◌%◌, ◌&&◌, ◌*◌, ◌+◌, ◌/◌, ◌<◌, ◌==◌, ◌^◌, ◌||◌, ◌∙◌, ◌≡◌, pow_pos}
 use Rattle.std.specs.Int.{bit_at}
-use Rattle.std.proofs.Math.Nat.{add-mul-div_left, div-div-eq-div-mul, mod-add-div, mul-add, mul_comm, pow-suc}
+use Rattle.std.proofs.Math.Nat.{add-mul-div_left, div-div-eq-div-mul, div-eq_of_lt, mod-add-div, mod-lt, mul-add, mul_comm, pow-suc, zero-mod}
 use Rattle.std.proofs.lemmas.Nat.{mod-pow-add}
 use Rattle.bw_lane.proofs.Bits.{one_of}
 use Rattle.bw_mask.specs.Masks.{bit_of}
@@ -39,6 +39,13 @@ module _ (x y n : ℕ) where
       ∙ sym (div-div-eq-div-mul ((x % p + y % p) + p * (bit_at x n + bit_at y n)) p 2)
       ∙ ap (λ z. z / 2) (add-mul-div_left (x % p + y % p) (bit_at x n + bit_at y n) {y = p} (pow_pos n))
       ∙ omega arith
+
+-- with nothing added nothing is carried
+pub nothing_carried : (x n : ℕ) → carried x 0 n ≡ 0
+nothing_carried x n =
+    let low : x % 2 ^ n < 2 ^ n = mod-lt x (pow_pos n) in
+    let none : 0 % 2 ^ n ≡ 0 = zero-mod (2 ^ n) in
+    ap (λ z. (x % 2 ^ n + z) / 2 ^ n) none ∙ div-eq_of_lt (omega (arith, low))
 
 -- three digits added
 pub three_digits : (a b c : Bool) → cond {A = ℕ} (one_of (one_of a b) c) 1 0 + 2 * cond ((a && b) || (one_of a b && c)) 1 0 ≡ cond a 1 0 + cond b 1 0 + cond c 1 0

@@ -9,10 +9,10 @@ use Rattle.std.proofs.lemmas.List.{get_or-map, get_or-set_other, get_or-set_same
 use Rattle.bw_vertical.specs.Storage.{KeepsSizes, capacities, lists, plane_at, planes_in, word_of}
 
 -- a place among rows of m tells its row and its column
-row_is : (a b m x y : ℕ) → x < m → y < m → a * m + x ≡ b * m + y → a ≡ b
+pub row_is : (a b m x y : ℕ) → x < m → y < m → a * m + x ≡ b * m + y → a ≡ b
 row_is a b m x y p q e = sym (div-mul-add a m x p) ∙ ap (λ n. n / m) e ∙ div-mul-add b m y q
 
-column_is : (a b m x y : ℕ) → x < m → y < m → a * m + x ≡ b * m + y → x ≡ y
+pub column_is : (a b m x y : ℕ) → x < m → y < m → a * m + x ≡ b * m + y → x ≡ y
 column_is a b m x y p q e = sym (mod-mul-add a m x p) ∙ ap (λ n. n % m) e ∙ mod-mul-add b m y q
 
 -- plane i has its place in its group

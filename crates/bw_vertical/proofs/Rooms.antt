@@ -2,6 +2,7 @@
 use Rattle.std.proofs.Common.{List, arith, get_or, inl, inr, suc, zero, ℕ, ◌*◌, ◌+◌, ◌/◌, ◌<◌, ◌≤◌}
 use Rattle.std.proofs.Math.Nat.{le-div_iff_mul-le, mul-le-mul_right, div-mul-le_self}
 use Rattle.std.proofs.lemmas.Bool.{cases_eq}
+use Rattle.bw_code.specs.Units.{segments_of}
 use Rattle.bw_vertical.specs.Storage.{groups_of, least_below, planes_in, room_of}
 
 least_most : (most n : ℕ) (f : ℕ → ℕ) → least_below most n f ≤ most
@@ -31,6 +32,15 @@ room_at k n caps h g l =
     let here : least_below 65536 (groups_of k) per ≤ per g = least_at 65536 (groups_of k) per g (omega (arith, l)) in
     let some : 0 < planes_in k g = omega (arith, l) in
     (le-div_iff_mul-le {k = planes_in k g} {x = n / 256 + 1} {y = get_or caps g 0} some).0 (omega (arith, few, here))
+
+-- there is capacity for the segments of n rows
+pub room_below : (k n : ℕ) (caps : List ℕ) → n ≤ room_of k caps → (g : ℕ) → 4 * g < k → segments_of 256 n * planes_in k g ≤ get_or caps g 0
+room_below k n caps h g l =
+    let per = λ (g : ℕ). get_or caps g 0 / planes_in k g in
+    let few : segments_of 256 n ≤ least_below 65536 (groups_of k) per = omega (arith, h) in
+    let here : least_below 65536 (groups_of k) per ≤ per g = least_at 65536 (groups_of k) per g (omega (arith, l)) in
+    let some : 0 < planes_in k g = omega (arith, l) in
+    (le-div_iff_mul-le {k = planes_in k g} {x = segments_of 256 n} {y = get_or caps g 0} some).0 (omega (arith, few, here))
 
 -- room for so many segments
 pub room_for : (k s : ℕ) (caps : List ℕ) → s ≤ 65536 → ((g : ℕ) → 4 * g < k → s * planes_in k g ≤ get_or caps g 0) → 256 * s ≤ room_of k caps

@@ -5,7 +5,7 @@ use Rattle.std.proofs.Math.Nat.{mul-le-mul_right}
 use Rattle.std.proofs.lemmas.Bool.{cases_eq, cases_lt}
 use Rattle.std.proofs.lemmas.List.{get_or-set_same, length-set}
 use Rattle.bw_mask.specs.Masks.{bit_of, row_in}
-use Rattle.bw_vertical.specs.Carries.{HoldBits, carried, digit}
+use Rattle.bw_vertical.specs.Carries.{HoldBits, carried, lane_bit}
 use Rattle.bw_vertical.specs.Storage.{HasSegment, code_of, is_set, lists, planes_in, word_of}
 use Rattle.bw_vertical.proofs.Holding.{code_bit, plane_row}
 use Rattle.bw_vertical.proofs.Placing.{elsewhere, group_is, in_its_group, word_in_group}
@@ -13,7 +13,7 @@ use Rattle.bw_vertical.proofs.Placing.{elsewhere, group_is, in_its_group, word_i
 -- group g has m planes in segment q
 module _ (k q g m : ℕ) (vs : List (Vec (List ℕ) Global)) (v : Vec (List ℕ) Global) (within : g < length vs) (read : v ≡ get_or vs g v) (m_is : m ≡ planes_in k g) where
   -- a row of one of them
-  row_in_group : (i j : ℕ) → i / 4 ≡ g → j < 256 → row_in (get_or v.items (q * m + i % 4) []) j ≡ is_set k (lists vs) i (256 * q + j)
+  pub row_in_group : (i j : ℕ) → i / 4 ≡ g → j < 256 → row_in (get_or v.items (q * m + i % 4) []) j ≡ is_set k (lists vs) i (256 * q + j)
   row_in_group i j group h =
       ap (λ n. row_in (get_or v.items (q * n + i % 4) []) j) m_is
       ∙ ap (λ xs. row_in (get_or xs (q * planes_in k g + i % 4) []) j) (sym (group_is vs g v within read))
@@ -82,12 +82,12 @@ module _
     -- numbers y are added to the codes: the planes of group g hold the bits of the sums, if the carry from the groups behind is right
     module _
         (y : ℕ → ℕ) (old : List (List (List ℕ))) (carry next : List ℕ)
-        (sums : (j x : ℕ) → j < 256 → HoldBits v.items (q * m) m (k - 1 - 4 * g) j x → digit carry j ≡ carried x (y j) (k - 1 - 4 * g + 1 - m)
+        (sums : (j x : ℕ) → j < 256 → HoldBits v.items (q * m) m (k - 1 - 4 * g) j x → lane_bit carry j ≡ carried x (y j) (k - 1 - 4 * g + 1 - m)
         → HoldBits u.items (q * m) m (k - 1 - 4 * g) j (x + y j))
-        (carries : (j x : ℕ) → j < 256 → HoldBits v.items (q * m) m (k - 1 - 4 * g) j x → digit carry j ≡ carried x (y j) (k - 1 - 4 * g + 1 - m)
-        → digit next j ≡ carried x (y j) (k - 1 - 4 * g + 1))
+        (carries : (j x : ℕ) → j < 256 → HoldBits v.items (q * m) m (k - 1 - 4 * g) j x → lane_bit carry j ≡ carried x (y j) (k - 1 - 4 * g + 1 - m)
+        → lane_bit next j ≡ carried x (y j) (k - 1 - 4 * g + 1))
         (same : (i w : ℕ) → i < k → i / 4 ≡ g → word_of k (lists vs) i w ≡ word_of k old i w)
-        (carry_is : (j : ℕ) → j < 256 → digit carry j ≡ carried (code_of k old (256 * q + j)) (y j) (k - 1 - 4 * g + 1 - m))
+        (carry_is : (j : ℕ) → j < 256 → lane_bit carry j ≡ carried (code_of k old (256 * q + j)) (y j) (k - 1 - 4 * g + 1 - m))
       where
         codes_held : (j : ℕ) → j < 256 → HoldBits v.items (q * m) m (k - 1 - 4 * g) j (code_of k old (256 * q + j))
         codes_held j h =
@@ -99,5 +99,5 @@ module _
             let x = code_of k old (256 * q + j) in
             bits_told k q g m after u within_after read_after m_is j (x + y j) h (sums j x h (codes_held j h) (carry_is j h)) i low group
 
-        pub carry_on : (j : ℕ) → j < 256 → digit next j ≡ carried (code_of k old (256 * q + j)) (y j) (k - 1 - 4 * g + 1)
+        pub carry_on : (j : ℕ) → j < 256 → lane_bit next j ≡ carried (code_of k old (256 * q + j)) (y j) (k - 1 - 4 * g + 1)
         carry_on j h = carries j (code_of k old (256 * q + j)) h (codes_held j h) (carry_is j h)

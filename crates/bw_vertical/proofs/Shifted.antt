@@ -1,8 +1,8 @@
 -- Codes counted from another base: what each is then.
-use Rattle.std.proofs.Common.{Bool, List, ap, arith, false, get_or, nat_abs, pos, refl, subst, sym, true, ℕ, ℤ, ◌%◌, ◌*◌, ◌+ℤ◌, ◌+◌, ◌-◌, ◌/◌, ◌<◌, ◌==◌, ◌^◌, ◌∙◌, ◌≡◌, ◌≤◌}
+use Rattle.std.proofs.Common.{Bool, FitsSigned, List, ap, arith, false, get_or, nat_abs, of_z, pos, refl, subst, sym, to_z, true, w64, ℕ, ℤ, ◌%◌, ◌*◌, ◌+ℤ◌, ◌+◌, ◌-ℤ◌, ◌-◌, ◌/◌, ◌<◌, ◌==◌, ◌^◌, ◌∙◌, ◌≡◌, ◌≤◌}
 use Rattle.std.specs.Prelude.{if◌then◌else◌}
 use Rattle.std.proofs.Math.Pow.{pow_mono}
-use Rattle.std.proofs.lemmas.Int.{ints}
+use Rattle.std.proofs.lemmas.Int.{ints, to_z-of_z}
 use Rattle.std.proofs.lemmas.List.{get_or_past}
 use Rattle.std.proofs.lemmas.Nat.Bits.{bit_at_cat_low}
 use Rattle.bw_mask.specs.Masks.{MaskRows, bit_of, len, row_at}
@@ -11,6 +11,10 @@ use Rattle.bw_code.proofs.Lists.{made_at}
 use Rattle.bw_vertical.specs.Storage.{code_of, codes_of, is_set}
 use Rattle.bw_vertical.proofs.Holding.{code_bit, code_is, code_lt}
 
+-- the word between two bases
+pub word_is : (from to : ℤ) (r : ℕ) → FitsSigned w64 from → FitsSigned w64 to → IsWord (to_z w64 (of_z w64 from) -ℤ to_z w64 (of_z w64 to)) r → IsWord (from -ℤ to) r
+word_is from to r f t is code sum p q e = is code sum p q (rw (to_z-of_z w64 from f, to_z-of_z w64 to t) e)
+
 -- the bits below 64 are those of the rest
 low_bit : (n i : ℕ) → i < 64 → bit_of (n % 2 ^ 64) i ≡ bit_of n i
 low_bit n i h =
@@ -18,24 +22,27 @@ low_bit n i h =
     sym (ap (λ m. bit_of m i) whole ∙ ap (λ x. x == 1) (bit_at_cat_low (n / 2 ^ 64) 64 (n % 2 ^ 64) i h))
 
 -- a code by its value and its bits
-abbrev IsCode : ℕ → ℤ → ℕ → ℕ → Type 0
+abbrev pub IsCode : ℕ → ℤ → ℕ → ℕ → Type 0
 IsCode k value sum c = (c < 2 ^ k) × (pos c ≡ value) × ((m : ℕ) → m < 64 → bit_of sum m ≡ bit_of c m)
 
-module _ (k : ℕ) (by : ℤ) (word : ℕ) (narrow : k ≤ 64) (word_is : IsWord by word) where
-  new_code : (there : Bool) (code : ℕ) → code < 2 ^ k → StaysBelow (2 ^ k) (shifted by there code) → (c : ℕ) × IsCode k (shifted by there code) (code + (if there then word else 0)) c
+module _ (k : ℕ) (by : ℤ) (word : ℕ) (narrow : k ≤ 64) (is_word : IsWord by word) where
+  pub new_code : (there : Bool) (code : ℕ) → code < 2 ^ 64 → StaysBelow (2 ^ k) (shifted by there code) → (c : ℕ) × IsCode k (shifted by there code) (code + (if there then word else 0)) c
   new_code true code small fits =
       let c = nat_abs (pos code +ℤ by) in
       let most : 2 ^ k ≤ 2 ^ 64 = pow_mono {i = k} {j = 64} narrow in
       let is : pos c ≡ pos code +ℤ by = omega (arith, ints, fits.0) in
       let low : c < 2 ^ k = omega (arith, ints, fits.0, fits.1) in
-      (c, (low, is, λ m h. sym (low_bit (code + word) m h) ∙ ap (λ z. bit_of z m) (word_is code c (omega (arith, small, most)) (omega (arith, low, most)) is)))
-  new_code false code small fits = (code, (small, refl, λ m h. ap (λ z. bit_of z m) (omega arith)))
+      (c, (low, is, λ m h. sym (low_bit (code + word) m h) ∙ ap (λ z. bit_of z m) (is_word code c small (omega (arith, low, most)) is)))
+  new_code false code small fits = (code, (omega (arith, ints, fits.1), refl, λ m h. ap (λ z. bit_of z m) (omega arith)))
+
+  word_code : (j : ℕ) (gs : List (List (List ℕ))) → code_of k gs j < 2 ^ 64
+  word_code j gs = omega (arith, code_lt k gs j, pow_mono {i = k} {j = 64} narrow)
 
   module _ (n : ℕ) (old new : List (List (List ℕ))) (rows : MaskRows)
       (each : (i j : ℕ) → i < k → is_set k new i j ≡ bit_of (code_of k old j + (if row_at rows j then word else 0)) (k - 1 - i)) where
     pub code_shifted : (j : ℕ) → StaysBelow (2 ^ k) (shifted by (row_at rows j) (code_of k old j)) → pos (code_of k new j) ≡ shifted by (row_at rows j) (code_of k old j)
     code_shifted j fits =
-        let c = new_code (row_at rows j) (code_of k old j) (code_lt k old j) fits in
+        let c = new_code (row_at rows j) (code_of k old j) (word_code j old) fits in
         ap pos (code_is k j c.0 new c.1.0 (λ i h. each i j h ∙ c.1.2 (k - 1 - i) (omega (arith, narrow)))) ∙ c.1.1
 
     -- past the last row nothing changes

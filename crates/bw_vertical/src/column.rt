@@ -1,8 +1,8 @@
 //! Columns of codes as planes of bits.
 
-ghost use Rattle.std.specs.Prelude.{[], false, slice_index, pos, ◌-ℤ◌, ◌++◌, ◌%◌, ◌/◌, ◌≤◌, ◌^◌, length, slice_index_or, ℕ, ◌*◌, ◌+◌, ◌-◌, ◌<◌, ◌≡◌};
+ghost use Rattle.std.specs.Prelude.{[], false, if◌then◌else◌, replicate, slice_index, pos, ◌-ℤ◌, ◌++◌, ◌%◌, ◌/◌, ◌≤◌, ◌^◌, length, slice_index_or, ℕ, ◌*◌, ◌+◌, ◌-◌, ◌<◌, ◌≡◌};
 ghost use Rattle.bw_mask.specs.Masks.{bit_of, len, row_at, row_in};
-ghost use Rattle.bw_code.specs.Columns.{code_at, count, Fit, KeepsShape, put_codes};
+ghost use Rattle.bw_code.specs.Columns.{code_at, count, Fit, KeepsShape};
 ghost use Rattle.bw_code.specs.Shifts.{StaysBelow, shifted};
 ghost use Rattle.bw_code.specs.declared.kind.Layout.TheVariants as layouts;
 ghost use Rattle.bw_code.specs.Units.{segments_of};
@@ -11,8 +11,9 @@ ghost use Rattle.bw_code.specs.Widths.{widest_code};
 ghost use Rattle.bw_vertical.specs.Planes.{code_by, code_in};
 ghost use Rattle.bw_vertical.specs.Storage.{groups_of, planes_in};
 
-use crate::blending::blend_words;
-use crate::growing::{begin_segment, empty_groups, reserve_segments};
+use crate::copying::copy_codes;
+use crate::filling::fill_codes;
+use crate::growing::{begin_segment, empty_groups, push_segments, reserve_segments};
 use crate::pair::pair_from;
 use crate::scan::scan_from;
 use crate::shifting::shift_codes;
@@ -103,22 +104,6 @@ impl VerticalColumn {
         self.len += n;
     }
 
-    /// Writes codes to some of n rows from row `at` on, the first row of a word: row at + i, where bit i of `rows` is
-    /// set, takes the code of which word b has bit b.
-    #[tactic(auto, using(crate::proofs::Holding::codes_len))]
-    pub fn put_words(&mut self, at: usize, n: usize, rows: u64, words: &[u64; 64])
-        requires word { at % 64 ≡ 0 }
-        requires few { n ≤ 64 }
-        requires there { at + n ≤ count self.old }
-        requires given { (i : ℕ) → n ≤ i → bit_of rows i ≡ false }
-        ensures shape { KeepsShape self.new self.old }
-        ensures codes { self.new.codes ≡ put_codes self.old.codes at rows (made n (code_by self.old.width words.now)) }
-    {
-        if at < self.len {
-            blend_words(&mut self.groups, self.width as usize, at / 64, words, rows);
-        }
-    }
-
     /// Rebases the code of each of the rows. Each rebased code fits the column's width, too. Takes no memory.
     pub fn shift(&mut self, rows: &Mask, from: i64, to: i64)
         requires rows { len rows.now ≡ count self.old }
@@ -129,6 +114,62 @@ impl VerticalColumn {
     {
         let k = self.width as usize;
         shift_codes(&mut self.groups, k, self.len, rows, word_between(from, to));
+    }
+
+    /// Appends n rows with code 0, within the room.
+    pub fn extend_zeros(&mut self, n: usize)
+        requires room { count self.old + n ≤ self.old.room }
+        requires few { count self.old + n ≤ 2 ^ 24 }
+        ensures shape { KeepsShape self.new self.old }
+        ensures codes { self.new.codes ≡ self.old.codes ++ replicate n 0 }
+    {
+        let more = (self.len + n).div_ceil(256) - self.len.div_ceil(256);
+        push_segments(&mut self.groups, self.width as usize, more);
+        self.len += n;
+    }
+
+    /// The code of each of the rows becomes this one. Takes no memory.
+    pub fn fill_rows(&mut self, rows: &Mask, code: u64)
+        requires rows { len rows.now ≡ count self.old }
+        requires fits { code < 2 ^ self.old.width }
+        ensures shape { KeepsShape self.new self.old }
+        ensures count { count self.new ≡ count self.old }
+        ensures codes { (i : ℕ) → i < count self.old → code_at self.new i ≡ (if row_at rows.now i then code else code_at self.old i) }
+    {
+        fill_codes(&mut self.groups, self.width as usize, self.len, rows, code);
+    }
+
+    /// The code of each of the rows becomes that of the same row of another column, rebased where the row is in `moved`.
+    /// Each of these codes fits the width. Takes no memory.
+    pub fn copy_rows(
+        &mut self,
+        other: &VerticalColumn,
+        rows: &Mask,
+        moved: &Mask,
+        from: i64,
+        to: i64,
+    )
+        requires count { count other.now ≡ count self.old }
+        requires rows { len rows.now ≡ count self.old }
+        requires moved { len moved.now ≡ count self.old }
+        requires fit { (i : ℕ) → i < count self.old → StaysBelow (2 ^ self.old.width) (shifted (from -ℤ to) (row_at moved.now i) (code_at other.now i)) }
+        ensures shape { KeepsShape self.new self.old }
+        ensures count { count self.new ≡ count self.old }
+        ensures codes { (i : ℕ) → i < count self.old → pos (code_at self.new i)
+            ≡ (if row_at rows.now i then shifted (from -ℤ to) (row_at moved.now i) (code_at other.now i) else pos (code_at self.old i)) }
+    {
+        let (k, own) = (self.width as usize, other.width as usize);
+        let by = word_between(from, to);
+        copy_codes(
+            &mut self.groups,
+            k,
+            self.len,
+            &other.groups,
+            own,
+            rows,
+            moved,
+            by,
+        );
     }
 
     /// Appends codes, whose rows lie in one word, within the room.

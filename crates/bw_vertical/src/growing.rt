@@ -45,7 +45,7 @@ pub(crate) fn reserve_segments(
 
 /// Appends m planes, within the capacity. None of their rows is set.
 fn push_planes(group: &mut Vec<[u64; 4]>, m: usize)
-    requires small { m ≤ 4 }
+    requires small { m ≤ 2 ^ 18 }
     requires room { vec_len group.old + m ≤ vec_capacity group.old }
     ensures len { length group.new.items ≡ length group.old.items + m }
     ensures capacity { vec_capacity group.old ≤ vec_capacity group.new }
@@ -57,20 +57,21 @@ fn push_planes(group: &mut Vec<[u64; 4]>, m: usize)
     };
 }
 
-/// Appends a segment, within the capacity. None of its rows is set.
-pub(crate) fn push_segment(groups: &mut Vec<Vec<[u64; 4]>>, k: usize)
+/// Appends segments, within the capacity. None of their rows is set.
+pub(crate) fn push_segments(groups: &mut Vec<Vec<[u64; 4]>>, k: usize, more: usize)
     requires narrow { k ≤ widest_code }
+    requires few { more ≤ 2 ^ 16 }
     requires count { vec_len groups.old ≡ groups_of k }
-    requires room { (g : ℕ) → 4 * g < k → length (slice_index_or (lists groups.old.items) g []) + planes_in k g ≤ slice_index (capacities groups.old.items) g }
+    requires room { (g : ℕ) → 4 * g < k → length (slice_index_or (lists groups.old.items) g []) + more * planes_in k g ≤ slice_index (capacities groups.old.items) g }
     ensures count { vec_len groups.new ≡ vec_len groups.old }
-    ensures sizes { (g : ℕ) → 4 * g < k → length (slice_index_or (lists groups.new.items) g []) ≡ length (slice_index_or (lists groups.old.items) g []) + planes_in k g }
+    ensures sizes { (g : ℕ) → 4 * g < k → length (slice_index_or (lists groups.new.items) g []) ≡ length (slice_index_or (lists groups.old.items) g []) + more * planes_in k g }
     ensures capacities { (g : ℕ) → slice_index (capacities groups.old.items) g ≤ slice_index (capacities groups.new.items) g }
     ensures words { (i w : ℕ) → word_of k (lists groups.new.items) i w ≡ word_of k (lists groups.old.items) i w }
 {
     for g in 0..groups.len() {
-        let m = planes_in(k, g);
+        let planes = more * planes_in(k, g);
         let group = &mut groups[g];
-        push_planes(group, m);
+        push_planes(group, planes);
     }
 }
 
@@ -84,6 +85,6 @@ pub(crate) fn begin_segment(groups: &mut Vec<Vec<[u64; 4]>>, k: usize, len: usiz
     ensures words { (i w : ℕ) → word_of k (lists groups.new.items) i w ≡ word_of k (lists groups.old.items) i w }
 {
     if len % 256 == 0 {
-        push_segment(groups, k);
+        push_segments(groups, k, 1);
     }
 }

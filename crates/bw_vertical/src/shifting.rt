@@ -4,7 +4,7 @@ ghost use Rattle.std.specs.Int.{bit_at};
 ghost use Rattle.std.specs.Prelude.{[], if◌then◌else◌, slice_index, slice_index_or, vec_capacity, vec_len, ℕ, ◌%◌, ◌&&◌, ◌*◌, ◌+◌, ◌-◌, ◌/◌, ◌<◌, ◌^◌, ◌≡◌, ◌≢◌, ◌≤◌};
 ghost use Rattle.bw_mask.specs.Masks.{bit_of, len as mask_len, row_at, row_in};
 ghost use Rattle.bw_code.specs.Widths.{widest_code};
-ghost use Rattle.bw_vertical.specs.Carries.{HoldBits, carried, digit};
+ghost use Rattle.bw_vertical.specs.Carries.{HoldBits, carried, lane_bit};
 ghost use Rattle.bw_vertical.specs.Planes.{code_by};
 ghost use Rattle.bw_vertical.specs.Storage.{AreGroups, HasSegment, KeepsSizes, code_of, groups_of, is_set, lists, word_of};
 
@@ -31,7 +31,7 @@ pub(crate) fn rows_where(rows: u64, number: u64, n: usize) -> u64
 
 /// These 256 rows if bit n of the number is set, else none.
 #[inline(always)]
-fn lanes_where(rows: &[u64; 4], number: u64, n: usize) -> [u64; 4]
+pub(crate) fn lanes_where(rows: &[u64; 4], number: u64, n: usize) -> [u64; 4]
     requires { n < 64 }
     ensures { (j : ℕ) → j < 256 → row_in result j ≡ (row_in rows.now j && bit_of number n) }
 {
@@ -41,8 +41,8 @@ fn lanes_where(rows: &[u64; 4], number: u64, n: usize) -> [u64; 4]
 /// Adds the bits of a plane, those of these rows and the carry from the plane below. The plane becomes the bits of the
 /// sums, and `carry` the carry to the plane above.
 #[inline(always)]
-fn add_to_plane(plane: &mut [u64; 4], rows: &[u64; 4], carry: &mut [u64; 4])
-    ensures { (j : ℕ) → j < 256 → digit plane.new j + 2 * digit carry.new j ≡ digit plane.old j + digit rows.now j + digit carry.old j }
+pub(crate) fn add_to_plane(plane: &mut [u64; 4], rows: &[u64; 4], carry: &mut [u64; 4])
+    ensures { (j : ℕ) → j < 256 → lane_bit plane.new j + 2 * lane_bit carry.new j ≡ lane_bit plane.old j + lane_bit rows.now j + lane_bit carry.old j }
 {
     let (a, b, c) = (
         u64x4::from_array(*plane),
@@ -72,10 +72,10 @@ fn shift_in_group(
     requires narrow { top < 64 }
     ensures len { vec_len group.new ≡ vec_len group.old }
     ensures capacity { vec_capacity group.new ≡ vec_capacity group.old }
-    ensures sums { (j x : ℕ) → j < 256 → HoldBits group.old.items from m top j x → digit carry.old j ≡ carried x (if row_in rows.now j then by else 0) (top + 1 - m)
+    ensures sums { (j x : ℕ) → j < 256 → HoldBits group.old.items from m top j x → lane_bit carry.old j ≡ carried x (if row_in rows.now j then by else 0) (top + 1 - m)
         → HoldBits group.new.items from m top j (x + (if row_in rows.now j then by else 0)) }
-    ensures carry { (j x : ℕ) → j < 256 → HoldBits group.old.items from m top j x → digit carry.old j ≡ carried x (if row_in rows.now j then by else 0) (top + 1 - m)
-        → digit carry.new j ≡ carried x (if row_in rows.now j then by else 0) (top + 1) }
+    ensures carry { (j x : ℕ) → j < 256 → HoldBits group.old.items from m top j x → lane_bit carry.old j ≡ carried x (if row_in rows.now j then by else 0) (top + 1 - m)
+        → lane_bit carry.new j ≡ carried x (if row_in rows.now j then by else 0) (top + 1) }
     ensures before { (b : ℕ) → b < from → slice_index_or group.new.items b [] ≡ slice_index_or group.old.items b [] }
     ensures behind { (b : ℕ) → from + m ≤ b → slice_index_or group.new.items b [] ≡ slice_index_or group.old.items b [] }
 {

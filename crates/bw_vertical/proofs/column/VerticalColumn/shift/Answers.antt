@@ -1,16 +1,11 @@
-use Rattle.std.proofs.Common.{FitsSigned, ap, arith, of_z, refl, sym, to_z, w64, ℕ, ℤ, ◌-ℤ◌, ◌∙◌, ◌≡◌}
-use Rattle.std.proofs.lemmas.Int.{to_z-of_z}
+use Rattle.std.proofs.Common.{ap, arith, refl, sym, ◌-ℤ◌, ◌∙◌, ◌≡◌}
 use Rattle.bw_mask.specs.Masks.{len}
 use Rattle.bw_code.specs.Columns.{count}
-use Rattle.bw_code.specs.Shifts.{IsWord}
 use Rattle.bw_vertical.specs.Storage.{capacities, lists}
 use Rattle.bw_vertical.proofs.Holding.{codes_len, held_set}
 use Rattle.bw_vertical.proofs.Rooms.{room_more}
-use Rattle.bw_vertical.proofs.Shifted.{codes_shifted, rest_same}
+use Rattle.bw_vertical.proofs.Shifted.{codes_shifted, rest_same, word_is}
 use Rattle.bw_vertical.proofs.column.VerticalColumn.shift.Goals as goal
-
-word : (from to : ℤ) (r : ℕ) → FitsSigned w64 from → FitsSigned w64 to → IsWord (to_z w64 (of_z w64 from) -ℤ to_z w64 (of_z w64 to)) r → IsWord (from -ℤ to) r
-word from to r f t is code sum p q e = is code sum p q (rw (to_z-of_z w64 from f, to_z-of_z w64 to t) e)
 
 pub shift_codes-requires-clause-rows : goal.shift_codes-requires-clause-rows
 shift_codes-requires-clause-rows c =
@@ -22,7 +17,7 @@ invariant_of-self c =
     let s = c.self.inside in
     let long : len c.args.rows.now ≡ s.len = c.requires.rows ∙ ap count (sym c.self.view_is) ∙ codes_len s.width s.len (lists s.groups.items) in
     held_set s.width s.len c.shift_codes.new.groups.items s.groups.items c.self.invariant c.shift_codes.ensures.sizes
-    (rest_same s.width (c.args.from -ℤ c.args.to) c.word_between.result c.self.invariant.narrow (word c.args.from c.args.to c.word_between.result c.ranges.from c.ranges.to c.word_between.ensures) s.len (lists s.groups.items) (lists c.shift_codes.new.groups.items) c.args.rows.now c.shift_codes.ensures.codes long)
+    (rest_same s.width (c.args.from -ℤ c.args.to) c.word_between.result c.self.invariant.narrow (word_is c.args.from c.args.to c.word_between.result c.ranges.from c.ranges.to c.word_between.ensures) s.len (lists s.groups.items) (lists c.shift_codes.new.groups.items) c.args.rows.now c.shift_codes.ensures.codes long)
 
 pub returns-clause-shape : goal.returns-clause-shape
 returns-clause-shape c =
@@ -37,5 +32,5 @@ returns-clause-codes c =
     let fit = rw (← c.self.view_is) at c.requires.fit in
     let few = codes_len s.width s.len (lists s.groups.items) in
     rw (← c.self.view_is) (λ i h.
-    codes_shifted s.width (c.args.from -ℤ c.args.to) c.word_between.result c.self.invariant.narrow (word c.args.from c.args.to c.word_between.result c.ranges.from c.ranges.to c.word_between.ensures)
+    codes_shifted s.width (c.args.from -ℤ c.args.to) c.word_between.result c.self.invariant.narrow (word_is c.args.from c.args.to c.word_between.result c.ranges.from c.ranges.to c.word_between.ensures)
     s.len (lists s.groups.items) (lists c.shift_codes.new.groups.items) c.args.rows.now c.shift_codes.ensures.codes i (omega (arith, h, few)) (fit i h))

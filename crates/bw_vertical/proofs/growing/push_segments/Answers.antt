@@ -1,10 +1,10 @@
-use Rattle.std.proofs.Common.{[], ap, arith, get_or, inl, inr, length, sym, ◌+◌, ◌<◌, ◌≡◌, ◌∙◌}
+use Rattle.std.proofs.Common.{[], ap, arith, get_or, inl, inr, length, sym, ◌*◌, ◌+◌, ◌<◌, ◌≡◌, ◌∙◌}
 use mathlib.Core.Logic.{◌≢◌}
 use Rattle.std.proofs.lemmas.Bool.{cases_eq}
 use Rattle.bw_vertical.specs.Storage.{lists, planes_in}
 use Rattle.bw_vertical.proofs.Growth.{words_kept}
 use Rattle.bw_vertical.proofs.Placing.{capacities_more, elsewhere, group_is, here}
-use Rattle.bw_vertical.proofs.growing.push_segment.Goals as goal
+use Rattle.bw_vertical.proofs.growing.push_segments.Goals as goal
 
 pub loop-g-preserved : goal.loop-g-preserved
 loop-g-preserved c =
@@ -16,7 +16,7 @@ loop-g-preserved c =
     let read = c.index_mut-group.ensures.value in
     let inv = c.loop-g.invariant in
     let size : length v.items ≡ length (get_or (lists c.args.groups.now.items) g []) = ap length (sym (group_is vs g v within read) ∙ inv.rest g (omega arith)) in
-    let wide : length w.items ≡ length v.items + planes_in c.args.k g = c.push_planes.ensures.len ∙ ap (λ m. length v.items + m) c.planes_in-m.ensures in
+    let wide : length w.items ≡ length v.items + c.args.more * planes_in c.args.k g = c.push_planes.ensures.len ∙ ap (λ m. length v.items + c.args.more * m) c.planes_in.ensures in
     record {
       count = omega arith;
       grown = λ h l m.
