@@ -91,9 +91,14 @@ def of_words():
     return Clause("bw_vertical/src/column.rt", "read_words", "", "words.new")
 
 
-def of_words_put():
-    """The codes of a column in V after words of planes were put at some rows."""
-    return Clause("bw_vertical/src/column.rt", "put_words", "codes", "self.new")
+def of_rows_copied(crate):
+    """The codes of a column in V or S after those of another column were copied to some rows."""
+    return Clause(f"{crate}/src/column.rt", "copy_rows", "codes", "self.new")
+
+
+def of_rows_filled():
+    """The codes of a column in V after some rows got one code."""
+    return Clause("bw_vertical/src/column.rt", "fill_rows", "codes", "self.new")
 
 
 def of_group_plane():
@@ -178,8 +183,11 @@ STRIKES = [
     Strike("bw_column::column::Column::compared_block", (of_column("rise_of_block", "pairs.rt", "rises", "out.new"),)),
     Strike("bw_column::lent_planes::lent_planes", (of_words(),)),
     Strike("bw_column::ends::plane_ends", (of_words(),)),
-    Strike("bw_column::storage::Codes::put_words", (of_words_put(),)),
-    Strike("bw_column::column::Column::put_planes", (of_column("put_words", "storage.rt", "codes", "self.new"),)),
+    Strike("bw_column::storage::Codes::copy_rows", (of_rows_copied("bw_vertical"),)),
+    Strike("bw_column::storage::Codes::copy_rows", (of_rows_copied("bw_byteslice"),)),
+    Strike("bw_column::column::Column::copy_stored", (of_column("copy_rows", "storage.rt", "codes", "self.new"),)),
+    Strike("bw_column::storage::Codes::fill_rows", (of_rows_filled(),)),
+    Strike("bw_column::column::Column::fill_planes", (of_column("fill_rows", "storage.rt", "codes", "self.new"),)),
     Strike("bw_file::planes::write_planes", (Clause("bw_file/src/planes.rt", "planes_at", "planes", "words.new"),)),
 ]
 

@@ -1,10 +1,10 @@
--- Rows of a word that take other values, by the list of the codes and by the mask of what is not null.
-use Rattle.std.proofs.Common.{List, None, Option, ap, arith, false, get_or, if◌then◌else◌, inl, inr, is_some, length, refl, sym, true, ℕ, ℤ, ◌<◌, ◌≡◌, ◌∙◌}
+-- Rows that take other values, by the list of the codes and by the mask of what is not null.
+use Rattle.std.proofs.Common.{Bool, List, None, Option, ap, arith, false, get_or, if◌then◌else◌, inl, inr, is_some, length, refl, sym, true, ℕ, ℤ, ◌<◌, ◌≡◌, ◌∙◌}
 use Rattle.std.specs.List.{All}
 use Rattle.std.proofs.lemmas.Bool.{cases_Bool, cases_lt}
 use Rattle.std.proofs.lemmas.List.{get_or-map, get_or_past, length-map}
 use Rattle.bw_mask.specs.Masks.{MaskRows, len, row_at}
-use Rattle.bw_code.specs.Columns.{CodeList, code_at, count, is_chosen}
+use Rattle.bw_code.specs.Columns.{CodeList, code_at, count}
 use Rattle.bw_code.specs.Lists.{made}
 use Rattle.bw_code.specs.declared.encoding.Encoding.{Encoding}
 use Rattle.bw_code.specs.declared.kind.Layout.{Layout}
@@ -28,28 +28,28 @@ holds_any P values none all i =
       | inr h ↦ rw (get_or_past values i None h) none
     ]
 
-module _ {l : Layout} (e : Encoding) (codes new_codes : CodeList) (rows new_rows : MaskRows) (are : AreRowCodes l e codes rows) (width_stays : new_codes.width ≡ codes.width) (at word : ℕ) (v : ℕ → Option ℤ)
-    (held : (j : ℕ) → is_chosen at word j ≡ true → IsCoded e (v j)) (kept : (j : ℕ) → is_chosen at word j ≡ true → IsNullOrHeld l (v j))
+module _ {l : Layout} (e : Encoding) (codes new_codes : CodeList) (rows new_rows : MaskRows) (are : AreRowCodes l e codes rows) (width_stays : new_codes.width ≡ codes.width) (there : ℕ → Bool) (v : ℕ → Option ℤ)
+    (held : (j : ℕ) → there j ≡ true → IsCoded e (v j)) (kept : (j : ℕ) → there j ≡ true → IsNullOrHeld l (v j))
     (count_stays : count new_codes ≡ count codes) (len_stays : len new_rows ≡ len rows)
-    (codes_are : (j : ℕ) → j < count codes → code_at new_codes j ≡ (if is_chosen at word j then code_for e (v j) else code_at codes j))
-    (rows_are : (j : ℕ) → row_at new_rows j ≡ (if is_chosen at word j then is_some (v j) else row_at rows j)) where
-  code_taken : (j : ℕ) → j < count codes → is_chosen at word j ≡ true → code_at new_codes j ≡ code_for e (v j)
+    (codes_are : (j : ℕ) → j < count codes → code_at new_codes j ≡ (if there j then code_for e (v j) else code_at codes j))
+    (rows_are : (j : ℕ) → row_at new_rows j ≡ (if there j then is_some (v j) else row_at rows j)) where
+  code_taken : (j : ℕ) → j < count codes → there j ≡ true → code_at new_codes j ≡ code_for e (v j)
   code_taken j h t = codes_are j h ∙ rw t refl
 
-  code_left : (j : ℕ) → j < count codes → is_chosen at word j ≡ false → code_at new_codes j ≡ code_at codes j
+  code_left : (j : ℕ) → j < count codes → there j ≡ false → code_at new_codes j ≡ code_at codes j
   code_left j h t = codes_are j h ∙ rw t refl
 
-  row_taken : (j : ℕ) → is_chosen at word j ≡ true → row_at new_rows j ≡ is_some (v j)
+  row_taken : (j : ℕ) → there j ≡ true → row_at new_rows j ≡ is_some (v j)
   row_taken j t = rows_are j ∙ rw t refl
 
-  row_left : (j : ℕ) → is_chosen at word j ≡ false → row_at new_rows j ≡ row_at rows j
+  row_left : (j : ℕ) → there j ≡ false → row_at new_rows j ≡ row_at rows j
   row_left j t = rows_are j ∙ rw t refl
 
   abbrev own : ℕ → Option ℤ
   own j = value_from e (code_at codes j) (row_at rows j)
 
   abbrev pub put_value : ℕ → Option ℤ
-  put_value j = if is_chosen at word j then v j else value_at (values_from e codes rows) j
+  put_value j = if there j then v j else value_at (values_from e codes rows) j
 
   pub values_chosen : values_from e new_codes new_rows ≡ made (length (values_from e codes rows)) put_value
   values_chosen =
@@ -59,14 +59,14 @@ module _ {l : Layout} (e : Encoding) (codes new_codes : CodeList) (rows new_rows
       let low : j < count codes = omega (arith, h, made_len (count codes) own) in
       let high : j < count new_codes = omega (arith, low, count_stays) in
       made_at (count new_codes) (λ k. value_from e (code_at new_codes k) (row_at new_rows k)) j None high
-      ∙ elim (cases_Bool (is_chosen at word j)) [
+      ∙ elim (cases_Bool (there j)) [
         | inl t ↦ rw (t, code_taken j low t, row_taken j t) (back e are.sound (v j) (held j t) (storable l (v j) (kept j t))).0
         | inr t ↦ rw (t, code_left j low t, row_left j t) (sym (made_at (count codes) own j None low))
       ])
 
   value_held : (k : ℕ) → k < length (values_from e codes rows) → IsNullOrHeld l (put_value k)
   value_held k h =
-      elim (cases_Bool (is_chosen at word k)) [
+      elim (cases_Bool (there k)) [
         | inl t ↦ rw t (kept k t)
         | inr t ↦ rw t (are.held k None h)
       ]
@@ -80,7 +80,7 @@ module _ {l : Layout} (e : Encoding) (codes new_codes : CodeList) (rows new_rows
     few = omega (arith, count_stays, are.few);
     each = λ i h.
         let low : i < count codes = omega (arith, h, count_stays) in
-        elim (cases_Bool (is_chosen at word i)) [
+        elim (cases_Bool (there i)) [
           | inl t ↦ rw (code_taken i low t, row_taken i t) (back e are.sound (v i) (held i t) (storable l (v i) (kept i t))).1
           | inr t ↦ rw (code_left i low t, row_left i t) (are.each i low)
         ];

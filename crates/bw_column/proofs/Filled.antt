@@ -35,6 +35,12 @@ module _ (places : MaskRows) (v : ℕ → Option ℤ) (old : List (Option ℤ)) 
         | inr t ↦ rw t refl
       ]
 
+  -- all rows at once
+  pub all_put : (now all : List (Option ℤ)) → now ≡ made (length old) fill_at → ((k : ℕ) → row_at places k ≡ true → value_at all (rank places k) ≡ v k) → now ≡ overwritten places all old
+  all_put now all is same =
+      is ∙ made_is (length old) (put_at places all old) (made (length old) fill_at) None (made_len (length old) fill_at) (λ k h.
+      made_at (length old) fill_at k None h ∙ put_same all same k)
+
   module _ (now : List (Option ℤ)) (at : ℕ) (same_len : length now ≡ length old)
       (done : (k : ℕ) → k < at → value_at now k ≡ fill_at k)
       (rest : (k : ℕ) → at ≤ k → value_at now k ≡ value_at old k) where

@@ -15,7 +15,6 @@ pub mod Known
 pub mod Lain
 pub mod Listed
 pub mod Masked
-pub mod MaskedPlanes
 pub mod Measuring
 pub mod Narrow
 pub mod Near
@@ -35,4 +34,5 @@ pub mod Shifting
 pub mod Spanned
 pub mod Spreads
 pub mod Standing
+pub mod Stored
 pub mod Told

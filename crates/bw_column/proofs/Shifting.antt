@@ -1,5 +1,6 @@
 -- Codes that are distances from a base, counted from another one: the same values.
 use Rattle.std.proofs.Common.{All, Bool, List, None, Option, Some, ap, arith, false, pos, refl, subst, sym, true, ℕ, ℤ, ◌+ℤ◌, ◌-ℤ◌, ◌<◌, ◌^◌, ◌∙◌, ◌≡◌, ◌≤◌}
+use Rattle.std.specs.Prelude.{unwrap_or}
 use Rattle.std.proofs.lemmas.Int.{ints}
 use Rattle.std.proofs.lemmas.Nat.{pow_pos}
 use Rattle.bw_mask.specs.Masks.{MaskRows, row_at}
@@ -12,13 +13,20 @@ use Rattle.bw_code.specs.declared.offset.Offset.{Offset}
 use Rattle.bw_code.specs.declared.kind.Layout.{Layout}
 use Rattle.bw_code.proofs.Codes.{offset_coded}
 use Rattle.bw_code.proofs.Lists.{made_at, made_is, made_len}
-use Rattle.bw_column.specs.Codes.{AreRowCodes, IsCoded, IsRowCode, value_from, values_from}
-use Rattle.bw_column.specs.Values.{IsNullOrHeld, widest}
+use Rattle.bw_column.specs.Codes.{AreRowCodes, IsCoded, IsRowCode, code_for, value_from, values_from}
+use Rattle.bw_column.specs.Values.{IsNullOrHeld, value_at, widest}
 
 module _ (own o : Offset) where
   pub row_fits : (code : ℕ) (there : Bool) → IsRowCode (by.Offset own) code there → IsCoded (by.Offset o) (value_from (by.Offset own) code there) → StaysBelow (2 ^ o.width) (shifted (own.base -ℤ o.base) there code)
   row_fits code true is held = (omega (arith, ints, held.0), omega (arith, ints, held.1, pow_pos o.width))
   row_fits code false is held = (omega (arith, ints), omega (arith, ints, is, pow_pos o.width))
+
+  pub row_moved : (code : ℕ) (there : Bool) → IsRowCode (by.Offset own) code there → IsCoded (by.Offset o) (value_from (by.Offset own) code there) → shifted (own.base -ℤ o.base) there code ≡ pos (code_for (by.Offset o) (value_from (by.Offset own) code there))
+  row_moved code true is held =
+      let x = own.base +ℤ pos code in
+      let far : pos code +ℤ (own.base -ℤ o.base) ≡ pos (distance x o.base) = omega (arith, ints, held.0) in
+      far ∙ ap (λ c. pos (unwrap_or c 0)) (sym (offset_coded o x held.0 held.1))
+  row_moved code false is held = ap pos is
 
   row_same : (code new : ℕ) (there : Bool) → IsRowCode (by.Offset own) code there → IsCoded (by.Offset o) (value_from (by.Offset own) code there) → pos new ≡ shifted (own.base -ℤ o.base) there code
       → (value_from (by.Offset o) new there ≡ value_from (by.Offset own) code there) × IsRowCode (by.Offset o) new there
@@ -50,7 +58,7 @@ module _ (own o : Offset) where
 
 -- a column whose values all have codes from the other base
 module _ {l : Layout} (e : Encoding) (own o : Offset) (codes : CodeList) (nonnull : MaskRows) (values : List (Option ℤ)) (e_is : e ≡ by.Offset own) (are : AreRowCodes l e codes nonnull)
-    (view_is : values_from e codes nonnull ≡ values) (all : All (IsCoded (by.Offset o)) values) (narrow : o.width ≤ widest l) where
+    (view_is : values_from e codes nonnull ≡ values) (all : All (IsCoded (by.Offset o)) values) where
   rows : AreRowCodes l (by.Offset own) codes nonnull
   rows = subst (λ (x : Encoding). AreRowCodes l x codes nonnull) e_is are
 
@@ -66,7 +74,14 @@ module _ {l : Layout} (e : Encoding) (own o : Offset) (codes : CodeList) (nonnul
   pub column_fits : (i : ℕ) → i < count codes → StaysBelow (2 ^ o.width) (shifted (own.base -ℤ o.base) (row_at nonnull i) (code_at codes i))
   column_fits i h = row_fits own o (code_at codes i) (row_at nonnull i) (rows.each i h) (held i h)
 
-  module _ (new : CodeList) (width_is : new.width ≡ o.width) (count_is : count new ≡ count codes) (each : (i : ℕ) → i < count codes → pos (code_at new i) ≡ shifted (own.base -ℤ o.base) (row_at nonnull i) (code_at codes i)) where
+  -- a row's code from the other base is that of its value
+  pub column_moved : (i : ℕ) → i < count codes → shifted (own.base -ℤ o.base) (row_at nonnull i) (code_at codes i) ≡ pos (code_for (by.Offset o) (value_at values i))
+  column_moved i h =
+      let f : ℕ → Option ℤ = λ j. value_from (by.Offset own) (code_at codes j) (row_at nonnull j) in
+      row_moved own o (code_at codes i) (row_at nonnull i) (rows.each i h) (held i h)
+      ∙ ap (λ v. pos (code_for (by.Offset o) v)) (sym (made_at (count codes) f i None h) ∙ ap (λ xs. value_at xs i) same)
+
+  module _ (narrow : o.width ≤ widest l) (new : CodeList) (width_is : new.width ≡ o.width) (count_is : count new ≡ count codes) (each : (i : ℕ) → i < count codes → pos (code_at new i) ≡ shifted (own.base -ℤ o.base) (row_at nonnull i) (code_at codes i)) where
     pub column_shifted : AreRowCodes l (by.Offset o) new nonnull
     column_shifted = rows_shifted own o narrow codes new nonnull rows held width_is count_is each
 

@@ -28,9 +28,10 @@ pub record IsMasked (places : MaskRows) (values : List (Option ℤ)) : Type 0 wh
   pub long : length values ≡ len places
   pub null : (i : ℕ) → row_at places i ≡ false → value_at values i ≡ None
 
--- distances in planes are copied to planes, and all other codes to plain ones
+-- distances in planes or slices are copied to the same layout, and all other codes to plain ones
 abbrev pub layout_of_copy : Layout → Kind → Layout
 layout_of_copy layouts.V kind.Offset = layouts.V
+layout_of_copy layouts.S kind.Offset = layouts.S
 layout_of_copy layout by = layouts.P
 
 -- a copy, the step before its values are taken, and the codes by which they are

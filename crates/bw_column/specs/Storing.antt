@@ -1,6 +1,6 @@
 -- The codes of a column, in any layout.
 use Rattle.bw_code.specs.Columns.{CodeList}
-use Rattle.std.specs.Prelude.{ℕ, ◌↔◌, ◌≡◌, ◌≤◌}
+use Rattle.std.specs.Prelude.{ℕ, ◌↔◌, ◌≡◌, ◌≤◌, ◌⊎◌}
 use Rattle.bw_code.specs.Widths.{widest_half}
 use Rattle.bw_code.specs.declared.kind.Layout.{Layout}
 use Rattle.bw_code.specs.declared.kind.Layout.TheVariants as layouts
@@ -32,6 +32,10 @@ lent_layout (lent.P codes) = layouts.P
 lent_layout (lent.V codes) = layouts.V
 lent_layout (lent.H codes) = layouts.H
 lent_layout (lent.S codes) = layouts.S
+
+-- the layouts that hold codes in planes or in slices
+abbrev pub IsSliced : Layout → Type 0
+IsSliced layout = (layout ≡ layouts.V) ⊎ (layout ≡ layouts.S)
 
 -- where codes can be rebased in place: plain codes that take as many bytes as before, and the others where the width stays
 abbrev pub ShiftsTo : Layout → ℕ → ℕ → Type 0

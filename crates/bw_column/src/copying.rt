@@ -6,6 +6,7 @@ ghost use Rattle.bw_code.specs.Encodings.{IsWithin, kind_of};
 ghost use Rattle.bw_code.specs.Fittings.{AreEnds};
 ghost use Rattle.bw_code.specs.declared.encoding.Encoding.TheVariants as by;
 ghost use Rattle.bw_code.specs.declared.kind.Kind.TheVariants as kind;
+ghost use Rattle.bw_code.specs.declared.kind.Layout.TheVariants as layouts;
 ghost use Rattle.bw_column.specs.Codes.{IsCoded};
 ghost use Rattle.bw_column.specs.Columns.{Keeps};
 ghost use Rattle.bw_column.specs.Copies.{IsCopyPreparedFor, IsMasked, layout_of_copy, masked, step_alone};
@@ -91,32 +92,6 @@ fn keep_rows(codes: &mut [u64], present: u64, rows: u64) -> u64
     kept
 }
 
-/// Clears in all words of planes the bits of each row that is not in both words of bits. Returns the rows that are in
-/// both.
-#[tactic(auto, using(bw_mask::proofs::Bits::bit_of_and))]
-fn keep_bits(words: &mut [u64; 64], present: u64, rows: u64) -> u64
-    ensures each { (b r : ℕ) → b < 64 → bit_of (slice_index words.new b) r ≡ (bit_of (slice_index words.old b) r && bit_of rows r) }
-    ensures kept { (r : ℕ) → bit_of result r ≡ (bit_of present r && bit_of rows r) }
-{
-    for b in 0..64 {
-        words[b] &= rows;
-    }
-    present & rows
-}
-
-/// The layout of a copy: distances in V stay in V, and all other codes are copied to plain codes.
-fn copied_layout(layout: Layout, kind: Kind) -> Layout
-    ensures is { result ≡ layout_of_copy layout kind }
-    ensures held { (values : List (Option ℤ)) → All (IsNullOrHeld layout) values → All (IsNullOrHeld result) values }
-    ensures wide { widest layout ≤ widest result }
-{
-    if layout == Layout::V && kind == Kind::Offset {
-        Layout::V
-    } else {
-        Layout::P
-    }
-}
-
 /// A copy of an encoding.
 fn encoding_like(alloc: Global, encoding: &Encoding) -> Result<Encoding, AllocError>
     ensures { IfOk result (λ e. e ≡ encoding.now) }
@@ -128,8 +103,8 @@ fn encoding_like(alloc: Global, encoding: &Encoding) -> Result<Encoding, AllocEr
 }
 
 impl Column {
-    /// A copy of the values in the rows of a mask, in the same encoding, in planes or plain codes, with NULL in the
-    /// other rows. It stays the same while the columns change.
+    /// A copy of the values in the rows of a mask, in the same encoding, with NULL in the other rows: distances in V or S
+    /// in the same layout, all others as plain codes. It stays the same while the columns change.
     pub fn copy_at(&self, alloc: Global, places: &Mask) -> Result<Column, AllocError>
         requires { len places.now ≡ length self.now.values }
         ensures values { IfOk result (λ copy. copy.values ≡ masked places.now self.now.values) }
@@ -138,11 +113,26 @@ impl Column {
         ensures encoding { IfOk result (λ copy. copy.encoding ≡ self.now.encoding) }
         ensures layout { IfOk result (λ copy. copy.layout ≡ layout_of_copy self.now.layout (kind_of self.now.encoding)) }
     {
+        let _held = self.len();
+        match (&self.encoding, self.layout()) {
+            (Encoding::Offset(offset), Layout::V | Layout::S) => {
+                self.stored_copy_at(alloc, *offset, places)
+            }
+            _ => self.plain_copy_at(alloc, places),
+        }
+    }
+
+    /// Such a copy as plain codes.
+    fn plain_copy_at(&self, alloc: Global, places: &Mask) -> Result<Column, AllocError>
+        requires { len places.now ≡ length self.now.values }
+        ensures values { IfOk result (λ copy. copy.values ≡ masked places.now self.now.values) }
+        ensures encoding { IfOk result (λ copy. copy.encoding ≡ self.now.encoding) }
+        ensures layout { IfOk result (λ copy. copy.layout ≡ layouts.P) }
+    {
         let _few = self.len();
         let _sound = self.encoding();
         let encoding = encoding_like(alloc, &self.encoding)?;
-        let layout = copied_layout(self.layout(), self.kind());
-        let mut copy = Column::with_room(alloc, layout, encoding, self.len())?;
+        let mut copy = Column::with_room(alloc, Layout::P, encoding, self.len())?;
         copy.extend_masked(self, places);
         Ok(copy)
     }
@@ -169,7 +159,7 @@ impl Column {
     }
 
     /// Appends n of these values from row `at` on, at most 64, by their codes.
-    fn extend_masked_codes(&mut self, other: &Column, places: &Mask, at: usize, n: usize)
+    fn extend_masked_run(&mut self, other: &Column, places: &Mask, at: usize, n: usize)
         requires places { len places.now ≡ length other.now.values }
         requires encoding { self.old.encoding ≡ other.now.encoding }
         requires held { All (IsNullOrHeld self.old.layout) other.now.values }
@@ -188,36 +178,6 @@ impl Column {
         let present = other.read_codes(at, codes);
         let kept = keep_rows(codes, present, places.bits(at, n));
         self.extend_rows(codes, kept);
-    }
-
-    /// The same by their planes, where both columns have planes of distances.
-    fn extend_masked_run(&mut self, other: &Column, places: &Mask, at: usize, n: usize)
-        requires places { len places.now ≡ length other.now.values }
-        requires encoding { self.old.encoding ≡ other.now.encoding }
-        requires held { All (IsNullOrHeld self.old.layout) other.now.values }
-        requires some { 0 < n }
-        requires block { n ≤ 64 }
-        requires inside { at + n ≤ length other.now.values }
-        requires room { length self.old.values + n ≤ self.old.room }
-        requires few { length self.old.values + n ≤ 2 ^ 24 }
-        ensures values { self.new.values ≡ self.old.values ++ take n (drop at (masked places.now other.now.values)) }
-        ensures layout { self.new.layout ≡ self.old.layout }
-        ensures encoding { self.new.encoding ≡ self.old.encoding }
-        ensures room { self.old.room ≤ self.new.room }
-    {
-        let _sound = other.encoding();
-        if let Encoding::Offset(offset) = self.encoding {
-            if self.begins_planes() {
-                let mut words = [0; 64];
-                let k = offset.width as usize;
-                if let Some(present) = other.planes(at, n, offset.base, k, &mut words) {
-                    let kept = keep_bits(&mut words, present, places.bits(at, n));
-                    self.extend_planes(offset, &words, n, kept);
-                    return;
-                }
-            }
-        }
-        self.extend_masked_codes(other, places, at, n);
     }
 
     /// Prepares to take the values of a copy of the same kind. Where one of them has no code, the result includes the
@@ -358,32 +318,7 @@ impl Column {
         self.put_coded(at, rows, codes, present);
     }
 
-    /// The same by their planes, where both columns have planes.
-    fn copy_rows(&mut self, offset: Offset, at: usize, n: usize, rows: u64, copy: &Column)
-        requires word { at % 64 ≡ 0 }
-        requires few { n ≤ 64 }
-        requires there { at + n ≤ length self.old.values }
-        requires copied { at + n ≤ length copy.now.values }
-        requires given { (i : ℕ) → n ≤ i → bit_of rows i ≡ false }
-        requires encoding { self.old.encoding ≡ by.Offset offset }
-        requires coded { All (IsCoded self.old.encoding) copy.now.values }
-        requires held { All (IsNullOrHeld self.old.layout) copy.now.values }
-        ensures values { self.new.values ≡ put_values self.old.values at rows (take n (drop at copy.now.values)) }
-        ensures layout { self.new.layout ≡ self.old.layout }
-        ensures encoding { self.new.encoding ≡ self.old.encoding }
-    {
-        if self.layout() == Layout::V {
-            let mut words = [0; 64];
-            let k = offset.width as usize;
-            if let Some(present) = copy.planes(at, n, offset.base, k, &mut words) {
-                self.put_planes(offset, at, n, rows, &words, present);
-                return;
-            }
-        }
-        self.copy_codes(offset, at, n, rows, copy);
-    }
-
-    /// Writes the values of a copy to the set places, a word of rows at a time.
+    /// Writes the values of a copy to the set places by their codes, a word of rows at a time.
     pub(crate) fn copy_runs(&mut self, offset: Offset, places: &Mask, copy: &Column)
         requires encoding { self.old.encoding ≡ by.Offset offset }
         requires coded { All (IsCoded self.old.encoding) copy.now.values }
@@ -399,7 +334,7 @@ impl Column {
         while let Some(place) = places.next_from(at) {
             let start = place - place % 64;
             let n = (end - start).min(64);
-            self.copy_rows(offset, start, n, places.bits(start, n), copy);
+            self.copy_codes(offset, start, n, places.bits(start, n), copy);
             at = start + n;
         }
     }
@@ -462,7 +397,7 @@ impl Column {
                 let Encoding::Offset(offset) = self.encoding else {
                     unreachable!()
                 };
-                self.copy_runs(offset, places, &copy);
+                self.copy_distances(offset, places, &copy);
             }
             CopiedCodes::Moved(moves) => self.copy_entries(places, &copy, &moves),
         }

@@ -47,6 +47,6 @@ impl Column {
         let Encoding::Offset(offset) = self.encoding else {
             unreachable!()
         };
-        self.copy_runs(offset, places, other);
+        self.copy_distances(offset, places, other);
     }
 }

@@ -167,7 +167,7 @@ impl Column {
 
     /// Whether the next code appended begins a word of planes.
     #[tactic(auto, using(bw_code::proofs::Lists::made_len))]
-    pub(crate) fn begins_planes(&self) -> bool
+    fn begins_planes(&self) -> bool
         ensures { result ≡ true → (self.now.layout ≡ layouts.V) × (length self.now.values % 64 ≡ 0) }
     {
         self.layout() == Layout::V && self.len() % 64 == 0

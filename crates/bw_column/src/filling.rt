@@ -1,7 +1,7 @@
 //! Overwriting rows with one value. It has one code, so that no list of values or codes is needed.
 
-ghost use Rattle.std.specs.Prelude.{All, IfOk, count_by, false, is_some, length, replicate, ℕ, ◌%◌, ◌&&◌, ◌+◌, ◌^◌, ◌≡◌, ◌≤◌};
-ghost use Rattle.bw_mask.specs.Masks.{bit_of, len};
+ghost use Rattle.std.specs.Prelude.{All, IfOk, count_by, false, if◌then◌else◌, is_some, length, replicate, true, ℕ, ◌%◌, ◌&&◌, ◌+◌, ◌^◌, ◌≡◌, ◌≤◌};
+ghost use Rattle.bw_mask.specs.Masks.{SameShape, bit_of, len, row_at};
 ghost use Rattle.bw_column.specs.Codes.{IsCoded, code_for};
 ghost use Rattle.bw_column.specs.Columns.{Keeps};
 ghost use Rattle.bw_column.specs.Places.{filled_values, overwritten};
@@ -17,6 +17,10 @@ use crate::step::Step;
 use bw_mask::Mask;
 use std::alloc::{AllocError, Global};
 
+/// Planes are filled whole if more than one of so many rows is set. Of fewer rows, most words have none, and are left
+/// out.
+const DENSE: usize = 8;
+
 /// Which of some rows of a word are non-null once they have this value.
 fn present_rows(rows: u64, value: Option<i64>) -> u64
     ensures { (i : ℕ) → bit_of result i ≡ (bit_of rows i && is_some value) }
@@ -24,7 +28,42 @@ fn present_rows(rows: u64, value: Option<i64>) -> u64
     if value.is_some() { rows } else { 0 }
 }
 
+/// Each of the rows becomes non-null, or each becomes null.
+fn set_present(nonnull: &mut Mask, rows: &Mask, present: bool)
+    requires { len rows.now ≡ len nonnull.old }
+    ensures shape { SameShape nonnull.new nonnull.old }
+    ensures rows { (j : ℕ) → row_at nonnull.new j ≡ (if row_at rows.now j then present else row_at nonnull.old j) }
+{
+    if present {
+        nonnull.or_in(rows);
+    } else {
+        nonnull.andnot_in(rows);
+    }
+}
+
 impl Column {
+    /// Writes a value and its code to the set places plane by plane, if the codes have planes and enough places are
+    /// set. Returns whether it does; else nothing changes.
+    fn fill_planes(&mut self, places: &Mask, value: Option<i64>, code: u64) -> bool
+        requires coded { IsCoded self.old.encoding value }
+        requires code { code ≡ code_for self.old.encoding value }
+        requires held { IsNullOrHeld self.old.layout value }
+        requires places { len places.now ≡ length self.old.values }
+        ensures values { result ≡ true → self.new.values ≡ overwritten places.now (replicate (count_by (λ row. row) places.now.rows) value) self.old.values }
+        ensures same { result ≡ false → self.new.values ≡ self.old.values }
+        ensures layout { self.new.layout ≡ self.old.layout }
+        ensures encoding { self.new.encoding ≡ self.old.encoding }
+    {
+        if places.count() <= places.len() / DENSE {
+            return false;
+        }
+        if !self.codes.fill_rows(places, code) {
+            return false;
+        }
+        set_present(&mut self.nonnull, places, value.is_some());
+        true
+    }
+
     /// Writes a value and its code to some of at most 64 rows from row `at` on, the first row of a word: to row at + i
     /// where bit i of `rows` is set. Every other row keeps its value.
     fn fill_rows(&mut self, at: usize, n: usize, rows: u64, value: Option<i64>, code: u64)
@@ -76,7 +115,9 @@ impl Column {
     {
         if let Some(_place) = places.next_from(0) {
             let code = code_of(&self.encoding, value);
-            self.fill_with(places, value, code);
+            if !self.fill_planes(places, value, code) {
+                self.fill_with(places, value, code);
+            }
         }
     }
 

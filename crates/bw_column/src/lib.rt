@@ -29,6 +29,7 @@ mod runs;
 mod split;
 mod step;
 mod storage;
+mod stored_copy;
 mod within;
 
 pub use change::Prepared;

@@ -89,33 +89,6 @@ impl Column {
         put_presence(&mut self.nonnull, at, codes.len(), rows, present);
     }
 
-    /// Writes cells to some of n rows from row `at` on, the first row of a word, by the words of the planes of their
-    /// distances from the base: to row at + i where bit i of `rows` is set. Every other row keeps its value. The layout
-    /// is V.
-    pub(crate) fn put_planes(
-        &mut self,
-        offset: Offset,
-        at: usize,
-        n: usize,
-        rows: u64,
-        words: &[u64; 64],
-        present: u64,
-    )
-        requires layout { self.old.layout ≡ layouts.V }
-        requires encoding { self.old.encoding ≡ by.Offset offset }
-        requires word { at % 64 ≡ 0 }
-        requires few { n ≤ 64 }
-        requires there { at + n ≤ length self.old.values }
-        requires given { (i : ℕ) → n ≤ i → bit_of rows i ≡ false }
-        requires cells { (cells : List (Option ℤ)) × (length cells ≡ n) × All (IsCoded (by.Offset offset)) cells × All (IsNullOrHeld layouts.V) cells × ArePlanesOf offset.width offset.base cells words.now present }
-        ensures values { (cells : List (Option ℤ)) → length cells ≡ n → All (IsCoded (by.Offset offset)) cells → All (IsNullOrHeld layouts.V) cells → ArePlanesOf offset.width offset.base cells words.now present → self.new.values ≡ put_values self.old.values at rows cells }
-        ensures layout { self.new.layout ≡ self.old.layout }
-        ensures encoding { self.new.encoding ≡ self.old.encoding }
-    {
-        self.codes.put_words(at, n, rows, words);
-        put_presence(&mut self.nonnull, at, n, rows, present);
-    }
-
     /// Writes values with their codes to some of at most 64 rows from row `at` on, the first row of a word: row at + i
     /// takes value i where bit i of `rows` is set. Every other row keeps its value.
     fn put_rows(&mut self, at: usize, rows: u64, values: &[Option<i64>], codes: &[u64])

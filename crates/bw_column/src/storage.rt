@@ -1,6 +1,6 @@
 //! The codes of a column, each layout in its own type.
 
-ghost use Rattle.std.specs.Prelude.{[], IfOk, OnOk, drop, false, length, slice_index, slice_set, take, true, ℕ, ◌%◌, ◌&&◌, ◌++◌, ◌+◌, ◌<◌, ◌^◌, ◌≡◌, ◌≤◌, pos, ◌-ℤ◌};
+ghost use Rattle.std.specs.Prelude.{[], IfOk, OnOk, drop, false, if◌then◌else◌, length, replicate, slice_index, slice_set, take, true, ℕ, ◌%◌, ◌&&◌, ◌++◌, ◌+◌, ◌<◌, ◌^◌, ◌≡◌, ◌≤◌, pos, ◌-ℤ◌};
 ghost use Rattle.bw_mask.specs.Masks.{SameShape, bit_of, len, row_at};
 ghost use Rattle.bw_code.specs.Columns.{Fit, KeepsShape, code_at, count, filled_codes, put_codes};
 ghost use Rattle.bw_code.specs.Lists.{made};
@@ -8,7 +8,7 @@ ghost use Rattle.bw_code.specs.Meters.{raised};
 ghost use Rattle.bw_code.specs.Shifts.{StaysBelow, shifted};
 ghost use Rattle.bw_code.specs.Tests.{TestFits, code_compares, meets};
 ghost use Rattle.bw_code.specs.Units.{units_of_pair, units_of_scan};
-ghost use Rattle.bw_column.specs.Storing.{ShiftsTo, layout_of, lent_layout, lent_list, list_of};
+ghost use Rattle.bw_column.specs.Storing.{IsSliced, ShiftsTo, layout_of, lent_layout, lent_list, list_of};
 ghost use Rattle.bw_column.specs.Values.{widest};
 ghost use Rattle.bw_code.specs.declared.kind.Layout.TheVariants as layouts;
 ghost use Rattle.bw_vertical.specs.Planes.{code_by};
@@ -110,6 +110,77 @@ impl Codes {
         }
     }
 
+    /// Appends n rows with code 0, within the room. The layout is V or S.
+    pub(crate) fn extend_zeros(&mut self, n: usize)
+        requires layout { IsSliced (layout_of self.old) }
+        requires room { count (list_of self.old) + n ≤ (list_of self.old).room }
+        requires few { count (list_of self.old) + n ≤ 2 ^ 24 }
+        ensures layout { layout_of self.new ≡ layout_of self.old }
+        ensures shape { KeepsShape (list_of self.new) (list_of self.old) }
+        ensures codes { (list_of self.new).codes ≡ (list_of self.old).codes ++ replicate n 0 }
+    {
+        match self {
+            Codes::V(codes) => codes.extend_zeros(n),
+            Codes::S(codes) => codes.extend_zeros(n),
+            Codes::P(_) | Codes::H(_) => unreachable!(),
+        }
+    }
+
+    /// The code of each of the rows becomes this one, if the codes have planes. Returns whether they have; else nothing
+    /// changes. Takes no memory.
+    pub(crate) fn fill_rows(&mut self, rows: &Mask, code: u64) -> bool
+        requires rows { len rows.now ≡ count (list_of self.old) }
+        requires fits { code < 2 ^ (list_of self.old).width }
+        ensures layout { layout_of self.new ≡ layout_of self.old }
+        ensures shape { KeepsShape (list_of self.new) (list_of self.old) }
+        ensures count { count (list_of self.new) ≡ count (list_of self.old) }
+        ensures codes { result ≡ true → (i : ℕ) → i < count (list_of self.old) → code_at (list_of self.new) i
+            ≡ (if row_at rows.now i then code else code_at (list_of self.old) i) }
+        ensures same { result ≡ false → self.new ≡ self.old }
+    {
+        match self {
+            Codes::V(codes) => {
+                codes.fill_rows(rows, code);
+                true
+            }
+            Codes::P(_) | Codes::H(_) | Codes::S(_) => false,
+        }
+    }
+
+    /// The codes of the rows become those of the same rows of other codes, rebased where the row is in `moved`, if both
+    /// have planes, or slices of one width. Returns whether they have; else nothing changes. Takes no memory.
+    pub(crate) fn copy_rows(
+        &mut self,
+        other: &Codes,
+        rows: &Mask,
+        moved: &Mask,
+        from: i64,
+        to: i64,
+    ) -> bool
+        requires count { count (list_of other.now) ≡ count (list_of self.old) }
+        requires rows { len rows.now ≡ count (list_of self.old) }
+        requires moved { len moved.now ≡ count (list_of self.old) }
+        requires fit { (i : ℕ) → i < count (list_of self.old) → StaysBelow (2 ^ (list_of self.old).width) (shifted (from -ℤ to) (row_at moved.now i) (code_at (list_of other.now) i)) }
+        ensures layout { layout_of self.new ≡ layout_of self.old }
+        ensures shape { KeepsShape (list_of self.new) (list_of self.old) }
+        ensures count { count (list_of self.new) ≡ count (list_of self.old) }
+        ensures codes { result ≡ true → (i : ℕ) → i < count (list_of self.old) → pos (code_at (list_of self.new) i)
+            ≡ (if row_at rows.now i then shifted (from -ℤ to) (row_at moved.now i) (code_at (list_of other.now) i) else pos (code_at (list_of self.old) i)) }
+        ensures same { result ≡ false → self.new ≡ self.old }
+    {
+        match (self, other) {
+            (Codes::V(codes), Codes::V(others)) => {
+                codes.copy_rows(others, rows, moved, from, to);
+                true
+            }
+            (Codes::S(codes), Codes::S(others)) if codes.width() == others.width() => {
+                codes.copy_rows(others, rows, moved, from, to);
+                true
+            }
+            _ => false,
+        }
+    }
+
     /// Appends n codes, within the room, by the words of their planes. Their rows lie in one word. The layout is V.
     pub(crate) fn extend_words(&mut self, words: &[u64; 64], n: usize)
         requires layout { layout_of self.old ≡ layouts.V }
@@ -183,24 +254,6 @@ impl Codes {
             Codes::V(codes) => codes.put_run(at, rows, run),
             Codes::H(codes) => codes.put_run(at, rows, run),
             Codes::S(codes) => codes.put_run(at, rows, run),
-        }
-    }
-
-    /// Writes codes to those of n rows from row `at` on whose bit is set, by the words of their planes. The layout is
-    /// V.
-    pub(crate) fn put_words(&mut self, at: usize, n: usize, rows: u64, words: &[u64; 64])
-        requires layout { layout_of self.old ≡ layouts.V }
-        requires word { at % 64 ≡ 0 }
-        requires few { n ≤ 64 }
-        requires there { at + n ≤ count (list_of self.old) }
-        requires given { (i : ℕ) → n ≤ i → bit_of rows i ≡ false }
-        ensures layout { layout_of self.new ≡ layout_of self.old }
-        ensures shape { KeepsShape (list_of self.new) (list_of self.old) }
-        ensures codes { (list_of self.new).codes ≡ put_codes (list_of self.old).codes at rows (made n (code_by (list_of self.old).width words.now)) }
-    {
-        match self {
-            Codes::V(codes) => codes.put_words(at, n, rows, words),
-            Codes::P(_) | Codes::H(_) | Codes::S(_) => unreachable!(),
         }
     }
 

@@ -1,19 +1,30 @@
-use Rattle.std.proofs.Common.{ap, arith, sym, ◌∙◌, ◌≡◌}
-use Rattle.bw_code.specs.Encodings.{width}
+use Rattle.std.proofs.Common.{sym, ◌≡◌}
+use Rattle.std.specs.List.{All}
+use Rattle.std.proofs.lemmas.Result.{IfOk-weaker}
 use Rattle.bw_column.specs.Columns.{ColumnView}
-use Rattle.bw_column.specs.Storing.{layout_of}
-use Rattle.bw_column.specs.Values.{IsNullOrHeld, widest}
+use Rattle.bw_column.specs.Copies.{IsMasked, masked}
+use Rattle.bw_column.specs.Values.{IsNullOrHeld}
 use Rattle.bw_column.proofs.Masked.{all_masked, masked_is}
 use Rattle.bw_column.proofs.column.Column.copy_at.Goals as goal
 
-pub with_room-requires-clause-narrow : goal.with_room-requires-clause-narrow
-with_room-requires-clause-narrow c =
-    let wide : width c.in_ok-encoding.encoding ≡ width c.self.inside.encoding = ap width c.in_ok-encoding.ensures in
-    let own : widest (layout_of c.self.inside.codes) ≡ widest c.layout.result = ap widest (ap (λ (v : ColumnView). v.layout) c.self.view_is ∙ sym c.layout.ensures) in
-    omega (arith, c.self.invariant.narrow, wide, own, c.copied_layout-layout.ensures.wide)
+pub returns-in-Offset-V-clause-masked : goal.returns-in-Offset-V-clause-masked
+returns-in-Offset-V-clause-masked c =
+    let places = c.args.places.now in
+    let values = c.args.self.now.values in
+    IfOk-weaker c.stored_copy_at.result (λ (copy : ColumnView). copy.values ≡ masked places values) (λ (copy : ColumnView). IsMasked places copy.values)
+    (λ copy is. rw is (masked_is places values (sym c.requires))) c.stored_copy_at.ensures.values
 
-pub returns-clause-masked : goal.returns-clause-masked
-returns-clause-masked c = rw c.extend_masked.ensures.values (masked_is c.args.places.now c.args.self.now.values (sym c.requires))
+pub returns-in_default-clause-masked : goal.returns-in_default-clause-masked
+returns-in_default-clause-masked c =
+    let places = c.args.places.now in
+    let values = c.args.self.now.values in
+    IfOk-weaker c.plain_copy_at.result (λ (copy : ColumnView). copy.values ≡ masked places values) (λ (copy : ColumnView). IsMasked places copy.values)
+    (λ copy is. rw is (masked_is places values (sym c.requires))) c.plain_copy_at.ensures.values
 
-pub returns-clause-held : goal.returns-clause-held
-returns-clause-held c = rw c.extend_masked.ensures.values (all_masked (IsNullOrHeld c.args.self.now.layout) c.args.places.now c.args.self.now.values tt c.len-few.ensures.held)
+pub returns-in_default-clause-held : goal.returns-in_default-clause-held
+returns-in_default-clause-held c =
+    let places = c.args.places.now in
+    let values = c.args.self.now.values in
+    let layout = c.args.self.now.layout in
+    IfOk-weaker c.plain_copy_at.result (λ (copy : ColumnView). copy.values ≡ masked places values) (λ (copy : ColumnView). All (IsNullOrHeld layout) copy.values)
+    (λ copy is. rw is (all_masked (IsNullOrHeld layout) places values tt c.len-held.ensures.held)) c.plain_copy_at.ensures.values

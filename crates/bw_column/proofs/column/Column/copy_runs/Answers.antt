@@ -27,14 +27,14 @@ loop-place-preserved c =
     let past : at ≤ start + n = omega (arith, c.min-n.ensures, c.len-end.ensures.rows, there, is.0) in
     let to : start ≤ place = omega arith in
     let agree = taken_of_run copy start rows n (omega (arith, inside, c.requires.copied)) (outside_word rows n (λ i. row_at places (start + i)) c.bits.ensures) in
-    let long : length c.copy_rows.new.self.values ≡ length old = ap length c.copy_rows.ensures.values ∙ filled_len places v old now at i.len i.done i.rest start n rows place inside past to is.2 c.bits.ensures u agree in
+    let long : length c.copy_codes.new.self.values ≡ length old = ap length c.copy_codes.ensures.values ∙ filled_len places v old now at i.len i.done i.rest start n rows place inside past to is.2 c.bits.ensures u agree in
     record {
       at = omega (arith, inside, c.requires.places);
       len = long;
-      done = λ k h. ap (λ xs. get_or xs k None) c.copy_rows.ensures.values ∙ run_filled places v old now at i.len i.done i.rest start n rows place inside past to is.2 c.bits.ensures u agree k h;
-      rest = λ k h. ap (λ xs. get_or xs k None) c.copy_rows.ensures.values ∙ rest_unfilled places v old now at i.len i.done i.rest start n rows place inside past to is.2 c.bits.ensures u agree k h;
-      layout = c.copy_rows.ensures.layout ∙ i.layout;
-      encoding = c.copy_rows.ensures.encoding ∙ i.encoding;
+      done = λ k h. ap (λ xs. get_or xs k None) c.copy_codes.ensures.values ∙ run_filled places v old now at i.len i.done i.rest start n rows place inside past to is.2 c.bits.ensures u agree k h;
+      rest = λ k h. ap (λ xs. get_or xs k None) c.copy_codes.ensures.values ∙ rest_unfilled places v old now at i.len i.done i.rest start n rows place inside past to is.2 c.bits.ensures u agree k h;
+      layout = c.copy_codes.ensures.layout ∙ i.layout;
+      encoding = c.copy_codes.ensures.encoding ∙ i.encoding;
     }
 
 pub returns-clause-values : goal.returns-clause-values

@@ -73,7 +73,7 @@ invariant_of-self c =
     let coded : IsCoded e value = rw (← c.self.view_is) at c.requires.coded in
     let kept : IsNullOrHeld (layout_of c.self.inside.codes) value = rw (← c.self.view_is) at c.requires.held in
     subst (λ l. AreRowCodes l e new c.put_presence.new.nonnull) (sym c.fill_run.ensures.layout)
-    (rows_chosen e (list_of c.self.inside.codes) new c.self.inside.nonnull c.put_presence.new.nonnull c.self.invariant c.fill_run.ensures.shape.width c.args.at c.args.rows (λ _. value)
+    (rows_chosen e (list_of c.self.inside.codes) new c.self.inside.nonnull c.put_presence.new.nonnull c.self.invariant c.fill_run.ensures.shape.width (is_chosen c.args.at c.args.rows) (λ _. value)
     (λ j t. coded) (λ j t. kept) (many c) c.put_presence.ensures.shape.0 (code c) (row c))
 
 pub returns-clause-values : goal.returns-clause-values
@@ -82,5 +82,5 @@ returns-clause-values c =
     let value = c.args.value in
     let coded : IsCoded e value = rw (← c.self.view_is) at c.requires.coded in
     let kept : IsNullOrHeld (layout_of c.self.inside.codes) value = rw (← c.self.view_is) at c.requires.held in
-    rw (← c.self.view_is) (values_chosen e (list_of c.self.inside.codes) (list_of c.fill_run.new.self) c.self.inside.nonnull c.put_presence.new.nonnull c.self.invariant c.fill_run.ensures.shape.width c.args.at c.args.rows (λ _. value)
+    rw (← c.self.view_is) (values_chosen e (list_of c.self.inside.codes) (list_of c.fill_run.new.self) c.self.inside.nonnull c.put_presence.new.nonnull c.self.invariant c.fill_run.ensures.shape.width (is_chosen c.args.at c.args.rows) (λ _. value)
     (λ j t. coded) (λ j t. kept) (many c) c.put_presence.ensures.shape.0 (code c) (row c))

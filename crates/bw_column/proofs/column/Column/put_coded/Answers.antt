@@ -84,11 +84,11 @@ invariant_of-self c =
     let e = c.self.inside.encoding in
     let new = list_of c.put_run.new.self in
     subst (λ l. AreRowCodes l e new c.put_presence.new.nonnull) (sym c.put_run.ensures.layout)
-    (rows_chosen e (list_of c.self.inside.codes) new c.self.inside.nonnull c.put_presence.new.nonnull c.self.invariant c.put_run.ensures.shape.width c.args.at c.args.rows (λ j. value_at (taken c) (j - c.args.at))
+    (rows_chosen e (list_of c.self.inside.codes) new c.self.inside.nonnull c.put_presence.new.nonnull c.self.invariant c.put_run.ensures.shape.width (is_chosen c.args.at c.args.rows) (λ j. value_at (taken c) (j - c.args.at))
     (λ j t. coded c j) (λ j t. kept c j) (many c) c.put_presence.ensures.shape.0 (code c) (present c))
 
 pub returns-clause-values : goal.returns-clause-values
 returns-clause-values c =
     let e = c.self.inside.encoding in
-    rw (← c.self.view_is) (values_chosen e (list_of c.self.inside.codes) (list_of c.put_run.new.self) c.self.inside.nonnull c.put_presence.new.nonnull c.self.invariant c.put_run.ensures.shape.width c.args.at c.args.rows (λ j. value_at (taken c) (j - c.args.at))
+    rw (← c.self.view_is) (values_chosen e (list_of c.self.inside.codes) (list_of c.put_run.new.self) c.self.inside.nonnull c.put_presence.new.nonnull c.self.invariant c.put_run.ensures.shape.width (is_chosen c.args.at c.args.rows) (λ j. value_at (taken c) (j - c.args.at))
     (λ j t. coded c j) (λ j t. kept c j) (many c) c.put_presence.ensures.shape.0 (code c) (present c))

@@ -24,9 +24,8 @@ each own o old new rows f t is i h = is i h ∙ ap (λ z. shifted z (row_at rows
 pub shift-requires-clause-fit : goal.shift-requires-clause-fit
 shift-requires-clause-fit c i h =
     let s = c.self.inside in
-    let narrow : c.args.offset.width ≤ widest (layout_of s.codes) = rw (← c.self.view_is) at c.requires.3 in
     subst (λ z. StaysBelow (2 ^ c.args.offset.width) (shifted z (row_at s.nonnull i) (code_at (list_of s.codes) i))) (sym (same c.in-Offset.own c.args.offset (search rules) (search rules)))
-    (column_fits s.encoding c.in-Offset.own c.args.offset (list_of s.codes) s.nonnull c.args.self.now.values c.in-Offset.is c.self.invariant (ap (λ (v : ColumnView). v.values) c.self.view_is) c.requires.2 narrow i h)
+    (column_fits s.encoding c.in-Offset.own c.args.offset (list_of s.codes) s.nonnull c.args.self.now.values c.in-Offset.is c.self.invariant (ap (λ (v : ColumnView). v.values) c.self.view_is) c.requires.2 i h)
 
 pub invariant_of-self : goal.invariant_of-self
 invariant_of-self c =
