@@ -76,7 +76,7 @@ pub(crate) fn code_at(width: u32, row: usize) -> u64
 
 /// For each row the same code as that of `code_at`, one that may differ in its lowest bit, or that of another row. In
 /// 196 rows each of the seven kinds of codes meets each.
-fn other_code_at(width: u32, row: usize) -> u64
+pub(crate) fn other_code_at(width: u32, row: usize) -> u64
     requires some { 1 ≤ width }
     requires narrow { width ≤ 64 }
     ensures { result < 2 ^ width }
@@ -161,7 +161,7 @@ pub(crate) fn fitted(test: CodeTest, width: u32) -> CodeTest
 
 /// The given number of rows, all set or all clear.
 pub(crate) fn filled<R: Abort + AllocGlobal>(rt: &R, rows: usize, bit: bool) -> Mask
-    requires { rows ≤ 2000 }
+    requires { rows ≤ 10000 }
     ensures { len result ≡ rows }
 {
     Mask::filled(rt.alloc(), rows, bit).expect(rt, "memory")
@@ -169,7 +169,7 @@ pub(crate) fn filled<R: Abort + AllocGlobal>(rt: &R, rows: usize, bit: bool) -> 
 
 /// Rows of which one of three is not needed.
 pub(crate) fn need_of<R: Abort + AllocGlobal>(rt: &R, rows: usize) -> Mask
-    requires { rows ≤ 2000 }
+    requires { rows ≤ 10000 }
     ensures { len result ≡ rows }
 {
     let mut need = filled(rt, rows, false);

@@ -7,6 +7,10 @@ mod against_plain;
 #[cfg(test)]
 mod codes;
 #[cfg(test)]
+mod copies;
+#[cfg(test)]
+mod fills;
+#[cfg(test)]
 mod kernels;
 #[cfg(test)]
 mod pairs;

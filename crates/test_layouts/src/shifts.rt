@@ -84,7 +84,7 @@ fn codes_between<R: Abort + AllocGlobal>(rt: &R, width: u32, low: u64, high: u64
 }
 
 /// A code, rebased where it moves, as a plain sum.
-fn moved(code: u64, moves: bool, from: i64, to: i64) -> i128
+pub(crate) fn moved_code(code: u64, moves: bool, from: i64, to: i64) -> i128
     ensures { result ≡ shifted (from -ℤ to) moves code }
 {
     if moves {
@@ -95,24 +95,35 @@ fn moved(code: u64, moves: bool, from: i64, to: i64) -> i128
 }
 
 /// Stops the test where a rebased code would have more than this many bits.
-fn check_fit<R: Abort>(rt: &R, width: u32, codes: &[u64], rows: &Mask, from: i64, to: i64)
+pub(crate) fn check_fit<R: Abort>(
+    rt: &R,
+    width: u32,
+    codes: &[u64],
+    rows: &Mask,
+    from: i64,
+    to: i64,
+)
     requires narrow { width ≤ 64 }
     requires rows { len rows.now ≡ length codes.now }
     ensures { (i : ℕ) → i < length codes.now → StaysBelow (2 ^ width) (shifted (from -ℤ to) (row_at rows.now i) (slice_index codes.now i)) }
 {
     let greatest = i128::from(cut(u64::MAX, width));
     for i in 0..codes.len() {
-        let sum = moved(codes[i], rows.get(i), from, to);
+        let sum = moved_code(codes[i], rows.get(i), from, to);
         assert!(rt; 0 <= sum && sum <= greatest);
     }
 }
 
 /// A column that is known to hold these codes.
-fn column_with<C: CodeColumn + Drop, R: Abort + AllocGlobal>(rt: &R, width: u32, codes: &[u64]) -> C
+pub(crate) fn column_with<C: CodeColumn + Drop, R: Abort + AllocGlobal>(
+    rt: &R,
+    width: u32,
+    codes: &[u64],
+) -> C
     requires some { 1 ≤ width }
     requires narrow { width ≤ C.WIDEST }
     requires fit { Fit width codes.now }
-    requires few { length codes.now ≤ 1000 }
+    requires few { length codes.now ≤ 10000 }
     ensures width { (C.seen result).width ≡ width }
     ensures codes { (C.seen result).codes ≡ codes.now }
 {
@@ -135,7 +146,7 @@ fn check_moved<C: CodeColumn + Drop, R: Abort>(
     requires rows { len rows.now ≡ length codes.now }
 {
     for row in 0..codes.len() {
-        let wanted = moved(codes[row], rows.get(row), from, to);
+        let wanted = moved_code(codes[row], rows.get(row), from, to);
         see_at(rt, (from, to, row), i128::from(column.get(row)), wanted);
     }
 }
