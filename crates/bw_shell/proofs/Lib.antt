@@ -8,6 +8,8 @@ pub mod Items
 pub mod Joined
 pub mod Layouts
 pub mod LineLemmas
+pub mod LineTexts
+pub mod NumberTexts
 pub mod OneAnswer
 pub mod OtherFiles
 pub mod Outputs

@@ -1,5 +1,5 @@
 -- Lines that show values.
-use Rattle.std.proofs.Common.{ap, arith, drop, length, min, refl, subst, sym, take, List, Option, [], ◌++◌, ◌*◌, ◌-◌, ◌<◌, ◌∙◌, ◌∷◌, ◌≡◌, ◌≤◌, ℕ, codes}
+use Rattle.std.proofs.Common.{ap, arith, drop, length, length-drop, min, refl, subst, sym, take, List, Option, [], ◌++◌, ◌*◌, ◌-◌, ◌<◌, ◌∙◌, ◌∷◌, ◌≡◌, ◌≤◌, ℕ, codes}
 use Rattle.std.proofs.lemmas.List.{drop-map, length-map, take-map}
 use Rattle.std.specs.Io.KnownBytes.{Appends}
 use Rattle.bw_model.specs.Answers.{AreWholeLines, lines_of}
@@ -36,6 +36,10 @@ module _ (width : ℕ) (values prefix last : List Value) (are : AreWholeLines wi
 
   pub last_fits : width ≤ length values
   last_fits = omega (arith, length-map values shown, cells.line_fits width (shown_all values) are (some_shown values h))
+
+  -- a line has a value
+  pub last_some : 0 < length last
+  last_some = omega (arith, are.some, last_fits, ap length b, length-drop (length values - width) values)
 
   prefix_is : shown_all prefix ≡ take (length (shown_all values) - width) (shown_all values)
   prefix_is = prefix_shown values prefix (length (shown_all values) - width) (f ∙ ap (λ k. take k values) same_cut)

@@ -1,9 +1,11 @@
 //! Text that is built from its end to its start.
 
-ghost use Rattle.std.specs.Fmt.{signed_decimal};
-ghost use Rattle.std.specs.Prelude.{◌≡◌, ◌++◌, ◌+◌, ◌<◌, ◌∷◌, ◌≤◌, List, [], codes, drop, length, ℕ};
+ghost use Rattle.std.specs.Prelude.{◌≡◌, ◌++◌, ◌*◌, ◌+◌, ◌<◌, ◌≤◌, List, [], codes, drop, length, ℕ};
+ghost use Rattle.bw_model.specs.ReplyText.{line, with_commas};
+ghost use Rattle.bw_shell.specs.ValueTexts.{value_text};
 
-use itoa::write_digits;
+use crate::digits::write_number;
+use bw_sql::Value;
 use std::marker::Model;
 
 /// The capacity in bytes.
@@ -25,19 +27,51 @@ impl Model for BackwardText {
     ghost invariant = { λ t. t.start ≤ 4096 };
 }
 
-/// Writes a number in decimal so that it ends at `end`, and returns where it starts.
-fn write_number(n: i64, bytes: &mut [u8], end: usize) -> usize
+/// Writes NULL so that it ends at `end`, and returns where it starts.
+fn write_null(bytes: &mut [u8], end: usize) -> usize
+    requires room { 4 ≤ end }
+    requires inside { end ≤ length bytes.old }
+    ensures start { result + 4 ≡ end }
+    ensures written { drop result bytes.new ≡ codes "NULL" ++ drop end bytes.old }
+{
+    bytes[end - 4..end].copy_from_slice(b"NULL");
+    end - 4
+}
+
+/// Writes a value, which takes up to 20 bytes, so that it ends at `end`, and returns where it starts.
+#[inline(always)]
+fn write_value(value: Value, bytes: &mut [u8], end: usize) -> usize
     requires room { 20 ≤ end }
     requires inside { end ≤ length bytes.old }
     ensures before { result ≤ end }
-    ensures written { drop result bytes.new ≡ signed_decimal n ++ drop end bytes.old }
+    ensures near { end ≤ result + 20 }
+    ensures written { drop result bytes.new ≡ value_text value ++ drop end bytes.old }
 {
-    let start = write_digits(n.unsigned_abs(), bytes, end);
-    if n >= 0 {
-        return start;
+    match value {
+        None => write_null(bytes, end),
+        Some(number) => write_number(number, bytes, end),
     }
-    bytes[start - 1] = b'-';
-    start - 1
+}
+
+/// Writes the line of the values so that it ends at `end`, and returns where it starts.
+#[inline(always)]
+fn write_line(values: &[Value], bytes: &mut [u8], end: usize) -> usize
+    requires some { 0 < length values.now }
+    requires room { 21 * length values.now ≤ end }
+    requires inside { end ≤ length bytes.old }
+    ensures before { result ≤ end }
+    ensures written { drop result bytes.new ≡ line (with_commas value_text values.now) ++ drop end bytes.old }
+{
+    let mut at = end;
+    let mut mark = b'\n';
+    let mut i = values.len();
+    while i > 0 {
+        i -= 1;
+        bytes[at - 1] = mark;
+        at = write_value(values[i], bytes, at - 1);
+        mark = b',';
+    }
+    at
 }
 
 impl BackwardText {
@@ -72,31 +106,12 @@ impl BackwardText {
         &self.bytes[self.start..]
     }
 
-    /// Puts a byte before the text.
-    pub(crate) fn put_byte(&mut self, byte: u8)
-        requires { length self.old < 4096 }
-        ensures { self.new ≡ byte ∷ self.old }
+    /// Puts the line of the values before the text. There is to be room for 21 bytes for each value.
+    pub(crate) fn put_line(&mut self, values: &[Value])
+        requires some { 0 < length values.now }
+        requires room { 21 * length values.now + length self.old ≤ 4096 }
+        ensures { self.new ≡ line (with_commas value_text values.now) ++ self.old }
     {
-        self.start -= 1;
-        self.bytes[self.start] = byte;
-    }
-
-    /// Puts NULL before the text.
-    pub(crate) fn put_null(&mut self)
-        requires { length self.old + 4 ≤ 4096 }
-        ensures { self.new ≡ codes "NULL" ++ self.old }
-    {
-        self.put_byte(b'L');
-        self.put_byte(b'L');
-        self.put_byte(b'U');
-        self.put_byte(b'N');
-    }
-
-    /// Puts a number in decimal before the text.
-    pub(crate) fn put_number(&mut self, n: i64)
-        requires { length self.old + 20 ≤ 4096 }
-        ensures { self.new ≡ signed_decimal n ++ self.old }
-    {
-        self.start = write_number(n, &mut self.bytes, self.start);
+        self.start = write_line(values, &mut self.bytes, self.start);
     }
 }

@@ -3,6 +3,7 @@
 
 mod backward_text;
 mod conversation;
+mod digits;
 mod executing;
 mod folders;
 mod host_folder;

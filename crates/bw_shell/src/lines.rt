@@ -1,7 +1,7 @@
 //! The lines of an answer. Lines of values are built in a buffer and written at once.
 
 ghost use Rattle.std.specs.Bool.{OnTrue};
-ghost use Rattle.std.specs.Prelude.{◌≡◌, ◌++◌, ◌∷◌};
+ghost use Rattle.std.specs.Prelude.{◌≡◌, ◌++◌, ◌<◌, length};
 ghost use Rattle.bw_model.specs.Answers.{AreWholeLines, lines_of};
 ghost use Rattle.bw_model.specs.Cells.{cells_in, shown_all};
 ghost use Rattle.bw_model.specs.ReplyText.{cell_text, line, lines_text, with_commas};
@@ -101,55 +101,16 @@ fn lines_before(text: &mut BackwardText, values: &[Value], width: usize) -> bool
     true
 }
 
-/// Puts the line of the values before the text and returns true. Returns false if there is no room; then the text is
-/// unspecified.
+/// Puts the line of the values before the text and returns true. Returns false if there may be no room; then the text
+/// stays as it is.
 fn line_before(text: &mut BackwardText, values: &[Value]) -> bool
+    requires { 0 < length values.now }
     ensures { OnTrue result (text.new ≡ line (with_commas value_text values.now) ++ text.old) }
 {
-    if !byte_before(text, b'\n') {
+    if values.len() > text.room() / 21 {
         return false;
     }
-    let [first, others @ ..] = values else {
-        return true;
-    };
-    let mut i = others.len();
-    while i > 0 {
-        i -= 1;
-        if !value_before(text, &others[i]) {
-            return false;
-        }
-        if !byte_before(text, b',') {
-            return false;
-        }
-    }
-    if !value_before(text, first) {
-        return false;
-    }
-    true
-}
-
-/// Puts a byte before the text and returns true. Returns false if there is no room.
-fn byte_before(text: &mut BackwardText, byte: u8) -> bool
-    ensures { OnTrue result (text.new ≡ byte ∷ text.old) }
-{
-    if text.room() == 0 {
-        return false;
-    }
-    text.put_byte(byte);
-    true
-}
-
-/// Puts a value before the text and returns true. Returns false if there may be no room.
-fn value_before(text: &mut BackwardText, value: &Value) -> bool
-    ensures { OnTrue result (text.new ≡ value_text value.now ++ text.old) }
-{
-    if text.room() < 20 {
-        return false;
-    }
-    match value {
-        None => text.put_null(),
-        Some(number) => text.put_number(*number),
-    }
+    text.put_line(values);
     true
 }
 
