@@ -1,6 +1,6 @@
 //! Plain codes, 64 of them at a time.
 
-ghost use Rattle.std.specs.Prelude.{All, length, nat_le, not, slice_index, take, ◌&&◌, ℕ, ◌+◌, ◌==◌, ◌<◌, ◌^◌, ◌≡◌, ◌≤◌};
+ghost use Rattle.std.specs.Prelude.{All, length, nat_le, not, slice_index, take, ◌&&◌, ℕ, ◌+◌, ◌<◌, ◌^◌, ◌≡◌, ◌≤◌};
 ghost use Rattle.bw_mask.specs.Masks.{bit_of};
 ghost use Rattle.bw_code.specs.Tests.{code_compares, meets, TestFits};
 

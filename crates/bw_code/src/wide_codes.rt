@@ -1,6 +1,6 @@
 //! A plain list of codes of 64 bits.
 
-ghost use Rattle.std.specs.Prelude.{All, List, length, slice_index, vec_capacity, vec_len, ℕ, ◌&&◌, ◌++◌, ◌+◌, ◌<◌, ◌^◌, ◌≡◌, ◌≤◌};
+ghost use Rattle.std.specs.Prelude.{All, length, slice_index, vec_capacity, vec_len, ℕ, ◌&&◌, ◌++◌, ◌+◌, ◌<◌, ◌^◌, ◌≡◌, ◌≤◌};
 ghost use Rattle.bw_mask.specs.Masks.{bit_of, len, row_at, SameShape};
 ghost use Rattle.bw_code.specs.Intervals.{is_in_wide as is_in};
 ghost use Rattle.bw_code.specs.Widths.{widest_code};

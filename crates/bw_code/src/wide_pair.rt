@@ -1,10 +1,8 @@
 //! Comparing two plain lists of 64-bit codes row by row, 64 rows at a time.
 
-ghost use Rattle.std.specs.Prelude.{List, length, slice_index, ℕ, ◌&&◌, ◌<◌, ◌^◌, ◌≡◌, ◌≤◌};
+ghost use Rattle.std.specs.Prelude.{length, slice_index, ℕ, ◌&&◌, ◌<◌, ◌^◌, ◌≡◌, ◌≤◌};
 ghost use Rattle.bw_mask.specs.Masks.{bit_of, len, row_at, SameShape};
 ghost use Rattle.bw_code.specs.Tests.{code_compares};
-ghost use Rattle.bw_code.specs.Units.{units_of_pair};
-ghost use Rattle.bw_code.specs.declared.kind.Layout.TheVariants as layouts;
 
 use crate::compare::CmpOp;
 use crate::wide_lanes::{compared_rows, filled_up};

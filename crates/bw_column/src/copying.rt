@@ -13,7 +13,7 @@ ghost use Rattle.bw_column.specs.Copies.{IsCopyPreparedFor, IsMasked, layout_of_
 ghost use Rattle.bw_column.specs.Moves.{IsMoved};
 ghost use Rattle.bw_column.specs.Places.{chosen_values, overwritten, put_values};
 ghost use Rattle.bw_column.specs.Preparing.{IsEncodingFor, IsPreparedFor, after};
-ghost use Rattle.bw_column.specs.Values.{IsNullOrHeld, known, widest};
+ghost use Rattle.bw_column.specs.Values.{IsNullOrHeld, known};
 
 use crate::codes::greatest_code;
 use crate::column::Column;

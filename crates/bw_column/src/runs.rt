@@ -1,14 +1,12 @@
 //! Writing values to some of 64 rows of a column at a time.
 
-ghost use Rattle.std.specs.Prelude.{All, List, None, Option, count_by, false, if◌then◌else◌, length, min, slice_index, slice_index_or, ℕ, ℤ, ◌%◌, ◌+◌, ◌-◌, ◌<◌, ◌^◌, ◌≡◌, ◌≤◌};
+ghost use Rattle.std.specs.Prelude.{All, None, Option, count_by, false, if◌then◌else◌, length, min, slice_index, slice_index_or, ℕ, ◌%◌, ◌+◌, ◌-◌, ◌<◌, ◌^◌, ◌≡◌, ◌≤◌};
 ghost use Rattle.bw_mask.specs.Masks.{SameShape, bit_of, len, row_at};
 ghost use Rattle.bw_code.specs.Columns.{is_chosen};
 ghost use Rattle.bw_code.specs.Lists.{made};
 ghost use Rattle.bw_code.specs.declared.encoding.Encoding.TheVariants as by;
-ghost use Rattle.bw_code.specs.declared.kind.Layout.TheVariants as layouts;
 ghost use Rattle.bw_column.specs.Codes.{IsCoded, IsRowCode, codes_for, value_from};
 ghost use Rattle.bw_column.specs.Keeping.{AreKept};
-ghost use Rattle.bw_column.specs.PlaneSources.{ArePlanesOf};
 ghost use Rattle.bw_column.specs.Places.{ArePutFrom, overwritten, put_values, rank};
 ghost use Rattle.bw_column.specs.Values.{IsNullOrHeld};
 

@@ -36,7 +36,7 @@ code_of k groups j = mask_l (rows_of k (λ i. is_set k groups (k - 1 - i) j))
 abbrev pub HasSegment : ℕ → List (List (List ℕ)) → ℕ → Type 0
 HasSegment k groups q = (g : ℕ) → 4 * g < k → (q + 1) * planes_in k g ≤ length (slice_index_or groups g [])
 
--- the planes of n codes of k bits: whole segments, with bits past the last row 0
+-- the planes of n codes of k bits: whole segments, where bits past the last row are 0
 pub record AreGroups (k : ℕ) (groups : List (List (List ℕ))) (n : ℕ) : Type 0 where
   pub some : 1 ≤ k
   pub narrow : k ≤ widest_code

@@ -1,8 +1,12 @@
-//! Overwriting some rows of a word of each plane.
+//! Overwriting some rows of a word of each plane, or of a segment of one plane.
 
-ghost use Rattle.std.specs.Prelude.{[], length, slice_index, slice_index_or, vec_capacity, vec_len, ℕ, ◌*◌, ◌+◌, ◌-◌, ◌/◌, ◌%◌, ◌<◌, ◌^◌, ◌≡◌, ◌≢◌, ◌≤◌, ◌⊎◌};
+ghost use Rattle.std.specs.Prelude.{[], if◌then◌else◌, length, slice_index, slice_index_or, vec_capacity, vec_len, ℕ, ◌*◌, ◌+◌, ◌-◌, ◌/◌, ◌%◌, ◌<◌, ◌^◌, ◌≡◌, ◌≢◌, ◌≤◌, ◌⊎◌};
+ghost use Rattle.bw_mask.specs.Masks.{row_in};
 ghost use Rattle.bw_code.specs.Widths.{widest_code};
-ghost use Rattle.bw_vertical.specs.Storage.{HasSegment, KeepsSizes, blended, groups_of, lists, planes_in, word_of};
+ghost use Rattle.bw_vertical.specs.Storage.{HasSegment, KeepsSizes, blended, groups_of, is_set, lists, planes_in, word_of};
+
+use crate::rows::{both, either, without};
+use crate::storage::planes_in;
 
 /// The chosen rows of a lane of m adjacent planes become those of the words from `top` downwards.
 fn blend_in_group(
@@ -81,4 +85,36 @@ pub(crate) fn blend_words(
     'last: for g in k / 4..groups.len() {
         blend_group(groups, k, g, k % 4, w, words, rows);
     }
+}
+
+/// These rows of a plane become `bits`; the other rows stay.
+fn blend_lanes(plane: &mut [u64; 4], bits: &[u64; 4], rows: &[u64; 4])
+    ensures { (j : ℕ) → j < 256 → row_in plane.new j ≡ (if row_in rows.now j then row_in bits.now j else row_in plane.old j) }
+{
+    *plane = either(&without(plane, rows), &both(bits, rows));
+}
+
+/// These rows of plane i of segment q become `bits`.
+pub(crate) fn blend_plane(
+    groups: &mut Vec<Vec<[u64; 4]>>,
+    k: usize,
+    q: usize,
+    i: usize,
+    bits: &[u64; 4],
+    rows: &[u64; 4],
+)
+    requires plane { i < k }
+    requires narrow { k ≤ widest_code }
+    requires small { q < 2 ^ 32 }
+    requires count { vec_len groups.old ≡ groups_of k }
+    requires there { HasSegment k (lists groups.old.items) q }
+    ensures sizes { KeepsSizes groups.new.items groups.old.items }
+    ensures put { (j : ℕ) → j < 256 → is_set k (lists groups.new.items) i (256 * q + j)
+        ≡ (if row_in rows.now j then row_in bits.now j else is_set k (lists groups.old.items) i (256 * q + j)) }
+    ensures other { (p v : ℕ) → p < k → (p ≢ i) ⊎ (v / 4 ≢ q) → word_of k (lists groups.new.items) p v ≡ word_of k (lists groups.old.items) p v }
+{
+    let m = planes_in(k, i / 4);
+    let group = &mut groups[i / 4];
+    let plane = &mut group[q * m + i % 4];
+    blend_lanes(plane, bits, rows);
 }

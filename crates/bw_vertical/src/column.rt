@@ -124,6 +124,7 @@ impl VerticalColumn {
         ensures codes { self.new.codes ≡ self.old.codes ++ replicate n 0 }
     {
         let more = (self.len + n).div_ceil(256) - self.len.div_ceil(256);
+        // Bits past the last row of the last segment are zeros already.
         push_segments(&mut self.groups, self.width as usize, more);
         self.len += n;
     }
@@ -139,8 +140,8 @@ impl VerticalColumn {
         fill_codes(&mut self.groups, self.width as usize, self.len, rows, code);
     }
 
-    /// The code of each of the rows becomes that of the same row of another column, rebased where the row is in `moved`.
-    /// Each of these codes fits the width. Takes no memory.
+    /// The code of each of the rows becomes that of the same row of another column, of any width, rebased where the row
+    /// is in `moved`. Each of these codes fits the width of this column. Takes no memory.
     pub fn copy_rows(
         &mut self,
         other: &VerticalColumn,

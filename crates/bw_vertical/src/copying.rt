@@ -6,9 +6,10 @@ ghost use Rattle.bw_code.specs.Widths.{widest_code};
 ghost use Rattle.bw_vertical.specs.Carries.{IsCarry, carried, lane_bit};
 ghost use Rattle.bw_vertical.specs.Storage.{AreGroups, HasSegment, KeepsSizes, code_of, groups_of, is_set, lists, word_of};
 
-use crate::rows::{both, either, lanes_at, without};
+use crate::blending::blend_plane;
+use crate::rows::lanes_at;
 use crate::shifting::{add_to_plane, lanes_where};
-use crate::storage::{plane_at, planes_in};
+use crate::storage::plane_at;
 use bw_mask::Mask;
 
 /// How many segments are copied plane by plane before the next ones.
@@ -58,38 +59,6 @@ fn sum_bits(
     bits
 }
 
-/// These rows of a plane become `bits`; the other rows stay.
-fn blend_lanes(plane: &mut [u64; 4], bits: &[u64; 4], rows: &[u64; 4])
-    ensures { (j : ℕ) → j < 256 → row_in plane.new j ≡ (if row_in rows.now j then row_in bits.now j else row_in plane.old j) }
-{
-    *plane = either(&without(plane, rows), &both(bits, rows));
-}
-
-/// These rows of plane i of segment q become `bits`.
-pub(crate) fn blend_plane(
-    groups: &mut Vec<Vec<[u64; 4]>>,
-    k: usize,
-    q: usize,
-    i: usize,
-    bits: &[u64; 4],
-    rows: &[u64; 4],
-)
-    requires plane { i < k }
-    requires narrow { k ≤ widest_code }
-    requires small { q < 2 ^ 32 }
-    requires count { vec_len groups.old ≡ groups_of k }
-    requires there { HasSegment k (lists groups.old.items) q }
-    ensures sizes { KeepsSizes groups.new.items groups.old.items }
-    ensures put { (j : ℕ) → j < 256 → is_set k (lists groups.new.items) i (256 * q + j)
-        ≡ (if row_in rows.now j then row_in bits.now j else is_set k (lists groups.old.items) i (256 * q + j)) }
-    ensures other { (p v : ℕ) → p < k → (p ≢ i) ⊎ (v / 4 ≢ q) → word_of k (lists groups.new.items) p v ≡ word_of k (lists groups.old.items) p v }
-{
-    let m = planes_in(k, i / 4);
-    let group = &mut groups[i / 4];
-    let plane = &mut group[q * m + i % 4];
-    blend_lanes(plane, bits, rows);
-}
-
 /// The rows of one plane, that of bit b, of segment q become those of the same bit of other codes after `by` is added to
 /// those of the moved rows. `carry` is that from the bits below, and becomes that to the bits above.
 fn copy_plane(
@@ -124,8 +93,9 @@ fn copy_plane(
     blend_plane(groups, k, q, k - 1 - b, &bits, rows);
 }
 
-/// The same for n segments from segment q on, each with its carry. Rows and moved rows are given by the words of their
-/// masks.
+/// The rows of the plane of bit b, in n segments from segment q on, become those of the same bit of other codes after
+/// `by` is added to those of the moved rows. Each segment has its own carry from the bits below, which becomes that to
+/// the bits above. Rows and moved rows are given by the words of their masks.
 fn copy_bit(
     groups: &mut Vec<Vec<[u64; 4]>>,
     k: usize,

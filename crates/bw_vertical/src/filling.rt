@@ -1,11 +1,11 @@
 //! Writing one code to many rows, plane by plane.
 
-ghost use Rattle.std.specs.Prelude.{if◌then◌else◌, length, vec_len, ℕ, ◌*◌, ◌+◌, ◌-◌, ◌/◌, ◌<◌, ◌^◌, ◌≡◌, ◌≢◌, ◌≤◌};
+ghost use Rattle.std.specs.Prelude.{if◌then◌else◌, vec_len, ℕ, ◌*◌, ◌+◌, ◌-◌, ◌/◌, ◌<◌, ◌^◌, ◌≡◌, ◌≢◌, ◌≤◌};
 ghost use Rattle.bw_mask.specs.Masks.{bit_of, len as mask_len, row_at, row_in};
 ghost use Rattle.bw_code.specs.Widths.{widest_code};
 ghost use Rattle.bw_vertical.specs.Storage.{AreGroups, HasSegment, KeepsSizes, groups_of, is_set, lists, word_of};
 
-use crate::copying::blend_plane;
+use crate::blending::blend_plane;
 use crate::rows::lanes_at;
 use crate::shifting::lanes_where;
 use bw_mask::Mask;

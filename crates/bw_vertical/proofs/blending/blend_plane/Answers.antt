@@ -7,7 +7,7 @@ use Rattle.bw_mask.specs.Masks.{row_in}
 use Rattle.bw_vertical.specs.Storage.{planes_in}
 use Rattle.bw_vertical.proofs.Copied.{other_planes, place_within, row_before, row_now}
 use Rattle.bw_vertical.proofs.Placing.{keeps_sizes}
-use Rattle.bw_vertical.proofs.copying.blend_plane.Goals as goal
+use Rattle.bw_vertical.proofs.blending.blend_plane.Goals as goal
 
 pub returns-clause-sizes : goal.returns-clause-sizes
 returns-clause-sizes c =
