@@ -8,10 +8,13 @@ ghost use Rattle.bw_code.specs.declared.kind.Layout.TheVariants as layouts;
 ghost use Rattle.bw_code.specs.Units.{segments_of};
 ghost use Rattle.bw_code.specs.Lists.{made};
 ghost use Rattle.bw_code.specs.Widths.{widest_code};
+ghost use Rattle.bw_vertical.specs.Descents.{AreCodeEnds};
 ghost use Rattle.bw_vertical.specs.Planes.{code_by, code_in};
 ghost use Rattle.bw_vertical.specs.Storage.{groups_of, planes_in};
 
+use crate::code_ends::CodeEnds;
 use crate::copying::copy_codes;
+use crate::descent::code_ends;
 use crate::filling::fill_codes;
 use crate::growing::{begin_segment, empty_groups, push_segments, reserve_segments};
 use crate::pair::pair_from;
@@ -84,6 +87,14 @@ impl VerticalColumn {
         ensures { (b r : ℕ) → b < self.now.width → r < 64 → bit_of (slice_index words.new b) r ≡ bit_of (code_at self.now (64 * w + r)) b }
     {
         take_planes(&self.groups, self.width as usize, w, words);
+    }
+
+    /// The least and the greatest code of these rows.
+    pub fn ends(&self, rows: &Mask) -> CodeEnds
+        requires rows { len rows.now ≡ count self.now }
+        ensures { AreCodeEnds (row_at rows.now) (code_at self.now) (count self.now) result }
+    {
+        code_ends(&self.groups, self.width as usize, self.len, rows)
     }
 
     /// Appends n rows, which lie in one word, within the room, by the words of their planes: word b has bit b of each

@@ -25,7 +25,6 @@ pub use blocks::{plane_words, put_plane_words, wide_plane_words};
 pub use bytes::{codes_of_words, halves_of_words};
 pub use code_ends::CodeEnds;
 pub use column::VerticalColumn;
-pub use descent::word_ends;
 pub use pair::pair_from;
 pub use scan::scan_from;
 pub use shifting::shift_words;

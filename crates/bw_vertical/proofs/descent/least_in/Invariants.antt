@@ -1,0 +1,13 @@
+use Rattle.std.proofs.Common.{◌<◌, ◌^◌}
+use Rattle.bw_mask.specs.Masks.{row_in}
+use Rattle.bw_vertical.specs.Descents.{IsLeastSoFar}
+use Rattle.bw_vertical.specs.Storage.{lists}
+use Rattle.bw_vertical.proofs.SegmentEnds.{begun}
+use Rattle.bw_vertical.proofs.descent.least_in.Given as goal
+
+-- the least of the numbers that the first planes make
+abbrev pub invariant-planes : goal.invariant-planes
+invariant-planes l = record {
+  least : IsLeastSoFar (row_in l.rows) (begun l.k (lists l.groups) l.q l.p) l.reached;
+  short : l.reached.number < 2 ^ l.p;
+}
