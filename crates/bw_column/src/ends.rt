@@ -1,7 +1,7 @@
 //! The least and the greatest value of a column, found from its codes.
 
-ghost use Rattle.std.specs.Prelude.{Bool, length, slice_index, true, ℕ, ◌-◌, ◌<◌, ◌≡◌, ◌≤◌};
-ghost use Rattle.bw_mask.specs.Masks.{bit_of, row_at};
+ghost use Rattle.std.specs.Prelude.{Bool, false, length, slice_index, true, ℕ, ◌-◌, ◌<◌, ◌≡◌, ◌≤◌, ◌⊎◌};
+ghost use Rattle.bw_mask.specs.Masks.{bit_of, len, row_at};
 ghost use Rattle.bw_code.specs.Columns.{code_at, count};
 ghost use Rattle.bw_code.specs.Fittings.{AreEnds};
 ghost use Rattle.bw_column.specs.Extremes.{IsGreatestFrom, IsLeastFrom};
@@ -13,7 +13,7 @@ use crate::column::Column;
 use crate::storage::Codes;
 use bw_code::{CodeColumn, Ends};
 use bw_mask::{Mask, has_bit};
-use bw_vertical::{CodeEnds, VerticalColumn, word_ends};
+use bw_vertical::CodeEnds;
 
 /// The least of `start` and of the codes.
 fn least_of(start: u64, codes: &[u64]) -> u64
@@ -73,20 +73,34 @@ fn greatest_from(start: u64, codes: &[u64], present: u64) -> u64
     greatest
 }
 
-/// The least and the greatest code of the non-null rows, by their planes.
-fn plane_ends(codes: &VerticalColumn, nonnull: &Mask) -> CodeEnds
-    ensures { AreCodeEnds (row_at nonnull.now) (code_at codes.now) (count codes.now) result }
+/// Whether any of the codes is less than the least or greater than the greatest.
+fn has_beyond(codes: &[u64], least: u64, greatest: u64) -> bool
+    ensures none { result ≡ false → (i : ℕ) → i < length codes.now → (least ≤ slice_index codes.now i) × (slice_index codes.now i ≤ greatest) }
+    ensures some { result ≡ true → (i : ℕ) × (i < length codes.now) × ((slice_index codes.now i < least) ⊎ (greatest < slice_index codes.now i)) }
 {
-    let mut words = [0; 64];
-    let mut ends = CodeEnds::none();
-    let rows = codes.len();
-    'words: for w in 0..rows.div_ceil(64) {
-        codes.read_words(w, &mut words);
-        let n = (rows - 64 * w).min(64);
-        let present = nonnull.bits(64 * w, n);
-        ends = ends.with(word_ends(&words, codes.width() as usize, n, present));
+    // No early exit, so that the loop is vectorized.
+    let mut any = false;
+    for i in 0..codes.len() {
+        any |= (codes[i] < least) | (codes[i] > greatest);
     }
-    ends
+    any
+}
+
+/// The least and the greatest of those so far and of the codes whose bit is set.
+fn ends_with(so_far: (u64, u64), codes: &[u64], present: u64) -> (u64, u64)
+    requires { length codes.now ≤ 64 }
+    ensures least { IsLeastFrom so_far.0 (length codes.now) (bit_of present) (slice_index codes.now) result.0 }
+    ensures greatest { IsGreatestFrom so_far.1 (length codes.now) (bit_of present) (slice_index codes.now) result.1 }
+{
+    let (least, greatest) = so_far;
+    // Most blocks change neither end.
+    if !has_beyond(codes, least, greatest) {
+        return so_far;
+    }
+    (
+        least_from(least, codes, present),
+        greatest_from(greatest, codes, present),
+    )
 }
 
 /// The least and the greatest of `start` and of the codes of the non-null rows, whose ends are given.
@@ -102,33 +116,32 @@ fn ends_from(start: u64, ends: CodeEnds) -> (u64, u64)
 
 /// The least and the greatest of `start` and of the codes of the non-null rows.
 fn code_ends(codes: &Codes, nonnull: &Mask, start: u64) -> (u64, u64)
+    requires rows { len nonnull.now ≡ count (list_of codes.now) }
     ensures least { IsLeastFrom start (count (list_of codes.now)) (row_at nonnull.now) (code_at (list_of codes.now)) result.0 }
     ensures greatest { IsGreatestFrom start (count (list_of codes.now)) (row_at nonnull.now) (code_at (list_of codes.now)) result.1 }
 {
     match codes {
-        Codes::V(planes) => ends_from(start, plane_ends(planes, nonnull)),
+        Codes::V(planes) => ends_from(start, planes.ends(nonnull)),
         Codes::P(_) | Codes::H(_) | Codes::S(_) => run_ends(codes, nonnull, start),
     }
 }
 
-/// The same by the codes, which are read in blocks.
+/// The same by the codes, which are read 64 at a time.
 fn run_ends(codes: &Codes, nonnull: &Mask, start: u64) -> (u64, u64)
     ensures least { IsLeastFrom start (count (list_of codes.now)) (row_at nonnull.now) (code_at (list_of codes.now)) result.0 }
     ensures greatest { IsGreatestFrom start (count (list_of codes.now)) (row_at nonnull.now) (code_at (list_of codes.now)) result.1 }
 {
     let mut run = [0; 64];
-    let (mut least, mut greatest) = (start, start);
+    let mut ends = (start, start);
     let mut at = 0;
     while at < codes.len() {
         let n = (codes.len() - at).min(64);
         let block = &mut run[..n];
         codes.read(at, block);
-        let present = nonnull.bits(at, n);
-        least = least_from(least, block, present);
-        greatest = greatest_from(greatest, block, present);
+        ends = ends_with(ends, block, nonnull.bits(at, n));
         at += n;
     }
-    (least, greatest)
+    ends
 }
 
 impl Column {

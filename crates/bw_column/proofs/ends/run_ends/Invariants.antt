@@ -8,8 +8,8 @@ use Rattle.bw_column.proofs.ends.run_ends.Given as goal
 abbrev pub invariant-loop-at : goal.invariant-loop-at
 invariant-loop-at l = record {
   at : l.at ≤ count (list_of l.codes);
-  least : IsLeastFrom l.start l.at (row_at l.nonnull) (code_at (list_of l.codes)) l.least;
-  greatest : IsGreatestFrom l.start l.at (row_at l.nonnull) (code_at (list_of l.codes)) l.greatest;
+  least : IsLeastFrom l.start l.at (row_at l.nonnull) (code_at (list_of l.codes)) l.ends.0;
+  greatest : IsGreatestFrom l.start l.at (row_at l.nonnull) (code_at (list_of l.codes)) l.ends.1;
 }
 
 abbrev pub decreases-loop-at : goal.decreases-loop-at

@@ -1,0 +1,16 @@
+use Rattle.std.proofs.Common.{inl, refl}
+use Rattle.bw_column.proofs.ends.ends_with.Goals as goal
+
+pub returns-then-not-has_beyond-clause-least : goal.returns-then-not-has_beyond-clause-least
+returns-then-not-has_beyond-clause-least c = record {
+  from = omega arith;
+  bound = λ i h on. (c.has_beyond.ensures.none refl i h).0;
+  reached = inl refl;
+}
+
+pub returns-then-not-has_beyond-clause-greatest : goal.returns-then-not-has_beyond-clause-greatest
+returns-then-not-has_beyond-clause-greatest c = record {
+  from = omega arith;
+  bound = λ i h on. (c.has_beyond.ensures.none refl i h).1;
+  reached = inl refl;
+}
