@@ -30,3 +30,5 @@ mod storage;
 mod sums;
 #[cfg(test)]
 mod units;
+#[cfg(test)]
+mod vertical_ends;
