@@ -7,6 +7,7 @@ ghost use Rattle.bw_file.specs.Planes.{code_in, plane_bit};
 
 use crate::row_bits::bits_of_rows;
 use bw_vertical::{codes_of_words, halves_of_words};
+use byteorder::{ByteOrder, LittleEndian};
 
 /// Word b has bit b of the codes of `count` rows from row `at` on, which is the first row of a byte.
 pub(crate) fn words_at(planes: &[u8], size: usize, k: usize, at: usize, count: usize) -> [u64; 64]
@@ -19,9 +20,30 @@ pub(crate) fn words_at(planes: &[u8], size: usize, k: usize, at: usize, count: u
     ensures bits { (b r : ℕ) → b < k → bit_of (slice_index result b) r ≡ ((plane_bit size planes.now (k - 1 - b) (at + r) == 1) && nat_lt r count) }
     ensures rest { (b : ℕ) → k ≤ b → slice_index result b ≡ 0 }
 {
+    // All runs but the last have 64 rows.
+    if count == 64 {
+        return words_of_run(planes, size, k, at);
+    }
     let mut words = [0; 64];
     for i in 0..k {
         words[k - 1 - i] = bits_of_rows(planes, 8 * (i * size) + at, count);
+    }
+    words
+}
+
+/// Word b has bit b of the codes of the 64 rows from row `at` on, which is the first row of a byte.
+fn words_of_run(planes: &[u8], size: usize, k: usize, at: usize) -> [u64; 64]
+    requires narrow { k ≤ widest_code }
+    requires first { at % 8 ≡ 0 }
+    requires short { size ≤ 2 ^ 24 }
+    requires inside { at + 64 ≤ 8 * size }
+    requires planes { length planes.now ≡ k * size }
+    ensures bits { (b r : ℕ) → b < k → bit_of (slice_index result b) r ≡ ((plane_bit size planes.now (k - 1 - b) (at + r) == 1) && nat_lt r 64) }
+    ensures rest { (b : ℕ) → k ≤ b → slice_index result b ≡ 0 }
+{
+    let mut words = [0; 64];
+    for i in 0..k {
+        words[k - 1 - i] = LittleEndian::read_u64(&planes[i * size + at / 8..]);
     }
     words
 }
