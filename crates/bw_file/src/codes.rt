@@ -54,6 +54,13 @@ fn widen(numbers: &[u32; 64], out: &mut [u64])
     ensures len { length out.new ≡ length out.old }
     ensures same { (r : ℕ) → r < length out.old → slice_index out.new r ≡ slice_index numbers.now r }
 {
+    // A loop of fixed length for all runs but the last.
+    if let Some(run) = out.as_mut_array::<64>() {
+        for q in 0..64 {
+            run[q] = u64::from(numbers[q]);
+        }
+        return;
+    }
     for r in 0..out.len() {
         out[r] = u64::from(numbers[r]);
     }
@@ -65,6 +72,13 @@ fn join(low: &[u32; 64], high: &[u32; 64], out: &mut [u64])
     ensures len { length out.new ≡ length out.old }
     ensures same { (r : ℕ) → r < length out.old → slice_index out.new r ≡ slice_index low.now r + 2 ^ 32 * slice_index high.now r }
 {
+    // As in `widen`.
+    if let Some(run) = out.as_mut_array::<64>() {
+        for q in 0..64 {
+            run[q] = u64::from(low[q]) + 0x1_0000_0000 * u64::from(high[q]);
+        }
+        return;
+    }
     for r in 0..out.len() {
         out[r] = u64::from(low[r]) + 0x1_0000_0000 * u64::from(high[r]);
     }

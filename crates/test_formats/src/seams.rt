@@ -4,7 +4,7 @@
 ghost use Rattle.std.specs.Prelude.{length, ◌<◌, ◌≡◌, ◌≤◌};
 
 use crate::files_seen::{check_written, table_of};
-use crate::seen::{see, see_at};
+use crate::seen::see_at;
 use bw_cells::Cells;
 use bw_file::FileColumn;
 use std::process::Abort;
@@ -86,22 +86,30 @@ fn bytes_of<R: Abort + AllocGlobal>(rt: &R, rows: usize, k: u32) -> Vec<u8>
     requires few { rows ≤ 5000 }
 {
     let mut bytes = Vec::from_slice(rt.alloc(), b"BITCOL\x02\x00\x01\x00").expect(rt, "front");
-    bytes.extend_from_slice(&(rows as u32).to_le_bytes()).expect(rt, "rows");
-    bytes.extend_from_slice(b"\x01A\x01\x03\x00").expect(rt, "header");
+    bytes
+        .extend_from_slice(&(rows as u32).to_le_bytes())
+        .expect(rt, "rows");
+    bytes
+        .extend_from_slice(b"\x01A\x01\x03\x00")
+        .expect(rt, "header");
     for q in 0..rows.div_ceil(8) {
         bytes.push(presence_byte(rows, k, q)).expect(rt, "bits");
     }
-    bytes.extend_from_slice(&i64::MIN.to_le_bytes()).expect(rt, "base");
+    bytes
+        .extend_from_slice(&i64::MIN.to_le_bytes())
+        .expect(rt, "base");
     bytes.push(k as u8).expect(rt, "width");
     for p in 0..k {
         for q in 0..rows.div_ceil(8) {
-            bytes.push(plane_byte(rows, k, k - 1 - p, q)).expect(rt, "plane");
+            bytes
+                .push(plane_byte(rows, k, k - 1 - p, q))
+                .expect(rt, "plane");
         }
     }
     bytes
 }
 
-// Checks the cells of the column, in blocks of 64 and from the second row on.
+// Checks the cells of the column, in runs of 64.
 fn check_cells<R: Abort>(rt: &R, column: &FileColumn<'_>, rows: usize, k: u32)
     requires low { 1 ≤ k }
     requires high { k ≤ 64 }
