@@ -47,12 +47,10 @@ module _ (base : ℤ) (k : ℕ) (cells : List (Option ℤ)) (fits : FitsSigned w
       by past (inl low) = omega (arith, past, low, length-take n (drop at cells), length-drop at cells)
       by past (inr last) = omega (arith, past, last, length-take n (drop at cells), length-drop at cells)
 
-  -- a bit of a plane that a run's word has
-  pub bit_is : (x at n i p : ℕ) → x < 2 → at ≤ i → i - at < n ⊎ (length cells ≤ at + n)
-      → (x == 1) ≡ bit_of (get_or (map (distance_from base) (take n (drop at cells))) (i - at) 0) (k - 1 - p) → x ≡ bit_in base (k - 1 - p) (get_or cells i None)
-  bit_is x at n i p small l ends is =
+  -- a bit of a run's word
+  pub bit_is : (at n i b : ℕ) → at ≤ i → i - at < n ⊎ (length cells ≤ at + n)
+      → bit_of (get_or (map (distance_from base) (take n (drop at cells))) (i - at) 0) b ≡ (bit_in base b (get_or cells i None) == 1)
+  bit_is at n i b l ends =
       let row : at + (i - at) ≡ i = omega (arith, l) in
-      let bit : bit_of (get_or (map (distance_from base) (take n (drop at cells))) (i - at) 0) (k - 1 - p) ≡ (bit_in base (k - 1 - p) (get_or cells i None) == 1) =
-      ap (λ d. bit_of d (k - 1 - p)) (distance_at at n (i - at) ends ∙ ap (λ j. distance_from base (get_or cells j None)) row)
-      ∙ ap (λ b. b == 1) (near_bit base k (get_or cells i None) (k - 1 - p) fits (near_at i)) in
-      same_bit x (bit_in base (k - 1 - p) (get_or cells i None)) small (few_in base (k - 1 - p) (get_or cells i None)) (is ∙ bit)
+      ap (λ d. bit_of d b) (distance_at at n (i - at) ends ∙ ap (λ j. distance_from base (get_or cells j None)) row)
+      ∙ ap (λ x. x == 1) (near_bit base k (get_or cells i None) b fits (near_at i))

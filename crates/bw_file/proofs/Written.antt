@@ -1,11 +1,16 @@
--- The bits of a word in its bytes, and of a plane of which a part was written.
-use Rattle.std.proofs.Common.{List, ap, arith, get_or, inl, inr, length, refl, suc, sym, zero, ℕ, ◌%◌, ◌*◌, ◌+◌, ◌-◌, ◌/◌, ◌<◌, ◌==◌, ◌^◌, ◌≡◌, ◌≤◌, ◌∙◌}
+-- The bits of words in their bytes, and of a plane of which a part was written.
+use Rattle.std.proofs.Common.{List, [], ap, arith, get_or, inl, inr, length, length-append, refl, suc, sym, zero, ℕ, ◌∷◌, ◌%◌, ◌*◌, ◌+◌, ◌-◌, ◌/◌, ◌<◌, ◌==◌, ◌^◌, ◌≡◌, ◌≤◌, ◌∙◌}
 use Rattle.std.proofs.Math.Nat.{mul-le-mul_right, pow-suc}
 use Rattle.std.proofs.lemmas.Bool.{cases_lt}
+use Rattle.std.proofs.lemmas.List.{get_or-append_right, get_or_append_left}
 use Rattle.std.proofs.lemmas.Nat.{div-add-mod', pow-add, shr-shr, shr_split}
 use Rattle.std.proofs.lemmas.Nat.Bits.{bit_at_cat_low}
 use Rattle.std.specs.Int.{bit_at, byte_at}
 use Rattle.bw_mask.specs.Masks.{bit_of}
+use Rattle.std.specs.List.{flat_map}
+use Rattle.byteorder.specs.Endian.{little_bytes}
+use Rattle.byteorder.specs.Numbers.{length-bytes_low_first}
+use Rattle.bw_file.proofs.Bits.{byte_of}
 use Rattle.bw_code.proofs.Parts.{before_part, behind_part, in_part}
 use Rattle.bw_file.specs.Planes.{plane_bit}
 use borrow.Rule.Slice.PartMut.{put_mid}
@@ -32,6 +37,39 @@ word_bits word i out is =
     let place : i / 8 * 8 + i % 8 ≡ i = div-add-mod' i 8 in
     let low : i % 8 < 8 = omega arith in
     ap (λ b. bit_of b (i % 8)) is ∙ ap (λ b. b == 1) (bit-byte_at word (i / 8) (i % 8) low) ∙ ap (bit_of word) place
+
+-- the bytes of words, one word after the other
+pub length-word_bytes : (words : List ℕ) → length (flat_map (little_bytes 8) words) ≡ 8 * length words
+length-word_bytes [] = refl
+length-word_bytes (w ∷ ws) = omega (arith, length-append (little_bytes 8 w) (flat_map (little_bytes 8) ws), length-bytes_low_first 0 8 w, length-word_bytes ws)
+
+word_byte : (words : List ℕ) (q : ℕ) → q < 8 * length words → get_or (flat_map (little_bytes 8) words) q 0 ≡ byte_at (q % 8) (get_or words (q / 8) 0)
+word_byte [] q h = absurd (omega (arith, h))
+word_byte (w ∷ ws) q h =
+    let size = length-bytes_low_first 0 8 w in
+    let rest = flat_map (little_bytes 8) ws in
+    elim (cases_lt q 8) [
+      | inl low ↦
+          let byte : q ≡ q % 8 = omega (arith, low) in
+          let first : 0 ≡ q / 8 = omega (arith, low) in
+          get_or_append_left (little_bytes 8 w) rest 0 q (omega (arith, low, size)) ∙ byte_of 8 q w low
+          ∙ ap (λ b. byte_at b w) byte ∙ ap (λ n. byte_at (q % 8) (get_or (w ∷ ws) n 0)) first
+      | inr high ↦
+          let byte : (q - 8) % 8 ≡ q % 8 = omega (arith, high) in
+          let next : suc ((q - 8) / 8) ≡ q / 8 = omega (arith, high) in
+          get_or-append_right (little_bytes 8 w) rest 8 q 0 size high ∙ word_byte ws (q - 8) (omega (arith, h, high))
+          ∙ ap (λ b. byte_at b (get_or ws ((q - 8) / 8) 0)) byte ∙ ap (λ n. byte_at (q % 8) (get_or (w ∷ ws) n 0)) next
+    ]
+
+-- they have the bits of the words
+pub words_bits : (words : List ℕ) (i : ℕ) → i / 8 < 8 * length words → bit_of (get_or (flat_map (little_bytes 8) words) (i / 8) 0) (i % 8) ≡ bit_of (get_or words (i / 64) 0) (i % 64)
+words_bits words i h =
+    let word = get_or words (i / 8 / 8) 0 in
+    let low : i % 8 < 8 = omega arith in
+    let bit : i / 8 % 8 * 8 + i % 8 ≡ i % 64 = omega arith in
+    let place : i / 8 / 8 ≡ i / 64 = omega arith in
+    ap (λ b. bit_of b (i % 8)) (word_byte words (i / 8) h) ∙ ap (λ b. b == 1) (bit-byte_at word (i / 8 % 8) (i % 8) low)
+    ∙ ap (bit_of word) bit ∙ ap (λ n. bit_of (get_or words n 0) (i % 64)) place
 
 -- n bytes of plane p, from the byte of row `at` on
 module _ (k size at n p : ℕ) (planes new : List ℕ) (h : p < k) (first : at % 8 ≡ 0) (long : length planes ≡ k * size) (size_new : length new ≡ n)

@@ -7,6 +7,7 @@ ghost use Rattle.bw_file.specs.Planes.{code_in, plane_bit};
 
 use crate::row_bits::bits_of_rows;
 use bw_vertical::{codes_of_words, halves_of_words};
+use byteorder::{ByteOrder, LittleEndian};
 
 /// Word b has bit b of the codes of `count` rows from row `at` on, which is the first row of a byte.
 pub(crate) fn words_at(planes: &[u8], size: usize, k: usize, at: usize, count: usize) -> [u64; 64]
@@ -19,9 +20,30 @@ pub(crate) fn words_at(planes: &[u8], size: usize, k: usize, at: usize, count: u
     ensures bits { (b r : ℕ) → b < k → bit_of (slice_index result b) r ≡ ((plane_bit size planes.now (k - 1 - b) (at + r) == 1) && nat_lt r count) }
     ensures rest { (b : ℕ) → k ≤ b → slice_index result b ≡ 0 }
 {
+    // All runs but the last have 64 rows.
+    if count == 64 {
+        return words_of_run(planes, size, k, at);
+    }
     let mut words = [0; 64];
     for i in 0..k {
         words[k - 1 - i] = bits_of_rows(planes, 8 * (i * size) + at, count);
+    }
+    words
+}
+
+/// Word b has bit b of the codes of the 64 rows from row `at` on, which is the first row of a byte.
+fn words_of_run(planes: &[u8], size: usize, k: usize, at: usize) -> [u64; 64]
+    requires narrow { k ≤ widest_code }
+    requires first { at % 8 ≡ 0 }
+    requires short { size ≤ 2 ^ 24 }
+    requires inside { at + 64 ≤ 8 * size }
+    requires planes { length planes.now ≡ k * size }
+    ensures bits { (b r : ℕ) → b < k → bit_of (slice_index result b) r ≡ ((plane_bit size planes.now (k - 1 - b) (at + r) == 1) && nat_lt r 64) }
+    ensures rest { (b : ℕ) → k ≤ b → slice_index result b ≡ 0 }
+{
+    let mut words = [0; 64];
+    for i in 0..k {
+        words[k - 1 - i] = LittleEndian::read_u64(&planes[i * size + at / 8..]);
     }
     words
 }
@@ -32,6 +54,13 @@ fn widen(numbers: &[u32; 64], out: &mut [u64])
     ensures len { length out.new ≡ length out.old }
     ensures same { (r : ℕ) → r < length out.old → slice_index out.new r ≡ slice_index numbers.now r }
 {
+    // A loop of fixed length for all runs but the last.
+    if let Some(run) = out.as_mut_array::<64>() {
+        for q in 0..64 {
+            run[q] = u64::from(numbers[q]);
+        }
+        return;
+    }
     for r in 0..out.len() {
         out[r] = u64::from(numbers[r]);
     }
@@ -43,6 +72,13 @@ fn join(low: &[u32; 64], high: &[u32; 64], out: &mut [u64])
     ensures len { length out.new ≡ length out.old }
     ensures same { (r : ℕ) → r < length out.old → slice_index out.new r ≡ slice_index low.now r + 2 ^ 32 * slice_index high.now r }
 {
+    // As in `widen`.
+    if let Some(run) = out.as_mut_array::<64>() {
+        for q in 0..64 {
+            run[q] = u64::from(low[q]) + 0x1_0000_0000 * u64::from(high[q]);
+        }
+        return;
+    }
     for r in 0..out.len() {
         out[r] = u64::from(low[r]) + 0x1_0000_0000 * u64::from(high[r]);
     }

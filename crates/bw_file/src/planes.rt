@@ -1,6 +1,6 @@
 //! Writing the planes of a column, 64 rows at a time.
 
-ghost use Rattle.std.specs.Prelude.{All, None, drop, is_some, length, map, slice_index, slice_index_or, take, ℕ, ◌%◌, ◌*◌, ◌+◌, ◌-◌, ◌/◌, ◌<◌, ◌==◌, ◌^◌, ◌≡◌, ◌≤◌};
+ghost use Rattle.std.specs.Prelude.{All, None, [], drop, is_some, length, map, slice_index, slice_index_or, take, ℕ, ◌%◌, ◌*◌, ◌+◌, ◌-◌, ◌/◌, ◌<◌, ◌==◌, ◌^◌, ◌≡◌, ◌≤◌};
 ghost use Rattle.bw_mask.specs.Masks.{bit_of};
 ghost use Rattle.bw_cells.specs.Distances.{distance_from};
 ghost use Rattle.bw_cells.specs.Known.{known};
@@ -17,6 +17,10 @@ use byteorder::{ByteOrder, LittleEndian};
 // How many cells are processed together: one for each bit of a word.
 pub(crate) const RUN: usize = 64;
 
+// How many words of each plane are kept until they are written. Word by word, as many places of memory as there are planes
+// would be written at a time, and that was slow from 32 planes on; now a whole cache line or two of each is.
+const BLOCK: usize = 16;
+
 /// Writes the first bytes of a word, the lowest first.
 fn put_word(out: &mut [u8], word: u64)
     requires few { length out.old ≤ 8 }
@@ -31,24 +35,56 @@ fn put_word(out: &mut [u8], word: u64)
     }
 }
 
-/// Writes the bits of 64 rows, the first of which is row `at`, the first row of a byte. Word b has bit b of their
-/// codes. Each plane has `size` bytes; bits past them are left out.
-fn put_words(planes: &mut [u8], size: usize, k: usize, at: usize, words: &[u64; 64])
+/// Writes the words of one plane as bytes, the lowest first. The last words are left out where there are fewer bytes.
+fn put_plane(out: &mut [u8], words: &[u64; BLOCK])
+    requires few { length out.old ≤ 128 }
+    ensures len { length out.new ≡ length out.old }
+    ensures bits { (i : ℕ) → i / 8 < length out.old → bit_of (slice_index out.new (i / 8)) (i % 8) ≡ bit_of (slice_index words.now (i / 64)) (i % 64) }
+{
+    // All blocks of rows but the last have all of the bytes.
+    if out.len() == 8 * BLOCK {
+        LittleEndian::write_u64_into(words, out);
+    } else {
+        for j in 0..out.len().div_ceil(8) {
+            let end = out.len().min(8 * j + 8);
+            put_word(&mut out[8 * j..end], words[j]);
+        }
+    }
+}
+
+/// Writes the bits of a block of rows, the first of which is row `at`, the first row of a byte. The words at b have bit b
+/// of their codes. Each plane has `size` bytes; bits past them are left out.
+fn put_block(planes: &mut [u8], size: usize, k: usize, at: usize, block: &[[u64; BLOCK]; 64])
     requires narrow { k ≤ widest_code }
     requires first { at % 8 ≡ 0 }
     requires short { size ≤ 2 ^ 24 }
     requires there { at / 8 ≤ size }
     requires planes { length planes.old ≡ k * size }
     ensures len { length planes.new ≡ length planes.old }
-    ensures inside { (p i : ℕ) → p < k → i / 8 < size → at ≤ i → i < at + 64 → (plane_bit size planes.new p i == 1) ≡ bit_of (slice_index words.now (k - 1 - p)) (i - at) }
-    ensures outside { (p i : ℕ) → p < k → i / 8 < size → (at ≤ i → at + 64 ≤ i) → plane_bit size planes.new p i ≡ plane_bit size planes.old p i }
+    ensures small { (j : ℕ) → slice_index planes.new j < 256 }
+    ensures inside { (p i : ℕ) → p < k → i / 8 < size → at ≤ i → i < at + 1024 → (plane_bit size planes.new p i == 1) ≡ bit_of (slice_index (slice_index_or block.now (k - 1 - p) []) ((i - at) / 64)) ((i - at) % 64) }
+    ensures outside { (p i : ℕ) → p < k → i / 8 < size → (at ≤ i → at + 1024 ≤ i) → plane_bit size planes.new p i ≡ plane_bit size planes.old p i }
 {
-    let end = size.min(at / 8 + 8);
+    let end = size.min(at / 8 + 8 * BLOCK);
     for p in 0..k {
-        put_word(
+        put_plane(
             &mut planes[p * size + at / 8..p * size + end],
-            words[k - 1 - p],
+            &block[k - 1 - p],
         );
+    }
+}
+
+/// Puts the words of the first k planes at place j of a block.
+fn keep_words(words: &[u64; 64], k: usize, j: usize, block: &mut [[u64; BLOCK]; 64])
+    requires narrow { k ≤ widest_code }
+    requires there { j < 16 }
+    requires wide { (b : ℕ) → b < 64 → length (slice_index_or block.old b []) ≡ 16 }
+    ensures wide { (b : ℕ) → b < 64 → length (slice_index_or block.new b []) ≡ 16 }
+    ensures here { (b : ℕ) → b < k → slice_index (slice_index_or block.new b []) j ≡ slice_index words.now b }
+    ensures others { (b m : ℕ) → (m ≡ j → ⊥) → slice_index (slice_index_or block.new b []) m ≡ slice_index (slice_index_or block.old b []) m }
+{
+    for b in 0..k {
+        block[b][j] = words[b];
     }
 }
 
@@ -99,13 +135,17 @@ pub(crate) fn write_planes<C: Measured>(
 {
     let mut list = [0; 64];
     let mut words = [0; 64];
+    let mut block = [[0; BLOCK]; 64];
     let size = rows.div_ceil(8);
     'runs: for r in 0..rows.div_ceil(RUN) {
         let at = r * RUN;
         let end = rows.min(at + RUN);
         let bits = planes_at(column, at, end - at, base, k, &mut list, &mut words);
         write_presence(&mut present[at / 8..end.div_ceil(8)], bits);
-        put_words(planes, size, k, at, &words);
+        keep_words(&words, k, r % BLOCK, &mut block);
+        if r % BLOCK == BLOCK - 1 || end == rows {
+            put_block(planes, size, k, (r - r % BLOCK) * RUN, &block);
+        }
     }
 }
 

@@ -12,6 +12,8 @@ mod measured;
 #[cfg(test)]
 mod pieces;
 #[cfg(test)]
+mod seams;
+#[cfg(test)]
 mod seen;
 #[cfg(test)]
 mod selects;

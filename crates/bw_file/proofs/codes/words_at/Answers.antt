@@ -39,3 +39,7 @@ loop-i-preserved c =
           ];
       rest = λ b h. let far : b ≢ k - 1 - i = λ q. omega (arith, q, h, c.loop-i-test.true) in get_or-set_other words (k - 1 - i) b word 0 far ∙ inv.rest b h;
     }
+
+pub returns-then-count-eq64-clause-bits : goal.returns-then-count-eq64-clause-bits
+returns-then-count-eq64-clause-bits c b r h =
+    c.words_of_run.ensures.bits b r h ∙ ap (λ n. (plane_bit c.args.size c.args.planes.now (c.args.k - 1 - b) (c.args.at + r) == 1) && nat_lt r n) (sym c.if-count-eq64.true)
