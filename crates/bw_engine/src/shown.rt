@@ -20,7 +20,7 @@ use std::alloc::{AllocError, Global};
 type Run = [Value; 64];
 
 /// The values of the columns at these indexes in each found slot, slot after slot. Fails if it runs out of memory. It
-/// allocates twice: once for the values, and once for a run of each column.
+/// allocates once for the values, and, if any slot is found, once for a run of each column.
 pub(crate) fn found_values(
     alloc: Global,
     table: &Table<Name>,
