@@ -91,6 +91,11 @@ def of_words():
     return Clause("bw_vertical/src/column.rt", "read_words", "", "words.new")
 
 
+def of_ends():
+    """The least and the greatest code of some rows of a column in V."""
+    return Clause("bw_vertical/src/column.rt", "ends", "", "result")
+
+
 def of_rows_copied(crate):
     """The codes of a column in V or S after those of another column were copied to some rows."""
     return Clause(f"{crate}/src/column.rt", "copy_rows", "codes", "self.new")
@@ -182,7 +187,7 @@ STRIKES = [
     Strike("bw_column::column::Column::read", (of_column("read_block", "reading.rt", "", "out.new"),)),
     Strike("bw_column::column::Column::compared_block", (of_column("rise_of_block", "pairs.rt", "rises", "out.new"),)),
     Strike("bw_column::lent_planes::lent_planes", (of_words(),)),
-    Strike("bw_column::ends::plane_ends", (of_words(),)),
+    Strike("bw_column::ends::code_ends", (of_ends(),)),
     Strike("bw_column::storage::Codes::copy_rows", (of_rows_copied("bw_vertical"),)),
     Strike("bw_column::storage::Codes::copy_rows", (of_rows_copied("bw_byteslice"),)),
     Strike("bw_column::column::Column::copy_stored", (of_column("copy_rows", "storage.rt", "codes", "self.new"),)),
