@@ -11,8 +11,6 @@ use Rattle.bw_mask.specs.Masks.{bit_of}
 use Rattle.bw_cells.specs.Distances.{distance_from}
 use Rattle.bw_code.specs.Encodings.{distance}
 use Rattle.bw_file.specs.Planes.{IsNear, bit_in}
-use Rattle.bw_file.proofs.PlanePlaces.{few_in}
-use Rattle.bw_file.proofs.Spelled.{same_bit}
 
 -- a distance modulo 2^64 is one
 pub near_code : (base z : ℤ) → FitsSigned w64 base → FitsSigned w64 z → base ≤ℤ z → distance_from base (Some z) ≡ distance z base

@@ -17,8 +17,8 @@ use byteorder::{ByteOrder, LittleEndian};
 // How many cells are processed together: one for each bit of a word.
 pub(crate) const RUN: usize = 64;
 
-// How many words of each plane are kept until they are written. Word by word, as many places of memory as there are planes
-// would be written at a time, and that was slow from 32 planes on; now a whole cache line or two of each is.
+// How many words of each plane are kept until they are written. Word by word, as many places of memory as there are
+// planes would be written at a time, which was slow from 32 planes on. This many are a cache line or two of each plane.
 const BLOCK: usize = 16;
 
 /// Writes the first bytes of a word, the lowest first.
@@ -52,8 +52,8 @@ fn put_plane(out: &mut [u8], words: &[u64; BLOCK])
     }
 }
 
-/// Writes the bits of a block of rows, the first of which is row `at`, the first row of a byte. The words at b have bit b
-/// of their codes. Each plane has `size` bytes; bits past them are left out.
+/// Writes the bits of a block of rows, the first of which is row `at`, the first row of a byte. The words at b have
+/// bit b of their codes. Each plane has `size` bytes; bits past them are left out.
 fn put_block(planes: &mut [u8], size: usize, k: usize, at: usize, block: &[[u64; BLOCK]; 64])
     requires narrow { k ≤ widest_code }
     requires first { at % 8 ≡ 0 }

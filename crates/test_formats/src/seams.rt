@@ -1,5 +1,5 @@
-//! Table files of as many rows as are written or read together, of one fewer and of one more, with narrow and wide codes:
-//! their bytes, bit by bit as the format defines them, and their cells.
+//! Table files of as many rows as are written or read together, of one fewer and of one more, with narrow and wide
+//! codes: their bytes, bit by bit as the format defines them, and their cells.
 
 ghost use Rattle.std.specs.Prelude.{length, ◌<◌, ◌≡◌, ◌≤◌};
 

@@ -1,4 +1,4 @@
-use Rattle.std.proofs.Common.{None, drop, get_or, length, min, slice_index, take, ℕ, ◌*◌, ◌-◌, ◌/◌, ◌<◌, ◌≡◌, ◌≤◌, ◌%◌, ◌==◌, ◌+◌, []}
+use Rattle.std.proofs.Common.{None, drop, get_or, length, min, slice_index, take, ℕ, ◌*◌, ◌-◌, ◌/◌, ◌<◌, ◌≡◌, ◌≤◌, ◌%◌, ◌==◌, []}
 use Rattle.bw_mask.specs.Masks.{bit_of}
 use Rattle.bw_file.specs.Cells.{presence_byte, presence_size}
 use Rattle.bw_file.specs.Planes.{bit_in, plane_bit}
