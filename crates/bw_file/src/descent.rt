@@ -9,7 +9,8 @@ ghost use Rattle.bw_vertical.specs.Descents.{AreCodeEnds};
 use crate::block::{BLOCK, has_row, has_row_with, has_row_without, keep_with, keep_without};
 use bw_vertical::CodeEnds;
 
-/// Of the numbers that the first planes make, one for each row of a block: the least or the greatest, and the rows that have it.
+/// Of the numbers that the first planes make, one for each row of a block: the least or the greatest, and the rows that
+/// have it.
 #[derive(Clone, Copy)]
 struct Reached {
     number: u64,
