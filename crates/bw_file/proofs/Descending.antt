@@ -26,13 +26,13 @@ none_more : (b : Bool) (next code : ℕ) → b ≡ false → next ≡ cond b 1 0
 none_more true next code off e = absurd cc
 none_more false next code off e = omega (arith, e)
 
-module _ (has : ℕ → Bool) (code next : ℕ → ℕ) (number : ℕ) (rows plane left : List ℕ) (grows : (r : ℕ) → has r ≡ true → next r ≡ cond (bit_at_row plane r) 1 0 + 2 * code r) where
-  module _ (so_far : IsGreatestSoFar has code number rows) (kept : (r : ℕ) → bit_at_row left r ≡ (bit_at_row rows r && bit_at_row plane r)) where
-    in_left : (r : ℕ) → bit_at_row rows r ≡ true → bit_at_row plane r ≡ true → bit_at_row left r ≡ true
-    in_left r a b = kept r ∙ ap (λ x. x && bit_at_row plane r) a ∙ b
+module _ (has : ℕ → Bool) (code next : ℕ → ℕ) (number : ℕ) (rows plane : List ℕ) (grows : (r : ℕ) → has r ≡ true → next r ≡ cond (bit_at_row plane r) 1 0 + 2 * code r) where
+  module _ (so_far : IsGreatestSoFar has code number rows) where
+    in_left : (r : ℕ) → bit_at_row rows r ≡ true → bit_at_row plane r ≡ true → (bit_at_row rows r && bit_at_row plane r) ≡ true
+    in_left r a b = ap (λ x. x && bit_at_row plane r) a ∙ b
 
-    pub greater_with : (r : ℕ) × (bit_at_row left r ≡ true) → IsGreatestSoFar has next (2 * number + 1) left
-    greater_with some = record {
+    pub greater_with : (left : List ℕ) → ((r : ℕ) → bit_at_row left r ≡ (bit_at_row rows r && bit_at_row plane r)) → (r : ℕ) × ((bit_at_row rows r && bit_at_row plane r) ≡ true) → IsGreatestSoFar has next (2 * number + 1) left
+    greater_with left kept some = record {
       bound = λ r there.
           elim (by_bit (bit_at_row plane r)) [
             | inl on ↦ omega (arith, so_far.bound r there, one_more (bit_at_row plane r) (next r) (code r) on (grows r there))
@@ -44,25 +44,25 @@ module _ (has : ℕ → Bool) (code next : ℕ → ℕ) (number : ℕ) (rows pla
           (here.0, omega (arith, here.1, one_more (bit_at_row plane r) (next r) (code r) in_both.1 (grows r here.0)));
       all = λ r there is.
           elim (by_bit (bit_at_row plane r)) [
-            | inl on ↦ in_left r (so_far.all r there (omega (arith, is, one_more (bit_at_row plane r) (next r) (code r) on (grows r there)))) on
+            | inl on ↦ kept r ∙ in_left r (so_far.all r there (omega (arith, is, one_more (bit_at_row plane r) (next r) (code r) on (grows r there)))) on
             | inr none ↦ absurd (omega (arith, is, none_more (bit_at_row plane r) (next r) (code r) none (grows r there)))
           ];
-      some = some;
+      some = (some.0, kept some.0 ∙ some.1);
     }
 
-    pub greater_without : ((r : ℕ) → bit_at_row left r ≡ false) → IsGreatestSoFar has next (2 * number) rows
+    pub greater_without : ((r : ℕ) → (bit_at_row rows r && bit_at_row plane r) ≡ false) → IsGreatestSoFar has next (2 * number) rows
     greater_without empty = record {
       bound = λ r there.
           elim (by_bit (bit_at_row plane r)) [
             | inl on ↦
-                let other : code r ≢ number = λ is. no_bit (bit_at_row left r) (empty r) (in_left r (so_far.all r there is) on) in
+                let other : code r ≢ number = λ is. no_bit (bit_at_row rows r && bit_at_row plane r) (empty r) (in_left r (so_far.all r there is) on) in
                 omega (arith, other, so_far.bound r there, one_more (bit_at_row plane r) (next r) (code r) on (grows r there))
             | inr none ↦ omega (arith, so_far.bound r there, none_more (bit_at_row plane r) (next r) (code r) none (grows r there))
           ];
       each = λ r e.
           let here = so_far.each r e in
           elim (by_bit (bit_at_row plane r)) [
-            | inl on ↦ absurd (no_bit (bit_at_row left r) (empty r) (in_left r e on))
+            | inl on ↦ absurd (no_bit (bit_at_row rows r && bit_at_row plane r) (empty r) (in_left r e on))
             | inr none ↦ (here.0, omega (arith, here.1, none_more (bit_at_row plane r) (next r) (code r) none (grows r here.0)))
           ];
       all = λ r there is.
@@ -73,12 +73,12 @@ module _ (has : ℕ → Bool) (code next : ℕ → ℕ) (number : ℕ) (rows pla
       some = so_far.some;
     }
 
-  module _ (so_far : IsLeastSoFar has code number rows) (kept : (r : ℕ) → bit_at_row left r ≡ (bit_at_row rows r && not (bit_at_row plane r))) where
-    in_rest : (r : ℕ) → bit_at_row rows r ≡ true → bit_at_row plane r ≡ false → bit_at_row left r ≡ true
-    in_rest r a b = kept r ∙ ap (λ x. x && not (bit_at_row plane r)) a ∙ ap not b
+  module _ (so_far : IsLeastSoFar has code number rows) where
+    in_rest : (r : ℕ) → bit_at_row rows r ≡ true → bit_at_row plane r ≡ false → (bit_at_row rows r && not (bit_at_row plane r)) ≡ true
+    in_rest r a b = ap (λ x. x && not (bit_at_row plane r)) a ∙ ap not b
 
-    pub less_without : (r : ℕ) × (bit_at_row left r ≡ true) → IsLeastSoFar has next (2 * number) left
-    less_without some = record {
+    pub less_without : (left : List ℕ) → ((r : ℕ) → bit_at_row left r ≡ (bit_at_row rows r && not (bit_at_row plane r))) → (r : ℕ) × ((bit_at_row rows r && not (bit_at_row plane r)) ≡ true) → IsLeastSoFar has next (2 * number) left
+    less_without left kept some = record {
       bound = λ r there.
           elim (by_bit (bit_at_row plane r)) [
             | inl on ↦ omega (arith, so_far.bound r there, one_more (bit_at_row plane r) (next r) (code r) on (grows r there))
@@ -91,25 +91,25 @@ module _ (has : ℕ → Bool) (code next : ℕ → ℕ) (number : ℕ) (rows pla
       all = λ r there is.
           elim (by_bit (bit_at_row plane r)) [
             | inl on ↦ absurd (omega (arith, is, one_more (bit_at_row plane r) (next r) (code r) on (grows r there)))
-            | inr none ↦ in_rest r (so_far.all r there (omega (arith, is, none_more (bit_at_row plane r) (next r) (code r) none (grows r there)))) none
+            | inr none ↦ kept r ∙ in_rest r (so_far.all r there (omega (arith, is, none_more (bit_at_row plane r) (next r) (code r) none (grows r there)))) none
           ];
-      some = some;
+      some = (some.0, kept some.0 ∙ some.1);
     }
 
-    pub less_with : ((r : ℕ) → bit_at_row left r ≡ false) → IsLeastSoFar has next (2 * number + 1) rows
+    pub less_with : ((r : ℕ) → (bit_at_row rows r && not (bit_at_row plane r)) ≡ false) → IsLeastSoFar has next (2 * number + 1) rows
     less_with empty = record {
       bound = λ r there.
           elim (by_bit (bit_at_row plane r)) [
             | inl on ↦ omega (arith, so_far.bound r there, one_more (bit_at_row plane r) (next r) (code r) on (grows r there))
             | inr none ↦
-                let other : code r ≢ number = λ is. no_bit (bit_at_row left r) (empty r) (in_rest r (so_far.all r there is) none) in
+                let other : code r ≢ number = λ is. no_bit (bit_at_row rows r && not (bit_at_row plane r)) (empty r) (in_rest r (so_far.all r there is) none) in
                 omega (arith, other, so_far.bound r there, none_more (bit_at_row plane r) (next r) (code r) none (grows r there))
           ];
       each = λ r e.
           let here = so_far.each r e in
           elim (by_bit (bit_at_row plane r)) [
             | inl on ↦ (here.0, omega (arith, here.1, one_more (bit_at_row plane r) (next r) (code r) on (grows r here.0)))
-            | inr none ↦ absurd (no_bit (bit_at_row left r) (empty r) (in_rest r e none))
+            | inr none ↦ absurd (no_bit (bit_at_row rows r && not (bit_at_row plane r)) (empty r) (in_rest r e none))
           ];
       all = λ r there is.
           elim (by_bit (bit_at_row plane r)) [

@@ -3,8 +3,7 @@
 ghost use Rattle.std.specs.Prelude.{false, length, not, true, ℕ, ◌&&◌, ◌*◌, ◌+◌, ◌/◌, ◌<◌, ◌≡◌, ◌≤◌};
 ghost use Rattle.bw_file.specs.Descents.{bit_at_row};
 
-/// How many bytes of a plane are processed together. They are contiguous in memory, and together with the rows that are
-/// left they fit the L1 cache.
+/// How many bytes of a plane are processed together. Together with the rows that are left they fit the L1 cache.
 pub(crate) const BLOCK: usize = 512;
 
 /// The first n of the bytes from `from` on, padded with zeros.
@@ -24,37 +23,55 @@ pub(crate) fn has_row(rows: &[u8; BLOCK]) -> bool
     ensures none { result ≡ false → (r : ℕ) → bit_at_row rows.now r ≡ false }
     ensures some { result ≡ true → (r : ℕ) × (bit_at_row rows.now r ≡ true) }
 {
-    let mut left = [0; BLOCK];
-    keep_with(rows, rows, &mut left)
+    has_row_with(rows, rows)
 }
 
-/// Keeps those of some rows whose bit in a plane is clear, and returns whether any is kept.
-pub(crate) fn keep_without(rows: &[u8; BLOCK], plane: &[u8; BLOCK], left: &mut [u8; BLOCK]) -> bool
-    ensures each { (r : ℕ) → bit_at_row left.new r ≡ (bit_at_row rows.now r && not (bit_at_row plane.now r)) }
-    ensures none { result ≡ false → (r : ℕ) → bit_at_row left.new r ≡ false }
-    ensures some { result ≡ true → (r : ℕ) × (bit_at_row left.new r ≡ true) }
+/// Whether the bit of any of some rows is clear in the bytes of a plane, which has a byte for each of the rows.
+pub(crate) fn has_row_without(rows: &[u8; BLOCK], plane: &[u8]) -> bool
+    requires few { length plane.now ≤ 512 }
+    requires within { (r : ℕ) → length plane.now ≤ r / 8 → bit_at_row rows.now r ≡ false }
+    ensures none { result ≡ false → (r : ℕ) → (bit_at_row rows.now r && not (bit_at_row plane.now r)) ≡ false }
+    ensures some { result ≡ true → (r : ℕ) × ((bit_at_row rows.now r && not (bit_at_row plane.now r)) ≡ true) }
 {
     // No early exit, so that the loop is vectorized.
     let mut any = 0;
-    'bytes: for j in 0..BLOCK {
-        let byte = rows[j] & !plane[j];
-        left[j] = byte;
-        any |= byte;
+    'bytes: for j in 0..plane.len() {
+        any |= rows[j] & !plane[j];
     }
     any != 0
 }
 
-/// Keeps those of some rows whose bit in a plane is set, and returns whether any is kept.
-pub(crate) fn keep_with(rows: &[u8; BLOCK], plane: &[u8; BLOCK], left: &mut [u8; BLOCK]) -> bool
-    ensures each { (r : ℕ) → bit_at_row left.new r ≡ (bit_at_row rows.now r && bit_at_row plane.now r) }
-    ensures none { result ≡ false → (r : ℕ) → bit_at_row left.new r ≡ false }
-    ensures some { result ≡ true → (r : ℕ) × (bit_at_row left.new r ≡ true) }
+/// Whether the bit of any of some rows is set in the bytes of a plane.
+pub(crate) fn has_row_with(rows: &[u8; BLOCK], plane: &[u8]) -> bool
+    requires few { length plane.now ≤ 512 }
+    ensures none { result ≡ false → (r : ℕ) → (bit_at_row rows.now r && bit_at_row plane.now r) ≡ false }
+    ensures some { result ≡ true → (r : ℕ) × ((bit_at_row rows.now r && bit_at_row plane.now r) ≡ true) }
 {
     let mut any = 0;
-    'bytes: for j in 0..BLOCK {
-        let byte = rows[j] & plane[j];
-        left[j] = byte;
-        any |= byte;
+    'bytes: for j in 0..plane.len() {
+        any |= rows[j] & plane[j];
     }
     any != 0
+}
+
+/// Keeps those of some rows whose bit in a plane is clear. The plane has a byte for each of the rows.
+pub(crate) fn keep_without(rows: &mut [u8; BLOCK], plane: &[u8])
+    requires few { length plane.now ≤ 512 }
+    requires within { (r : ℕ) → length plane.now ≤ r / 8 → bit_at_row rows.old r ≡ false }
+    ensures { (r : ℕ) → bit_at_row rows.new r ≡ (bit_at_row rows.old r && not (bit_at_row plane.now r)) }
+{
+    'bytes: for j in 0..plane.len() {
+        rows[j] &= !plane[j];
+    }
+}
+
+/// Keeps those of some rows whose bit in a plane is set. The plane has a byte for each of the rows.
+pub(crate) fn keep_with(rows: &mut [u8; BLOCK], plane: &[u8])
+    requires few { length plane.now ≤ 512 }
+    requires within { (r : ℕ) → length plane.now ≤ r / 8 → bit_at_row rows.old r ≡ false }
+    ensures { (r : ℕ) → bit_at_row rows.new r ≡ (bit_at_row rows.old r && bit_at_row plane.now r) }
+{
+    'bytes: for j in 0..plane.len() {
+        rows[j] &= plane[j];
+    }
 }

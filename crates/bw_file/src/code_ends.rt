@@ -14,7 +14,7 @@ ghost use Rattle.bw_file.specs.declared.code_ends.Values.TheVariants as found;
 ghost use Rattle.bw_vertical.specs.Descents.{AreCodeEnds};
 
 use crate::block::{BLOCK, block_of};
-use crate::descent::block_ends;
+use crate::descent::ends_with_block;
 use bw_code::{ColumnType, Ends};
 use bw_vertical::CodeEnds;
 
@@ -32,7 +32,7 @@ pub(crate) fn code_ends(present: &[u8], planes: &[u8], rows: usize, k: usize) ->
     'runs: for b in 0..size.div_ceil(BLOCK) {
         let from = b * BLOCK;
         let there = block_of(present, from, (size - from).min(BLOCK));
-        ends = ends.with(block_ends(planes, size, k, from, &there));
+        ends = ends_with_block(ends, planes, size, k, from, &there);
     }
     ends
 }

@@ -7,7 +7,7 @@ same true = refl
 same false = refl
 
 pub returns-clause-none : goal.returns-clause-none
-returns-clause-none c e r = sym (same (bit_at_row c.args.rows.now r)) ∙ sym (c.keep_with.ensures.each r) ∙ c.keep_with.ensures.none e r
+returns-clause-none c e r = sym (same (bit_at_row c.args.rows.now r)) ∙ c.has_row_with.ensures.none e r
 
 pub returns-clause-some : goal.returns-clause-some
-returns-clause-some c e = let some = c.keep_with.ensures.some e in (some.0, sym (same (bit_at_row c.args.rows.now some.0)) ∙ sym (c.keep_with.ensures.each some.0) ∙ some.1)
+returns-clause-some c e = let some = c.has_row_with.ensures.some e in (some.0, sym (same (bit_at_row c.args.rows.now some.0)) ∙ some.1)

@@ -1,30 +1,18 @@
 use Rattle.std.proofs.Common.{arith, bit_and, get_or, length, length-set, ℕ, ◌<◌, ◌∙◌}
-use Rattle.std.proofs.lemmas.Nat.{and_le_l}
-use Rattle.bw_file.proofs.RowBytes.{each_next, no_row, none_next, rows_with, small_next, some_next, some_row}
+use Rattle.bw_file.proofs.RowBytes.{changed_next, rest_next, rows_with}
 use Rattle.bw_file.proofs.block.keep_with.Goals as goal
 
 pub bytes-preserved : goal.bytes-preserved
 bytes-preserved c =
     let inv = c.bytes.invariant in
-    let j = c.bytes.j in
-    let f = λ (i : ℕ). bit_and (get_or c.args.rows.now i 0) (get_or c.args.plane.now i 0) in
-    let there : j < length c.bytes.left = omega (arith, inv.long, c.bytes-test.true) in
+    let f = λ (i byte : ℕ). bit_and (byte) (get_or c.args.plane.now i 0) in
+    let there : c.bytes.j < length c.bytes.rows = omega (arith, inv.long, c.bytes-test.true, c.requires.few) in
     record {
-      long = length-set c.bytes.left j (f j) ∙ inv.long;
-      each = each_next c.bytes.left f j c.bytes.any there inv.each;
-      none = none_next c.bytes.left f j c.bytes.any there inv.none;
-      small = small_next c.bytes.left f j c.bytes.any there inv.small (omega (arith, and_le_l (get_or c.args.rows.now c.bytes.j 0) (get_or c.args.plane.now c.bytes.j 0), c.type_inv.rows));
-      some = some_next c.bytes.left f j c.bytes.any there inv.some;
+      long = length-set c.bytes.rows c.bytes.j (f c.bytes.j (get_or c.bytes.rows c.bytes.j 0)) ∙ inv.long;
+      each = changed_next f c.args.rows.now c.bytes.rows c.bytes.j there inv.rest inv.each;
+      rest = rest_next f c.args.rows.now c.bytes.rows c.bytes.j there inv.rest;
     }
 
-pub returns-clause-each : goal.returns-clause-each
-returns-clause-each c =
-    rows_with 512 c.args.rows.now c.args.plane.now c.bytes.left c.told-rows c.bytes.invariant.long (λ j h. c.bytes.invariant.each j (omega (arith, h, c.bytes-test.false)))
-
-pub returns-clause-none : goal.returns-clause-none
-returns-clause-none c e = no_row 512 c.bytes.left c.bytes.invariant.long (λ j h. c.bytes.invariant.none (grind (arith, e)) j (omega (arith, h, c.bytes-test.false)))
-
-pub returns-clause-some : goal.returns-clause-some
-returns-clause-some c e =
-    let some = c.bytes.invariant.some (grind (arith, e)) in
-    some_row c.bytes.left some.0 (c.bytes.invariant.small some.0 some.1) some.2
+pub returns : goal.returns
+returns c =
+    rows_with c.args.rows.now c.args.plane.now c.bytes.j (omega (arith, c.bytes-test.false, c.bytes.auto.j-end)) (λ r past. c.requires.within r (omega (arith, past, c.bytes-test.false))) c.bytes.rows c.bytes.invariant.each c.bytes.invariant.rest

@@ -8,8 +8,8 @@ use Rattle.bw_file.proofs.BlockEnds.{first_rows}
 use Rattle.bw_file.proofs.RowBytes.{past_row}
 use Rattle.bw_file.proofs.code_ends.code_ends.Goals as goal
 
-pub block_ends-requires-clause-within : goal.block_ends-requires-clause-within
-block_ends-requires-clause-within c r past = c.block_of-there.ensures.rest r (omega (arith, past, c.min.ensures))
+pub ends_with_block-ends-requires-clause-within : goal.ends_with_block-ends-requires-clause-within
+ends_with_block-ends-requires-clause-within c r past = c.block_of-there.ensures.rest r (omega (arith, past, c.min.ensures))
 
 pub runs-preserved : goal.runs-preserved
 runs-preserved c =
@@ -21,8 +21,8 @@ runs-preserved c =
     let size : c.div_ceil-size.result ≡ presence_size c.args.rows = omega (arith, c.div_ceil-size.ensures) in
     let more : 4096 * c.runs.b + 4096 ≡ 4096 * (c.runs.b + 1) = omega arith in
     let place : (r : ℕ) → 8 * (c.runs.b * 512) + r ≡ 4096 * c.runs.b + r = λ r. omega arith in
-    subst (λ m. AreCodeEnds (has_in c.args.present.now) (code_in c.args.k (presence_size c.args.rows) c.args.planes.now) m c.with-ends.result) more
-    (c.with-ends.ensures (has_in present) (bit_at_row c.block_of-there.result) (code_in k (presence_size c.args.rows) planes) (λ r. code_in k c.div_ceil-size.result planes (8 * from + r)) (4096 * b) 4096
+    subst (λ m. AreCodeEnds (has_in c.args.present.now) (code_in c.args.k (presence_size c.args.rows) c.args.planes.now) m c.ends_with_block-ends.result) more
+    (c.ends_with_block-ends.ensures (has_in present) (code_in k (presence_size c.args.rows) planes) (4096 * b)
     (λ r h.
     elim (cases_lt (r / 8) c.min.result) [
       | inl here ↦ ap (bit_at_row c.args.present.now) (sym (place r)) ∙ sym (c.block_of-there.ensures.bits r here)
@@ -31,7 +31,7 @@ runs-preserved c =
           past_row (presence_size c.args.rows) present c.requires.present (4096 * b + r) beyond ∙ sym (c.block_of-there.ensures.rest r past)
     ])
     (λ r h. ap (λ s. code_in c.args.k s c.args.planes.now (4096 * c.runs.b + r)) (sym size) ∙ ap (code_in c.args.k c.div_ceil-size.result c.args.planes.now) (sym (place r)))
-    c.runs.invariant c.block_ends.ensures)
+    c.runs.invariant)
 
 pub returns : goal.returns
 returns c =
