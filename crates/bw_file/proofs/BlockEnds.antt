@@ -31,7 +31,7 @@ first_rows has code n m ends most within are = record {
 }
 
 -- the bit of a row in a plane, and in the plane's bytes from the block's first on
-pub block_bit : (size p from r : ℕ) (planes : List ℕ) → bit_at_row planes (8 * (p * size + from) + r) ≡ (plane_bit size planes p (8 * from + r) == 1)
+block_bit : (size p from r : ℕ) (planes : List ℕ) → bit_at_row planes (8 * (p * size + from) + r) ≡ (plane_bit size planes p (8 * from + r) == 1)
 block_bit size p from r planes =
     let byte : (8 * (p * size + from) + r) / 8 ≡ p * size + (8 * from + r) / 8 = omega arith in
     let place : (8 * (p * size + from) + r) % 8 ≡ (8 * from + r) % 8 = omega arith in
