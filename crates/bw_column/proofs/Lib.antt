@@ -36,3 +36,4 @@ pub mod Spreads
 pub mod Standing
 pub mod Stored
 pub mod Told
+pub mod Tops

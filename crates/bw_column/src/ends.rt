@@ -1,6 +1,6 @@
 //! The least and the greatest value of a column, found from its codes.
 
-ghost use Rattle.std.specs.Prelude.{Bool, false, length, slice_index, true, ℕ, ◌-◌, ◌<◌, ◌≡◌, ◌≤◌, ◌⊎◌};
+ghost use Rattle.std.specs.Prelude.{Bool, false, length, slice_index, true, ℕ, ◌-◌, ◌<◌, ◌^◌, ◌≡◌, ◌≤◌, ◌⊎◌};
 ghost use Rattle.bw_mask.specs.Masks.{bit_of, len, row_at};
 ghost use Rattle.bw_code.specs.Columns.{code_at, count};
 ghost use Rattle.bw_code.specs.Fittings.{AreEnds};
@@ -10,6 +10,7 @@ ghost use Rattle.bw_column.specs.Values.{known};
 ghost use Rattle.bw_vertical.specs.Descents.{AreCodeEnds};
 
 use crate::column::Column;
+use crate::slice_ends::slice_ends;
 use crate::storage::Codes;
 use bw_code::{CodeColumn, Ends};
 use bw_mask::{Mask, has_bit};
@@ -87,7 +88,7 @@ fn has_beyond(codes: &[u64], least: u64, greatest: u64) -> bool
 }
 
 /// The least and the greatest of those so far and of the codes whose bit is set.
-fn ends_with(so_far: (u64, u64), codes: &[u64], present: u64) -> (u64, u64)
+pub(crate) fn ends_with(so_far: (u64, u64), codes: &[u64], present: u64) -> (u64, u64)
     requires { length codes.now ≤ 64 }
     ensures least { IsLeastFrom so_far.0 (length codes.now) (bit_of present) (slice_index codes.now) result.0 }
     ensures greatest { IsGreatestFrom so_far.1 (length codes.now) (bit_of present) (slice_index codes.now) result.1 }
@@ -117,12 +118,14 @@ fn ends_from(start: u64, ends: CodeEnds) -> (u64, u64)
 /// The least and the greatest of `start` and of the codes of the non-null rows.
 fn code_ends(codes: &Codes, nonnull: &Mask, start: u64) -> (u64, u64)
     requires rows { len nonnull.now ≡ count (list_of codes.now) }
+    requires fits { start < 2 ^ (list_of codes.now).width }
     ensures least { IsLeastFrom start (count (list_of codes.now)) (row_at nonnull.now) (code_at (list_of codes.now)) result.0 }
     ensures greatest { IsGreatestFrom start (count (list_of codes.now)) (row_at nonnull.now) (code_at (list_of codes.now)) result.1 }
 {
     match codes {
         Codes::V(planes) => ends_from(start, planes.ends(nonnull)),
-        Codes::P(_) | Codes::H(_) | Codes::S(_) => run_ends(codes, nonnull, start),
+        Codes::S(codes) => slice_ends(codes, nonnull, start),
+        Codes::P(_) | Codes::H(_) => run_ends(codes, nonnull, start),
     }
 }
 

@@ -26,6 +26,7 @@ mod pairs;
 mod raising;
 mod reading;
 mod runs;
+mod slice_ends;
 mod split;
 mod step;
 mod storage;
