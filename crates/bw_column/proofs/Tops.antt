@@ -1,12 +1,11 @@
 -- The top bytes of codes in slices.
-use Rattle.std.proofs.Common.{Bool, ap, arith, inl, inr, suc, ℕ, ◌*◌, ◌-◌, ◌/◌, ◌<◌, ◌^◌, ◌∙◌, ◌≡◌, ◌≤◌, ◌⊎◌}
+use Rattle.std.proofs.Common.{ap, arith, inl, inr, suc, ℕ, ◌*◌, ◌-◌, ◌/◌, ◌<◌, ◌^◌, ◌∙◌, ◌≡◌, ◌≤◌}
 use Rattle.std.proofs.Math.Nat.{div-lt_iff_lt-mul, div-mul-le_self, mod-eq_of_lt, mul-le-mul_right, one-le-pow, pow-suc}
 use Rattle.std.proofs.lemmas.Bool.{cases_lt}
 use Rattle.std.proofs.lemmas.Nat.{le-div}
 use Rattle.bw_code.specs.Units.{digit}
 use Rattle.bw_byteslice.specs.Slices.{shift_of, slices_of}
 use Rattle.bw_byteslice.proofs.Raised.{raised_fits}
-use Rattle.bw_column.specs.Extremes.{IsReached}
 
 -- the top byte of a code of k bits never falls where the code grows
 module _ (k : ℕ) (some : 1 ≤ k) where
