@@ -43,12 +43,12 @@ loop-at-preserved c =
           let enough : at + n ≤ length tops = omega (arith, c.slice-tops.ensures.len, inside) in
           let long : length part ≡ n = omega (arith, length-take (at + n - at) (drop at tops), length-drop at tops, enough) in
           let within : (j : ℕ) → j < n → (old.0 ≤ code_at codes (at + j)) × (code_at codes (at + j) ≤ old.1) = λ j h.
-            let here : j < length part = omega (arith, long, h) in
-            let fits : code_at codes (at + j) < 2 ^ k = All-get_or (λ x. x < 2 ^ k) codes.codes (at + j) 0 (omega (arith, inside, h)) c.width-width.ensures.fit in
-            let top = part_at tops part at (at + n - at) j 0 refl here ∙ c.slice-tops.ensures.bytes (at + j) in
-            c.may_be_beyond.ensures w.if-may_be_beyond.false j (code_at codes (at + j)) here (rw c.width-width.ensures.width fits) (rw c.width-width.ensures.width top) in
-          let least : IsLeastFrom old.0 n (λ j. row_at nonnull (at + j)) (λ j. code_at codes (at + j)) old.0 = record { from = omega arith; bound = λ j h on. (within j h).0; reached = inl refl; } in
-          let greatest : IsGreatestFrom old.1 n (λ j. row_at nonnull (at + j)) (λ j. code_at codes (at + j)) old.1 = record { from = omega arith; bound = λ j h on. (within j h).1; reached = inl refl; } in
+          let here : j < length part = omega (arith, long, h) in
+          let fits : code_at codes (at + j) < 2 ^ k = All-get_or (λ x. x < 2 ^ k) codes.codes (at + j) 0 (omega (arith, inside, h)) c.width-width.ensures.fit in
+          let top = part_at tops part at (at + n - at) j 0 refl here ∙ c.slice-tops.ensures.bytes (at + j) in
+          c.may_be_beyond.ensures w.if-may_be_beyond.false j (code_at codes (at + j)) here (rw c.width-width.ensures.width fits) (rw c.width-width.ensures.width top) in
+          let least : IsLeastFrom old.0 n (λ j. row_at nonnull (at + j)) (λ j. code_at codes (at + j)) old.0 = record { from = omega arith; bound = λ j h on. (within j h).0; reached = inl refl } in
+          let greatest : IsGreatestFrom old.1 n (λ j. row_at nonnull (at + j)) (λ j. code_at codes (at + j)) old.1 = record { from = omega arith; bound = λ j h on. (within j h).1; reached = inl refl } in
           rw w.ends-is (record {
             at = inside;
             least = least_over start at n (row_at nonnull) (λ j. row_at nonnull (at + j)) (code_at codes) (λ j. code_at codes (at + j)) old.0 old.0 (λ j h. refl) (λ j h. refl) i.least least;
