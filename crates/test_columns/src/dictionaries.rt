@@ -23,17 +23,20 @@ enum Lie {
     Distinct,
     /// At both ends of the layout's range.
     Ends,
+    /// In each word of rows a lower and a greater one than in the words before.
+    Steps,
     /// A single value.
     One,
     /// No value.
     Nulls,
 }
 
-const LIES: [Lie; 6] = [
+const LIES: [Lie; 7] = [
     Lie::Dense,
     Lie::FarApart,
     Lie::Distinct,
     Lie::Ends,
+    Lie::Steps,
     Lie::One,
     Lie::Nulls,
 ];
@@ -58,6 +61,8 @@ fn value_at(layout: Layout, lie: Lie, row: usize) -> Option<i64> {
         Lie::FarApart => Some((number % 5) as i64 * 500_000_009 - 1_000_000_000),
         Lie::Distinct => Some(1_000_000 - (row % 1_000) as i64 * 7),
         Lie::Ends => Some(if row % 2 == 0 { least } else { greatest }),
+        Lie::Steps if row % 2 == 0 => Some(-((row / 64) as i64)),
+        Lie::Steps => Some(1_020 + (row / 64) as i64),
         Lie::One => Some(-7),
         Lie::Nulls => None,
     }
@@ -218,7 +223,7 @@ fn dictionaries_lose_values(rt: HostRuntime) {
 }
 
 /// Checks that a rebuilt column has the same values; a dictionary has only entries that some row has, and an offset's
-/// base is the least value.
+/// base is the least value and its width that of the greatest one.
 fn check_rebuilt<R: Abort + AllocGlobal>(rt: &R, column: &Column, values: &[Option<i64>]) {
     let _held = column.len();
     let layout = column.layout();
@@ -230,16 +235,30 @@ fn check_rebuilt<R: Abort + AllocGlobal>(rt: &R, column: &Column, values: &[Opti
     let plain = column
         .rebuild(rt.alloc(), layout, Kind::Offset)
         .expect(rt, "memory");
-    see_base(rt, &plain, values);
+    see_offset(rt, &plain, values);
     see_values(rt, &plain, values);
 }
 
-/// Checks that a column has the least of these values as its base, or 0 if there are none.
-fn see_base<R: Abort + AllocGlobal>(rt: &R, column: &Column, values: &[Option<i64>]) {
+/// How many bits a number has, at least one.
+fn bits_of(number: u64) -> u32 {
+    let mut width = 1;
+    while width < 64 && number >> width != 0 {
+        width += 1;
+    }
+    width
+}
+
+/// Checks that a column has the least of these values as its base, or 0 if there are none, and as many bits as the
+/// greatest needs.
+fn see_offset<R: Abort + AllocGlobal>(rt: &R, column: &Column, values: &[Option<i64>]) {
     let entries = distinct_values(rt, values);
     let least = entries.first().copied().unwrap_or(0);
+    let greatest = entries.last().copied().unwrap_or(0);
     match column.encoding() {
-        Encoding::Offset(offset) => assert!(rt; offset.base == least),
+        Encoding::Offset(offset) => {
+            assert!(rt; offset.base == least);
+            assert!(rt; offset.width == bits_of(greatest.abs_diff(least)));
+        }
         Encoding::Dictionary(_) => panic!(rt; "a dictionary"),
     }
 }
