@@ -46,6 +46,7 @@ BENCHES = (
     Bench("groups", "groups.py"),
     Bench("groups-dictionary", "groups.py", ("2097152", "2", "--kind", "DICTIONARY")),
     Bench("changes", "changes.py"),
+    Bench("growth", "growth.py"),
     Bench("dictionaries", "dictionaries.py"),
     Bench("files", "files.py"),
     Bench("memory", "memory.py"),

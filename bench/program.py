@@ -5,7 +5,7 @@ import re
 import subprocess
 import sys
 import time
-from collections.abc import Iterator
+from collections.abc import Iterator, Sequence
 from pathlib import Path
 from types import TracebackType
 
@@ -62,13 +62,19 @@ class Program:
     def ask(self, statement: str, times: int = 1) -> tuple[float, str]:
         """The processor seconds of a statement that is executed this many times, per time, and the last of its
         replies."""
+        return self.ask_each([statement] * times)
+
+    def ask_each(self, statements: Sequence[str]) -> tuple[float, str]:
+        """The processor seconds of statements that are sent at once, for each of them, and the last of their
+        replies."""
         assert self.child.stdin
         before = self.seconds()
-        self.child.stdin.write(f"{statement};\n".encode() * times)
-        answered = self.replies(times)
-        took = (self.seconds() - before) / times
+        self.child.stdin.write("".join(f"{statement};\n" for statement in statements).encode())
+        answered = self.replies(len(statements))
+        took = (self.seconds() - before) / len(statements)
         if fault := FAULT.search(answered):
-            sys.exit(f"bitcol refuses {statement[:200]}: {fault[0].decode()}")
+            refused = statements[len(ENDS.findall(answered[: fault.start()]))]
+            sys.exit(f"bitcol refuses {refused[:200]}: {fault[0].decode()}")
         begins = [0, *(match.end() for match in ENDS.finditer(answered))]
         return took, answered[begins[-2] :].decode()
 
