@@ -242,8 +242,10 @@ fn check_rebuilt<R: Abort + AllocGlobal>(rt: &R, column: &Column, values: &[Opti
 /// How many bits a number has, at least one.
 fn bits_of(number: u64) -> u32 {
     let mut width = 1;
-    while width < 64 && number >> width != 0 {
-        width += 1;
+    for bit in 1..64 {
+        if number >> bit != 0 {
+            width = bit + 1;
+        }
     }
     width
 }
