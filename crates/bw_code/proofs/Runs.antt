@@ -1,6 +1,6 @@
 -- Codes put at some of 64 rows.
-use Rattle.std.proofs.Common.{List, ap, arith, drop, false, get_or, if◌then◌else◌, inl, inr, length, pow_pos, refl, sym, take, true, ℕ, ◌+◌, ◌-◌, ◌<◌, ◌^◌, ◌≡◌, ◌≤◌, ◌∙◌}
-use Rattle.std.proofs.lemmas.Bool.{both_ways, cases_Bool, cases_lt, le-leb, lt-leb}
+use Rattle.std.proofs.Common.{List, ap, arith, drop, false, get_or, if◌then◌else◌, inl, inr, length, min, pow_pos, refl, sym, take, true, ℕ, ◌+◌, ◌-◌, ◌%◌, ◌&&◌, ◌⊎◌, Bool, nat_lt, ◌<◌, ◌^◌, ◌≡◌, ◌≤◌, ◌∙◌}
+use Rattle.std.proofs.lemmas.Bool.{both_ways, cases_Bool, cases_lt, le-leb, le-ltb, lt-leb, lt-ltb}
 use Rattle.std.proofs.lemmas.List.{get_or-drop, get_or-take, get_or_past}
 use borrow.Rule.Slice.PartMut.{put_mid}
 use Rattle.bw_mask.specs.Masks.{bit_of}
@@ -21,6 +21,56 @@ chosen_above at rows j e =
       | inl h ↦ absurd (both_ways (is_chosen at rows j) (chosen_below at rows j h) e)
       | inr h ↦ h
     ]
+
+-- a word of the bits of n rows from `at` on
+module _ (at n bits : ℕ) (row : ℕ → Bool) (is : (k : ℕ) → bit_of bits k ≡ (nat_lt k n && row (at + k))) where
+  pub chosen_row : (j : ℕ) → at ≤ j → j < at + n → is_chosen at bits j ≡ row j
+  chosen_row j h l =
+      let here : at + (j - at) ≡ j = omega (arith, h) in
+      let low : j - at < n = omega (arith, h, l) in
+      chosen_from at bits j h ∙ is (j - at) ∙ rw (lt-ltb (j - at) n low, here) refl
+
+  pub chosen_past : (j : ℕ) → at + n ≤ j → is_chosen at bits j ≡ false
+  chosen_past j h =
+      let past : n ≤ j - at = omega (arith, h) in
+      let from : at ≤ j = omega (arith, h) in
+      chosen_from at bits j from ∙ is (j - at) ∙ rw (le-ltb (j - at) n past) refl
+
+-- a run of rows ends at a word's end, or at the last row
+pub next_word : (end at n : ℕ) → (at % 64 ≡ 0) ⊎ (end ≤ at) → at < end → n ≡ min (end - at) 64 → ((at + n) % 64 ≡ 0) ⊎ (end ≤ at + n)
+next_word end at n word more is =
+    elim word [
+      | inl whole ↦
+          elim (cases_lt n 64) [
+            | inl short ↦ inr (omega (arith, short, is))
+            | inr full ↦ inl (omega (arith, full, is, whole))
+          ]
+      | inr past ↦ absurd (omega (arith, past, more))
+    ]
+
+-- the codes of a block of n rows from `at` on are put where a row is chosen
+module _ (old block new : List ℕ) (at n bits : ℕ) (row : ℕ → Bool) (source : ℕ → ℕ)
+    (is : (k : ℕ) → bit_of bits k ≡ (nat_lt k n && row (at + k)))
+    (inside : at + n ≤ length old)
+    (each : (k : ℕ) → k < n → get_or block k 0 ≡ source (at + k))
+    (put : new ≡ made (length old) (λ j. if is_chosen at bits j then get_or block (j - at) 0 else get_or old j 0)) where
+  put_at : (j : ℕ) → j < length old → get_or new j 0 ≡ (if is_chosen at bits j then get_or block (j - at) 0 else get_or old j 0)
+  put_at j h = ap (λ codes. get_or codes j 0) put ∙ made_at (length old) (λ m. if is_chosen at bits m then get_or block (m - at) 0 else get_or old m 0) j 0 h
+
+  pub block_long : length new ≡ length old
+  block_long = ap length put ∙ made_len (length old) (λ m. if is_chosen at bits m then get_or block (m - at) 0 else get_or old m 0)
+
+  pub block_before : (j : ℕ) → j < at → get_or new j 0 ≡ get_or old j 0
+  block_before j h = put_at j (omega (arith, h, inside)) ∙ rw (chosen_below at bits j h) refl
+
+  pub block_here : (j : ℕ) → at ≤ j → j < at + n → get_or new j 0 ≡ (if row j then source j else get_or old j 0)
+  block_here j h l =
+      let here : at + (j - at) ≡ j = omega (arith, h) in
+      let own : get_or block (j - at) 0 ≡ source j = each (j - at) (omega (arith, h, l)) ∙ ap source here in
+      put_at j (omega (arith, l, inside)) ∙ rw (chosen_row at n bits row is j h l, own) refl
+
+  pub block_past : (j : ℕ) → at + n ≤ j → j < length old → get_or new j 0 ≡ get_or old j 0
+  block_past j h there = put_at j there ∙ rw (chosen_past at n bits row is j h) refl
 
 pub fit_at : (w : ℕ) (codes : List ℕ) → Fit w codes → (i : ℕ) → get_or codes i 0 < 2 ^ w
 fit_at w codes fit i =

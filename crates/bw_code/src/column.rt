@@ -1,6 +1,6 @@
 //! Columns of codes, in any layout.
 
-ghost use Rattle.std.specs.Prelude.{[], IfOk, OnOk, drop, false, length, slice_set, take, true, ℕ, ◌%◌, ◌&&◌, ◌++◌, ◌+◌, ◌<◌, ◌^◌, ◌≡◌, ◌≤◌, ◌∷◌};
+ghost use Rattle.std.specs.Prelude.{[], IfOk, OnOk, drop, false, if◌then◌else◌, length, slice_set, take, true, ℕ, ◌%◌, ◌&&◌, ◌++◌, ◌+◌, ◌<◌, ◌^◌, ◌≡◌, ◌≤◌, ◌∷◌};
 ghost use Rattle.bw_mask.specs.Masks.{bit_of, len, row_at, SameShape};
 ghost use Rattle.bw_code.specs.declared.kind.Layout.{Layout};
 ghost use Rattle.bw_code.specs.Columns.{code_at, count, filled_codes, put_codes, CodeList, Fit, KeepsShape};
@@ -111,6 +111,55 @@ pub trait CodeColumn: Sized {
             if has_bit(rows, i) {
                 self.set(at + i, code);
             }
+        }
+    }
+
+    /// The code of each of the rows becomes this one. Takes no memory.
+    fn fill_rows(&mut self, rows: &Mask, code: u64)
+        requires rows { len rows.now ≡ count (seen self.old) }
+        requires fits { code < 2 ^ (seen self.old).width }
+        ensures shape { KeepsShape (seen self.new) (seen self.old) }
+        ensures count { count (seen self.new) ≡ count (seen self.old) }
+        ensures codes { (i : ℕ) → i < count (seen self.old) → code_at (seen self.new) i
+            ≡ (if row_at rows.now i then code else code_at (seen self.old) i) }
+    {
+        let end = self.len();
+        let mut at = 0;
+        while at < end {
+            let n = (end - at).min(64);
+            self.fill_run(at, rows.bits(at, n), code);
+            at += n;
+        }
+    }
+
+    /// The codes of the rows of this column and of another one of the same width are exchanged. Takes no memory.
+    fn exchange_rows(&mut self, other: &mut Self, rows: &Mask)
+        requires width { (seen other.old).width ≡ (seen self.old).width }
+        requires other { count (seen other.old) ≡ count (seen self.old) }
+        requires rows { len rows.now ≡ count (seen self.old) }
+        ensures shape { KeepsShape (seen self.new) (seen self.old) }
+        ensures other_shape { KeepsShape (seen other.new) (seen other.old) }
+        ensures count { count (seen self.new) ≡ count (seen self.old) }
+        ensures other_count { count (seen other.new) ≡ count (seen other.old) }
+        ensures codes { (i : ℕ) → i < count (seen self.old) → code_at (seen self.new) i
+            ≡ (if row_at rows.now i then code_at (seen other.old) i else code_at (seen self.old) i) }
+        ensures others { (i : ℕ) → i < count (seen self.old) → code_at (seen other.new) i
+            ≡ (if row_at rows.now i then code_at (seen self.old) i else code_at (seen other.old) i) }
+    {
+        let mut own_list = [0; 64];
+        let mut other_list = [0; 64];
+        let end = self.len();
+        let mut at = 0;
+        while at < end {
+            let n = (end - at).min(64);
+            let chosen = rows.bits(at, n);
+            let own = &mut own_list[..n];
+            self.read(at, own);
+            let others = &mut other_list[..n];
+            other.read(at, others);
+            self.put_run(at, chosen, others);
+            other.put_run(at, chosen, own);
+            at += n;
         }
     }
 

@@ -1,6 +1,6 @@
 use Rattle.std.proofs.Common.{get_or, if◌then◌else◌, length, ℕ, ◌<◌, ◌≡◌, ◌≤◌}
 use Rattle.bw_mask.specs.Masks.{bit_of}
-use Rattle.bw_code.proofs.plain_run.put_chosen.Given as goal
+use Rattle.bw_code.proofs.plain_run.put_few.Given as goal
 
 -- the codes before this one are put, and the others are as they were
 abbrev pub invariant-loop-i : goal.invariant-loop-i
