@@ -88,7 +88,8 @@ pub(crate) fn blend_words(
 }
 
 /// These rows of a plane become `bits`; the other rows stay.
-fn blend_lanes(plane: &mut [u64; 4], bits: &[u64; 4], rows: &[u64; 4])
+#[inline(always)]
+pub(crate) fn blend_lanes(plane: &mut [u64; 4], bits: &[u64; 4], rows: &[u64; 4])
     ensures { (j : ℕ) → j < 256 → row_in plane.new j ≡ (if row_in rows.now j then row_in bits.now j else row_in plane.old j) }
 {
     *plane = either(&without(plane, rows), &both(bits, rows));

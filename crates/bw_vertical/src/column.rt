@@ -22,6 +22,7 @@ use crate::scan::scan_from;
 use crate::shifting::shift_codes;
 use crate::source::PlaneSource;
 use crate::storage::take_planes;
+use crate::swapping::exchange_codes;
 use crate::{blocks, codes, runs};
 use bw_code::{CmpOp, CodeColumn, CodeTest, Meter, Source, word_between};
 use bw_mask::Mask;
@@ -138,17 +139,6 @@ impl VerticalColumn {
         // Bits past the last row of the last segment are zeros already.
         push_segments(&mut self.groups, self.width as usize, more);
         self.len += n;
-    }
-
-    /// The code of each of the rows becomes this one. Takes no memory.
-    pub fn fill_rows(&mut self, rows: &Mask, code: u64)
-        requires rows { len rows.now ≡ count self.old }
-        requires fits { code < 2 ^ self.old.width }
-        ensures shape { KeepsShape self.new self.old }
-        ensures count { count self.new ≡ count self.old }
-        ensures codes { (i : ℕ) → i < count self.old → code_at self.new i ≡ (if row_at rows.now i then code else code_at self.old i) }
-    {
-        fill_codes(&mut self.groups, self.width as usize, self.len, rows, code);
     }
 
     /// The code of each of the rows becomes that of the same row of another column, of any width, rebased where the row
@@ -275,6 +265,15 @@ impl CodeColumn for VerticalColumn {
         if at < self.len {
             runs::fill_chosen(&mut self.groups, self.width as usize, at / 64, rows, code);
         }
+    }
+
+    fn fill_rows(&mut self, rows: &Mask, code: u64) {
+        fill_codes(&mut self.groups, self.width as usize, self.len, rows, code);
+    }
+
+    fn exchange_rows(&mut self, other: &mut VerticalColumn, rows: &Mask) {
+        let k = self.width as usize;
+        exchange_codes(&mut self.groups, &mut other.groups, k, self.len, rows);
     }
 
     #[tactic(auto, using(crate::proofs::Holding::codes_len))]

@@ -19,6 +19,7 @@ mod scan;
 mod shifting;
 mod source;
 mod storage;
+mod swapping;
 
 pub use addition::add_from;
 pub use blocks::{plane_words, put_plane_words, wide_plane_words};

@@ -5,7 +5,7 @@ use Rattle.bw_vertical.specs.Storage.{capacities, lists}
 use Rattle.bw_vertical.proofs.Filled.{codes_filled, rest_unfilled}
 use Rattle.bw_vertical.proofs.Holding.{codes_len, held_set}
 use Rattle.bw_vertical.proofs.Rooms.{room_more}
-use Rattle.bw_vertical.proofs.column.VerticalColumn.fill_rows.Goals as goal
+use Rattle.bw_vertical.proofs.column.VerticalColumnCodeColumn.fill_rows.Goals as goal
 
 pub fill_codes-requires-clause-rows : goal.fill_codes-requires-clause-rows
 fill_codes-requires-clause-rows c =
