@@ -1,5 +1,5 @@
 -- A byte put in place of another where a row is chosen, by bits alone.
-use Rattle.std.proofs.Common.{Bool, ap, arith, bit_and, bit_or, false, max, not, pow_pos, refl, subst, suc, sym, true, zero, ℕ, ◌%◌, ◌&&◌, ◌*◌, ◌+◌, ◌-◌, ◌/◌, ◌<◌, ◌==◌, ◌^◌, ◌≡◌, ◌∙◌}
+use Rattle.std.proofs.Common.{Bool, ap, arith, bit_and, bit_or, false, if◌then◌else◌, max, not, pow_pos, refl, subst, suc, sym, true, zero, ℕ, ◌%◌, ◌&&◌, ◌*◌, ◌+◌, ◌-◌, ◌/◌, ◌<◌, ◌==◌, ◌^◌, ◌≡◌, ◌∙◌}
 use Rattle.std.specs.Int.{bit_at, from_bool}
 use Rattle.std.proofs.lemmas.Bool.{ne_eqb}
 use Rattle.std.proofs.lemmas.Nat.{and_mask}
@@ -34,6 +34,10 @@ blend_put false own byte e small = absurd cc
 pub blend_kept : (b : Bool) (own byte : ℕ) → b ≡ false → own < 256 → blend b own byte ≡ own
 blend_kept true own byte e small = absurd cc
 blend_kept false own byte e small = ap (λ x. bit_or x (bit_and byte 0)) (whole own small) ∙ ap (bit_or own) (and_zero_r byte) ∙ or_zero_right own
+
+pub blend_is : (b : Bool) (own byte : ℕ) → own < 256 → byte < 256 → blend b own byte ≡ (if b then byte else own)
+blend_is true own byte own_small small = blend_put true own byte refl small
+blend_is false own byte own_small small = blend_kept false own byte refl own_small
 
 pub blend_small : (b : Bool) (own byte : ℕ) → own < 256 → byte < 256 → blend b own byte < 256
 blend_small true own byte own_small small = subst (λ x. x < 256) (sym (blend_put true own byte refl small)) small

@@ -7,6 +7,7 @@ pub mod Copied
 pub mod Halves
 pub mod InUnits
 pub mod Keeping
+pub mod Mixed
 pub mod Numbers
 pub mod Pairs
 pub mod Planes

@@ -10,6 +10,8 @@ ghost use Rattle.bw_code.specs.declared.kind.Layout.TheVariants as layouts;
 ghost use Rattle.bw_byteslice.specs.Slices.{shift_of, slices_of};
 
 use crate::copying::copy_codes;
+use crate::exchanging::exchange_codes;
+use crate::filling::fill_codes;
 use crate::pair::pair_from;
 use crate::plane_source::SlicePlanes;
 use crate::rebasing::shift_codes;
@@ -187,6 +189,20 @@ impl CodeColumn for SliceColumn {
     fn fill_run(&mut self, at: usize, rows: u64, code: u64) {
         let count = (self.len - at).min(64);
         runs::fill_run(&mut self.slices, self.width, at, count, rows, code);
+    }
+
+    fn fill_rows(&mut self, rows: &Mask, code: u64) {
+        fill_codes(&mut self.slices, self.width, self.len, rows, code);
+    }
+
+    fn exchange_rows(&mut self, other: &mut SliceColumn, rows: &Mask) {
+        exchange_codes(
+            &mut self.slices,
+            &mut other.slices,
+            self.width,
+            self.len,
+            rows,
+        );
     }
 
     fn read(&self, at: usize, out: &mut [u64]) {

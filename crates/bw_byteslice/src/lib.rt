@@ -1,8 +1,11 @@
 //! Codes as slices of bytes (layout S, ByteSlice).
 #![tactic(auto)]
 
+mod blocks;
 mod column;
 mod copying;
+mod exchanging;
+mod filling;
 mod laws;
 mod pair;
 mod plane;

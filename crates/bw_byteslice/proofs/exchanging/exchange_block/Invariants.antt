@@ -1,0 +1,20 @@
+use Rattle.std.proofs.Common.{[], false, get_or, if◌then◌else◌, length, vec_len, ℕ, ◌+◌, ◌<◌, ◌≡◌, ◌≤◌}
+use Rattle.bw_byteslice.specs.Storing.{byte_of, bytes_of, capacities_of}
+use Rattle.bw_byteslice.proofs.exchanging.exchange_block.Given as goal
+
+-- the slices before this one are exchanged, and the others are as they were
+abbrev pub invariant-loop-i : goal.invariant-loop-i
+invariant-loop-i l = record {
+  count : vec_len l.slices ≡ vec_len l.fn.slices;
+  other_count : vec_len l.others ≡ vec_len l.fn.others;
+  capacities : capacities_of l.slices.items ≡ capacities_of l.fn.slices.items;
+  other_capacities : capacities_of l.others.items ≡ capacities_of l.fn.others.items;
+  len : (i : ℕ) → length (get_or (bytes_of l.slices.items) i []) ≡ length (get_or (bytes_of l.fn.slices.items) i []);
+  other_len : (i : ℕ) → length (get_or (bytes_of l.others.items) i []) ≡ length (get_or (bytes_of l.fn.others.items) i []);
+  done : (i r : ℕ) → i < l.i → r < l.n → byte_of (bytes_of l.slices.items) (l.at + r) i ≡ (if get_or l.chosen r false then byte_of (bytes_of l.fn.others.items) (l.at + r) i else byte_of (bytes_of l.fn.slices.items) (l.at + r) i);
+  other_done : (i r : ℕ) → i < l.i → r < l.n → byte_of (bytes_of l.others.items) (l.at + r) i ≡ (if get_or l.chosen r false then byte_of (bytes_of l.fn.slices.items) (l.at + r) i else byte_of (bytes_of l.fn.others.items) (l.at + r) i);
+  left : (i j : ℕ) → l.i ≤ i → byte_of (bytes_of l.slices.items) j i ≡ byte_of (bytes_of l.fn.slices.items) j i;
+  other_left : (i j : ℕ) → l.i ≤ i → byte_of (bytes_of l.others.items) j i ≡ byte_of (bytes_of l.fn.others.items) j i;
+  kept : (i j : ℕ) → (l.at ≤ j → l.at + l.n ≤ j) → byte_of (bytes_of l.slices.items) j i ≡ byte_of (bytes_of l.fn.slices.items) j i;
+  other_kept : (i j : ℕ) → (l.at ≤ j → l.at + l.n ≤ j) → byte_of (bytes_of l.others.items) j i ≡ byte_of (bytes_of l.fn.others.items) j i;
+}
