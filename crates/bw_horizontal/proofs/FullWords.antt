@@ -92,3 +92,30 @@ module _ (at rows n : ℕ) (words part : List ℕ) (f : ℕ → ℕ) (stored : A
               | inr l ↦ behind_part at n words part 0 fits long j l ∙ sym (own_code words stored j) ∙ rw (chosen_from at rows j up, none (j - at) (omega (arith, l))) refl
             ]
       ]
+
+-- a part of the words is overwritten by codes
+module _ (at n : ℕ) (words codes : List ℕ) (stored : All (IsStored 32) words) (fits : at + n ≤ length words) (long : length codes ≡ n)
+    (small : (i : ℕ) → get_or codes i 0 < 2 ^ 32) where
+  abbrev copied : List ℕ
+  copied = put_mid at n words codes
+
+  each_code : All (IsStored 32) codes
+  each_code i d h = subst (IsStored 32) (get_or_default codes i 0 d h) (code_stored (get_or codes i 0) (small i))
+
+  pub copied_stored : All (IsStored 32) copied
+  copied_stored = part_stored 32 at n words codes fits long stored each_code
+
+  pub copied_here : (i : ℕ) → i < length codes → code_in 32 copied (at + i) ≡ get_or codes i 0
+  copied_here i h =
+      own_code copied copied_stored (at + i)
+      ∙ in_part at n words codes 0 fits long (at + i) (omega arith) (omega (arith, h, long))
+      ∙ ap (λ m. get_or codes m 0) (omega arith)
+
+  pub copied_behind : (j : ℕ) → (at ≤ j → at + length codes ≤ j) → code_in 32 copied j ≡ code_in 32 words j
+  copied_behind j outside =
+      own_code copied copied_stored j
+      ∙ elim (cases_lt j at) [
+        | inl l ↦ before_part at n words codes 0 fits long j l
+        | inr up ↦ behind_part at n words codes 0 fits long j (omega (arith, outside up, long))
+      ]
+      ∙ sym (own_code words stored j)

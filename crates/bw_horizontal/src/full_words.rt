@@ -11,8 +11,11 @@ use bw_mask::has_bit;
 /// The width of codes that have a word each.
 pub(crate) const FULL: u32 = 32;
 
-/// Writes codes, each where its bit is set. The others stay.
-fn put_chosen(kept: &mut [u64], rows: u64, codes: &[u64])
+/// How many rows a whole run has.
+const RUN: usize = 64;
+
+/// Writes at most 64 codes, each where its bit is set. The others stay.
+fn put_few_chosen(kept: &mut [u64], rows: u64, codes: &[u64])
     requires few { length codes.now ≤ 64 }
     requires long { length kept.old ≡ length codes.now }
     ensures long { length kept.new ≡ length kept.old }
@@ -26,8 +29,37 @@ fn put_chosen(kept: &mut [u64], rows: u64, codes: &[u64])
     }
 }
 
-/// Writes one code wherever a bit is set. The others stay.
-fn fill_chosen(kept: &mut [u64], rows: u64, code: u64)
+/// The same for 64 codes.
+fn put_64_chosen(kept: &mut [u64], rows: u64, codes: &[u64])
+    requires whole { length codes.now ≡ 64 }
+    requires long { length kept.old ≡ length codes.now }
+    ensures long { length kept.new ≡ length kept.old }
+    ensures each { (i : ℕ) → i < length kept.old → slice_index kept.new i ≡ (if bit_of rows i then slice_index codes.now i else slice_index kept.old i) }
+{
+    for i in 0..RUN {
+        let own = kept[i];
+        let new = codes[i];
+        kept[i] = if has_bit(rows, i) { new } else { own };
+    }
+}
+
+/// Writes at most 64 codes, each where its bit is set. The others stay.
+fn put_chosen(kept: &mut [u64], rows: u64, codes: &[u64])
+    requires few { length codes.now ≤ 64 }
+    requires long { length kept.old ≡ length codes.now }
+    ensures long { length kept.new ≡ length kept.old }
+    ensures each { (i : ℕ) → i < length kept.old → slice_index kept.new i ≡ (if bit_of rows i then slice_index codes.now i else slice_index kept.old i) }
+{
+    // Most calls have a whole run, and are faster where the length is known.
+    if codes.len() == RUN {
+        put_64_chosen(kept, rows, codes);
+    } else {
+        put_few_chosen(kept, rows, codes);
+    }
+}
+
+/// Writes one code wherever a bit is set, to at most 64 rows. The others stay.
+fn fill_few_chosen(kept: &mut [u64], rows: u64, code: u64)
     requires few { length kept.old ≤ 64 }
     ensures long { length kept.new ≡ length kept.old }
     ensures each { (i : ℕ) → i < length kept.old → slice_index kept.new i ≡ (if bit_of rows i then code else slice_index kept.old i) }
@@ -36,6 +68,32 @@ fn fill_chosen(kept: &mut [u64], rows: u64, code: u64)
     for i in 0..kept.len() {
         let own = kept[i];
         kept[i] = if has_bit(rows, i) { code } else { own };
+    }
+}
+
+/// The same for 64 rows.
+fn fill_64_chosen(kept: &mut [u64], rows: u64, code: u64)
+    requires whole { length kept.old ≡ 64 }
+    ensures long { length kept.new ≡ length kept.old }
+    ensures each { (i : ℕ) → i < length kept.old → slice_index kept.new i ≡ (if bit_of rows i then code else slice_index kept.old i) }
+{
+    for i in 0..RUN {
+        let own = kept[i];
+        kept[i] = if has_bit(rows, i) { code } else { own };
+    }
+}
+
+/// Writes one code wherever a bit is set, to at most 64 rows. The others stay.
+fn fill_chosen(kept: &mut [u64], rows: u64, code: u64)
+    requires few { length kept.old ≤ 64 }
+    ensures long { length kept.new ≡ length kept.old }
+    ensures each { (i : ℕ) → i < length kept.old → slice_index kept.new i ≡ (if bit_of rows i then code else slice_index kept.old i) }
+{
+    // Most calls have a whole run, and are faster where the length is known.
+    if kept.len() == RUN {
+        fill_64_chosen(kept, rows, code);
+    } else {
+        fill_few_chosen(kept, rows, code);
     }
 }
 
@@ -66,6 +124,19 @@ pub(crate) fn fill_run(words: &mut [u64], at: usize, end: usize, rows: u64, code
     ensures codes { (j : ℕ) → code_in 32 words.new j ≡ (if is_chosen at rows j then code else code_in 32 words.old j) }
 {
     fill_chosen(&mut words[at..end], rows, code);
+}
+
+/// The codes of the rows from `at` on become these.
+pub(crate) fn write(words: &mut [u64], at: usize, codes: &[u64])
+    requires there { at + length codes.now ≤ length words.old }
+    requires fit { Fit 32 codes.now }
+    requires stored { All (IsStored 32) words.old }
+    ensures len { length words.new ≡ length words.old }
+    ensures stored { All (IsStored 32) words.new }
+    ensures put { (i : ℕ) → i < length codes.now → code_in 32 words.new (at + i) ≡ slice_index codes.now i }
+    ensures other { (j : ℕ) → (at ≤ j → at + length codes.now ≤ j) → code_in 32 words.new j ≡ code_in 32 words.old j }
+{
+    words[at..at + codes.len()].copy_from_slice(codes);
 }
 
 /// Fills `out` with the codes of the rows from `at` on.

@@ -80,7 +80,8 @@ fn put_runs(words: &mut [u64], width: u32, at: usize, codes: &[u64])
     }
 }
 
-/// The codes of the rows from `at` on become these. Narrow codes have short runs, which do not pay off.
+/// The codes of the rows from `at` on become these. Narrow codes have short runs, which do not pay off; the widest have
+/// a word each.
 pub(crate) fn put_codes(words: &mut [u64], width: u32, at: usize, codes: &[u64])
     requires narrow { width ≤ widest_half }
     requires few { at + length codes.now ≤ 2 ^ 24 }
@@ -91,7 +92,9 @@ pub(crate) fn put_codes(words: &mut [u64], width: u32, at: usize, codes: &[u64])
     ensures put { (i : ℕ) → i < length codes.now → code_in width words.new (at + i) ≡ slice_index codes.now i }
     ensures other { (j : ℕ) → (at ≤ j → at + length codes.now ≤ j) → code_in width words.new j ≡ code_in width words.old j }
 {
-    if width < LEAST_IN_RUNS {
+    if width == FULL {
+        full_words::write(words, at, codes);
+    } else if width < LEAST_IN_RUNS {
         put_rows(words, width, at, codes);
     } else {
         put_runs(words, width, at, codes);
