@@ -5,6 +5,7 @@ pub mod Bounded
 pub mod Changed
 pub mod Chosen
 pub mod Coded
+pub mod Exchanged
 pub mod Extremes
 pub mod Filled
 pub mod Flat

@@ -6,7 +6,7 @@ use Rattle.std.proofs.lemmas.List.{append-nil, drop_more, ext_get_or, get_or-map
 use Rattle.std.proofs.lemmas.List.Elements.{filter_map-append}
 use Rattle.bw_mask.specs.Masks.{MaskRows, bit_of, len, row_at}
 use Rattle.bw_cells.proofs.Known.{known_part}
-use Rattle.bw_code.proofs.Lists.{made_at, made_len, part_at}
+use Rattle.bw_code.proofs.Lists.{made_at, made_is, made_len, part_at}
 use Rattle.bw_code.specs.declared.encoding.Encoding.{Encoding}
 use Rattle.bw_code.specs.Encodings.{IsEncoding}
 use Rattle.bw_column.specs.Codes.{IsCoded, IsRowCode, code_for, codes_for}
@@ -34,6 +34,16 @@ masked_is places values long =
             | inr h ↦ get_or_past (masked places values) i None (omega (arith, h, made_len (length values) f))
           ];
     }
+
+-- a value where it is known, and none where it isn't
+only_known : (x : Option ℤ) (there : Bool) → there ≡ is_some x → x ≡ (if there then x else None)
+only_known None there e = rw e refl
+only_known (Some x) there e = rw e refl
+
+-- values are the same where those of the unknown rows are left out
+pub masked_known : (places : MaskRows) (values : List (Option ℤ)) → ((i : ℕ) → row_at places i ≡ is_some (value_at values i)) → masked places values ≡ values
+masked_known places values are =
+    sym (made_is (length values) (λ i. if row_at places i then value_at values i else None) values None refl (λ i h. only_known (value_at values i) (row_at places i) (are i)))
 
 -- a bit beside one that is set, or not
 pub and-true-r : (b : Bool) → (b && true) ≡ b

@@ -102,7 +102,8 @@ impl Column {
     }
 
     /// A column of the same values, as `build` would make it. From a dictionary to a dictionary no value is read: the
-    /// entries already exist, and only codes are mapped.
+    /// entries already exist, and only codes are mapped. From distances in S to distances in S slices are copied if the
+    /// width stays.
     pub fn rebuild(&self, alloc: Global, layout: Layout, kind: Kind) -> Result<Column, AllocError>
         requires { All (IsNullOrHeld layout) self.now.values }
         ensures values { IfOk result (λ c. c.values ≡ self.now.values) }
@@ -113,6 +114,9 @@ impl Column {
         let _few = self.len();
         match (self.kind(), kind) {
             (Kind::Dictionary, Kind::Dictionary) => self.rebuilt_in(alloc, layout),
+            (Kind::Offset, Kind::Offset) if layout == Layout::S && self.layout() == Layout::S => {
+                self.rebuilt_slices(alloc)
+            }
             _ => Column::build(alloc, self, layout, kind),
         }
     }

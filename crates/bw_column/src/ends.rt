@@ -1,6 +1,6 @@
 //! The least and the greatest value of a column, found from its codes.
 
-ghost use Rattle.std.specs.Prelude.{Bool, false, length, slice_index, true, ℕ, ◌-◌, ◌<◌, ◌^◌, ◌≡◌, ◌≤◌, ◌⊎◌};
+ghost use Rattle.std.specs.Prelude.{Bool, IfSome, None, false, length, slice_index, true, ℕ, ◌-◌, ◌<◌, ◌^◌, ◌≡◌, ◌≤◌, ◌⊎◌};
 ghost use Rattle.bw_mask.specs.Masks.{bit_of, len, row_at};
 ghost use Rattle.bw_code.specs.Columns.{code_at, count};
 ghost use Rattle.bw_code.specs.Fittings.{AreEnds};
@@ -87,6 +87,19 @@ fn has_beyond(codes: &[u64], least: u64, greatest: u64) -> bool
     any
 }
 
+/// Whether any of the codes whose bit is set is less than the least or greater than the greatest.
+fn has_beyond_in(codes: &[u64], present: u64, least: u64, greatest: u64) -> bool
+    requires { length codes.now ≤ 64 }
+    ensures none { result ≡ false → (i : ℕ) → i < length codes.now → bit_of present i ≡ true → (least ≤ slice_index codes.now i) × (slice_index codes.now i ≤ greatest) }
+    ensures some { result ≡ true → (i : ℕ) × (i < length codes.now) × (bit_of present i ≡ true) × ((slice_index codes.now i < least) ⊎ (greatest < slice_index codes.now i)) }
+{
+    let mut any = false;
+    for i in 0..codes.len() {
+        any |= has_bit(present, i) & ((codes[i] < least) | (codes[i] > greatest));
+    }
+    any
+}
+
 /// The least and the greatest of those so far and of the codes whose bit is set.
 pub(crate) fn ends_with(so_far: (u64, u64), codes: &[u64], present: u64) -> (u64, u64)
     requires { length codes.now ≤ 64 }
@@ -94,8 +107,12 @@ pub(crate) fn ends_with(so_far: (u64, u64), codes: &[u64], present: u64) -> (u64
     ensures greatest { IsGreatestFrom so_far.1 (length codes.now) (bit_of present) (slice_index codes.now) result.1 }
 {
     let (least, greatest) = so_far;
-    // Most blocks change neither end.
-    if !has_beyond(codes, least, greatest) {
+    // Most blocks change neither end. Most have no null, either, and then no bit is tested.
+    if present == u64::MAX {
+        if !has_beyond(codes, least, greatest) {
+            return so_far;
+        }
+    } else if !has_beyond_in(codes, present, least, greatest) {
         return so_far;
     }
     (
@@ -147,15 +164,32 @@ fn run_ends(codes: &Codes, nonnull: &Mask, start: u64) -> (u64, u64)
     ends
 }
 
+/// A non-null row to begin with, if there is one: the last row where it is non-null, since a value beyond all others is
+/// often the newest one, and else the first non-null row.
+fn row_to_begin_with(nonnull: &Mask) -> Option<usize>
+    ensures some { IfSome result (λ row. row_at nonnull.now row ≡ true) }
+    ensures none { result ≡ None → (i : ℕ) → row_at nonnull.now i ≡ false }
+{
+    let Some(first) = nonnull.next_from(0) else {
+        return None;
+    };
+    let last = nonnull.len() - 1;
+    if nonnull.get(last) {
+        Some(last)
+    } else {
+        Some(first)
+    }
+}
+
 impl Column {
     /// The least and the greatest non-null value, if there is one: codes keep the order of their values.
     pub(crate) fn ends(&self) -> Option<Ends>
         ensures { AreEnds (known self.now.values) result }
     {
-        let Some(first) = self.nonnull.next_from(0) else {
+        let Some(row) = row_to_begin_with(&self.nonnull) else {
             return None;
         };
-        let start = self.codes.get(first);
+        let start = self.codes.get(row);
         let (least, greatest) = code_ends(&self.codes, &self.nonnull, start);
         Some(Ends {
             least: self.encoding.decode(least),

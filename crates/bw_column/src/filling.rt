@@ -17,8 +17,8 @@ use crate::step::Step;
 use bw_mask::Mask;
 use std::alloc::{AllocError, Global};
 
-/// Planes are filled whole if more than one of so many rows is set. Of fewer rows, most words have none, and are left
-/// out.
+/// All words of rows are filled if more than one of so many rows is set. Of fewer rows, most words have none, and are
+/// left out.
 const DENSE: usize = 8;
 
 /// Which of some rows of a word are non-null once they have this value.
@@ -42,26 +42,18 @@ fn set_present(nonnull: &mut Mask, rows: &Mask, present: bool)
 }
 
 impl Column {
-    /// Writes a value and its code to the set places plane by plane, if the codes have planes and enough places are
-    /// set. Returns whether it does; else nothing changes.
-    fn fill_planes(&mut self, places: &Mask, value: Option<i64>, code: u64) -> bool
+    /// Writes a value and its code to the set places, all of them at once.
+    fn fill_places(&mut self, places: &Mask, value: Option<i64>, code: u64)
         requires coded { IsCoded self.old.encoding value }
         requires code { code ≡ code_for self.old.encoding value }
         requires held { IsNullOrHeld self.old.layout value }
         requires places { len places.now ≡ length self.old.values }
-        ensures values { result ≡ true → self.new.values ≡ overwritten places.now (replicate (count_by (λ row. row) places.now.rows) value) self.old.values }
-        ensures same { result ≡ false → self.new.values ≡ self.old.values }
+        ensures values { self.new.values ≡ overwritten places.now (replicate (count_by (λ row. row) places.now.rows) value) self.old.values }
         ensures layout { self.new.layout ≡ self.old.layout }
         ensures encoding { self.new.encoding ≡ self.old.encoding }
     {
-        if places.count() <= places.len() / DENSE {
-            return false;
-        }
-        if !self.codes.fill_rows(places, code) {
-            return false;
-        }
+        self.codes.fill_rows(places, code);
         set_present(&mut self.nonnull, places, value.is_some());
-        true
     }
 
     /// Writes a value and its code to some of at most 64 rows from row `at` on, the first row of a word: to row at + i
@@ -115,7 +107,9 @@ impl Column {
     {
         if let Some(_place) = places.next_from(0) {
             let code = code_of(&self.encoding, value);
-            if !self.fill_planes(places, value, code) {
+            if places.count() > places.len() / DENSE {
+                self.fill_places(places, value, code);
+            } else {
                 self.fill_with(places, value, code);
             }
         }

@@ -32,7 +32,7 @@ fn units_of_planes(width: u32, other_width: u32, known: &Mask) -> u64
 
 impl Column {
     /// Whether both have the same layout and encoding, so that their codes compare as their values do.
-    pub(crate) fn is_alike(&self, other: &Column) -> bool
+    pub fn is_alike(&self, other: &Column) -> bool
         ensures { result ≡ are_alike self.now other.now }
     {
         self.layout() == other.layout() && self.encoding == other.encoding

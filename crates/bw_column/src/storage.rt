@@ -126,24 +126,46 @@ impl Codes {
         }
     }
 
-    /// The code of each of the rows becomes this one, if the codes have planes. Returns whether they have; else nothing
-    /// changes. Takes no memory.
-    pub(crate) fn fill_rows(&mut self, rows: &Mask, code: u64) -> bool
+    pub(crate) fn fill_rows(&mut self, rows: &Mask, code: u64)
         requires rows { len rows.now ≡ count (list_of self.old) }
         requires fits { code < 2 ^ (list_of self.old).width }
         ensures layout { layout_of self.new ≡ layout_of self.old }
         ensures shape { KeepsShape (list_of self.new) (list_of self.old) }
         ensures count { count (list_of self.new) ≡ count (list_of self.old) }
-        ensures codes { result ≡ true → (i : ℕ) → i < count (list_of self.old) → code_at (list_of self.new) i
+        ensures codes { (i : ℕ) → i < count (list_of self.old) → code_at (list_of self.new) i
             ≡ (if row_at rows.now i then code else code_at (list_of self.old) i) }
-        ensures same { result ≡ false → self.new ≡ self.old }
     {
         match self {
-            Codes::V(codes) => {
-                codes.fill_rows(rows, code);
-                true
-            }
-            Codes::P(_) | Codes::H(_) | Codes::S(_) => false,
+            Codes::P(codes) => codes.fill_rows(rows, code),
+            Codes::V(codes) => codes.fill_rows(rows, code),
+            Codes::H(codes) => codes.fill_rows(rows, code),
+            Codes::S(codes) => codes.fill_rows(rows, code),
+        }
+    }
+
+    /// The codes of the rows are exchanged with those of other codes of the same layout and width. Takes no memory.
+    pub(crate) fn exchange_rows(&mut self, other: &mut Codes, rows: &Mask)
+        requires layout { layout_of other.old ≡ layout_of self.old }
+        requires width { (list_of other.old).width ≡ (list_of self.old).width }
+        requires other { count (list_of other.old) ≡ count (list_of self.old) }
+        requires rows { len rows.now ≡ count (list_of self.old) }
+        ensures layout { layout_of self.new ≡ layout_of self.old }
+        ensures other_layout { layout_of other.new ≡ layout_of other.old }
+        ensures shape { KeepsShape (list_of self.new) (list_of self.old) }
+        ensures other_shape { KeepsShape (list_of other.new) (list_of other.old) }
+        ensures count { count (list_of self.new) ≡ count (list_of self.old) }
+        ensures other_count { count (list_of other.new) ≡ count (list_of other.old) }
+        ensures codes { (i : ℕ) → i < count (list_of self.old) → code_at (list_of self.new) i
+            ≡ (if row_at rows.now i then code_at (list_of other.old) i else code_at (list_of self.old) i) }
+        ensures others { (i : ℕ) → i < count (list_of self.old) → code_at (list_of other.new) i
+            ≡ (if row_at rows.now i then code_at (list_of self.old) i else code_at (list_of other.old) i) }
+    {
+        match (self, other) {
+            (Codes::P(codes), Codes::P(others)) => codes.exchange_rows(others, rows),
+            (Codes::V(codes), Codes::V(others)) => codes.exchange_rows(others, rows),
+            (Codes::H(codes), Codes::H(others)) => codes.exchange_rows(others, rows),
+            (Codes::S(codes), Codes::S(others)) => codes.exchange_rows(others, rows),
+            _ => unreachable!(),
         }
     }
 

@@ -35,7 +35,7 @@ fn put_all_present(nonnull: &mut Mask, rows: &Mask, present: &Mask)
 
 impl Column {
     /// A column of n nulls, in V or S.
-    fn of_nulls(
+    pub(crate) fn of_nulls(
         alloc: Global,
         layout: Layout,
         encoding: Encoding,

@@ -11,17 +11,17 @@ code_of-code-requires c =
     let coded : All (IsCoded c.self.inside.encoding) (replicate (count_by (λ row. row) c.args.places.now.rows) c.args.value) = rw (← c.self.view_is) at c.requires.coded in
     once (IsCoded c.self.inside.encoding) (count_by (λ row. row) c.args.places.now.rows) c.args.value (some_set c.args.places.now c.in-Some._place c.in-Some.ensures.1) coded
 
-pub fill_planes-requires-clause-coded : goal.fill_planes-requires-clause-coded
-fill_planes-requires-clause-coded c = once (IsCoded c.args.self.now.encoding) (count_by (λ row. row) c.args.places.now.rows) c.args.value (some_set c.args.places.now c.in-Some._place c.in-Some.ensures.1) c.requires.coded
+pub fill_places-requires-clause-coded : goal.fill_places-requires-clause-coded
+fill_places-requires-clause-coded c = once (IsCoded c.args.self.now.encoding) (count_by (λ row. row) c.args.places.now.rows) c.args.value (some_set c.args.places.now c.in-Some._place c.in-Some.ensures.1) c.requires.coded
 
-pub fill_planes-requires-clause-held : goal.fill_planes-requires-clause-held
-fill_planes-requires-clause-held c = once (IsNullOrHeld c.args.self.now.layout) (count_by (λ row. row) c.args.places.now.rows) c.args.value (some_set c.args.places.now c.in-Some._place c.in-Some.ensures.1) c.requires.held
+pub fill_places-requires-clause-held : goal.fill_places-requires-clause-held
+fill_places-requires-clause-held c = once (IsNullOrHeld c.args.self.now.layout) (count_by (λ row. row) c.args.places.now.rows) c.args.value (some_set c.args.places.now c.in-Some._place c.in-Some.ensures.1) c.requires.held
 
 pub fill_with-requires-clause-coded : goal.fill_with-requires-clause-coded
-fill_with-requires-clause-coded c = rw c.fill_planes.ensures.encoding (once (IsCoded c.args.self.now.encoding) (count_by (λ row. row) c.args.places.now.rows) c.args.value (some_set c.args.places.now c.in-Some._place c.in-Some.ensures.1) c.requires.coded)
+fill_with-requires-clause-coded c = once (IsCoded c.args.self.now.encoding) (count_by (λ row. row) c.args.places.now.rows) c.args.value (some_set c.args.places.now c.in-Some._place c.in-Some.ensures.1) c.requires.coded
 
 pub fill_with-requires-clause-held : goal.fill_with-requires-clause-held
-fill_with-requires-clause-held c = rw c.fill_planes.ensures.layout (once (IsNullOrHeld c.args.self.now.layout) (count_by (λ row. row) c.args.places.now.rows) c.args.value (some_set c.args.places.now c.in-Some._place c.in-Some.ensures.1) c.requires.held)
+fill_with-requires-clause-held c = once (IsNullOrHeld c.args.self.now.layout) (count_by (λ row. row) c.args.places.now.rows) c.args.value (some_set c.args.places.now c.in-Some._place c.in-Some.ensures.1) c.requires.held
 
 pub returns-in_default-clause-values : goal.returns-in_default-clause-values
 returns-in_default-clause-values c = all_filled c.args.places.now (λ _. c.args.value) c.args.self.now.values c.args.self.now.values 0 refl (λ k h. absurd (omega (arith, h))) (λ k h. refl) (replicate (count_by (λ row. row) c.args.places.now.rows) c.args.value) (one_for_all c.args.places.now c.args.value) c.in_default.ensures

@@ -1,4 +1,4 @@
-use Rattle.std.proofs.Common.{arith, subst, sym, true, ◌≡◌}
+use Rattle.std.proofs.Common.{arith, subst, sym, ◌≡◌}
 use Rattle.bw_mask.specs.Masks.{len}
 use Rattle.bw_code.specs.Columns.{count}
 use Rattle.bw_code.proofs.Lists.{made_len}
@@ -7,7 +7,7 @@ use Rattle.bw_column.specs.Storing.{layout_of, list_of}
 use Rattle.bw_column.specs.Values.{IsNullOrHeld}
 use Rattle.bw_column.proofs.Changed.{code_fits}
 use Rattle.bw_column.proofs.Stored.{rows_given, values_given}
-use Rattle.bw_column.proofs.column.Column.fill_planes.Goals as goal
+use Rattle.bw_column.proofs.column.Column.fill_places.Goals as goal
 
 pub fill_rows-requires-clause-rows : goal.fill_rows-requires-clause-rows
 fill_rows-requires-clause-rows c = grind (arith, made_len)
@@ -24,24 +24,22 @@ set_present-requires c =
     let long : len c.args.places.now ≡ count (list_of c.self.inside.codes) = grind (arith, made_len) in
     omega (arith, long, c.self.invariant.len)
 
-pub invariant_of-self-2 : goal.invariant_of-self-2
-invariant_of-self-2 c =
+pub invariant_of-self : goal.invariant_of-self
+invariant_of-self c =
     let s = c.self.inside in
     let is : c.args.code ≡ code_for s.encoding c.args.value = rw (← c.self.view_is) at c.requires.code in
     let coded : IsCoded s.encoding c.args.value = rw (← c.self.view_is) at c.requires.coded in
     let held : IsNullOrHeld (layout_of s.codes) c.args.value = rw (← c.self.view_is) at c.requires.held in
-    let filled : c.fill_rows.result ≡ true = grind (arith, c.if-not-fill_rows.false) in
     subst (λ l. AreRowCodes l s.encoding (list_of c.fill_rows.new.self) c.set_present.new.nonnull) (sym c.fill_rows.ensures.layout)
     (rows_given s.encoding (list_of s.codes) (list_of c.fill_rows.new.self) s.nonnull c.set_present.new.nonnull c.args.places.now c.self.invariant c.args.value c.args.code is coded held
-    c.fill_rows.ensures.shape.width c.fill_rows.ensures.count c.set_present.ensures.shape.0 (c.fill_rows.ensures.codes filled) (rw c.is_some.ensures at c.set_present.ensures.rows))
+    c.fill_rows.ensures.shape.width c.fill_rows.ensures.count c.set_present.ensures.shape.0 c.fill_rows.ensures.codes (rw c.is_some.ensures at c.set_present.ensures.rows))
 
 pub returns-clause-values : goal.returns-clause-values
-returns-clause-values c done =
+returns-clause-values c =
     let s = c.self.inside in
     let is : c.args.code ≡ code_for s.encoding c.args.value = rw (← c.self.view_is) at c.requires.code in
     let coded : IsCoded s.encoding c.args.value = rw (← c.self.view_is) at c.requires.coded in
     let held : IsNullOrHeld (layout_of s.codes) c.args.value = rw (← c.self.view_is) at c.requires.held in
-    let filled : c.fill_rows.result ≡ true = grind (arith, c.if-not-fill_rows.false) in
     rw (← c.self.view_is)
     (values_given s.encoding (list_of s.codes) (list_of c.fill_rows.new.self) s.nonnull c.set_present.new.nonnull c.args.places.now c.self.invariant c.args.value c.args.code is coded held
-    c.fill_rows.ensures.shape.width c.fill_rows.ensures.count c.set_present.ensures.shape.0 (c.fill_rows.ensures.codes filled) (rw c.is_some.ensures at c.set_present.ensures.rows))
+    c.fill_rows.ensures.shape.width c.fill_rows.ensures.count c.set_present.ensures.shape.0 c.fill_rows.ensures.codes (rw c.is_some.ensures at c.set_present.ensures.rows))
