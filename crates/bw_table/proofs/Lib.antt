@@ -1,6 +1,7 @@
 pub mod Across
 pub mod Chosen
 pub mod Copied
+pub mod Exchanged
 pub mod Flat
 pub mod Heads
 pub mod Held

@@ -31,3 +31,14 @@ module _ {A : Type 0} (items front back : List A) (n : ℕ) (all : n ≡ length 
       let is : front ++ set back 0 x ≡ set items k x = ap (λ i. front ++ set back i x) (sym zero) ∙ sym (set-append_right front back k k x seam (omega arith)) ∙ ap (λ xs. set xs k x) (sym parts) in
       let long : length (front ++ set back 0 x) ≡ n = ap length is ∙ length-set items k x ∙ sym all in
       cut (front ++ set back 0 x) items n all long ∙ is
+
+  -- an element of the first part, and the first one of the second
+  pub both_set : (k m : ℕ) (x y : A) → k < length front → length front ≡ m → take n (set front k x ++ set back 0 y ++ drop (length (set front k x ++ set back 0 y)) items) ≡ set (set items k x) m y
+  both_set k m x y low seam =
+      let zero : m - m ≡ 0 = omega arith in
+      let first : set front k x ++ back ≡ set items k x = sym (set-append_left front back k x low) ∙ ap (λ xs. set xs k x) (sym parts) in
+      let long_front : length (set front k x) ≡ m = length-set front k x ∙ seam in
+      let is : set front k x ++ set back 0 y ≡ set (set items k x) m y =
+      ap (λ i. set front k x ++ set back i y) (sym zero) ∙ sym (set-append_right (set front k x) back m m y long_front (omega arith)) ∙ ap (λ xs. set xs m y) first in
+      let long : length (set front k x ++ set back 0 y) ≡ n = ap length is ∙ length-set (set items k x) m y ∙ length-set items k x ∙ sym all in
+      cut (set front k x ++ set back 0 y) items n all long ∙ is

@@ -1,5 +1,6 @@
 pub mod Changes
 pub mod Choosing
+pub mod Exchanges
 pub mod Halves
 pub mod Opening
 pub mod Rows

@@ -4,7 +4,9 @@
 mod appending;
 mod choice;
 mod chosen_cells;
+mod column_pair;
 mod copies;
+mod exchanging;
 mod fault;
 mod gathering;
 mod opening;

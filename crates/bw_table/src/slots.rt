@@ -15,6 +15,7 @@ ghost use Rattle.bw_table.specs.declared.fault.TableFault.TheVariants.{Full, Ran
 
 use crate::appending::{apply, prepare, push_live};
 use crate::choice::Choice;
+use crate::exchanging::{exchange_columns, exchanged_columns};
 use crate::fault::TableFault;
 use crate::rebuilding::build_anew;
 use crate::rows::Rows;
@@ -164,6 +165,10 @@ impl Slots {
         ensures kinds { map kind_of self.new.encodings ≡ map kind_of self.old.encodings }
         ensures unchanged { OnErr result (self.new ≡ self.old) }
     {
+        if let Some(pair) = exchanged_columns(&self.columns, found, sets) {
+            exchange_columns(&mut self.columns, found, pair);
+            return Ok(());
+        }
         let changes = prepare_sets(&mut self.columns, alloc, found, sets)?;
         apply_sets(&mut self.columns, found, sets, changes);
         Ok(())

@@ -5,7 +5,9 @@ use Rattle.bw_mask.specs.Masks.{len}
 use Rattle.bw_code.proofs.Lists.{made_len}
 use Rattle.bw_code.specs.Encodings.{kind_of}
 use Rattle.bw_table.specs.Changes.{AreUpdated}
+use Rattle.bw_table.specs.Sets.{AllSet}
 use Rattle.bw_table.specs.Slots.{AreColumns, SlotsView}
+use Rattle.bw_table.proofs.Exchanged.{exchanged_set}
 use Rattle.bw_table.proofs.SameKinds.{updated_kinds}
 use Rattle.bw_table.proofs.Across.{kept_columns, kept_view, on_err, view_of}
 use Rattle.bw_table.proofs.Updated.{AreHeldSets, AreSetHeld, are_updated, columns_set, sets_held}
@@ -79,3 +81,37 @@ prepare_sets-requires-clause-held c =
     let same : len c.args.found.now ≡ len c.self.inside.live = grind (arith, made_len) in
     let named : All (λ set. set.0 < length columns) c.args.sets.now = λ j s l. omega (arith, c.requires.named j s l, ap (λ (v : SlotsView). length v.encodings) c.self.view_is, length-map columns (λ (x : ColumnView). x.encoding)) in
     sets_held columns c.self.inside.live c.args.found.now c.args.sets.now same named (subst (AreHeldSets c.args.found.now c.args.sets.now) (sym c.self.view_is) c.requires.held)
+
+-- two columns that exchanged their values are all that is set
+pub exchange_columns-requires-clause-long : goal.exchange_columns-requires-clause-long
+exchange_columns-requires-clause-long c =
+    let same : len c.args.found.now ≡ len c.self.inside.live = grind (arith, made_len) in
+    λ k d l. c.self.invariant.rows k d l ∙ sym same
+
+module _ (c : goal.After-exchange_columns) where
+  same_long : len c.args.found.now ≡ len c.self.inside.live
+  same_long = grind (arith, made_len)
+
+  all_set : AllSet c.args.found.now c.args.sets.now c.exchange_columns.new.columns.items c.self.inside.columns.items
+  all_set = exchanged_set c.args.found.now c.args.sets.now c.exchange_columns.new.columns.items c.self.inside.columns.items c.in-Some.pair c.in-Some.ensures c.exchange_columns.ensures
+
+  held_before : All (AreSetHeld c.self.inside.columns.items c.args.found.now) c.args.sets.now
+  held_before =
+      let columns = c.self.inside.columns.items in
+      let named : All (λ set. set.0 < length columns) c.args.sets.now = λ j s l. omega (arith, c.requires.named j s l, ap (λ (v : SlotsView). length v.encodings) c.self.view_is, length-map columns (λ (x : ColumnView). x.encoding)) in
+      sets_held columns c.self.inside.live c.args.found.now c.args.sets.now same_long named (subst (AreHeldSets c.args.found.now c.args.sets.now) (sym c.self.view_is) c.requires.held)
+
+  exchanged : AreUpdated c.args.found.now c.args.sets.now (view_of c.self.inside.columns.items c.self.inside.live) (view_of c.exchange_columns.new.columns.items c.self.inside.live)
+  exchanged = are_updated c.exchange_columns.new.columns.items c.self.inside.columns.items c.self.inside.live c.args.found.now c.args.sets.now c.self.invariant same_long all_set
+
+pub invariant_of-self : goal.invariant_of-self
+invariant_of-self c = columns_set c.exchange_columns.new.columns.items c.self.inside.columns.items c.self.inside.live c.args.found.now c.args.sets.now c.self.invariant (same_long c) (all_set c) (held_before c)
+
+pub returns-in-Some-clause-updated : goal.returns-in-Some-clause-updated
+returns-in-Some-clause-updated c = rw (← c.self.view_is) (exchanged c)
+
+pub returns-in-Some-clause-layouts : goal.returns-in-Some-clause-layouts
+returns-in-Some-clause-layouts c = rw (← c.self.view_is) (exchanged c).layouts_are
+
+pub returns-in-Some-clause-kinds : goal.returns-in-Some-clause-kinds
+returns-in-Some-clause-kinds c = rw (← c.self.view_is) (updated_kinds _ _ c.args.found.now c.args.sets.now (exchanged c))
