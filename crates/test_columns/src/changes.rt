@@ -4,8 +4,9 @@ ghost use Rattle.std.specs.Prelude.{vec_len, ◌≡◌};
 ghost use Rattle.bw_mask.specs.Masks.{len};
 
 use crate::columns::{check_value, check_values, column_of, see_values};
+use crate::dictionaries::check_rebuilt;
 use crate::set_functions::mask_of;
-use bw_code::{Kind, Layout};
+use bw_code::{Kind, Layout, equal_encodings};
 use bw_column::Column;
 use bw_mask::Mask;
 use std::process::Abort;
@@ -174,7 +175,9 @@ fn wanted<R: Abort + AllocGlobal>(
 fn check_values_put<R: Abort + AllocGlobal>(rt: &R, layout: Layout, kind: Kind, round: usize) {
     let column = column_of(rt, &values_of(rt, round), layout, kind);
     let column = overwritten(rt, column, &chosen_rows(rt, round), &taken(rt, round));
-    see_values(rt, &column, &wanted(rt, round, None));
+    let values = wanted(rt, round, None);
+    see_values(rt, &column, &values);
+    check_rebuilt(rt, &column, &values);
 }
 
 fn check_literal_put<R: Abort + AllocGlobal>(
@@ -202,6 +205,46 @@ fn check_copied_anew<R: Abort + AllocGlobal>(rt: &R, layout: Layout, kind: Kind,
     let other = column_of(rt, &values_of(rt, round.wrapping_add(1)), layout, kind);
     let column = copied(rt, column, &other, &chosen_rows(rt, round));
     see_values(rt, &column, &wanted(rt, round, None));
+}
+
+/// Exchanges the values of two columns in the chosen rows. Both have the same values, one in reverse row order, and so
+/// the same encoding.
+fn check_exchanged<R: Abort + AllocGlobal>(rt: &R, layout: Layout, kind: Kind, round: usize) {
+    equal_encodings();
+    let mut column = column_of(rt, &values_of(rt, round), layout, kind);
+    let mut other = column_of(rt, &turned(rt, round), layout, kind);
+    let places = chosen_rows(rt, round);
+    assert!(rt; other.layout() == column.layout());
+    assert!(rt; other.encoding() == column.encoding());
+    assert!(rt; places.len() == column.len() && places.len() == other.len());
+    column.exchange_values(&mut other, &places);
+    see_values(rt, &column, &wanted_of_copy(rt, round));
+    see_values(rt, &other, &left_of_exchange(rt, round));
+}
+
+/// The values of the reversed rows after the chosen rows took those of the rows themselves.
+fn left_of_exchange<R: Abort + AllocGlobal>(rt: &R, round: usize) -> Vec<Option<i64>> {
+    let mut values = Vec::new(rt.alloc());
+    for row in 0..ROWS {
+        let from = if is_chosen(round, row) {
+            row
+        } else {
+            ROWS - 1 - row
+        };
+        values.push(value_at(round, from)).expect(rt, "memory");
+    }
+    values
+}
+
+#[test]
+fn values_exchanged(rt: HostRuntime) {
+    for layout in LAYOUTS {
+        for kind in KINDS {
+            for round in 0..15 {
+                check_exchanged(&rt, layout, kind, round);
+            }
+        }
+    }
 }
 
 #[test]

@@ -224,7 +224,11 @@ fn dictionaries_lose_values(rt: HostRuntime) {
 
 /// Checks that a rebuilt column has the same values; a dictionary has only entries that some row has, and an offset's
 /// base is the least value and its width that of the greatest one.
-fn check_rebuilt<R: Abort + AllocGlobal>(rt: &R, column: &Column, values: &[Option<i64>]) {
+pub(crate) fn check_rebuilt<R: Abort + AllocGlobal>(
+    rt: &R,
+    column: &Column,
+    values: &[Option<i64>],
+) {
     let _held = column.len();
     let layout = column.layout();
     let again = column

@@ -9,6 +9,8 @@ mod codes;
 #[cfg(test)]
 mod copies;
 #[cfg(test)]
+mod exchanges;
+#[cfg(test)]
 mod fills;
 #[cfg(test)]
 mod kernels;

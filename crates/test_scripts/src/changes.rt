@@ -1,6 +1,6 @@
 //! Rows updated and deleted, and columns rebuilt.
 
-use crate::harness::{check_examples, check_pieces, joined, numbered};
+use crate::harness::{check_examples, check_layings, check_pieces, joined, numbered};
 
 #[test]
 fn sets_take_place_all_at_once(rt: HostRuntime) {
@@ -18,6 +18,21 @@ fn sets_take_place_all_at_once(rt: HostRuntime) {
                 "ok\nok 2\nok 1\nok 2\nA,B,C\n1,9,3\nNULL,9,4\nrows 2\nok 1\nA,B,C\n1,9,3\nNULL,-2147483648,4\nrows 2\n",
             ),
         ],
+    );
+}
+
+// Both columns have the same values, so the same encoding, and their codes are exchanged as they are.
+#[test]
+fn values_of_two_columns_exchanged(rt: HostRuntime) {
+    check_layings(
+        &rt,
+        "CREATE TABLE t (a INT {using}, b INT {using}, c INT); \
+         INSERT INTO t VALUES (1, 9, 0), (9, 1, 0), (NULL, 1, 1), (1, NULL, 0), (1, 1, 1), (9, 9, 0); \
+         UPDATE t SET a = b, b = a WHERE c = 0; SELECT * FROM t; UPDATE t SET b = a, a = b; SELECT * FROM t; \
+         SELECT MIN(a), COUNT(b) FROM t WHERE a >= b;",
+        "ok\nok 6\nok 4\nA,B,C\n9,1,0\n1,9,0\nNULL,1,1\nNULL,1,0\n1,1,1\n9,9,0\nrows 6\n\
+         ok 6\nA,B,C\n1,9,0\n9,1,0\n1,NULL,1\n1,NULL,0\n1,1,1\n9,9,0\nrows 6\n\
+         MIN(A),COUNT(B)\n1,3\nrows 1\n",
     );
 }
 
