@@ -11,13 +11,15 @@ Build bitcol first, by `rt run` in crates/bitcol.
 
 import argparse
 import random
+import re
 import sqlite3
+import subprocess
 import time
 from collections.abc import Callable
 from dataclasses import dataclass
 from pathlib import Path
 
-from common import LAYOUTS, Number, data_file, options, processor_seconds, random_value
+from common import LAYOUTS, Number, data_file, options, random_value
 from common import sqlite3 as sqlite3_shell
 from program import Program, rows_of
 from report import Report, figure, require, times
@@ -32,6 +34,8 @@ DELETE = "DELETE FROM t WHERE d = 1"
 SELECT = "SELECT * FROM t"
 CONTENT = "SELECT MIN(a), MAX(b), COUNT(*) FROM t WHERE c < 0 AND a <= b"
 ENTRIES = 4_096
+# What the timer of sqlite3's shell says of a statement.
+TIMER = re.compile(r"user ([\d.]+) sys ([\d.]+)")
 Contents = list[list[tuple[str, ...]]]
 
 
@@ -128,18 +132,19 @@ def time_shape(shape: Shape, words: argparse.Namespace, report: Report) -> None:
 
 
 def least_of_shell(shell: str, path: Path, rounds: int) -> tuple[float, str]:
-    """Seconds of the SELECT in sqlite3's shell beyond those that it takes to fill the table, and the lines."""
-    fills, selects, shown = map(data_file, ("shell_fills.sql", "shell_selects.sql", "shell_shown.txt"))
-    fills.write_text(f"CREATE TABLE t (a INT, b INT, c INT, d INT);\n.mode csv\n.import {path} t\n.mode list\n")
-    selects.write_text(f"{fills.read_text()}.separator ,\n{SELECT};\n")
-    command = [shell, ":memory:"]
-    with shown.open("wb") as answers:
-        processor_seconds(command, selects, answers)
-    least = [min(processor_seconds(command, script)[0] for _ in range(rounds)) for script in (selects, fills)]
+    """Seconds of the SELECT in sqlite3's shell, by the shell's own timer, and the lines."""
+    script, shown = map(data_file, ("shell.sql", "shell_shown.txt"))
+    fills = f"CREATE TABLE t (a INT, b INT, c INT, d INT);\n.mode csv\n.import {path} t\n.mode list\n.separator ,\n"
+    selects = f".timer on\n.output {shown}\n{SELECT};\n.output /dev/null\n" + f"{SELECT};\n" * rounds
+    script.write_text(fills + selects)
+    with script.open("rb") as stdin:
+        told = subprocess.run([shell, ":memory:"], stdin=stdin, capture_output=True, text=True, check=True).stdout
+    seconds = [float(user) + float(system) for user, system in TIMER.findall(told)]
+    require(len(seconds) == rounds + 1, f"sqlite3's shell timed {len(seconds)} SELECTs of {rounds + 1}")
     lines = shown.read_text()
-    for file in (fills, selects, shown):
+    for file in (script, shown):
         file.unlink()
-    return least[0] - least[1], lines
+    return min(seconds[1:]), lines
 
 
 def time_rows(words: argparse.Namespace, report: Report) -> None:
