@@ -101,11 +101,6 @@ def of_rows_copied(crate):
     return Clause(f"{crate}/src/column.rt", "copy_rows", "codes", "self.new")
 
 
-def of_rows_filled():
-    """The codes of a column in V after some rows got one code."""
-    return Clause("bw_vertical/src/column.rt", "fill_rows", "codes", "self.new")
-
-
 def of_group_plane():
     """Which plane of a group is lent, of a column in V."""
     return Clause("bw_aggregate/src/plane.rt", "of", "", "result", answers="GroupPlane/of")
@@ -191,8 +186,10 @@ STRIKES = [
     Strike("bw_column::storage::Codes::copy_rows", (of_rows_copied("bw_vertical"),)),
     Strike("bw_column::storage::Codes::copy_rows", (of_rows_copied("bw_byteslice"),)),
     Strike("bw_column::column::Column::copy_stored", (of_column("copy_rows", "storage.rt", "codes", "self.new"),)),
-    Strike("bw_column::storage::Codes::fill_rows", (of_rows_filled(),)),
-    Strike("bw_column::column::Column::fill_planes", (of_column("fill_rows", "storage.rt", "codes", "self.new"),)),
+    Strike("bw_column::storage::Codes::fill_rows", (of_every_column("fill_rows", "codes", "self.new"),)),
+    Strike("bw_column::column::Column::fill_places", (of_column("fill_rows", "storage.rt", "codes", "self.new"),)),
+    Strike("bw_column::storage::Codes::exchange_rows", (of_every_column("exchange_rows", "codes", "self.new"),)),
+    Strike("bw_column::column::Column::exchange_values", (of_column("exchange_rows", "storage.rt", "codes", "self.new"),)),
     Strike("bw_file::planes::write_planes", (Clause("bw_file/src/planes.rt", "planes_at", "planes", "words.new"),)),
 ]
 
