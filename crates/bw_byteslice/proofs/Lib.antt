@@ -10,6 +10,7 @@ pub mod Keeping
 pub mod Mixed
 pub mod Numbers
 pub mod Pairs
+pub mod PlaneBytes
 pub mod Planes
 pub mod Raised
 pub mod Rebased

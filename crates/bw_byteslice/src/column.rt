@@ -1,25 +1,28 @@
 //! The column of layout S.
 
-ghost use Rattle.std.specs.Prelude.{[], if◌then◌else◌, length, pos, replicate, slice_index, slice_index_or, ℕ, ◌*◌, ◌+◌, ◌++◌, ◌-◌, ◌-ℤ◌, ◌/◌, ◌<◌, ◌^◌, ◌≡◌, ◌≤◌};
+ghost use Rattle.std.specs.Prelude.{[], false, if◌then◌else◌, length, pos, replicate, slice_index, slice_index_or, ℕ, ◌*◌, ◌+◌, ◌++◌, ◌-◌, ◌-ℤ◌, ◌%◌, ◌/◌, ◌<◌, ◌^◌, ◌≡◌, ◌≤◌};
 ghost use Rattle.bw_mask.specs.Masks.{bit_of, len, row_at, row_in};
 ghost use Rattle.bw_code.specs.Columns.{KeepsShape, code_at, count};
+ghost use Rattle.bw_code.specs.Lists.{made};
 ghost use Rattle.bw_code.specs.Shifts.{StaysBelow, shifted};
 ghost use Rattle.bw_code.specs.Units.{digit, segments_of};
 ghost use Rattle.bw_code.specs.Widths.{widest_code};
 ghost use Rattle.bw_code.specs.declared.kind.Layout.TheVariants as layouts;
 ghost use Rattle.bw_byteslice.specs.Slices.{shift_of, slices_of};
+ghost use Rattle.bw_vertical.specs.Planes.{code_by_planes};
 
 use crate::copying::copy_codes;
 use crate::exchanging::exchange_codes;
 use crate::filling::fill_codes;
 use crate::pair::pair_from;
+use crate::plane_blocks::{put_block, take_block};
 use crate::plane_source::SlicePlanes;
 use crate::rebasing::shift_codes;
 use crate::scan::scan_from;
 use crate::shift::{shift_of, slices_of};
 use crate::source::SliceSource;
 use crate::{plane, reading, runs, storage};
-use bw_code::{CmpOp, CodeColumn, CodeTest, Meter, Source, word_between};
+use bw_code::{CmpOp, CodeColumn, CodeTest, Meter, PlaneBlock, Source, word_between};
 use bw_mask::Mask;
 use std::alloc::{AllocError, Global};
 use std::marker::Model;
@@ -80,6 +83,33 @@ impl SliceColumn {
         ensures none { result.reads ≡ 0 }
     {
         SlicePlanes::new(&self.slices, self.width, self.len)
+    }
+
+    /// Plane b of the block becomes bit b of the codes of the 2,048 rows from row `at` on, the first of a word of 64 rows.
+    /// Rows past the last have code 0.
+    pub fn read_block(&self, at: usize, block: &mut PlaneBlock)
+        requires first { at % 64 ≡ 0 }
+        requires inside { at < count self.now }
+        ensures { (b r : ℕ) → b < self.now.width → r < 2048 → row_in (slice_index_or block.new b []) r ≡ bit_of (code_at self.now (at + r)) b }
+    {
+        take_block(&self.slices, self.width, at / 64, block);
+    }
+
+    /// Appends n rows, at most 2,048, within the room, by a block of their planes: plane b has bit b of each code, and no
+    /// bit after the rows.
+    pub fn extend_block(&mut self, block: &PlaneBlock, n: usize)
+        requires few { n ≤ 2048 }
+        requires rest { (b r : ℕ) → b < self.old.width → n ≤ r → r < 2048 → row_in (slice_index_or block.now b []) r ≡ false }
+        requires room { count self.old + n ≤ self.old.room }
+        requires short { count self.old + n ≤ 2 ^ 24 }
+        ensures shape { KeepsShape self.new self.old }
+        ensures codes { self.new.codes ≡ self.old.codes ++ made n (code_by_planes self.old.width block.now) }
+    {
+        let at = self.len;
+        let rows = at + n;
+        storage::grow(&mut self.slices, whole_segments(rows));
+        put_block(&mut self.slices, self.width, at, n, block);
+        self.len = rows;
     }
 
     /// Rebases the code of each of the rows. Each rebased code fits the column's width, too. Takes no memory.

@@ -9,6 +9,7 @@ mod filling;
 mod laws;
 mod pair;
 mod plane;
+mod plane_blocks;
 mod plane_source;
 mod reading;
 mod rebasing;

@@ -1,15 +1,15 @@
 //! A list of cells.
 
-ghost use Rattle.std.specs.Prelude.{IfSome, List, None, Option, drop, is_some, length, map, slice_index, slice_index_or, take, ℕ, ℤ, ◌+◌, ◌<◌, ◌≡◌, ◌≤◌};
+ghost use Rattle.std.specs.Prelude.{IfSome, List, None, Option, [], drop, is_some, length, map, slice_index, slice_index_or, take, ℕ, ℤ, ◌+◌, ◌<◌, ◌≡◌, ◌≤◌};
 ghost use Rattle.bw_code.specs.Fittings.{AreEnds};
 ghost use Rattle.bw_cells.specs.Distances.{distance_from};
 ghost use Rattle.bw_cells.specs.Known.{known};
-ghost use Rattle.bw_mask.specs.Masks.{bit_of};
+ghost use Rattle.bw_mask.specs.Masks.{bit_of, row_in};
 ghost use Rattle.bw_code.specs.Widths.{widest_code};
 
 use crate::distances::distances_in_run;
 use crate::ends::ends_in_runs;
-use bw_code::Ends;
+use bw_code::{Ends, PlaneBlock};
 
 /// A list of cells, each an integer or NULL. It is read in blocks, so that it need not be stored as such a list: cells
 /// may be decoded, widened or gathered as they are read.
@@ -48,24 +48,24 @@ pub trait Measured: Cells {
         distances_in_run(self, at, base, out)
     }
 
-    /// The planes of k bits of at most 64 cells from index `at` on, where the cells are stored as such planes: bit r of
-    /// word b becomes bit b of the distance of cell `at + r` from the base, modulo 2^64, and is 0 for a NULL and past
-    /// the last cell. The words from k on are unspecified. Bit i of the result says whether cell `at + i` is an
-    /// integer; past the last cell bits are 0. Returns `None` where the cells are not stored as such planes. Takes no
-    /// memory.
+    /// The planes of k bits of at most 2,048 cells from index `at` on, where the cells are stored as such planes: row r of
+    /// plane b becomes bit b of the distance of cell `at + r` from the base, modulo 2^64, and is 0 for a NULL and past
+    /// the last cell. The planes from k on are unspecified. Row i of the result, whose words have 64 rows each, says
+    /// whether cell `at + i` is an integer; past the last cell rows are 0. Returns `None` where the cells are not stored
+    /// as such planes. Takes no memory.
     fn planes(
         &self,
         at: usize,
         count: usize,
         base: i64,
         k: usize,
-        words: &mut [u64; 64],
-    ) -> Option<u64>
-        requires few { count ≤ 64 }
+        block: &mut PlaneBlock,
+    ) -> Option<[u64; 32]>
+        requires few { count ≤ 2048 }
         requires narrow { k ≤ widest_code }
         requires inside { at + count ≤ length (Self.cells self.now) }
-        ensures planes { IfSome result (λ present. (b r : ℕ) → b < k → r < 64 → bit_of (slice_index words.new b) r ≡ bit_of (slice_index (map (distance_from base) (take count (drop at (Self.cells self.now)))) r) b) }
-        ensures present { IfSome result (λ present. (i : ℕ) → bit_of present i ≡ is_some (slice_index_or (take count (drop at (Self.cells self.now))) i None)) }
+        ensures planes { IfSome result (λ present. (b r : ℕ) → b < k → r < 2048 → row_in (slice_index_or block.new b []) r ≡ bit_of (slice_index (map (distance_from base) (take count (drop at (Self.cells self.now)))) r) b) }
+        ensures present { IfSome result (λ present. (i : ℕ) → row_in present i ≡ is_some (slice_index_or (take count (drop at (Self.cells self.now))) i None)) }
     {
         None
     }

@@ -1,6 +1,7 @@
 //! Encodings of integers by codes that keep their order, tests on codes, what a scan costs, and columns of codes.
 #![tactic(auto)]
 
+mod chosen;
 mod column;
 mod compare;
 mod dictionary;
@@ -16,6 +17,7 @@ mod offset;
 mod plain;
 mod plain_pair;
 mod plain_run;
+mod plane_block;
 mod ranks;
 mod shift;
 mod source;
@@ -26,6 +28,7 @@ mod wide_pair;
 mod wide_run;
 mod width;
 
+pub use chosen::{fill_chosen, put_chosen};
 pub use column::CodeColumn;
 pub use compare::{CmpOp, CodeTest};
 pub use dictionary::Dictionary;
@@ -39,6 +42,7 @@ pub use laws::{
 pub use meter::Meter;
 pub use offset::Offset;
 pub use plain::PlainColumn;
+pub use plane_block::{BLOCK_ROWS, PlaneBlock};
 pub use shift::word_between;
 pub use source::Source;
 pub use unit_laws::{units_of_scans, units_of_segments};

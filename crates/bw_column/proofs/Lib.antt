@@ -1,5 +1,6 @@
 pub mod Bases
 pub mod Between
+pub mod BlockWords
 pub mod Blocks
 pub mod Bounded
 pub mod Changed
@@ -23,6 +24,7 @@ pub mod Ordered
 pub mod Overwriting
 pub mod PairRows
 pub mod Pieces
+pub mod PlaneParts
 pub mod Raised
 pub mod RaisedHere
 pub mod Ranks

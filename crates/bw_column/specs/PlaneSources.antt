@@ -22,7 +22,7 @@ pub record HoldsCodes (codes : CodeList) (source : ColumnPlanes) : Type 0 where
       → row_in (slice_index_or (units_in source) (q * codes.width + i) []) r ≡ bit_of (code_at codes (256 * q + r)) (codes.width - 1 - i)
   pub unread : reads_in source ≡ 0
 
--- words that hold the planes of the distances of some cells from a base, and a word that says which of them are non-null
-pub record ArePlanesOf (k : ℕ) (base : ℤ) (cells : List (Option ℤ)) (words : List ℕ) (there : ℕ) : Type 0 where
-  pub planes : (b r : ℕ) → b < k → r < 64 → bit_of (slice_index words b) r ≡ bit_of (slice_index (map (distance_from base) cells) r) b
-  pub present : (i : ℕ) → bit_of there i ≡ is_some (slice_index_or cells i None)
+-- planes that hold the distances of some cells from a base, row by row, and words that say which of the cells are non-null
+pub record ArePlanesOf (k : ℕ) (base : ℤ) (cells : List (Option ℤ)) (block : List (List ℕ)) (there : List ℕ) : Type 0 where
+  pub planes : (b r : ℕ) → b < k → r < 2048 → row_in (slice_index_or block b []) r ≡ bit_of (slice_index (map (distance_from base) cells) r) b
+  pub present : (i : ℕ) → row_in there i ≡ is_some (slice_index_or cells i None)

@@ -1,6 +1,6 @@
 //! Distances of the values of a column from a base, computed from their codes.
 
-ghost use Rattle.std.specs.Prelude.{None, Some, pos, drop, if◌then◌else◌, is_some, length, map, slice_index, slice_index_or, take, ℕ, ◌%◌, ◌+◌, ◌<◌, ◌^◌, ◌≡◌, ◌≤◌};
+ghost use Rattle.std.specs.Prelude.{None, Some, pos, drop, false, if◌then◌else◌, is_some, length, map, slice_index, slice_index_or, take, ℕ, ◌%◌, ◌+◌, ◌<◌, ◌^◌, ◌≡◌, ◌≤◌};
 ghost use Rattle.bw_mask.specs.Masks.{bit_of};
 ghost use Rattle.bw_cells.specs.Distances.{distance_from};
 ghost use Rattle.bw_code.specs.Columns.{count};
@@ -12,7 +12,7 @@ use crate::column::Column;
 use crate::lent_planes::lent_planes;
 use crate::storage::Codes;
 use bw_cells::Measured;
-use bw_code::{Encoding, Ends, Offset};
+use bw_code::{Encoding, Ends, Offset, PlaneBlock};
 use bw_mask::{Mask, has_bit};
 
 /// Adds `more` to each number, modulo 2^64.
@@ -25,12 +25,17 @@ fn add_to_each(numbers: &mut [u64], more: u64)
     }
 }
 
-/// Adds `more` to each number whose bit is set, modulo 2^64. Each other number becomes 0.
+/// Adds `more` to each number whose bit is set, modulo 2^64. Each other number is 0, and stays 0.
 fn add_where_set(numbers: &mut [u64], set: u64, more: u64)
-    requires { length numbers.old ≤ 64 }
+    requires few { length numbers.old ≤ 64 }
+    requires clear { (k : ℕ) → k < length numbers.old → bit_of set k ≡ false → slice_index numbers.old k ≡ 0 }
     ensures count { length numbers.new ≡ length numbers.old }
     ensures each { (k : ℕ) → k < length numbers.old → slice_index numbers.new k ≡ (if bit_of set k then (slice_index numbers.old k + more) % 2 ^ 64 else 0) }
 {
+    // Codes with the same base are the distances already.
+    if more == 0 {
+        return;
+    }
     // Most words of rows have no null, and then no bit is tested.
     if set == u64::MAX {
         add_to_each(numbers, more);
@@ -145,13 +150,20 @@ impl Measured for Column {
         count: usize,
         base: i64,
         k: usize,
-        words: &mut [u64; 64],
-    ) -> Option<u64> {
-        match (&self.encoding, &self.codes) {
-            (Encoding::Offset(offset), Codes::V(codes)) => {
-                lent_planes(*offset, codes, &self.nonnull, at, count, base, k, words)
-            }
-            _ => None,
-        }
+        block: &mut PlaneBlock,
+    ) -> Option<[u64; 32]> {
+        let Encoding::Offset(offset) = &self.encoding else {
+            return None;
+        };
+        lent_planes(
+            *offset,
+            &self.codes,
+            &self.nonnull,
+            at,
+            count,
+            base,
+            k,
+            block,
+        )
     }
 }

@@ -1,7 +1,7 @@
 //! Appending values to a column.
 
 ghost use Rattle.std.specs.Prelude.{All, List, Option, drop, false, length, slice_index, take, true, ℕ, ℤ, ◌%◌, ◌++◌, ◌+◌, ◌<◌, ◌^◌, ◌≡◌, ◌≤◌};
-ghost use Rattle.bw_mask.specs.Masks.{bit_of};
+ghost use Rattle.bw_mask.specs.Masks.{bit_of, row_in};
 ghost use Rattle.bw_code.specs.Encodings.{width};
 ghost use Rattle.bw_code.specs.Lists.{made};
 ghost use Rattle.bw_code.specs.declared.encoding.Encoding.TheVariants as by;
@@ -14,8 +14,23 @@ ghost use Rattle.bw_vertical.specs.Planes.{code_by};
 use crate::codes::encode_all;
 use crate::column::Column;
 use bw_cells::{Cells, Measured, presence};
-use bw_code::{Encoding, Layout, Offset};
+use bw_code::{BLOCK_ROWS, Encoding, Offset, PlaneBlock};
 use bw_dictionary::RankedCells;
+use bw_mask::Mask;
+use bw_vertical::{put_codes_of_words, read_word_of_planes};
+
+/// Appends n rows to a mask, given as words of 64 rows, within the room.
+fn push_words(mask: &mut Mask, n: usize, words: &[u64; 32])
+    requires block { n ≤ 2048 }
+    requires room { length mask.old.rows + n ≤ mask.old.room }
+    requires few { length mask.old.rows + n ≤ 2 ^ 32 }
+    ensures rows { mask.new.rows ≡ mask.old.rows ++ made n (row_in words.now) }
+    ensures room { mask.old.room ≤ mask.new.room }
+{
+    for j in 0..n.div_ceil(64) {
+        mask.push_bits((n - 64 * j).min(64), words[j]);
+    }
+}
 
 impl Column {
     /// Appends at most 64 rows by their codes, within the room: those whose bit is set are non-null.
@@ -114,30 +129,56 @@ impl Column {
         }
     }
 
-    /// Appends n cells, within the room, by the words of the planes of their distances from the base. Their rows lie in
-    /// one word. The layout is V.
+    /// Appends n cells, at most 2,048, within the room, by the planes of their distances from the base. Returns false,
+    /// and changes nothing, where the layout can't take planes, or not from its next row on.
     #[tactic(auto, using(bw_code::proofs::Lists::made_len))]
-    pub(crate) fn extend_planes(
+    fn extend_planes(
         &mut self,
         offset: Offset,
-        words: &[u64; 64],
+        block: &PlaneBlock,
         n: usize,
-        present: u64,
-    )
-        requires layout { self.old.layout ≡ layouts.V }
+        present: &[u64; 32],
+    ) -> bool
         requires encoding { self.old.encoding ≡ by.Offset offset }
         requires some { 0 < n }
-        requires word { length self.old.values % 64 + n ≤ 64 }
-        requires cells { (cells : List (Option ℤ)) × (length cells ≡ n) × All (IsCoded (by.Offset offset)) cells × All (IsNullOrHeld layouts.V) cells × ArePlanesOf offset.width offset.base cells words.now present }
+        requires block { n ≤ 2048 }
+        requires cells { (cells : List (Option ℤ)) × (length cells ≡ n) × All (IsCoded (by.Offset offset)) cells × All (IsNullOrHeld self.old.layout) cells × ArePlanesOf offset.width offset.base cells block.now present.now }
         requires room { length self.old.values + n ≤ self.old.room }
         requires few { length self.old.values + n ≤ 2 ^ 24 }
-        ensures values { (cells : List (Option ℤ)) → length cells ≡ n → All (IsCoded (by.Offset offset)) cells → All (IsNullOrHeld layouts.V) cells → ArePlanesOf offset.width offset.base cells words.now present → self.new.values ≡ self.old.values ++ cells }
+        ensures values { result ≡ true → (cells : List (Option ℤ)) → length cells ≡ n → All (IsCoded (by.Offset offset)) cells → All (IsNullOrHeld self.old.layout) cells → ArePlanesOf offset.width offset.base cells block.now present.now → self.new.values ≡ self.old.values ++ cells }
+        ensures layout { self.new.layout ≡ self.old.layout }
+        ensures encoding { self.new.encoding ≡ self.old.encoding }
+        ensures room { self.old.room ≤ self.new.room }
+        ensures same { result ≡ false → self.new ≡ self.old }
+    {
+        if !self.codes.extend_block(block, n) {
+            return false;
+        }
+        push_words(&mut self.nonnull, n, present);
+        true
+    }
+
+    /// The same in any layout and from any row on, by the codes that the planes hold.
+    fn extend_codes(&mut self, offset: Offset, block: &PlaneBlock, n: usize, present: &[u64; 32])
+        requires encoding { self.old.encoding ≡ by.Offset offset }
+        requires block { n ≤ 2048 }
+        requires cells { (cells : List (Option ℤ)) × (length cells ≡ n) × All (IsCoded (by.Offset offset)) cells × All (IsNullOrHeld self.old.layout) cells × ArePlanesOf offset.width offset.base cells block.now present.now }
+        requires room { length self.old.values + n ≤ self.old.room }
+        requires few { length self.old.values + n ≤ 2 ^ 24 }
+        ensures values { (cells : List (Option ℤ)) → length cells ≡ n → All (IsCoded (by.Offset offset)) cells → All (IsNullOrHeld self.old.layout) cells → ArePlanesOf offset.width offset.base cells block.now present.now → self.new.values ≡ self.old.values ++ cells }
         ensures layout { self.new.layout ≡ self.old.layout }
         ensures encoding { self.new.encoding ≡ self.old.encoding }
         ensures room { self.old.room ≤ self.new.room }
     {
-        self.codes.extend_words(words, n);
-        self.nonnull.push_bits(n, present);
+        let k = offset.width as usize;
+        let mut words = [0; 64];
+        let mut list = [0; 64];
+        for j in 0..n.div_ceil(64) {
+            let codes = &mut list[..(n - 64 * j).min(64)];
+            read_word_of_planes(block, k, j, &mut words);
+            put_codes_of_words(&words, k, codes);
+            self.extend_rows(codes, present[j]);
+        }
     }
 
     /// Appends `codes.len()` cells, at most 64, from cell `at` on, within the room. Their codes are their distances
@@ -165,23 +206,13 @@ impl Column {
         self.extend_rows(codes, present);
     }
 
-    /// Whether the next code appended begins a word of planes.
-    #[tactic(auto, using(bw_code::proofs::Lists::made_len))]
-    fn begins_planes(&self) -> bool
-        ensures { result ≡ true → (self.now.layout ≡ layouts.V) × (length self.now.values % 64 ≡ 0) }
-    {
-        self.layout() == Layout::V && self.len() % 64 == 0
-    }
-
-    /// Appends n cells, at most 64, from cell `at` on, within the room: by their planes, where the cells have planes of
-    /// the column's base and width, else by their distances from the base.
-    fn extend_run<C: Measured>(&mut self, offset: Offset, cells: &C, at: usize, n: usize)
+    /// Appends n cells, at most 2,048, from cell `at` on, within the room, by their distances from the base.
+    fn extend_runs<C: Measured>(&mut self, offset: Offset, cells: &C, at: usize, n: usize)
         requires encoding { self.old.encoding ≡ by.Offset offset }
         requires coded { All (IsCoded self.old.encoding) (C.cells cells.now) }
         requires held { All (IsNullOrHeld self.old.layout) (C.cells cells.now) }
-        requires some { 0 < n }
-        requires block { n ≤ 64 }
         requires inside { at + n ≤ length (C.cells cells.now) }
+        requires short { at + n ≤ 2 ^ 24 }
         requires room { length self.old.values + n ≤ self.old.room }
         requires few { length self.old.values + n ≤ 2 ^ 24 }
         ensures values { self.new.values ≡ self.old.values ++ take n (drop at (C.cells cells.now)) }
@@ -189,16 +220,47 @@ impl Column {
         ensures encoding { self.new.encoding ≡ self.old.encoding }
         ensures room { self.old.room ≤ self.new.room }
     {
-        if self.begins_planes() {
-            let mut words = [0; 64];
-            let k = offset.width as usize;
-            if let Some(present) = cells.planes(at, n, offset.base, k, &mut words) {
-                self.extend_planes(offset, &words, n, present);
-                return;
-            }
-        }
         let mut list = [0; 64];
-        self.extend_distances(offset, cells, at, &mut list[..n]);
+        let mut done = 0;
+        while done < n {
+            let count = (n - done).min(64);
+            self.extend_distances(offset, cells, at + done, &mut list[..count]);
+            done += count;
+        }
+    }
+
+    /// Appends n cells, at most 2,048, from cell `at` on, within the room: by their planes, where the cells have planes
+    /// of the column's base and width, else by their distances from the base. The block is a buffer.
+    fn extend_part<C: Measured>(
+        &mut self,
+        offset: Offset,
+        cells: &C,
+        at: usize,
+        n: usize,
+        block: &mut PlaneBlock,
+    )
+        requires encoding { self.old.encoding ≡ by.Offset offset }
+        requires coded { All (IsCoded self.old.encoding) (C.cells cells.now) }
+        requires held { All (IsNullOrHeld self.old.layout) (C.cells cells.now) }
+        requires some { 0 < n }
+        requires block { n ≤ 2048 }
+        requires inside { at + n ≤ length (C.cells cells.now) }
+        requires short { at + n ≤ 2 ^ 24 }
+        requires room { length self.old.values + n ≤ self.old.room }
+        requires few { length self.old.values + n ≤ 2 ^ 24 }
+        ensures values { self.new.values ≡ self.old.values ++ take n (drop at (C.cells cells.now)) }
+        ensures layout { self.new.layout ≡ self.old.layout }
+        ensures encoding { self.new.encoding ≡ self.old.encoding }
+        ensures room { self.old.room ≤ self.new.room }
+    {
+        let k = offset.width as usize;
+        let Some(present) = cells.planes(at, n, offset.base, k, block) else {
+            self.extend_runs(offset, cells, at, n);
+            return;
+        };
+        if !self.extend_planes(offset, block, n, &present) {
+            self.extend_codes(offset, block, n, &present);
+        }
     }
 
     /// Appends cells, within the room. Their codes are their distances from the base, so none is looked up.
@@ -213,10 +275,11 @@ impl Column {
         ensures encoding { self.new.encoding ≡ self.old.encoding }
         ensures room { self.old.room ≤ self.new.room }
     {
+        let mut block = [[0; 32]; 64];
         let mut at = 0;
         while at < cells.len() {
-            let n = (cells.len() - at).min(64);
-            self.extend_run(offset, cells, at, n);
+            let n = (cells.len() - at).min(BLOCK_ROWS);
+            self.extend_part(offset, cells, at, n, &mut block);
             at += n;
         }
     }

@@ -33,6 +33,7 @@ mod split;
 mod step;
 mod storage;
 mod stored_copy;
+mod unlent;
 mod within;
 
 pub use change::Prepared;

@@ -1,7 +1,7 @@
 //! The codes of a column, each layout in its own type.
 
-ghost use Rattle.std.specs.Prelude.{[], IfOk, OnOk, drop, false, if◌then◌else◌, length, replicate, slice_index, slice_set, take, true, ℕ, ◌%◌, ◌&&◌, ◌++◌, ◌+◌, ◌<◌, ◌^◌, ◌≡◌, ◌≤◌, pos, ◌-ℤ◌};
-ghost use Rattle.bw_mask.specs.Masks.{SameShape, bit_of, len, row_at};
+ghost use Rattle.std.specs.Prelude.{[], IfOk, OnOk, drop, false, if◌then◌else◌, length, replicate, slice_index, slice_index_or, slice_set, take, true, ℕ, ◌%◌, ◌&&◌, ◌++◌, ◌+◌, ◌<◌, ◌^◌, ◌≡◌, ◌≤◌, pos, ◌-ℤ◌};
+ghost use Rattle.bw_mask.specs.Masks.{SameShape, bit_of, len, row_at, row_in};
 ghost use Rattle.bw_code.specs.Columns.{Fit, KeepsShape, code_at, count, filled_codes, put_codes};
 ghost use Rattle.bw_code.specs.Lists.{made};
 ghost use Rattle.bw_code.specs.Meters.{raised};
@@ -11,10 +11,10 @@ ghost use Rattle.bw_code.specs.Units.{units_of_pair, units_of_scan};
 ghost use Rattle.bw_column.specs.Storing.{IsSliced, ShiftsTo, layout_of, lent_layout, lent_list, list_of};
 ghost use Rattle.bw_column.specs.Values.{widest};
 ghost use Rattle.bw_code.specs.declared.kind.Layout.TheVariants as layouts;
-ghost use Rattle.bw_vertical.specs.Planes.{code_by};
+ghost use Rattle.bw_vertical.specs.Planes.{code_by, code_by_planes};
 
 use bw_byteslice::SliceColumn;
-use bw_code::{CmpOp, CodeColumn, CodeTest, Layout, Meter, PlainColumn};
+use bw_code::{CmpOp, CodeColumn, CodeTest, Layout, Meter, PlainColumn, PlaneBlock};
 use bw_horizontal::HorizontalColumn;
 use bw_mask::Mask;
 use bw_vertical::VerticalColumn;
@@ -218,6 +218,53 @@ impl Codes {
         match self {
             Codes::V(codes) => codes.extend_words(words, n),
             Codes::P(_) | Codes::H(_) | Codes::S(_) => unreachable!(),
+        }
+    }
+
+    /// Plane b of the block becomes bit b of the codes of the 2,048 rows from row `at` on, which begins a segment. Rows
+    /// past the last have code 0. Returns false where the layout doesn't have codes as planes; then the block is
+    /// unspecified.
+    pub(crate) fn read_block(&self, at: usize, block: &mut PlaneBlock) -> bool
+        requires first { at % 256 ≡ 0 }
+        requires inside { at < count (list_of self.now) }
+        ensures { result ≡ true → (b r : ℕ) → b < (list_of self.now).width → r < 2048 → row_in (slice_index_or block.new b []) r ≡ bit_of (code_at (list_of self.now) (at + r)) b }
+    {
+        match self {
+            Codes::V(codes) => {
+                codes.read_block(at, block);
+                true
+            }
+            Codes::S(codes) => {
+                codes.read_block(at, block);
+                true
+            }
+            Codes::P(_) | Codes::H(_) => false,
+        }
+    }
+
+    /// Appends n codes, at most 2,048, within the room, by a block of their planes. Returns false, and changes nothing,
+    /// where the layout can't take planes, or not from its next row on.
+    pub(crate) fn extend_block(&mut self, block: &PlaneBlock, n: usize) -> bool
+        requires some { 0 < n }
+        requires block { n ≤ 2048 }
+        requires rest { (b r : ℕ) → b < (list_of self.old).width → n ≤ r → r < 2048 → row_in (slice_index_or block.now b []) r ≡ false }
+        requires room { count (list_of self.old) + n ≤ (list_of self.old).room }
+        requires few { count (list_of self.old) + n ≤ 2 ^ 24 }
+        ensures layout { layout_of self.new ≡ layout_of self.old }
+        ensures shape { KeepsShape (list_of self.new) (list_of self.old) }
+        ensures codes { result ≡ true → (list_of self.new).codes ≡ (list_of self.old).codes ++ made n (code_by_planes (list_of self.old).width block.now) }
+        ensures same { result ≡ false → self.new ≡ self.old }
+    {
+        match self {
+            Codes::V(codes) if codes.len() % 256 == 0 => {
+                codes.extend_block(block, n);
+                true
+            }
+            Codes::S(codes) => {
+                codes.extend_block(block, n);
+                true
+            }
+            _ => false,
         }
     }
 

@@ -10,6 +10,7 @@ ghost use Rattle.bw_engine.specs.Stores.{rows_in};
 
 use crate::table::Table;
 use bw_cells::{Cells, Measured};
+use bw_code::PlaneBlock;
 use bw_column::Column;
 use bw_sql::Value;
 use bw_table::ChosenCells;
@@ -58,11 +59,11 @@ impl Measured for LiveCells<'_> {
         count: usize,
         base: i64,
         k: usize,
-        words: &mut [u64; 64],
-    ) -> Option<u64> {
+        block: &mut PlaneBlock,
+    ) -> Option<[u64; 32]> {
         match self {
-            LiveCells::Whole(column) => column.planes(at, count, base, k, words),
-            LiveCells::Chosen(cells) => cells.planes(at, count, base, k, words),
+            LiveCells::Whole(column) => column.planes(at, count, base, k, block),
+            LiveCells::Chosen(cells) => cells.planes(at, count, base, k, block),
         }
     }
 }

@@ -20,6 +20,21 @@ near_bit : (base : ℤ) (k : ℕ) (c : Option ℤ) (b : ℕ) → FitsSigned w64 
 near_bit base k None b fits near = bit_at-zero b
 near_bit base k (Some z) b fits near = ap (λ n. bit_at n b) (near_code base z fits near.0 near.1)
 
+-- a cell of a run, of which the last may be short
+pub cell_is : (cells : List (Option ℤ)) (at n i : ℕ) → at ≤ i → i - at < n ⊎ (length cells ≤ at + n) → get_or (take n (drop at cells)) (i - at) None ≡ get_or cells i None
+cell_is cells at n i l ends =
+    let row : at + (i - at) ≡ i = omega (arith, l) in
+    elim ends [
+      | inl low ↦ get_or-take n (drop at cells) (i - at) None low ∙ get_or-drop at cells (i - at) None ∙ ap (λ j. get_or cells j None) row
+      | inr last ↦
+          elim (cases_lt (i - at) n) [
+            | inl low ↦ get_or-take n (drop at cells) (i - at) None low ∙ get_or-drop at cells (i - at) None ∙ ap (λ j. get_or cells j None) row
+            | inr past ↦
+                get_or-eq_default (take n (drop at cells)) None (omega (arith, past, length-take n (drop at cells)))
+                ∙ sym (get_or-eq_default cells None (omega (arith, past, last, l)))
+          ]
+    ]
+
 module _ (base : ℤ) (k : ℕ) (cells : List (Option ℤ)) (fits : FitsSigned w64 base) (near : All (IsNear base k) cells) where
   pub near_at : (i : ℕ) → IsNear base k (get_or cells i None)
   near_at i =

@@ -28,10 +28,10 @@ pub mod PlaneRuns
 pub mod RowBits
 pub mod RowBytes
 pub mod RunDistances
-pub mod Runs
 pub mod Spare
 pub mod Spelled
 pub mod StrayBits
 pub mod Turned
+pub mod WordRows
 pub mod Words
 pub mod Written

@@ -61,8 +61,9 @@ module _ (rows at n : ℕ) (base : ℤ) (k : ℕ) (present planes : List ℕ) (i
   some_where true z = refl
   some_where false z = refl
 
-  pub plane_presence_in : (bits r : ℕ) → bit_of bits r ≡ (bit_of (slice_index present ((at + r) / 8)) ((at + r) % 8) && ltb r n) → bit_of bits r ≡ is_some (get_or run r None)
-  plane_presence_in bits r is =
+  -- whether a row is read as set, and whether its cell is an integer
+  pub plane_presence_in : (read : Bool) (r : ℕ) → read ≡ (bit_of (slice_index present ((at + r) / 8)) ((at + r) % 8) && ltb r n) → read ≡ is_some (get_or run r None)
+  plane_presence_in read r is =
       let bit = bit_of (slice_index present ((at + r) / 8)) ((at + r) % 8) in
       is
       ∙ elim (cases_lt r n) [
@@ -96,9 +97,9 @@ module _ (rows at n : ℕ) (base : ℤ) (k : ℕ) (present planes : List ℕ) (i
             let read : cell (at + r) ≡ None = ap (λ b. if b then Some (base +ℤ pos (code_in k (presence_size rows) planes (at + r))) else None) (sym e) in
             g ∙ code_of_null rows k present planes (at + r) are (omega (arith, inside, h)) (sym e) ∙ sym (ap (distance_from z) read)
 
-    -- the words of planes have the bits of the distances from the column's own base
-    pub plane_bits : (word r b : ℕ) → b < k → k ≤ 64 → bit_of word r ≡ ((plane_bit (presence_size rows) planes (k - 1 - b) (at + r) == 1) && ltb r n) → bit_of word r ≡ bit_of (get_or (map (distance_from base) run) r 0) b
-    plane_bits word r b low narrow is =
+    -- the rows of planes are the bits of the distances from the column's own base
+    pub plane_bits : (read : Bool) (r b : ℕ) → b < k → k ≤ 64 → read ≡ ((plane_bit (presence_size rows) planes (k - 1 - b) (at + r) == 1) && ltb r n) → read ≡ bit_of (get_or (map (distance_from base) run) r 0) b
+    plane_bits read r b low narrow is =
         is
         ∙ elim (cases_lt r n) [
           | inl here ↦

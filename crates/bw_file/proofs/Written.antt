@@ -1,35 +1,18 @@
 -- The bits of words in their bytes, and of a plane of which a part was written.
-use Rattle.std.proofs.Common.{List, [], ap, arith, get_or, inl, inr, length, length-append, refl, suc, sym, zero, ℕ, ◌∷◌, ◌%◌, ◌*◌, ◌+◌, ◌-◌, ◌/◌, ◌<◌, ◌==◌, ◌^◌, ◌≡◌, ◌≤◌, ◌∙◌}
-use Rattle.std.proofs.Math.Nat.{mul-le-mul_right, pow-suc}
+use Rattle.std.proofs.Common.{List, [], ap, arith, get_or, inl, inr, length, length-append, refl, suc, ℕ, ◌∷◌, ◌%◌, ◌*◌, ◌+◌, ◌-◌, ◌/◌, ◌<◌, ◌==◌, ◌≡◌, ◌≤◌, ◌∙◌}
+use Rattle.std.proofs.Math.Nat.{mul-le-mul_right}
 use Rattle.std.proofs.lemmas.Bool.{cases_lt}
 use Rattle.std.proofs.lemmas.List.{get_or-append_right, get_or_append_left}
-use Rattle.std.proofs.lemmas.Nat.{div-add-mod', pow-add, shr-shr, shr_split}
-use Rattle.std.proofs.lemmas.Nat.Bits.{bit_at_cat_low}
+use Rattle.std.proofs.lemmas.Nat.{div-add-mod'}
 use Rattle.std.specs.Int.{bit_at, byte_at}
 use Rattle.bw_mask.specs.Masks.{bit_of}
 use Rattle.std.specs.List.{flat_map}
 use Rattle.byteorder.specs.Endian.{little_bytes}
 use Rattle.byteorder.specs.Numbers.{length-bytes_low_first}
-use Rattle.bw_file.proofs.Bits.{byte_of}
+use Rattle.bw_file.proofs.Bits.{bit-byte_at, byte_of}
 use Rattle.bw_code.proofs.Parts.{before_part, behind_part, in_part}
 use Rattle.bw_file.specs.Planes.{plane_bit}
 use borrow.Rule.Slice.PartMut.{put_mid}
-
--- as in bw_file/proofs/Bits
-bytes_pow : (q : ℕ) → 256 ^ q ≡ 2 ^ (q * 8)
-bytes_pow zero = refl
-bytes_pow (suc q) =
-    let e : suc q * 8 ≡ 8 + q * 8 = omega arith in
-    omega (arith, pow-suc 256 q, bytes_pow q, pow-add 2 8 (q * 8), ap (λ k. 2 ^ k) e)
-
-byte_is : (q word : ℕ) → byte_at q word ≡ word / 2 ^ (q * 8) % 2 ^ 8
-byte_is zero word = omega arith
-byte_is (suc q) word = ap (λ p. word / p % 256) (bytes_pow (suc q))
-
-bit-byte_at : (word q j : ℕ) → j < 8 → bit_at (byte_at q word) j ≡ bit_at word (q * 8 + j)
-bit-byte_at word q j h =
-    let high = word / 2 ^ (q * 8) in
-    ap (λ b. bit_at b j) (byte_is q word) ∙ sym (bit_at_cat_low (high / 2 ^ 8) 8 (high % 2 ^ 8) j h) ∙ ap (λ b. bit_at b j) (shr_split high 8) ∙ ap (λ b. b % 2) (shr-shr word (q * 8) j)
 
 -- bytes that are the first of a word have its bits
 pub word_bits : (word i : ℕ) (out : List ℕ) → get_or out (i / 8) 0 ≡ byte_at (i / 8) word → bit_of (get_or out (i / 8) 0) (i % 8) ≡ bit_of word i

@@ -1,12 +1,13 @@
 //! Reading the codes of a column from its planes, 64 at a time.
 
-ghost use Rattle.std.specs.Prelude.{length, nat_lt, slice_index, ℕ, ◌%◌, ◌&&◌, ◌*◌, ◌+◌, ◌-◌, ◌<◌, ◌==◌, ◌^◌, ◌≡◌, ◌≤◌};
-ghost use Rattle.bw_mask.specs.Masks.{bit_of};
+ghost use Rattle.std.specs.Prelude.{[], length, nat_lt, slice_index, slice_index_or, ℕ, ◌%◌, ◌&&◌, ◌*◌, ◌+◌, ◌-◌, ◌<◌, ◌==◌, ◌^◌, ◌≡◌, ◌≤◌};
+ghost use Rattle.bw_mask.specs.Masks.{bit_of, row_in};
 ghost use Rattle.bw_code.specs.Widths.{widest_code};
 ghost use Rattle.bw_file.specs.Planes.{code_in, plane_bit};
 
-use crate::row_bits::bits_of_rows;
-use bw_vertical::{codes_of_words, halves_of_words};
+use crate::row_bits::{bits_of_rows, read_rows};
+use bw_code::PlaneBlock;
+use bw_vertical::put_codes_of_words;
 use byteorder::{ByteOrder, LittleEndian};
 
 /// Word b has bit b of the codes of `count` rows from row `at` on, which is the first row of a byte.
@@ -48,42 +49,6 @@ fn words_of_run(planes: &[u8], size: usize, k: usize, at: usize) -> [u64; 64]
     words
 }
 
-/// Fills `out` with the first of the numbers.
-fn widen(numbers: &[u32; 64], out: &mut [u64])
-    requires few { length out.old ≤ 64 }
-    ensures len { length out.new ≡ length out.old }
-    ensures same { (r : ℕ) → r < length out.old → slice_index out.new r ≡ slice_index numbers.now r }
-{
-    // A loop of fixed length for all runs but the last.
-    if let Some(run) = out.as_mut_array::<64>() {
-        for q in 0..64 {
-            run[q] = u64::from(numbers[q]);
-        }
-        return;
-    }
-    for r in 0..out.len() {
-        out[r] = u64::from(numbers[r]);
-    }
-}
-
-/// Fills `out` with the first of the 64-bit numbers that have these halves.
-fn join(low: &[u32; 64], high: &[u32; 64], out: &mut [u64])
-    requires few { length out.old ≤ 64 }
-    ensures len { length out.new ≡ length out.old }
-    ensures same { (r : ℕ) → r < length out.old → slice_index out.new r ≡ slice_index low.now r + 2 ^ 32 * slice_index high.now r }
-{
-    // As in `widen`.
-    if let Some(run) = out.as_mut_array::<64>() {
-        for q in 0..64 {
-            run[q] = u64::from(low[q]) + 0x1_0000_0000 * u64::from(high[q]);
-        }
-        return;
-    }
-    for r in 0..out.len() {
-        out[r] = u64::from(low[r]) + 0x1_0000_0000 * u64::from(high[r]);
-    }
-}
-
 /// Fills `out` with the codes of k bits of at most 64 rows from row `at` on, which is the first row of a byte. Each
 /// plane has `size` bytes.
 pub(crate) fn read_codes(planes: &[u8], size: usize, k: usize, at: usize, out: &mut [u64])
@@ -97,11 +62,28 @@ pub(crate) fn read_codes(planes: &[u8], size: usize, k: usize, at: usize, out: &
     ensures codes { (r : ℕ) → r < length out.old → slice_index out.new r ≡ code_in k size planes.now (at + r) }
 {
     let words = words_at(planes, size, k, at, out.len());
-    if k <= 32 {
-        let (halves, _) = words.as_chunks::<32>();
-        widen(&codes_of_words(&halves[0], k), out);
-    } else {
-        let (low, high) = halves_of_words(&words, k);
-        join(&low, &high, out);
+    put_codes_of_words(&words, k, out);
+}
+
+/// Fills plane b of a block, for each b below k, with bit b of the codes of `count` rows, at most 2,048, from row `at`
+/// on, which is the first row of a byte. Rows past these are 0. Each plane has `size` bytes.
+pub(crate) fn read_block(
+    planes: &[u8],
+    size: usize,
+    k: usize,
+    at: usize,
+    count: usize,
+    block: &mut PlaneBlock,
+)
+    requires narrow { k ≤ widest_code }
+    requires few { count ≤ 2048 }
+    requires first { at % 8 ≡ 0 }
+    requires short { size ≤ 2 ^ 24 }
+    requires inside { at + count ≤ 8 * size }
+    requires planes { length planes.now ≡ k * size }
+    ensures { (b r : ℕ) → b < k → r < 2048 → row_in (slice_index_or block.new b []) r ≡ ((plane_bit size planes.now (k - 1 - b) (at + r) == 1) && nat_lt r count) }
+{
+    for i in 0..k {
+        read_rows(planes, 8 * (i * size) + at, count, &mut block[k - 1 - i]);
     }
 }

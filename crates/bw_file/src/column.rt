@@ -12,7 +12,7 @@ use crate::plane_column::PlaneColumn;
 use crate::version::Version;
 use crate::word_column::WordColumn;
 use bw_cells::{Cells, Measured};
-use bw_code::{ColumnType, Ends};
+use bw_code::{ColumnType, Ends, PlaneBlock};
 use std::marker::Model;
 
 /// A column, depending on the version of its file.
@@ -136,11 +136,11 @@ impl<'a> Measured for FileColumn<'a> {
         count: usize,
         base: i64,
         k: usize,
-        words: &mut [u64; 64],
-    ) -> Option<u64> {
+        block: &mut PlaneBlock,
+    ) -> Option<[u64; 32]> {
         match &self.column {
             LentColumn::Words(_) => None,
-            LentColumn::Planes(column) => column.planes(at, count, base, k, words),
+            LentColumn::Planes(column) => column.planes(at, count, base, k, block),
         }
     }
 }

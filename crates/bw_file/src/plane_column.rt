@@ -10,13 +10,13 @@ ghost use Rattle.bw_file.specs.Planes.{column_bytes, read_cell, IsWideCell};
 
 use crate::cells::has_cell;
 use crate::code_ends::{Values, values_in};
-use crate::codes::{read_codes, words_at};
+use crate::codes::{read_block, read_codes};
 use crate::plane_parts::plane_parts;
 use crate::presence::has_spare_bit;
-use crate::row_bits::bits_of_rows;
+use crate::row_bits::{bits_of_rows, read_rows};
 use crate::stray::has_stray_bit;
 use bw_cells::{Cells, Measured, distances_in_run};
-use bw_code::{ColumnType, Ends, Offset};
+use bw_code::{ColumnType, Ends, Offset, PlaneBlock};
 use bw_mask::has_bit;
 use std::marker::Model;
 
@@ -147,13 +147,15 @@ impl<'a> Measured for PlaneColumn<'a> {
         count: usize,
         base: i64,
         k: usize,
-        words: &mut [u64; 64],
-    ) -> Option<u64> {
+        block: &mut PlaneBlock,
+    ) -> Option<[u64; 32]> {
         if at % 8 != 0 || base != self.base || k != self.width {
             return None;
         }
-        *words = words_at(self.planes, self.rows.div_ceil(8), k, at, count);
-        Some(bits_of_rows(self.present, at, count))
+        read_block(self.planes, self.rows.div_ceil(8), k, at, count, block);
+        let mut present = [0; 32];
+        read_rows(self.present, at, count, &mut present);
+        Some(present)
     }
 }
 

@@ -1,8 +1,9 @@
 //! Bits of rows as a word.
 
 ghost use Rattle.std.specs.Prelude.{length, nat_lt, slice_index, ℕ, ◌%◌, ◌&&◌, ◌*◌, ◌+◌, ◌/◌, ◌<◌, ◌^◌, ◌≡◌, ◌≤◌};
-ghost use Rattle.bw_mask.specs.Masks.{bit_of};
+ghost use Rattle.bw_mask.specs.Masks.{bit_of, row_in};
 
+use bw_code::BLOCK_ROWS;
 use byteorder::{ByteOrder, LittleEndian};
 
 /// The bits from bit `at` on, which is the first in its byte. Only the first `count` can be set.
@@ -14,6 +15,30 @@ pub(crate) fn bits_of_rows(bytes: &[u8], at: usize, count: usize) -> u64
     ensures { (k : ℕ) → bit_of result k ≡ (bit_of (slice_index bytes.now ((at + k) / 8)) ((at + k) % 8) && nat_lt k count) }
 {
     bits_of_bytes(&bytes[at / 8..]) & low_bits(count)
+}
+
+/// The bits of `count` rows, at most 2,048, from bit `at` on, which is the first in its byte, as words of 64 rows. Rows
+/// past these are 0.
+pub(crate) fn read_rows(bytes: &[u8], at: usize, count: usize, words: &mut [u64; 32])
+    requires few { count ≤ 2048 }
+    requires first { at % 8 ≡ 0 }
+    requires there { at + count ≤ 8 * length bytes.now }
+    requires short { at + count ≤ 2 ^ 60 }
+    ensures { (i : ℕ) → row_in words.new i ≡ (bit_of (slice_index bytes.now ((at + i) / 8)) ((at + i) % 8) && nat_lt i count) }
+{
+    // All blocks but the last have 2,048 rows.
+    if count == BLOCK_ROWS {
+        LittleEndian::read_u64_into(&bytes[at / 8..at / 8 + 256], words);
+        return;
+    }
+    for j in 0..32 {
+        let n = count.saturating_sub(64 * j).min(64);
+        words[j] = if n == 0 {
+            0
+        } else {
+            bits_of_rows(bytes, at + 64 * j, n)
+        };
+    }
 }
 
 /// The bits of the first eight bytes, or of all if there are fewer, those of the first byte lowest.

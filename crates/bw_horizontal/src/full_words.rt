@@ -6,96 +6,10 @@ ghost use Rattle.bw_lane.specs.Sections.{IsStored};
 ghost use Rattle.bw_code.specs.Columns.{Fit, is_chosen};
 ghost use Rattle.bw_horizontal.specs.Words.{code_in};
 
-use bw_mask::has_bit;
+use bw_code::{fill_chosen, put_chosen};
 
 /// The width of codes that have a word each.
 pub(crate) const FULL: u32 = 32;
-
-/// How many rows a whole run has.
-const RUN: usize = 64;
-
-/// Writes at most 64 codes, each where its bit is set. The others stay.
-fn put_few_chosen(kept: &mut [u64], rows: u64, codes: &[u64])
-    requires few { length codes.now ≤ 64 }
-    requires long { length kept.old ≡ length codes.now }
-    ensures long { length kept.new ≡ length kept.old }
-    ensures each { (i : ℕ) → i < length kept.old → slice_index kept.new i ≡ (if bit_of rows i then slice_index codes.now i else slice_index kept.old i) }
-{
-    // Both codes are read before the choice, so that no branch per code is left and the loop can be vectorized.
-    for i in 0..kept.len() {
-        let own = kept[i];
-        let code = codes[i];
-        kept[i] = if has_bit(rows, i) { code } else { own };
-    }
-}
-
-/// The same for 64 codes.
-fn put_64_chosen(kept: &mut [u64], rows: u64, codes: &[u64])
-    requires whole { length codes.now ≡ 64 }
-    requires long { length kept.old ≡ length codes.now }
-    ensures long { length kept.new ≡ length kept.old }
-    ensures each { (i : ℕ) → i < length kept.old → slice_index kept.new i ≡ (if bit_of rows i then slice_index codes.now i else slice_index kept.old i) }
-{
-    for i in 0..RUN {
-        let own = kept[i];
-        let new = codes[i];
-        kept[i] = if has_bit(rows, i) { new } else { own };
-    }
-}
-
-/// Writes at most 64 codes, each where its bit is set. The others stay.
-fn put_chosen(kept: &mut [u64], rows: u64, codes: &[u64])
-    requires few { length codes.now ≤ 64 }
-    requires long { length kept.old ≡ length codes.now }
-    ensures long { length kept.new ≡ length kept.old }
-    ensures each { (i : ℕ) → i < length kept.old → slice_index kept.new i ≡ (if bit_of rows i then slice_index codes.now i else slice_index kept.old i) }
-{
-    // Most calls have a whole run, and are faster where the length is known.
-    if codes.len() == RUN {
-        put_64_chosen(kept, rows, codes);
-    } else {
-        put_few_chosen(kept, rows, codes);
-    }
-}
-
-/// Writes one code wherever a bit is set, to at most 64 rows. The others stay.
-fn fill_few_chosen(kept: &mut [u64], rows: u64, code: u64)
-    requires few { length kept.old ≤ 64 }
-    ensures long { length kept.new ≡ length kept.old }
-    ensures each { (i : ℕ) → i < length kept.old → slice_index kept.new i ≡ (if bit_of rows i then code else slice_index kept.old i) }
-{
-    // No branch per code, so that the loop can be vectorized.
-    for i in 0..kept.len() {
-        let own = kept[i];
-        kept[i] = if has_bit(rows, i) { code } else { own };
-    }
-}
-
-/// The same for 64 rows.
-fn fill_64_chosen(kept: &mut [u64], rows: u64, code: u64)
-    requires whole { length kept.old ≡ 64 }
-    ensures long { length kept.new ≡ length kept.old }
-    ensures each { (i : ℕ) → i < length kept.old → slice_index kept.new i ≡ (if bit_of rows i then code else slice_index kept.old i) }
-{
-    for i in 0..RUN {
-        let own = kept[i];
-        kept[i] = if has_bit(rows, i) { code } else { own };
-    }
-}
-
-/// Writes one code wherever a bit is set, to at most 64 rows. The others stay.
-fn fill_chosen(kept: &mut [u64], rows: u64, code: u64)
-    requires few { length kept.old ≤ 64 }
-    ensures long { length kept.new ≡ length kept.old }
-    ensures each { (i : ℕ) → i < length kept.old → slice_index kept.new i ≡ (if bit_of rows i then code else slice_index kept.old i) }
-{
-    // Most calls have a whole run, and are faster where the length is known.
-    if kept.len() == RUN {
-        fill_64_chosen(kept, rows, code);
-    } else {
-        fill_few_chosen(kept, rows, code);
-    }
-}
 
 /// Row at + i takes code i where bit i of `rows` is set.
 pub(crate) fn put_run(words: &mut [u64], at: usize, rows: u64, codes: &[u64])

@@ -5,7 +5,7 @@ use Rattle.std.specs.Prelude.{vec_capacity}
 use Rattle.std.proofs.Math.Nat.{mul-le-mul_right}
 use Rattle.std.proofs.lemmas.Bool.{cases_eq, cases_lt}
 use Rattle.std.proofs.lemmas.Nat.{div-mul-add, mod-mul-add}
-use Rattle.std.proofs.lemmas.List.{get_or-map, get_or-set_other, get_or-set_same, length-map, map-set, length-set}
+use Rattle.std.proofs.lemmas.List.{get_or-map, get_or_past, get_or-set_other, get_or-set_same, length-map, map-set, length-set}
 use Rattle.bw_vertical.specs.Storage.{KeepsSizes, capacities, lists, plane_at, planes_in, word_of}
 
 -- a place among rows of m tells its row and its column
@@ -186,3 +186,10 @@ side_by_side k q g u gs some from to =
     ∙ ap (plane_at k gs q) plane
     ∙ ap (λ p. get_or (get_or gs (i / 4) []) (q * planes_in k (i / 4) + p) []) place
     ∙ ap (λ h. get_or (get_or gs h []) (q * planes_in k h + (u - (q * k + 4 * g))) []) group)
+
+-- a word of a segment that is not there is 0
+pub word_past : (k i w n : ℕ) (gs : List (List (List ℕ))) → i < k → ((g : ℕ) → 4 * g < k → length (get_or gs g []) ≡ n * planes_in k g) → n ≤ w / 4 → word_of k gs i w ≡ 0
+word_past k i w n gs low sizes past =
+    let g = i / 4 in
+    let some : 4 * g < k = omega (arith, low) in
+    ap (λ plane. get_or plane (w % 4) 0) (get_or_past (get_or gs g []) (w / 4 * planes_in k g + i % 4) [] (omega (arith, sizes g some, mul-le-mul_right (planes_in k g) past)))

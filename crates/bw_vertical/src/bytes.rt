@@ -33,7 +33,7 @@ fn rows_with_bit(bytes: &[u8; 64], i: u32) -> u64
 }
 
 /// The words from `at` on become those of the eight planes of these bytes.
-fn put_words(words: &mut [u64], at: usize, bytes: &[u8; 64])
+pub fn put_words_of_bytes(words: &mut [u64], at: usize, bytes: &[u8; 64])
     requires room { at + 8 ≤ length words.old }
     ensures long { length words.new ≡ length words.old }
     ensures inside { (t r : ℕ) → t < 8 → r < 64 → bit_of (slice_index words.new (at + t)) r ≡ bit_of (slice_index bytes.now r) t }
@@ -53,7 +53,7 @@ pub(crate) fn put_codes(codes: &[u32; 64], k: usize, words: &mut [u64], at: usiz
     ensures before { (b : ℕ) → b < at → slice_index words.new b ≡ slice_index words.old b }
 {
     for j in 0..k.div_ceil(8) {
-        put_words(words, at + 8 * j, &byte_of_each(codes, j));
+        put_words_of_bytes(words, at + 8 * j, &byte_of_each(codes, j));
     }
 }
 
@@ -108,7 +108,7 @@ fn bytes_in(words: &[u64]) -> u8x64
 }
 
 /// One byte for each row: bit t of it is the row's bit of word t.
-fn bytes_of_words(words: &[u64]) -> [u8; 64]
+pub fn bytes_of_words(words: &[u64]) -> [u8; 64]
     requires { 8 ≤ length words.now }
     ensures bits { (r t : ℕ) → r < 64 → t < 8 → bit_of (slice_index result r) t ≡ bit_of (slice_index words.now t) r }
     ensures fit { (r : ℕ) → slice_index result r < 2 ^ 8 }

@@ -9,7 +9,7 @@ ghost use Rattle.bw_code.specs.Units.{segments_of};
 ghost use Rattle.bw_code.specs.Lists.{made};
 ghost use Rattle.bw_code.specs.Widths.{widest_code};
 ghost use Rattle.bw_vertical.specs.Descents.{AreCodeEnds};
-ghost use Rattle.bw_vertical.specs.Planes.{code_by, code_in};
+ghost use Rattle.bw_vertical.specs.Planes.{code_by, code_by_planes, code_in};
 ghost use Rattle.bw_vertical.specs.Storage.{groups_of, planes_in};
 
 use crate::code_ends::CodeEnds;
@@ -18,13 +18,14 @@ use crate::descent::code_ends;
 use crate::filling::fill_codes;
 use crate::growing::{begin_segment, empty_groups, push_segments, reserve_segments};
 use crate::pair::pair_from;
+use crate::plane_blocks::{put_block, take_block};
 use crate::scan::scan_from;
 use crate::shifting::shift_codes;
 use crate::source::PlaneSource;
 use crate::storage::take_planes;
 use crate::swapping::exchange_codes;
 use crate::{blocks, codes, runs};
-use bw_code::{CmpOp, CodeColumn, CodeTest, Meter, Source, word_between};
+use bw_code::{CmpOp, CodeColumn, CodeTest, Meter, PlaneBlock, Source, word_between};
 use bw_mask::Mask;
 use std::alloc::{AllocError, Global};
 use std::marker::Model;
@@ -90,6 +91,18 @@ impl VerticalColumn {
         take_planes(&self.groups, self.width as usize, w, words);
     }
 
+    /// Plane b of the block becomes bit b of the codes of the 2,048 rows from row `at` on, which begins a segment. Rows
+    /// past the last have code 0.
+    #[tactic(auto, using(crate::proofs::Holding::codes_len))]
+    pub fn read_block(&self, at: usize, block: &mut PlaneBlock)
+        requires first { at % 256 ≡ 0 }
+        requires inside { at < count self.now }
+        ensures { (b r : ℕ) → b < self.now.width → r < 2048 → row_in (slice_index_or block.new b []) r ≡ bit_of (code_at self.now (at + r)) b }
+    {
+        let segments = self.len.div_ceil(256);
+        take_block(&self.groups, self.width as usize, at / 256, segments, block);
+    }
+
     /// The least and the greatest code of these rows.
     pub fn ends(&self, rows: &Mask) -> CodeEnds
         requires rows { len rows.now ≡ count self.now }
@@ -113,6 +126,26 @@ impl VerticalColumn {
         let k = self.width as usize;
         begin_segment(&mut self.groups, k, self.len);
         blocks::put_planes(&mut self.groups, k, self.len, n, words);
+        self.len += n;
+    }
+
+    /// Appends n rows, the first of which begins a segment, within the room, by a block of their planes: plane b has bit
+    /// b of each code, and no bit after the rows.
+    #[tactic(auto, using(crate::proofs::Holding::codes_len))]
+    pub fn extend_block(&mut self, block: &PlaneBlock, n: usize)
+        requires some { 0 < n }
+        requires block { n ≤ 2048 }
+        requires first { count self.old % 256 ≡ 0 }
+        requires rest { (b r : ℕ) → b < self.old.width → n ≤ r → r < 2048 → row_in (slice_index_or block.now b []) r ≡ false }
+        requires room { count self.old + n ≤ self.old.room }
+        requires few { count self.old + n ≤ 2 ^ 24 }
+        ensures shape { KeepsShape self.new self.old }
+        ensures codes { self.new.codes ≡ self.old.codes ++ made n (code_by_planes self.old.width block.now) }
+    {
+        let k = self.width as usize;
+        let segments = n.div_ceil(256);
+        push_segments(&mut self.groups, k, segments);
+        put_block(&mut self.groups, k, self.len / 256, segments, block);
         self.len += n;
     }
 

@@ -3,6 +3,7 @@
 
 mod addition;
 mod blending;
+mod block_words;
 mod blocks;
 mod bytes;
 mod code_ends;
@@ -13,6 +14,7 @@ mod descent;
 mod filling;
 mod growing;
 mod pair;
+mod plane_blocks;
 mod rows;
 mod runs;
 mod scan;
@@ -22,8 +24,9 @@ mod storage;
 mod swapping;
 
 pub use addition::add_from;
+pub use block_words::{put_codes_of_words, put_word_of_planes, read_word_of_planes};
 pub use blocks::{plane_words, put_plane_words, wide_plane_words};
-pub use bytes::{codes_of_words, halves_of_words};
+pub use bytes::{bytes_of_words, codes_of_words, halves_of_words, put_words_of_bytes};
 pub use code_ends::CodeEnds;
 pub use column::VerticalColumn;
 pub use pair::pair_from;

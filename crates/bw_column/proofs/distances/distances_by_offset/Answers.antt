@@ -1,4 +1,4 @@
-use Rattle.std.proofs.Common.{FitsSigned, None, ap, arith, drop, length, map, nat_lt, of_z, rules, sym, take, w64, ◌&&◌, ◌+◌, ◌<◌, ◌∙◌, ◌≡◌}
+use Rattle.std.proofs.Common.{FitsSigned, None, ap, arith, drop, false, length, map, nat_lt, of_z, rules, sym, take, w64, ◌&&◌, ◌+◌, ◌<◌, ◌∙◌, ◌≡◌}
 use Rattle.std.proofs.lemmas.Bool.{lt-ltb}
 use Rattle.std.proofs.lemmas.Int.{to_z-of_z}
 use Rattle.std.proofs.lemmas.List.{get_or-map, length-map}
@@ -7,12 +7,24 @@ use Rattle.bw_cells.specs.Distances.{distance_from}
 use Rattle.bw_code.specs.Columns.{code_at, count}
 use Rattle.bw_code.specs.declared.encoding.Encoding.TheVariants as by
 use Rattle.bw_code.proofs.Lists.{made_len, part_at, part_is}
-use Rattle.bw_column.specs.Codes.{value_from, values_from}
+use Rattle.bw_column.specs.Codes.{IsRowCode, value_from, values_from}
 use Rattle.bw_column.specs.Storing.{list_of}
 use Rattle.bw_column.proofs.Bases.{distance_of_row, present_part}
 use Rattle.bw_column.proofs.Pieces.{map_part}
 use Rattle.bw_column.proofs.Rows.{known_rows, value_of_row}
 use Rattle.bw_column.proofs.distances.distances_by_offset.Goals as goal
+
+pub add_where_set-requires-clause-clear : goal.add_where_set-requires-clause-clear
+add_where_set-requires-clause-clear c k h none =
+    let e = by.Offset c.args.offset in
+    let codes = list_of c.args.codes.now in
+    let nonnull = c.args.nonnull.now in
+    let at = c.args.at in
+    let long : length c.read.new.out ≡ length c.args.out.now = search rules in
+    let row : at + k < count codes = omega (arith, h, long, c.requires.there) in
+    let null : row_at nonnull (at + k) ≡ false = sym (rw (lt-ltb k (length c.read.new.out) h) at (c.bits-present.ensures k)) ∙ none in
+    let sound : IsRowCode e (code_at codes (at + k)) (row_at nonnull (at + k)) = c.requires.rows.each (at + k) row in
+    part_at codes.codes c.read.new.out at _ k 0 c.read.ensures.codes h ∙ rw null at sound
 
 pub returns-clause-distances : goal.returns-clause-distances
 returns-clause-distances c =

@@ -1,7 +1,7 @@
-use Rattle.std.proofs.Common.{[], ◌%◌, ap, arith, drop, get_or, inl, inr, length, length-drop, length-take, sym, take, ◌*◌, ◌+◌, ◌-◌, ◌/◌, ◌<◌, ◌==◌, ◌≡◌, ◌≤◌, ◌∙◌}
+use Rattle.std.proofs.Common.{[], ap, arith, drop, get_or, inl, inr, length, length-drop, length-take, sym, take, ◌*◌, ◌+◌, ◌-◌, ◌/◌, ◌<◌, ◌==◌, ◌≡◌, ◌≤◌, ◌∙◌}
 use Rattle.std.proofs.Math.Nat.{mul-le-mul_right}
 use Rattle.std.proofs.lemmas.Bool.{cases_eq}
-use Rattle.bw_mask.specs.Masks.{bit_of}
+use Rattle.bw_mask.specs.Masks.{row_in}
 use Rattle.bw_code.proofs.Parts.{part_length}
 use Rattle.bw_file.specs.Planes.{plane_bit}
 use Rattle.bw_file.proofs.Written.{kept, written}
@@ -37,7 +37,7 @@ loop-p-preserved c =
                 let in_new : (i - at) / 8 < length (take n (drop start planes)) = omega (arith, old_size, there, first, m) in
                 ap (λ r. plane_bit size (borrow.Rule.Slice.PartMut.put_mid start n planes new) r i == 1) e
                 ∙ ap (λ x. x == 1) (written k size at n p planes new low first long new_size inside i m there)
-                ∙ c.put_plane.ensures.bits (i - at) in_new ∙ ap (λ r. bit_of (get_or (get_or c.args.block.now (k - 1 - r) []) ((i - at) / 64) 0) ((i - at) % 64)) (sym e)
+                ∙ c.put_plane.ensures.bits (i - at) in_new ∙ ap (λ r. row_in (get_or c.args.block.now (k - 1 - r) []) (i - at)) (sym e)
             | inr d ↦
                 ap (λ x. x == 1) (kept k size at n p planes new low first long new_size inside q i l (λ e. absurd (d e)))
                 ∙ inv.inside q i (omega (arith, h, d)) l m b

@@ -41,7 +41,7 @@ loop-j-preserved c =
 pub returns-then-out : goal.returns-then-out
 returns-then-out c =
     let words = c.args.words.now in
-    let long : length words ≡ 16 = search rules in
+    let long : length words ≡ 32 = search rules in
     record {
       len = ap length c.write_u64_into.ensures ∙ omega (arith, length-word_bytes words, long, c.if-out.true);
       bits = λ i h. ap (λ xs. bit_of (get_or xs (i / 8) 0) (i % 8)) c.write_u64_into.ensures ∙ words_bits words i (omega (arith, h, long, c.if-out.true));

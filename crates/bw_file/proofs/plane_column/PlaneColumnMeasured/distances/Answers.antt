@@ -58,5 +58,5 @@ returns-clause-present c i =
     let rows : length c.args.self.now ≡ c.self.inside.rows = ap length (sym c.self.view_is) ∙ length-plane_cells c.self.inside.rows c.self.inside.base c.self.inside.width c.self.inside.present.now c.self.inside.planes.now in
     let at = c.args.at in
     let n = length c.args.out.now in
-    plane_presence_in s.rows at n s.base s.width s.present.now s.planes.now (omega (arith, rows, c.requires.inside)) c.bits_of_rows-there.result i (rw c.read_codes.ensures.len at (c.bits_of_rows-there.ensures i))
+    plane_presence_in s.rows at n s.base s.width s.present.now s.planes.now (omega (arith, rows, c.requires.inside)) (bit_of c.bits_of_rows-there.result i) i (rw c.read_codes.ensures.len at (c.bits_of_rows-there.ensures i))
     ∙ ap (λ xs. is_some (get_or (take n (drop at xs)) i None)) c.self.view_is
