@@ -15,6 +15,8 @@ mod groups;
 #[cfg(test)]
 mod pairs;
 #[cfg(test)]
+mod planes;
+#[cfg(test)]
 mod random;
 #[cfg(test)]
 mod seen;
