@@ -86,9 +86,9 @@ def of_planes():
     return Clause("bw_vertical/src/column.rt", "group", "rows", "result")
 
 
-def of_words():
-    """What the words of the planes of 64 rows of a column in V hold."""
-    return Clause("bw_vertical/src/column.rt", "read_words", "", "words.new")
+def of_block(file):
+    """What a block of the planes of a column holds."""
+    return Clause(file, "read_block", "", "block.new")
 
 
 def of_ends():
@@ -181,7 +181,9 @@ STRIKES = [
     Strike("bw_column::distances::distances_by_offset", (of_column("read", "storage.rt", "codes", "out.new"),)),
     Strike("bw_column::column::Column::read", (of_column("read_block", "reading.rt", "", "out.new"),)),
     Strike("bw_column::column::Column::compared_block", (of_column("rise_of_block", "pairs.rt", "rises", "out.new"),)),
-    Strike("bw_column::lent_planes::lent_planes", (of_words(),)),
+    Strike("bw_column::storage::Codes::read_block", (of_block("bw_vertical/src/column.rt"),)),
+    Strike("bw_column::storage::Codes::read_block", (of_block("bw_byteslice/src/column.rt"),)),
+    Strike("bw_column::lent_planes::lent_planes", (of_block("bw_column/src/storage.rt"),)),
     Strike("bw_column::ends::code_ends", (of_ends(),)),
     Strike("bw_column::storage::Codes::copy_rows", (of_rows_copied("bw_vertical"),)),
     Strike("bw_column::storage::Codes::copy_rows", (of_rows_copied("bw_byteslice"),)),
@@ -190,7 +192,7 @@ STRIKES = [
     Strike("bw_column::column::Column::fill_places", (of_column("fill_rows", "storage.rt", "codes", "self.new"),)),
     Strike("bw_column::storage::Codes::exchange_rows", (of_every_column("exchange_rows", "codes", "self.new"),)),
     Strike("bw_column::column::Column::exchange_values", (of_column("exchange_rows", "storage.rt", "codes", "self.new"),)),
-    Strike("bw_file::planes::write_planes", (Clause("bw_file/src/planes.rt", "planes_at", "planes", "words.new"),)),
+    Strike("bw_file::planes::write_planes", (Clause("bw_file/src/planes.rt", "planes_at", "planes", "block.new"),)),
 ]
 
 
