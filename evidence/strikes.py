@@ -91,6 +91,11 @@ def of_block(file):
     return Clause(file, "read_block", "", "block.new")
 
 
+def of_codes_block(size):
+    """What a block made of codes in memory holds."""
+    return Clause("bw_vertical/src/code_blocks.rt", f"put_block_of_{size}", "", "block.new")
+
+
 def of_ends():
     """The least and the greatest code of some rows of a column in V."""
     return Clause("bw_vertical/src/column.rt", "ends", "", "result")
@@ -183,8 +188,13 @@ STRIKES = [
     Strike("bw_column::column::Column::compared_block", (of_column("rise_of_block", "pairs.rt", "rises", "out.new"),)),
     Strike("bw_column::storage::Codes::read_block", (of_block("bw_vertical/src/column.rt"),)),
     Strike("bw_column::storage::Codes::read_block", (of_block("bw_byteslice/src/column.rt"),)),
+    Strike("bw_column::storage::Codes::read_block", (of_column("put_lent_block", "in_memory.rt", "", "block.new"),)),
+    Strike("bw_column::in_memory::put_lent_block", (of_codes_block("narrow"),)),
+    Strike("bw_column::in_memory::put_lent_block", (of_codes_block("wide"),)),
+    Strike("bw_column::in_memory::Codes::in_memory", (Clause("bw_code/src/plain.rt", "lent", "codes", "result"),)),
     Strike("bw_column::lent_planes::lent_planes", (of_block("bw_column/src/storage.rt"),)),
     Strike("bw_column::ends::code_ends", (of_ends(),)),
+    Strike("bw_column::ends::code_ends", (of_column("lent_ends", "lent_ends.rt", "least", "result.0"),)),
     Strike("bw_column::storage::Codes::copy_rows", (of_rows_copied("bw_vertical"),)),
     Strike("bw_column::storage::Codes::copy_rows", (of_rows_copied("bw_byteslice"),)),
     Strike("bw_column::column::Column::copy_stored", (of_column("copy_rows", "storage.rt", "codes", "self.new"),)),

@@ -1,6 +1,6 @@
 //! Slices as parts of blocks of planes.
 
-ghost use Rattle.std.specs.Prelude.{[], false, length, slice_index, slice_index_or, vec_capacity, vec_len, ℕ, ◌%◌, ◌*◌, ◌+◌, ◌-◌, ◌/◌, ◌<◌, ◌^◌, ◌≡◌, ◌≤◌};
+ghost use Rattle.std.specs.Prelude.{[], false, length, slice_index, slice_index_or, vec_capacity, vec_len, ℕ, ◌%◌, ◌*◌, ◌+◌, ◌-◌, ◌/◌, ◌<◌, ◌^◌, ◌≡◌, ◌≢◌, ◌≤◌};
 ghost use Rattle.bw_mask.specs.Masks.{bit_of, row_in};
 ghost use Rattle.bw_code.specs.Units.{digit};
 ghost use Rattle.bw_code.specs.Widths.{widest_code};
@@ -8,20 +8,75 @@ ghost use Rattle.bw_byteslice.specs.Slices.{shift_of, slices_of};
 ghost use Rattle.bw_byteslice.specs.Storing.{byte_of, bytes_of, capacities_of};
 ghost use Rattle.bw_vertical.specs.Planes.{code_by_planes};
 
-use crate::plane::word_up_to_end;
 use crate::shift::shift_of;
 use bw_code::PlaneBlock;
-use bw_vertical::bytes_of_words;
+use bw_vertical::{bytes_of_words, put_words_of_bytes};
 
-/// The words of a plane of a block become bit i of the bytes of a slice from row 64 w on.
-fn take_plane(slice: &[u8], w: usize, i: u32, words: &mut [u64; 32])
-    requires bit { i < 8 }
-    requires small { w < 2 ^ 30 }
-    requires whole { length slice.now % 32 ≡ 0 }
-    ensures { (r : ℕ) → r < 2048 → row_in words.new r ≡ bit_of (slice_index slice.now (64 * w + r)) i }
+/// The bytes, padded with zeros.
+fn filled_up(bytes: &[u8]) -> [u8; 64]
+    requires { length bytes.now ≤ 64 }
+    ensures { (r : ℕ) → slice_index result r ≡ slice_index bytes.now r }
 {
+    let mut run = [0; 64];
+    for r in 0..bytes.len() {
+        run[r] = bytes[r];
+    }
+    run
+}
+
+/// Word t becomes bit t of at most 64 bytes. Rows after the bytes are 0.
+fn put_words(bytes: &[u8], words: &mut [u64; 8])
+    requires few { length bytes.now ≤ 64 }
+    ensures { (t r : ℕ) → t < 8 → r < 64 → bit_of (slice_index words.new t) r ≡ bit_of (slice_index bytes.now r) t }
+{
+    // All runs but the last have 64 bytes, which are read where they lie.
+    if let Some(run) = bytes.as_array::<64>() {
+        put_words_of_bytes(words, 0, run);
+    } else {
+        put_words_of_bytes(words, 0, &filled_up(bytes));
+    }
+}
+
+/// Word j of a plane becomes this word.
+fn put_word(plane: &mut [u64; 32], j: usize, word: u64)
+    requires { j < 32 }
+    ensures here { slice_index plane.new j ≡ word }
+    ensures others { (m : ℕ) → m ≢ j → slice_index plane.new m ≡ slice_index plane.old m }
+{
+    plane[j] = word;
+}
+
+/// Word t becomes word j of plane `low` + t - `spare` of a block, where there is such a plane. No other word changes.
+fn put_slice_words(block: &mut PlaneBlock, j: usize, low: usize, spare: usize, words: &[u64; 8])
+    requires word { j < 32 }
+    requires few { spare < 8 }
+    requires inside { low + 8 ≤ 64 + spare }
+    ensures put { (t : ℕ) → t < 8 → spare ≤ low + t → slice_index (slice_index_or block.new (low + t - spare) []) j ≡ slice_index words.now t }
+    ensures others { (b m : ℕ) → m ≢ j → slice_index (slice_index_or block.new b []) m ≡ slice_index (slice_index_or block.old b []) m }
+    ensures away { (b m : ℕ) → (low ≤ b + spare → low + 8 ≤ b + spare) → slice_index (slice_index_or block.new b []) m ≡ slice_index (slice_index_or block.old b []) m }
+{
+    for t in 0..8 {
+        if spare <= low + t {
+            put_word(&mut block[low + t - spare], j, words[t]);
+        }
+    }
+}
+
+/// Bit t of the 2,048 bytes of a slice from row 64 w on becomes plane `low` + t - `spare` of a block, where there is such
+/// a plane. The other planes stay. Bytes past the end of the slice are 0.
+fn take_slice(slice: &[u8], w: usize, block: &mut PlaneBlock, low: usize, spare: usize)
+    requires small { w < 2 ^ 30 }
+    requires few { spare < 8 }
+    requires inside { low + 8 ≤ 64 + spare }
+    ensures taken { (t r : ℕ) → t < 8 → spare ≤ low + t → r < 2048 → row_in (slice_index_or block.new (low + t - spare) []) r ≡ bit_of (slice_index slice.now (64 * w + r)) t }
+    ensures away { (b m : ℕ) → (low ≤ b + spare → low + 8 ≤ b + spare) → slice_index (slice_index_or block.new b []) m ≡ slice_index (slice_index_or block.old b []) m }
+{
+    let mut words = [0; 8];
     for j in 0..32 {
-        words[j] = word_up_to_end(slice, w + j, i);
+        let from = slice.len().min(64 * (w + j));
+        let end = slice.len().min(64 * (w + j) + 64);
+        put_words(&slice[from..end], &mut words);
+        put_slice_words(block, j, low, spare, &words);
     }
 }
 
@@ -31,14 +86,13 @@ pub(crate) fn take_block(slices: &[Vec<u8>], width: u32, w: usize, block: &mut P
     requires narrow { width ≤ widest_code }
     requires small { w < 2 ^ 30 }
     requires count { length slices.now ≡ slices_of width }
-    requires whole { (i : ℕ) → i < slices_of width → length (slice_index_or (bytes_of slices.now) i []) % 32 ≡ 0 }
     ensures { (b r : ℕ) → b < width → r < 2048 → row_in (slice_index_or block.new b []) r
         ≡ bit_of (byte_of (bytes_of slices.now) (64 * w + r) (slices_of width - 1 - (b + shift_of width) / 8)) ((b + shift_of width) % 8) }
 {
-    for b in 0..width {
-        let place = b + shift_of(width);
-        let slice = &slices[slices.len() - 1 - place as usize / 8];
-        take_plane(slice, w, place % 8, &mut block[b as usize]);
+    let m = slices.len();
+    let spare = shift_of(width) as usize;
+    for i in 0..m {
+        take_slice(&slices[i], w, block, 8 * (m - 1 - i), spare);
     }
 }
 

@@ -75,13 +75,13 @@ impl Interval {
         requires { 64 ≤ length codes.now }
         ensures { (i : ℕ) → i < 64 → bit_of result i ≡ is_in self (slice_index codes.now i) }
     {
-        let inside = between(codes, self.low, self.span);
+        let inside = rows_between(codes, self.low, self.span);
         if self.is_inside { inside } else { !inside }
     }
 }
 
 /// Bit i says whether the i-th of the first 64 codes is `low`, `low + 1`, .. or `low + span`.
-fn between(codes: &[u32], low: u32, span: u32) -> u64
+pub fn rows_between(codes: &[u32], low: u32, span: u32) -> u64
     requires long { 64 ≤ length codes.now }
     requires ends { low + span < 2 ^ 32 }
     ensures { (i : ℕ) → i < 64 → bit_of result i ≡ (nat_le low (slice_index codes.now i) && nat_le (slice_index codes.now i) (low + span)) }

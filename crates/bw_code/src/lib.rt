@@ -11,6 +11,7 @@ mod header;
 mod kind;
 mod lanes;
 mod laws;
+mod lent_codes;
 mod meter;
 mod narrow_codes;
 mod offset;
@@ -36,9 +37,11 @@ pub use encoding::{Encoding, fit};
 pub use ends::Ends;
 pub use header::Header;
 pub use kind::{ColumnType, Kind, Layout};
+pub use lanes::rows_between;
 pub use laws::{
     bits_of_numbers, codes_keep_order, codes_of_values, equal_encodings, fits_of_values,
 };
+pub use lent_codes::LentCodes;
 pub use meter::Meter;
 pub use offset::Offset;
 pub use plain::PlainColumn;

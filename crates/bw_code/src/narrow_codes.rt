@@ -133,6 +133,13 @@ impl NarrowCodes {
     ghost use Rattle.bw_code.specs.Columns.{code_at, count};
     ghost use Rattle.bw_code.specs.Shifts.{shifted, StaysBelow};
 
+    /// The codes as they lie in memory.
+    pub(crate) fn codes(&self) -> &[u32]
+        ensures { result.now ≡ self.now.codes }
+    {
+        &self.codes
+    }
+
     /// Changes the base of the code of each row in `rows` from `from` to `to`, and the width of all codes to `width`.
     /// Takes no memory.
     pub(crate) fn shift(&mut self, rows: &Mask, from: i64, to: i64, width: u32)

@@ -7,6 +7,7 @@ ghost use Rattle.bw_code.specs.declared.kind.Layout.TheVariants as layouts;
 
 use crate::column::CodeColumn;
 use crate::compare::{CmpOp, CodeTest};
+use crate::lent_codes::LentCodes;
 use crate::meter::Meter;
 use crate::narrow_codes::NarrowCodes;
 use crate::wide_codes::WideCodes;
@@ -158,7 +159,19 @@ impl CodeColumn for PlainColumn {
 
 impl PlainColumn {
     ghost use Rattle.bw_code.specs.Columns.{code_at, count};
+    ghost use Rattle.bw_code.specs.Plain.{codes_lent, IsLentAs};
     ghost use Rattle.bw_code.specs.Shifts.{shifted, StaysBelow};
+
+    /// The codes as they lie in memory.
+    pub fn lent(&self) -> LentCodes<'_>
+        ensures codes { codes_lent result ≡ self.now.codes }
+        ensures form { IsLentAs self.now.width result }
+    {
+        match &self.codes {
+            PlainCodes::Narrow(codes) => LentCodes::Narrow(codes.codes()),
+            PlainCodes::Wide(codes) => LentCodes::Wide(codes.codes()),
+        }
+    }
 
     /// Changes the base of the code of each row in `rows` from `from` to `to`, and the width of all codes to `width`;
     /// they take as many bytes as before. Takes no memory.

@@ -15,6 +15,7 @@ pub mod Grown
 pub mod Held
 pub mod Known
 pub mod Lain
+pub mod LentEnds
 pub mod Listed
 pub mod Masked
 pub mod Measuring

@@ -1,9 +1,11 @@
 -- The codes of a column, in any layout.
 use Rattle.bw_code.specs.Columns.{CodeList}
-use Rattle.std.specs.Prelude.{ℕ, ◌↔◌, ◌≡◌, ◌≤◌, ◌⊎◌}
+use Rattle.std.specs.Prelude.{ℕ, ⊤, ◌↔◌, ◌≡◌, ◌≤◌, ◌⊎◌}
 use Rattle.bw_code.specs.Widths.{widest_half}
 use Rattle.bw_code.specs.declared.kind.Layout.{Layout}
 use Rattle.bw_code.specs.declared.kind.Layout.TheVariants as layouts
+use Rattle.bw_code.specs.declared.lent_codes.LentCodes.{LentCodes}
+use Rattle.bw_code.specs.declared.lent_codes.LentCodes.TheVariants as memory
 use Rattle.bw_column.specs.declared.storage.Codes.{Codes}
 use Rattle.bw_column.specs.declared.storage.Codes.TheVariants as kept
 use Rattle.bw_column.specs.declared.storage.Storage.{Storage}
@@ -43,3 +45,8 @@ ShiftsTo layouts.P old new = (new ≤ widest_half) ↔ (old ≤ widest_half)
 ShiftsTo layouts.V old new = new ≡ old
 ShiftsTo layouts.H old new = new ≡ old
 ShiftsTo layouts.S old new = new ≡ old
+
+-- codes of k bits that are lent as 32-bit numbers are no wider
+abbrev pub FitsLent : ℕ → LentCodes → Type 0
+FitsLent k (memory.Narrow codes) = k ≤ widest_half
+FitsLent k (memory.Wide codes) = ⊤

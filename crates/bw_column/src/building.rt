@@ -8,7 +8,7 @@ ghost use Rattle.bw_column.specs.Values.{IsNullOrHeld, known, widest};
 
 use crate::column::Column;
 use crate::storage::Codes;
-use crate::unlent::Unlent;
+use crate::unlent::{Unlent, goes_by_planes};
 use bw_cells::Measured;
 use bw_code::{Encoding, Kind, Layout, Offset};
 use bw_dictionary::{dictionary_like, rank_cells};
@@ -104,7 +104,7 @@ impl Column {
 
     /// A column of the same values, as `build` would make it. From a dictionary to a dictionary no value is read: the
     /// entries already exist, and only codes are mapped. From distances in S to distances in S slices are copied if the
-    /// width stays, and to H and P codes are read.
+    /// width stays.
     pub fn rebuild(&self, alloc: Global, layout: Layout, kind: Kind) -> Result<Column, AllocError>
         requires { All (IsNullOrHeld layout) self.now.values }
         ensures values { IfOk result (λ c. c.values ≡ self.now.values) }
@@ -118,10 +118,8 @@ impl Column {
             (Kind::Offset, Kind::Offset) if layout == Layout::S && self.layout() == Layout::S => {
                 self.rebuilt_slices(alloc)
             }
-            _ if self.layout() == Layout::S && matches!(layout, Layout::H | Layout::P) => {
-                Column::build(alloc, &Unlent { column: self }, layout, kind)
-            }
-            _ => Column::build(alloc, self, layout, kind),
+            _ if goes_by_planes(self.layout(), layout) => Column::build(alloc, self, layout, kind),
+            _ => Column::build(alloc, &Unlent { column: self }, layout, kind),
         }
     }
 

@@ -10,6 +10,7 @@ ghost use Rattle.bw_column.specs.Values.{known};
 ghost use Rattle.bw_vertical.specs.Descents.{AreCodeEnds};
 
 use crate::column::Column;
+use crate::lent_ends::lent_ends;
 use crate::slice_ends::slice_ends;
 use crate::storage::Codes;
 use bw_code::{CodeColumn, Ends};
@@ -139,10 +140,14 @@ fn code_ends(codes: &Codes, nonnull: &Mask, start: u64) -> (u64, u64)
     ensures least { IsLeastFrom start (count (list_of codes.now)) (row_at nonnull.now) (code_at (list_of codes.now)) result.0 }
     ensures greatest { IsGreatestFrom start (count (list_of codes.now)) (row_at nonnull.now) (code_at (list_of codes.now)) result.1 }
 {
+    let _few = codes.len();
     match codes {
         Codes::V(planes) => ends_from(start, planes.ends(nonnull)),
         Codes::S(codes) => slice_ends(codes, nonnull, start),
-        Codes::P(_) | Codes::H(_) => run_ends(codes, nonnull, start),
+        Codes::P(_) | Codes::H(_) => match codes.in_memory() {
+            Some(lent) => lent_ends(lent, nonnull, start),
+            None => run_ends(codes, nonnull, start),
+        },
     }
 }
 

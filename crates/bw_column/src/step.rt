@@ -13,6 +13,7 @@ ghost use Rattle.bw_column.specs.Values.{IsNullOrHeld, known, widest};
 
 use crate::column::Column;
 use crate::entry_step::Raise;
+use crate::unlent::{Unlent, goes_by_planes};
 use bw_cells::{Measured, ends_of_both};
 use bw_code::{Encoding, Kind, Layout, Offset};
 use bw_dictionary::rank_cells;
@@ -90,7 +91,11 @@ impl Column {
     {
         let encoding = Encoding::Offset(offset);
         let mut column = Column::with_room(alloc, self.layout(), encoding, self.len() + more)?;
-        column.extend_from(self);
+        if goes_by_planes(self.layout(), self.layout()) {
+            column.extend_from(self);
+        } else {
+            column.extend_from(&Unlent { column: self });
+        }
         Ok(column)
     }
 

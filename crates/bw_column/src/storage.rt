@@ -8,11 +8,13 @@ ghost use Rattle.bw_code.specs.Meters.{raised};
 ghost use Rattle.bw_code.specs.Shifts.{StaysBelow, shifted};
 ghost use Rattle.bw_code.specs.Tests.{TestFits, code_compares, meets};
 ghost use Rattle.bw_code.specs.Units.{units_of_pair, units_of_scan};
+ghost use Rattle.bw_code.specs.Widths.{widest_code};
 ghost use Rattle.bw_column.specs.Storing.{IsSliced, ShiftsTo, layout_of, lent_layout, lent_list, list_of};
 ghost use Rattle.bw_column.specs.Values.{widest};
 ghost use Rattle.bw_code.specs.declared.kind.Layout.TheVariants as layouts;
 ghost use Rattle.bw_vertical.specs.Planes.{code_by, code_by_planes};
 
+use crate::in_memory::put_lent_block;
 use bw_byteslice::SliceColumn;
 use bw_code::{CmpOp, CodeColumn, CodeTest, Layout, Meter, PlainColumn, PlaneBlock};
 use bw_horizontal::HorizontalColumn;
@@ -63,6 +65,19 @@ impl Codes {
             Codes::V(_) => Layout::V,
             Codes::H(_) => Layout::H,
             Codes::S(_) => Layout::S,
+        }
+    }
+
+    /// How many bits a code has.
+    pub(crate) fn width(&self) -> u32
+        ensures width { result ≡ (list_of self.now).width }
+        ensures narrow { result ≤ widest_code }
+    {
+        match self {
+            Codes::P(codes) => codes.width(),
+            Codes::V(codes) => codes.width(),
+            Codes::H(codes) => codes.width(),
+            Codes::S(codes) => codes.width(),
         }
     }
 
@@ -222,7 +237,7 @@ impl Codes {
     }
 
     /// Plane b of the block becomes bit b of the codes of the 2,048 rows from row `at` on, which begins a segment. Rows
-    /// past the last have code 0. Returns false where the layout doesn't have codes as planes; then the block is
+    /// past the last have code 0. Returns false where planes are not made faster than codes are read; then the block is
     /// unspecified.
     pub(crate) fn read_block(&self, at: usize, block: &mut PlaneBlock) -> bool
         requires first { at % 256 ≡ 0 }
@@ -238,7 +253,14 @@ impl Codes {
                 codes.read_block(at, block);
                 true
             }
-            Codes::P(_) | Codes::H(_) => false,
+            Codes::P(_) | Codes::H(_) => {
+                let Some(codes) = self.in_memory() else {
+                    return false;
+                };
+                let _few = self.len();
+                put_lent_block(codes, self.width() as usize, at, block);
+                true
+            }
         }
     }
 

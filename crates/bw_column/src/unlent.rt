@@ -1,11 +1,19 @@
-//! A column that doesn't lend its planes.
+//! A column that doesn't lend its planes, for columns to which its codes come faster as they are.
 
 use crate::column::Column;
 use bw_cells::{Cells, Measured};
-use bw_code::Ends;
+use bw_code::{Ends, Layout};
 
-/// The values of a column, which lends no planes: from the bytes of slices codes of H and P are made faster than from
-/// planes.
+/// Whether codes come from one layout to another faster by their planes than by the codes themselves.
+pub(crate) fn goes_by_planes(from: Layout, to: Layout) -> bool {
+    match from {
+        Layout::V => true,
+        Layout::S => matches!(to, Layout::V | Layout::S),
+        Layout::P | Layout::H => false,
+    }
+}
+
+/// The values of a column, which lends no planes.
 #[derive(Clone, Copy)]
 pub(crate) struct Unlent<'a> {
     pub(crate) column: &'a Column,

@@ -1,5 +1,5 @@
 -- Words with one code each.
-use Rattle.std.proofs.Common.{Bool, List, ap, arith, drop, false, get_or, if◌then◌else◌, inl, inr, length, refl, subst, sym, take, true, ℕ, ◌+◌, ◌-◌, ◌*◌, ◌/◌, ◌<◌, ◌^◌, ◌≡◌, ◌≤◌, ◌∙◌}
+use Rattle.std.proofs.Common.{Bool, List, ap, arith, drop, false, get_or, if◌then◌else◌, inl, inr, length, length-take, refl, subst, sym, take, true, ℕ, ◌+◌, ◌-◌, ◌*◌, ◌/◌, ◌<◌, ◌^◌, ◌≡◌, ◌≤◌, ◌∙◌}
 use Rattle.std.specs.List.{All}
 use Rattle.std.proofs.Math.Nat.{mod-eq_of_lt}
 use Rattle.std.proofs.lemmas.Bool.{cases_lt}
@@ -8,11 +8,12 @@ use Rattle.bw_mask.specs.Masks.{bit_of}
 use Rattle.bw_lane.specs.Sections.{IsStored, section_of}
 use Rattle.bw_lane.proofs.Sectionwise.{section_first}
 use Rattle.bw_code.specs.Columns.{is_chosen}
+use Rattle.bw_code.proofs.Lists.{made_is}
 use Rattle.bw_code.proofs.Parts.{before_part, behind_part, in_part}
 use Rattle.bw_code.proofs.Runs.{chosen_below, chosen_from}
-use Rattle.bw_horizontal.specs.Words.{code_in, section_in, segment_rows, word_of}
+use Rattle.bw_horizontal.specs.Words.{AreWords, code_in, codes_of, section_in, segment_rows, word_of}
 use Rattle.bw_horizontal.proofs.Runs.{part_stored}
-use Rattle.bw_horizontal.proofs.Views.{stored_at}
+use Rattle.bw_horizontal.proofs.Views.{row_there, stored_at}
 use borrow.Rule.Slice.PartMut.{put_mid}
 
 pub own_word : (j : ℕ) → word_of 32 j ≡ j
@@ -45,6 +46,16 @@ own_code words stored j =
     ap (λ w. section_of 32 (section_in 32 j) (get_or words w 0)) (own_word j)
     ∙ ap (λ t. section_of 32 t (get_or words j 0)) (own_section j)
     ∙ whole (get_or words j 0) (stored_at 32 words stored j).no_spare
+
+-- the codes are the first words
+full : (n : ℕ) (words : List ℕ) → AreWords 32 n words → take n words ≡ codes_of 32 n words
+full n words are =
+    let enough = rows_there n (length words) (row_there 32 n words are) in
+    made_is n (code_in 32 words) (take n words) 0 (omega (arith, length-take n words, enough)) (λ i h.
+    get_or-take n words i 0 h ∙ sym (own_code words are.segments.stored i))
+
+pub full_is : (k n : ℕ) (words : List ℕ) → k ≡ 32 → AreWords k n words → take n words ≡ codes_of k n words
+full_is k n words wide = subst (λ m. AreWords m n words → take n words ≡ codes_of m n words) (sym wide) (full n words)
 
 -- a code as a word
 pub code_stored : (x : ℕ) → x < 2 ^ 32 → IsStored 32 x

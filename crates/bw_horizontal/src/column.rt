@@ -1,6 +1,6 @@
 //! The column of codes side by side in words.
 
-ghost use Rattle.std.specs.Prelude.{length, nat_lt, pos, slice_index, ℕ, ◌%◌, ◌&&◌, ◌*◌, ◌+◌, ◌-ℤ◌, ◌<◌, ◌^◌, ◌≡◌};
+ghost use Rattle.std.specs.Prelude.{IfSome, None, length, nat_lt, pos, slice_index, ℕ, ◌%◌, ◌&&◌, ◌*◌, ◌+◌, ◌-ℤ◌, ◌<◌, ◌^◌, ◌≡◌};
 ghost use Rattle.bw_mask.specs.Masks.{bit_of, len, row_at};
 ghost use Rattle.bw_lane.specs.Sections.{sections_in};
 ghost use Rattle.bw_code.specs.Columns.{code_at, count, KeepsShape};
@@ -10,6 +10,7 @@ ghost use Rattle.bw_code.specs.Units.{segments_of};
 ghost use Rattle.bw_code.specs.Widths.{widest_half};
 ghost use Rattle.bw_horizontal.specs.Words.{row_of_bit, segment_rows};
 
+use crate::full_words::FULL;
 use crate::pair::pair_from;
 use crate::place::Place;
 use crate::rebasing::shift_codes;
@@ -57,6 +58,18 @@ impl HorizontalColumn {
             words,
         } = self;
         words
+    }
+
+    /// The codes as they lie in memory, where they have 32 bits, and so a word each; `None` where they are narrower.
+    pub fn lent(&self) -> Option<&[u64]>
+        ensures codes { IfSome result (λ codes. codes.now ≡ self.now.codes) }
+        ensures none { result ≡ None → self.now.width < 32 }
+    {
+        if self.width == FULL {
+            Some(&self.words[..self.len])
+        } else {
+            None
+        }
     }
 
     /// Rebases the code of each of the rows. Each rebased code fits the column's width, too. Takes no memory.

@@ -7,6 +7,7 @@ use Rattle.std.proofs.lemmas.List.{get_or-replicate, get_or_past, length-replica
 use Rattle.std.proofs.lemmas.Nat.{div-add-mod', pow-add}
 use Rattle.std.proofs.lemmas.Nat.Bits.{bit_at_cat_high, bit_at_cat_low}
 use Rattle.bw_mask.specs.Masks.{bit_of}
+use Rattle.bw_mask.proofs.Bits.{bit_of_shr}
 use Rattle.bw_code.proofs.LaneLemmas.{zeros}
 
 pub low_bit : (n m i : ℕ) → i < m → bit_of (n % 2 ^ m) i ≡ bit_of n i
@@ -14,6 +15,10 @@ low_bit n m i h = sym (ap (λ x. bit_of x i) whole ∙ ap (λ x. x == 1) (bit_at
   where
     whole : n ≡ n / 2 ^ m * 2 ^ m + n % 2 ^ m
     whole = omega (arith, div-add-mod' n (2 ^ m))
+
+-- bit i of the m bits of a number from bit d on
+pub part_bit : (n d m i : ℕ) → i < m → bit_of (n / 2 ^ d % 2 ^ m) i ≡ bit_of n (d + i)
+part_bit n d m i h = low_bit (n / 2 ^ d) m i h ∙ bit_of_shr n d i
 
 -- two numbers joined: the lower has m bits
 module _ (low high m i : ℕ) where

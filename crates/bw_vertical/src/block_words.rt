@@ -34,6 +34,7 @@ pub fn put_word_of_planes(words: &[u64; 64], k: usize, j: usize, block: &mut Pla
     requires word { j < 32 }
     ensures written { (b : ℕ) → b < k → slice_index (slice_index_or block.new b []) j ≡ slice_index words.now b }
     ensures others { (b m : ℕ) → m ≢ j → slice_index (slice_index_or block.new b []) m ≡ slice_index (slice_index_or block.old b []) m }
+    ensures rest { (b m : ℕ) → k ≤ b → slice_index (slice_index_or block.new b []) m ≡ slice_index (slice_index_or block.old b []) m }
 {
     for b in 0..k {
         put_word(&mut block[b], j, words[b]);

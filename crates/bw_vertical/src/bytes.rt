@@ -10,14 +10,26 @@ ghost use Rattle.bw_vertical.specs.Exchanges.{Exchanges};
 
 use std::simd::prelude::*;
 
-/// Byte j of each code, counted from the lowest.
-fn byte_of_each(codes: &[u32; 64], j: usize) -> [u8; 64]
-    requires { j < 4 }
-    ensures { (r : ℕ) → r < 64 → slice_index result r ≡ slice_index codes.now r / 2 ^ (8 * j) % 2 ^ 8 }
+/// Bits 16 h to 16 h + 15 of each code.
+fn pair_of_each(codes: &[u32; 64], h: usize) -> [u16; 64]
+    requires { h < 2 }
+    ensures { (r : ℕ) → r < 64 → slice_index result r ≡ slice_index codes.now r / 2 ^ (16 * h) % 2 ^ 16 }
+{
+    let mut pairs = [0; 64];
+    for r in 0..64 {
+        pairs[r] = ((codes[r] >> (16 * h)) % 0x1_0000) as u16;
+    }
+    pairs
+}
+
+/// Byte j of each pair of bytes, counted from the lower.
+fn byte_of_each(pairs: &[u16; 64], j: usize) -> [u8; 64]
+    requires { j < 2 }
+    ensures { (r : ℕ) → r < 64 → slice_index result r ≡ slice_index pairs.now r / 2 ^ (8 * j) % 2 ^ 8 }
 {
     let mut bytes = [0; 64];
     for r in 0..64 {
-        bytes[r] = ((codes[r] >> (8 * j)) % 0x100) as u8;
+        bytes[r] = ((pairs[r] >> (8 * j)) % 0x100) as u8;
     }
     bytes
 }
@@ -44,7 +56,22 @@ pub fn put_words_of_bytes(words: &mut [u64], at: usize, bytes: &[u8; 64])
     }
 }
 
-/// The words from `at` on become those of the planes of codes of k bits.
+/// The words from `at` on become those of the planes of the k lowest bits of the pairs of bytes.
+fn put_pairs(pairs: &[u16; 64], k: usize, words: &mut [u64], at: usize)
+    requires narrow { k ≤ 16 }
+    requires room { at + 16 ≤ length words.old }
+    ensures long { length words.new ≡ length words.old }
+    ensures inside { (b r : ℕ) → b < k → r < 64 → bit_of (slice_index words.new (at + b)) r ≡ bit_of (slice_index pairs.now r) b }
+    ensures before { (b : ℕ) → b < at → slice_index words.new b ≡ slice_index words.old b }
+{
+    put_words_of_bytes(words, at, &byte_of_each(pairs, 0));
+    if k > 8 {
+        put_words_of_bytes(words, at + 8, &byte_of_each(pairs, 1));
+    }
+}
+
+/// The words from `at` on become those of the planes of codes of k bits. The codes are halved, and then their halves:
+/// one byte of each code at once takes a third more.
 pub(crate) fn put_codes(codes: &[u32; 64], k: usize, words: &mut [u64], at: usize)
     requires narrow { k ≤ widest_half }
     requires room { at + 32 ≤ length words.old }
@@ -52,8 +79,9 @@ pub(crate) fn put_codes(codes: &[u32; 64], k: usize, words: &mut [u64], at: usiz
     ensures inside { (b r : ℕ) → b < k → r < 64 → bit_of (slice_index words.new (at + b)) r ≡ bit_of (slice_index codes.now r) b }
     ensures before { (b : ℕ) → b < at → slice_index words.new b ≡ slice_index words.old b }
 {
-    for j in 0..k.div_ceil(8) {
-        put_words_of_bytes(words, at + 8 * j, &byte_of_each(codes, j));
+    put_pairs(&pair_of_each(codes, 0), k.min(16), words, at);
+    if k > 16 {
+        put_pairs(&pair_of_each(codes, 1), k - 16, words, at + 16);
     }
 }
 

@@ -70,6 +70,7 @@ fn take_segment(groups: &[Vec<[u64; 4]>], k: usize, q: usize, block: &mut PlaneB
     requires part { s < 8 }
     ensures taken { (i w : ℕ) → i < k → w < 4 → slice_index (slice_index_or block.new (k - 1 - i) []) (4 * s + w) ≡ word_of k (lists groups.now) i (4 * q + w) }
     ensures others { (b w : ℕ) → w / 4 ≢ s → slice_index (slice_index_or block.new b []) w ≡ slice_index (slice_index_or block.old b []) w }
+    ensures rest { (b w : ℕ) → k ≤ b → slice_index (slice_index_or block.new b []) w ≡ slice_index (slice_index_or block.old b []) w }
 {
     // Most groups have four planes, and are handled faster where their size is known.
     'whole: for g in 0..k / 4 {
@@ -86,6 +87,7 @@ fn clear_segment(block: &mut PlaneBlock, k: usize, s: usize)
     requires part { s < 8 }
     ensures cleared { (b w : ℕ) → b < k → w < 4 → slice_index (slice_index_or block.new b []) (4 * s + w) ≡ 0 }
     ensures others { (b w : ℕ) → w / 4 ≢ s → slice_index (slice_index_or block.new b []) w ≡ slice_index (slice_index_or block.old b []) w }
+    ensures rest { (b w : ℕ) → k ≤ b → slice_index (slice_index_or block.new b []) w ≡ slice_index (slice_index_or block.old b []) w }
 {
     for b in 0..k {
         take_plane(&[0; 4], &mut block[b], s);

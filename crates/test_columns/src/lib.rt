@@ -13,6 +13,8 @@ mod dictionaries;
 #[cfg(test)]
 mod groups;
 #[cfg(test)]
+mod lent_planes;
+#[cfg(test)]
 mod pairs;
 #[cfg(test)]
 mod planes;

@@ -1,4 +1,5 @@
 use Rattle.std.proofs.Common.{[], ap, arith, get_or, get_or-set_other, get_or-set_same, inl, inr, length, ◌<◌, ◌∙◌}
+use mathlib.Core.Logic.{◌≢◌}
 use Rattle.std.proofs.lemmas.Bool.{cases_eq}
 use Rattle.std.proofs.lemmas.List.{length-set}
 use Rattle.bw_vertical.proofs.block_words.put_word_of_planes.Goals as goal
@@ -19,6 +20,9 @@ loop-b-preserved c =
             | inl e ↦ rw e (ap (λ xs. get_or xs j 0) (get_or-set_same block p plane [] there) ∙ step.here)
             | inr d ↦ ap (λ xs. get_or xs j 0) (get_or-set_other block p b plane [] d) ∙ inv.written b (omega (arith, h, d))
           ];
+      rest = λ b m h.
+          let d : b ≢ p = λ e. omega (arith, e, h) in
+          ap (λ xs. get_or xs m 0) (get_or-set_other block p b plane [] d) ∙ inv.rest b m (omega (arith, h));
       others = λ b m far.
           elim (cases_eq b p) [
             | inl e ↦ rw e (ap (λ xs. get_or xs m 0) (get_or-set_same block p plane [] there) ∙ step.others m far ∙ inv.others p m far)

@@ -1,30 +1,33 @@
-use Rattle.std.proofs.Common.{ap, arith, get_or, inl, inr, ◌*◌, ◌+◌, ◌-◌, ◌<◌, ◌^◌, ◌≡◌, ◌∙◌, ◌/◌}
+use Rattle.std.proofs.Common.{ap, arith, get_or, inl, inr, ◌+◌, ◌-◌, ◌<◌, ◌≡◌, ◌∙◌}
+use Rattle.std.proofs.Math.Nat.{zero-add}
 use Rattle.std.proofs.lemmas.Bool.{cases_lt}
 use Rattle.bw_mask.specs.Masks.{bit_of}
-use Rattle.bw_mask.proofs.Bits.{bit_of_shr}
-use Rattle.bw_vertical.proofs.ByteBits.{low_bit}
+use Rattle.bw_vertical.proofs.ByteBits.{part_bit}
 use Rattle.bw_vertical.proofs.bytes.put_codes.Goals as goal
 
-pub loop-j-preserved : goal.loop-j-preserved
-loop-j-preserved c =
-    let j = c.loop-j.j in
-    let inv = c.loop-j.invariant in
-    let codes = c.args.codes.now in
-    record {
-      long = c.put_words_of_bytes.ensures.long ∙ inv.long;
-      done = λ b r h l.
-          elim (cases_lt b (8 * j)) [
-            | inl p ↦ ap (λ w. bit_of w r) (c.put_words_of_bytes.ensures.before (c.args.at + b) (omega (arith, p))) ∙ inv.done b r p l
-            | inr p ↦
-                let t = b - 8 * j in
-                let low : b - 8 * j < 8 = omega (arith, h, p) in
-                let place : 8 * j + (b - 8 * j) ≡ b = omega (arith, p) in
-                let there : c.args.at + b ≡ c.args.at + 8 * j + (b - 8 * j) = omega (arith, p) in
-                ap (λ n. bit_of (get_or c.put_words_of_bytes.new.words n 0) r) there ∙ c.put_words_of_bytes.ensures.inside (b - 8 * j) r low l
-                ∙ ap (λ x. bit_of x (b - 8 * j)) (c.byte_of_each.ensures r l)
-                ∙ low_bit (get_or codes r 0 / 2 ^ (8 * j)) 8 (b - 8 * j) low
-                ∙ bit_of_shr (get_or codes r 0) (8 * j) (b - 8 * j)
-                ∙ ap (bit_of (get_or codes r 0)) place
-          ];
-      before = λ b h. c.put_words_of_bytes.ensures.before b (omega (arith, h)) ∙ inv.before b h;
-    }
+pub returns-then-k-gt16-clause-inside : goal.returns-then-k-gt16-clause-inside
+returns-then-k-gt16-clause-inside c b r h l =
+    let x = get_or c.args.codes.now r 0 in
+    let words = c.put_pairs-then-k-gt16.new.words in
+    elim (cases_lt b 16) [
+      | inl p ↦
+          ap (λ w. bit_of w r) (c.put_pairs-then-k-gt16.ensures.before (c.args.at + b) (omega (arith, p)))
+          ∙ c.put_pairs.ensures.inside b r (omega (arith, p, c.min.ensures, c.if-k-gt16.true)) l
+          ∙ ap (λ v. bit_of v b) (c.pair_of_each.ensures r l)
+          ∙ part_bit x 0 16 b p
+          ∙ ap (bit_of x) (zero-add b)
+      | inr p ↦
+          let low : b - 16 < 16 = omega (arith, h, c.requires.narrow) in
+          let there : c.args.at + b ≡ c.args.at + 16 + (b - 16) = omega (arith, p) in
+          let place : 16 + (b - 16) ≡ b = omega (arith, p) in
+          ap (λ n. bit_of (get_or words n 0) r) there
+          ∙ c.put_pairs-then-k-gt16.ensures.inside (b - 16) r (omega (arith, p, h)) l
+          ∙ ap (λ v. bit_of v (b - 16)) (c.pair_of_each-then-k-gt16.ensures r l)
+          ∙ part_bit x 16 16 (b - 16) low
+          ∙ ap (bit_of x) place
+    ]
+
+pub returns-else-k-gt16-clause-inside : goal.returns-else-k-gt16-clause-inside
+returns-else-k-gt16-clause-inside c b r h l =
+    let p : b < 16 = omega (arith, h, c.if-k-gt16.false) in
+    c.put_pairs.ensures.inside b r (omega (arith, h, p, c.min.ensures)) l ∙ ap (λ v. bit_of v b) (c.pair_of_each.ensures r l) ∙ part_bit (get_or c.args.codes.now r 0) 0 16 b p ∙ ap (bit_of (get_or c.args.codes.now r 0)) (zero-add b)

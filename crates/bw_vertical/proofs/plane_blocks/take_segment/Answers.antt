@@ -15,6 +15,7 @@ whole-preserved c =
             | inr p ↦ step.taken i w l (omega (arith, h, p)) low
           ];
       others = λ b w away. step.others b w away ∙ inv.others b w away;
+      rest = λ b w h. step.above b w (omega (arith, h)) ∙ inv.rest b w h;
     }
 
 pub last-preserved : goal.last-preserved
@@ -30,4 +31,5 @@ last-preserved c =
             | inr p ↦ step.taken i w l (omega (arith, h, p)) low
           ];
       others = λ b w away. step.others b w away ∙ inv.others b w away;
+      rest = λ b w h. step.above b w (omega (arith, h)) ∙ inv.rest b w h;
     }

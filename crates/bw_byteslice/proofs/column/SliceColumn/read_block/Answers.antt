@@ -16,9 +16,6 @@ take_block-requires-clause-count c =
     let s = c.self.inside in
     ap length c.deref.ensures.value ∙ slices_count s.width s.len s.slices.items c.args.self.now c.self.invariant c.self.view_is
 
-pub take_block-requires-clause-whole : goal.take_block-requires-clause-whole
-take_block-requires-clause-whole c i low = rw c.deref.ensures.value (omega (arith, c.self.invariant.long i low))
-
 pub returns : goal.returns
 returns c b r h l =
     let s = c.self.inside in

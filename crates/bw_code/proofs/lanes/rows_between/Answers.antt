@@ -3,7 +3,7 @@ use lib.Lanes.{zip2}
 use Rattle.std.proofs.lemmas.List.{length-replicate}
 use Rattle.std.proofs.lemmas.Simd.{get_or-replicate}
 use Rattle.bw_code.proofs.LaneLemmas.{lane_bit, lane_with, lanes_with, moved_down}
-use Rattle.bw_code.proofs.lanes.between.Goals as goal
+use Rattle.bw_code.proofs.lanes.rows_between.Goals as goal
 
 pub returns : goal.returns
 returns c i h =

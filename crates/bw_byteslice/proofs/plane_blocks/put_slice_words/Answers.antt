@@ -1,0 +1,49 @@
+use Rattle.std.proofs.Common.{[], ap, arith, get_or, get_or-set_other, get_or-set_same, inl, inr, length, ◌+◌, ◌-◌, ◌<◌, ◌∙◌}
+use mathlib.Core.Logic.{◌≢◌}
+use Rattle.std.proofs.lemmas.Bool.{cases_eq}
+use Rattle.std.proofs.lemmas.List.{length-set}
+use Rattle.bw_byteslice.proofs.plane_blocks.put_slice_words.Goals as goal
+use Rattle.bw_byteslice.proofs.plane_blocks.put_slice_words.Goals.{else-spare-low, then-spare-low}
+
+pub loop-t-preserved : goal.loop-t-preserved
+loop-t-preserved c =
+    let t = c.loop-t.t in
+    let j = c.args.j in
+    let low = c.args.low in
+    let spare = c.args.spare in
+    let block = c.loop-t.block in
+    let inv = c.loop-t.invariant in
+    let less = c.loop-t-test.true in
+    elim c.if-spare-low.branch [
+      | then-spare-low w ↦
+          let p = c.args.low + t - spare in
+          let plane = w.put_word.new.plane in
+          let step = w.put_word.ensures in
+          let is = w.if-spare-low.true in
+          let there : c.args.low + t - spare < length block = omega (arith, inv.long, c.requires.inside, less, is) in
+          rw w.block-is (record {
+            long = length-set block p plane ∙ inv.long;
+            put = λ u h s.
+                elim (cases_eq u t) [
+                  | inl e ↦ rw e (ap (λ xs. get_or xs j 0) (get_or-set_same block p plane [] there) ∙ step.here)
+                  | inr d ↦
+                      let far : c.args.low + u - spare ≢ c.args.low + t - spare = λ e. d (omega (arith, e, s, is)) in
+                      ap (λ xs. get_or xs j 0) (get_or-set_other block p (c.args.low + u - spare) plane [] far) ∙ inv.put u (omega (arith, h, d)) s
+                ];
+            others = λ b m far.
+                elim (cases_eq b p) [
+                  | inl e ↦ rw e (ap (λ xs. get_or xs m 0) (get_or-set_same block p plane [] there) ∙ step.others m far ∙ inv.others p m far)
+                  | inr d ↦ ap (λ xs. get_or xs m 0) (get_or-set_other block p b plane [] d) ∙ inv.others b m far
+                ];
+            away = λ b m out.
+                let far : b ≢ c.args.low + t - spare = λ e. omega (arith, out (omega (arith, e, is)), e, is, less) in
+                ap (λ xs. get_or xs m 0) (get_or-set_other block p b plane [] far) ∙ inv.away b m out;
+          })
+      | else-spare-low w ↦
+          rw w.block-is (record {
+            long = inv.long;
+            put = λ u h s. inv.put u (omega (arith, h, s, w.if-spare-low.false)) s;
+            others = inv.others;
+            away = inv.away;
+          })
+    ]
