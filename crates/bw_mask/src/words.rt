@@ -251,17 +251,20 @@ pub(crate) fn begin_word(words: &mut Vec<u64>, n: usize)
     }
 }
 
-/// Words of zeros after the last one, until there are as many as n rows need.
+/// A word of zeros after the last one, if n rows need one more.
 pub(crate) fn fill_up(words: &mut Vec<u64>, n: usize)
     requires count { vec_len words.old ≤ (n + 63) / 64 }
+    requires one { (n + 63) / 64 ≤ vec_len words.old + 1 }
     requires room { n ≤ 64 * vec_capacity words.old }
     ensures len { vec_len words.new ≡ (n + 63) / 64 }
     ensures room { vec_capacity words.old ≤ vec_capacity words.new }
     ensures rows { (j : ℕ) → row_in words.new.items j ≡ row_in words.old.items j }
 {
-    let Ok(()) = words.resize(n.div_ceil(64), 0) else {
-        unreachable!()
-    };
+    if words.len() < n.div_ceil(64) {
+        let Ok(()) = words.push(0) else {
+            unreachable!()
+        };
+    }
 }
 
 /// The word with bit i alone, for each i.
