@@ -10,7 +10,7 @@ ghost use Rattle.bw_vertical.specs.Planes.{code_by_planes};
 
 use crate::shift::shift_of;
 use bw_code::PlaneBlock;
-use bw_vertical::{bytes_of_words, put_words_of_bytes};
+use bw_vertical::{bytes_of_words, put_planes_of_bytes};
 
 /// The bytes, padded with zeros.
 fn filled_up(bytes: &[u8]) -> [u8; 64]
@@ -24,46 +24,27 @@ fn filled_up(bytes: &[u8]) -> [u8; 64]
     run
 }
 
-/// Word t becomes bit t of at most 64 bytes. Rows after the bytes are 0.
-fn put_words(bytes: &[u8], words: &mut [u64; 8])
-    requires few { length bytes.now ≤ 64 }
-    ensures { (t r : ℕ) → t < 8 → r < 64 → bit_of (slice_index words.new t) r ≡ bit_of (slice_index bytes.now r) t }
-{
-    // All runs but the last have 64 bytes, which are read where they lie.
-    if let Some(run) = bytes.as_array::<64>() {
-        put_words_of_bytes(words, 0, run);
-    } else {
-        put_words_of_bytes(words, 0, &filled_up(bytes));
-    }
-}
-
-/// Word j of a plane becomes this word.
-fn put_word(plane: &mut [u64; 32], j: usize, word: u64)
-    requires { j < 32 }
-    ensures here { slice_index plane.new j ≡ word }
-    ensures others { (m : ℕ) → m ≢ j → slice_index plane.new m ≡ slice_index plane.old m }
-{
-    plane[j] = word;
-}
-
-/// Word t becomes word j of plane `low` + t - `spare` of a block, where there is such a plane. No other word changes.
-fn put_slice_words(block: &mut PlaneBlock, j: usize, low: usize, spare: usize, words: &[u64; 8])
+/// Bit t of at most 64 bytes becomes word j of plane `low` + t - `spare` of a block, where there is such a plane. Rows
+/// after the bytes are 0. No other word changes.
+fn take_bytes(bytes: &[u8], j: usize, block: &mut PlaneBlock, low: usize, spare: usize)
+    requires short { length bytes.now ≤ 64 }
     requires word { j < 32 }
     requires few { spare < 8 }
     requires inside { low + 8 ≤ 64 + spare }
-    ensures put { (t : ℕ) → t < 8 → spare ≤ low + t → slice_index (slice_index_or block.new (low + t - spare) []) j ≡ slice_index words.now t }
+    ensures put { (t r : ℕ) → t < 8 → spare ≤ low + t → r < 64 → bit_of (slice_index (slice_index_or block.new (low + t - spare) []) j) r ≡ bit_of (slice_index bytes.now r) t }
     ensures others { (b m : ℕ) → m ≢ j → slice_index (slice_index_or block.new b []) m ≡ slice_index (slice_index_or block.old b []) m }
     ensures away { (b m : ℕ) → (low ≤ b + spare → low + 8 ≤ b + spare) → slice_index (slice_index_or block.new b []) m ≡ slice_index (slice_index_or block.old b []) m }
 {
-    for t in 0..8 {
-        if spare <= low + t {
-            put_word(&mut block[low + t - spare], j, words[t]);
-        }
+    // All runs but the last have 64 bytes, which are read where they lie.
+    if let Some(run) = bytes.as_array::<64>() {
+        put_planes_of_bytes(block, j, low, spare, run);
+    } else {
+        put_planes_of_bytes(block, j, low, spare, &filled_up(bytes));
     }
 }
 
-/// Bit t of the 2,048 bytes of a slice from row 64 w on becomes plane `low` + t - `spare` of a block, where there is such
-/// a plane. The other planes stay. Bytes past the end of the slice are 0.
+/// Bit t of the 2,048 bytes of a slice from row w * 64 on becomes plane `low` + t - `spare` of a block, where there is
+/// such a plane. The other planes stay. Bytes past the end of the slice are 0.
 fn take_slice(slice: &[u8], w: usize, block: &mut PlaneBlock, low: usize, spare: usize)
     requires small { w < 2 ^ 30 }
     requires few { spare < 8 }
@@ -71,17 +52,15 @@ fn take_slice(slice: &[u8], w: usize, block: &mut PlaneBlock, low: usize, spare:
     ensures taken { (t r : ℕ) → t < 8 → spare ≤ low + t → r < 2048 → row_in (slice_index_or block.new (low + t - spare) []) r ≡ bit_of (slice_index slice.now (64 * w + r)) t }
     ensures away { (b m : ℕ) → (low ≤ b + spare → low + 8 ≤ b + spare) → slice_index (slice_index_or block.new b []) m ≡ slice_index (slice_index_or block.old b []) m }
 {
-    let mut words = [0; 8];
     for j in 0..32 {
         let from = slice.len().min(64 * (w + j));
         let end = slice.len().min(64 * (w + j) + 64);
-        put_words(&slice[from..end], &mut words);
-        put_slice_words(block, j, low, spare, &words);
+        take_bytes(&slice[from..end], j, block, low, spare);
     }
 }
 
-/// The planes of a block become the bits of the codes of the 2,048 rows from row 64 w on. Bytes past the end of a slice
-/// are 0.
+/// The planes of a block become the bits of the codes of the 2,048 rows from row w * 64 on. Bytes past the end of a
+/// slice are 0.
 pub(crate) fn take_block(slices: &[Vec<u8>], width: u32, w: usize, block: &mut PlaneBlock)
     requires narrow { width ≤ widest_code }
     requires small { w < 2 ^ 30 }

@@ -48,11 +48,11 @@ pub trait Measured: Cells {
         distances_in_run(self, at, base, out)
     }
 
-    /// The planes of k bits of at most 2,048 cells from index `at` on, where the cells are stored as such planes: row r of
-    /// plane b becomes bit b of the distance of cell `at + r` from the base, modulo 2^64, and is 0 for a NULL and past
-    /// the last cell. The planes from k on are unspecified. Row i of the result, whose words have 64 rows each, says
-    /// whether cell `at + i` is an integer; past the last cell rows are 0. Returns `None` where the cells are not stored
-    /// as such planes. Takes no memory.
+    /// The planes of k bits of at most 2,048 cells from index `at` on, where they can be made without reading each cell:
+    /// row r of plane b becomes bit b of the distance of cell `at + r` from the base, modulo 2^64, and is 0 for a NULL
+    /// and past the last cell. The planes from k on are unspecified. Row i of the result, whose words have 64 rows each,
+    /// says whether cell `at + i` is an integer; past the last cell rows are 0. Returns `None` where the planes can't be
+    /// made so. Takes no memory.
     fn planes(
         &self,
         at: usize,

@@ -121,7 +121,7 @@ pub(crate) fn rows_with_bit(codes: &[u32], i: u32) -> u64
 }
 
 /// The codes, padded with zeros.
-pub(crate) fn filled_up(codes: &[u32]) -> [u32; 64]
+pub fn filled_up(codes: &[u32]) -> [u32; 64]
     requires { length codes.now ≤ 64 }
     ensures { (i : ℕ) → slice_index result i ≡ slice_index codes.now i }
 {
@@ -144,7 +144,7 @@ pub(crate) fn narrow(codes: &[u64], out: &mut [u32])
 }
 
 /// Fills `out` with the first codes, as 64-bit numbers.
-pub(crate) fn widen(codes: &[u32], out: &mut [u64])
+pub fn widen(codes: &[u32], out: &mut [u64])
     requires { length out.old ≤ length codes.now }
     ensures { out.new ≡ take (length out.old) codes.now }
 {

@@ -37,7 +37,7 @@ pub use encoding::{Encoding, fit};
 pub use ends::Ends;
 pub use header::Header;
 pub use kind::{ColumnType, Kind, Layout};
-pub use lanes::rows_between;
+pub use lanes::{filled_up, rows_between, widen};
 pub use laws::{
     bits_of_numbers, codes_keep_order, codes_of_values, equal_encodings, fits_of_values,
 };

@@ -11,7 +11,7 @@ ghost use Rattle.bw_file.specs.Planes.{column_bytes, column_size, frame_of, plan
 
 use bw_cells::Measured;
 use bw_code::{BLOCK_ROWS, PlaneBlock};
-use bw_vertical::{put_plane_words, put_word_of_planes};
+use bw_vertical::put_word_of_wide;
 use byteorder::{ByteOrder, LittleEndian};
 
 /// Writes the first bytes of a word, the lowest first.
@@ -85,14 +85,12 @@ fn computed_planes<C: Measured>(
     ensures present { (i : ℕ) → row_in result i ≡ is_some (slice_index_or (take count (drop at (C.cells column.now))) i None) }
 {
     let mut list = [0; 64];
-    let mut words = [0; 64];
     let mut present = [0; 32];
     for j in 0..32 {
         let from = count.min(64 * j);
         let run = &mut list[..(count - from).min(64)];
         present[j] = column.distances(at + from, base, run);
-        put_plane_words(run, k, &mut words);
-        put_word_of_planes(&words, k, j, block);
+        put_word_of_wide(run, k, j, block);
     }
     present
 }

@@ -1,7 +1,7 @@
 //! The words of blocks of planes, and the codes whose planes have these words.
 
 ghost use Rattle.std.specs.Prelude.{[], length, slice_index, slice_index_or, ℕ, ◌*◌, ◌+◌, ◌<◌, ◌^◌, ◌≡◌, ◌≢◌, ◌≤◌};
-ghost use Rattle.bw_code.specs.Widths.{widest_code};
+ghost use Rattle.bw_code.specs.Widths.{widest_code, widest_half};
 ghost use Rattle.bw_vertical.specs.Planes.{code_by};
 
 use crate::bytes::{codes_of_words, halves_of_words};
@@ -20,7 +20,7 @@ pub fn read_word_of_planes(block: &PlaneBlock, k: usize, j: usize, words: &mut [
 }
 
 /// Word j of a plane becomes this word.
-fn put_word(plane: &mut [u64; 32], j: usize, word: u64)
+pub(crate) fn put_word(plane: &mut [u64; 32], j: usize, word: u64)
     requires { j < 32 }
     ensures here { slice_index plane.new j ≡ word }
     ensures others { (m : ℕ) → m ≢ j → slice_index plane.new m ≡ slice_index plane.old m }
@@ -77,6 +77,22 @@ fn join(low: &[u32; 64], high: &[u32; 64], out: &mut [u64])
     }
 }
 
+/// Fills `out` with the codes of k bits, more than 32, whose planes have these words.
+///
+/// Kept separate in the machine code too: the lists of halves are cleared where the function begins.
+#[inline(never)]
+fn put_wide_codes(words: &[u64; 64], k: usize, out: &mut [u64])
+    requires wide { widest_half ≤ k }
+    requires narrow { k ≤ widest_code }
+    requires few { length out.old ≤ 64 }
+    requires rest { (b : ℕ) → k ≤ b → b < 64 → slice_index words.now b ≡ 0 }
+    ensures len { length out.new ≡ length out.old }
+    ensures codes { (r : ℕ) → r < length out.old → slice_index out.new r ≡ code_by k words.now r }
+{
+    let (low, high) = halves_of_words(words, k);
+    join(&low, &high, out);
+}
+
 /// Fills `out` with the codes of k bits whose planes have these words.
 pub fn put_codes_of_words(words: &[u64; 64], k: usize, out: &mut [u64])
     requires narrow { k ≤ widest_code }
@@ -89,7 +105,6 @@ pub fn put_codes_of_words(words: &[u64; 64], k: usize, out: &mut [u64])
         let (halves, _) = words.as_chunks::<32>();
         widen(&codes_of_words(&halves[0], k), out);
     } else {
-        let (low, high) = halves_of_words(words, k);
-        join(&low, &high, out);
+        put_wide_codes(words, k, out);
     }
 }

@@ -148,7 +148,7 @@ fn narrow(codes: &[u64], down: u32, n: usize, block: &mut [u32; 64])
 }
 
 /// The 32 bits of each code from bit `down` on, padded with zeros.
-fn narrowed(codes: &[u64], down: u32) -> [u32; 64]
+pub(crate) fn narrowed(codes: &[u64], down: u32) -> [u32; 64]
     requires few { length codes.now ≤ 64 }
     requires down { down < 64 }
     ensures { (r : ℕ) → slice_index result r ≡ slice_index codes.now r / 2 ^ down % 2 ^ 32 }

@@ -11,7 +11,7 @@ ghost use Rattle.bw_vertical.specs.Exchanges.{Exchanges};
 use std::simd::prelude::*;
 
 /// Bits 16 h to 16 h + 15 of each code.
-fn pair_of_each(codes: &[u32; 64], h: usize) -> [u16; 64]
+pub(crate) fn pair_of_each(codes: &[u32; 64], h: usize) -> [u16; 64]
     requires { h < 2 }
     ensures { (r : ℕ) → r < 64 → slice_index result r ≡ slice_index codes.now r / 2 ^ (16 * h) % 2 ^ 16 }
 {
@@ -23,7 +23,7 @@ fn pair_of_each(codes: &[u32; 64], h: usize) -> [u16; 64]
 }
 
 /// Byte j of each pair of bytes, counted from the lower.
-fn byte_of_each(pairs: &[u16; 64], j: usize) -> [u8; 64]
+pub(crate) fn byte_of_each(pairs: &[u16; 64], j: usize) -> [u8; 64]
     requires { j < 2 }
     ensures { (r : ℕ) → r < 64 → slice_index result r ≡ slice_index pairs.now r / 2 ^ (8 * j) % 2 ^ 8 }
 {
@@ -34,8 +34,9 @@ fn byte_of_each(pairs: &[u16; 64], j: usize) -> [u8; 64]
     bytes
 }
 
-/// Bit r says whether byte r has bit i set.
-fn rows_with_bit(bytes: &[u8; 64], i: u32) -> u64
+/// Bit r says whether byte r has bit i set. It is faster where i is known, and so inlined.
+#[inline(always)]
+pub(crate) fn rows_with_bit(bytes: &[u8; 64], i: u32) -> u64
     requires { i < 8 }
     ensures { (r : ℕ) → r < 64 → bit_of result r ≡ bit_of (slice_index bytes.now r) i }
 {
@@ -45,7 +46,7 @@ fn rows_with_bit(bytes: &[u8; 64], i: u32) -> u64
 }
 
 /// The words from `at` on become those of the eight planes of these bytes.
-pub fn put_words_of_bytes(words: &mut [u64], at: usize, bytes: &[u8; 64])
+fn put_words_of_bytes(words: &mut [u64], at: usize, bytes: &[u8; 64])
     requires room { at + 8 ≤ length words.old }
     ensures long { length words.new ≡ length words.old }
     ensures inside { (t r : ℕ) → t < 8 → r < 64 → bit_of (slice_index words.new (at + t)) r ≡ bit_of (slice_index bytes.now r) t }
@@ -71,7 +72,7 @@ fn put_pairs(pairs: &[u16; 64], k: usize, words: &mut [u64], at: usize)
 }
 
 /// The words from `at` on become those of the planes of codes of k bits. The codes are halved, and then their halves:
-/// one byte of each code at once takes a third more.
+/// one byte of each code at once takes longer.
 pub(crate) fn put_codes(codes: &[u32; 64], k: usize, words: &mut [u64], at: usize)
     requires narrow { k ≤ widest_half }
     requires room { at + 32 ≤ length words.old }

@@ -27,8 +27,10 @@ mod swapping;
 pub use addition::add_from;
 pub use block_words::{put_codes_of_words, put_word_of_planes, read_word_of_planes};
 pub use blocks::{plane_words, put_plane_words, wide_plane_words};
-pub use bytes::{bytes_of_words, codes_of_words, halves_of_words, put_words_of_bytes};
-pub use code_blocks::{put_block_of_narrow, put_block_of_wide};
+pub use bytes::{bytes_of_words, codes_of_words, halves_of_words};
+pub use code_blocks::{
+    put_block_of_narrow, put_block_of_wide, put_planes_of_bytes, put_word_of_wide,
+};
 pub use code_ends::CodeEnds;
 pub use column::VerticalColumn;
 pub use pair::pair_from;

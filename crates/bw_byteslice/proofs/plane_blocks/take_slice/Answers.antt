@@ -12,9 +12,9 @@ loop-j-preserved c =
     let low = c.args.low in
     let spare = c.args.spare in
     let slice = c.args.slice.now in
-    let block = c.put_slice_words.new.block in
+    let block = c.take_bytes.new.block in
     let inv = c.loop-j.invariant in
-    let step = c.put_slice_words.ensures in
+    let step = c.take_bytes.ensures in
     record {
       taken = λ t r h s l.
           elim (cases_lt r (64 * j)) [
@@ -26,8 +26,7 @@ loop-j-preserved c =
                 let row : r % 64 < 64 = omega arith in
                 let place : 64 * (w + j) + r % 64 ≡ 64 * w + r = omega (arith, is) in
                 ap (λ q. bit_of (get_or (get_or block (low + t - spare) []) q 0) (r % 64)) is
-                ∙ ap (λ x. bit_of x (r % 64)) (step.put t h s)
-                ∙ c.put_words.ensures t (r % 64) h row
+                ∙ step.put t (r % 64) h s row
                 ∙ ap (λ x. bit_of x t) (number_of_run slice (w + j) c.min-from.result c.min-end.result (r % 64) c.min-from.ensures c.min-end.ensures row)
                 ∙ ap (λ q. bit_of (get_or slice q 0) t) place
           ];

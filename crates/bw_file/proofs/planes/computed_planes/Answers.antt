@@ -26,7 +26,7 @@ loop-j-preserved g c =
     let base = to_z w64 (of_z w64 c.args.base) in
     let from = c.min-from.result in
     let n = c.min.result in
-    let block = c.put_word_of_planes.new.block in
+    let block = c.put_word_of_wide.new.block in
     let word = c.distances.result in
     let start : from ≡ min count (64 * j) = omega (arith, c.min-from.ensures) in
     let size : n ≡ min (count - from) 64 = omega (arith, c.min.ensures) in
@@ -44,14 +44,13 @@ loop-j-preserved g c =
           elim (cases_lt r (64 * j)) [
             | inl before ↦
                 let far : r / 64 ≢ j = λ e. omega (arith, e, before) in
-                ap (λ w. bit_of w (r % 64)) (c.put_word_of_planes.ensures.others b (r / 64) far) ∙ inv.planes b r h before
+                ap (λ w. bit_of w (r % 64)) (c.put_word_of_wide.ensures.others b (r / 64) far) ∙ inv.planes b r h before
             | inr here ↦
                 let is : r / 64 ≡ j = omega (arith, here, l) in
                 let row : r % 64 < 64 = omega arith in
                 let place : 64 * j + r % 64 ≡ r = omega (arith, is) in
                 ap (λ q. bit_of (get_or (get_or block b []) q 0) (r % 64)) is
-                ∙ ap (λ w. bit_of w (r % 64)) (c.put_word_of_planes.ensures.written b h)
-                ∙ c.put_plane_words.ensures b (r % 64) h row
+                ∙ c.put_word_of_wide.ensures.put b (r % 64) h row
                 ∙ ap (λ ds. bit_of (get_or ds (r % 64) 0) b) c.distances.ensures.distances
                 ∙ ap (λ m. bit_of (get_or (map (distance_from base) (take m (drop (at + from) cells))) (r % 64) 0) b) old_size
                 ∙ ap (λ d. bit_of d b) (number_of_word cells at count j from n (r % 64) c.requires.inside start size row (distance_from base))

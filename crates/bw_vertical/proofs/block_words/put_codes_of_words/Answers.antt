@@ -2,7 +2,7 @@ use Rattle.std.proofs.Common.{[], List, ap, arith, drop, get_or, length, take, �
 use Rattle.std.proofs.lemmas.List.{get_or-take}
 use Rattle.std.specs.Simd.{first_chunks}
 use Rattle.bw_mask.specs.Masks.{bit_of}
-use Rattle.bw_vertical.proofs.WordCodes.{narrow_row, wide_row}
+use Rattle.bw_vertical.proofs.WordCodes.{narrow_row}
 use Rattle.bw_vertical.proofs.block_words.put_codes_of_words.Goals as goal
 
 -- the first 32 of 64 words
@@ -21,11 +21,3 @@ returns-then-k-le32-clause-codes c r h =
     c.widen.ensures.same r h
     ∙ narrow_row c.args.k words r c.requires.rest c.if-k-le32.true _ (c.codes_of_words.ensures.fit r row)
     (λ b l. c.codes_of_words.ensures.bits r b row l ∙ ap (λ w. bit_of w r) (first_half words c.as_chunks.result.0.now c.told-words c.as_chunks.ensures.front b l))
-
-pub returns-else-k-le32-clause-codes : goal.returns-else-k-le32-clause-codes
-returns-else-k-le32-clause-codes c r h =
-    let row : r < 64 = omega (arith, h, c.requires.few) in
-    c.join.ensures.same r h
-    ∙ wide_row c.args.k c.args.words.now r c.requires.rest c.requires.narrow _ _ (c.halves_of_words.ensures.low_fit r row) (c.halves_of_words.ensures.high_fit r row)
-    (λ b l. c.halves_of_words.ensures.low r b row l)
-    (λ b l. c.halves_of_words.ensures.high r b row l)

@@ -9,8 +9,8 @@ pub loop-j-preserved : goal.loop-j-preserved
 loop-j-preserved c b r h l =
     let j = c.loop-j.j in
     let codes = c.args.codes.now in
-    let block = c.put_word_of_planes.new.block in
-    let put = c.put_word_of_planes.ensures in
+    let block = c.put_word_of_narrow.new.block in
+    let put = c.put_word_of_narrow.ensures in
     elim (cases_lt r (64 * j)) [
       | inl before ↦
           let far : r / 64 ≢ j = λ e. omega (arith, e, before) in
@@ -20,8 +20,7 @@ loop-j-preserved c b r h l =
           let low : r % 64 < 64 = omega arith in
           let place : 64 * j + r % 64 ≡ r = omega (arith, is) in
           ap (λ q. bit_of (get_or (get_or block b []) q 0) (r % 64)) is
-          ∙ ap (λ w. bit_of w (r % 64)) (put.written b h)
-          ∙ c.put_narrow_words.ensures b (r % 64) h low
+          ∙ put.put b (r % 64) h low
           ∙ ap (λ x. bit_of x b) (number_of_run codes j c.min-from.result c.min-end.result (r % 64) c.min-from.ensures c.min-end.ensures low)
           ∙ ap (λ q. bit_of (get_or codes q 0) b) place
     ]
