@@ -1,6 +1,6 @@
 //! The least and the greatest value of a column, found from its codes.
 
-ghost use Rattle.std.specs.Prelude.{Bool, IfSome, None, false, length, slice_index, true, ℕ, ◌-◌, ◌<◌, ◌^◌, ◌≡◌, ◌≤◌, ◌⊎◌};
+ghost use Rattle.std.specs.Prelude.{Bool, IfSome, None, false, length, nat_le, slice_index, true, ℕ, ◌&&◌, ◌+◌, ◌<◌, ◌^◌, ◌≡◌, ◌≤◌};
 ghost use Rattle.bw_mask.specs.Masks.{bit_of, len, row_at};
 ghost use Rattle.bw_code.specs.Columns.{code_at, count};
 ghost use Rattle.bw_code.specs.Fittings.{AreEnds};
@@ -16,6 +16,7 @@ use crate::storage::Codes;
 use bw_code::{CodeColumn, Ends};
 use bw_mask::{Mask, has_bit};
 use bw_vertical::CodeEnds;
+use std::simd::prelude::*;
 
 /// The least of `start` and of the codes.
 fn least_of(start: u64, codes: &[u64]) -> u64
@@ -75,47 +76,42 @@ fn greatest_from(start: u64, codes: &[u64], present: u64) -> u64
     greatest
 }
 
-/// Whether any of the codes is less than the least or greater than the greatest.
-fn has_beyond(codes: &[u64], least: u64, greatest: u64) -> bool
-    ensures none { result ≡ false → (i : ℕ) → i < length codes.now → (least ≤ slice_index codes.now i) × (slice_index codes.now i ≤ greatest) }
-    ensures some { result ≡ true → (i : ℕ) × (i < length codes.now) × ((slice_index codes.now i < least) ⊎ (greatest < slice_index codes.now i)) }
+/// Bit i says whether the i-th of the first 64 codes is `low`, `low + 1`, .. or `low + span`.
+fn rows_between(codes: &[u64], low: u64, span: u64) -> u64
+    requires long { 64 ≤ length codes.now }
+    requires ends { low + span < 2 ^ 64 }
+    ensures { (i : ℕ) → i < 64 → bit_of result i ≡ (nat_le low (slice_index codes.now i) && nat_le (slice_index codes.now i) (low + span)) }
 {
-    // No early exit, so that the loop is vectorized.
-    let mut any = false;
-    for i in 0..codes.len() {
-        any |= (codes[i] < least) | (codes[i] > greatest);
-    }
-    any
+    // A code below `low` wraps around to more than any span.
+    (u64x64::from_slice(codes) - u64x64::splat(low))
+        .simd_le(u64x64::splat(span))
+        .to_bitmask()
 }
 
-/// Whether any of the codes whose bit is set is less than the least or greater than the greatest.
-fn has_beyond_in(codes: &[u64], present: u64, least: u64, greatest: u64) -> bool
-    requires { length codes.now ≤ 64 }
-    ensures none { result ≡ false → (i : ℕ) → i < length codes.now → bit_of present i ≡ true → (least ≤ slice_index codes.now i) × (slice_index codes.now i ≤ greatest) }
-    ensures some { result ≡ true → (i : ℕ) × (i < length codes.now) × (bit_of present i ≡ true) × ((slice_index codes.now i < least) ⊎ (greatest < slice_index codes.now i)) }
+/// Whether one of the codes whose bit is set may lie beyond the ends so far: always, if there are fewer than 64 codes.
+fn may_be_beyond(codes: &[u64], present: u64, so_far: (u64, u64)) -> bool
+    requires order { so_far.0 ≤ so_far.1 }
+    ensures { result ≡ false → (i : ℕ) → i < length codes.now → bit_of present i ≡ true → (so_far.0 ≤ slice_index codes.now i) × (slice_index codes.now i ≤ so_far.1) }
 {
-    let mut any = false;
-    for i in 0..codes.len() {
-        any |= has_bit(present, i) & ((codes[i] < least) | (codes[i] > greatest));
+    if codes.len() != 64 {
+        return true;
     }
-    any
+    let (least, greatest) = so_far;
+    present & !rows_between(codes, least, greatest - least) != 0
 }
 
 /// The least and the greatest of those so far and of the codes whose bit is set.
 pub(crate) fn ends_with(so_far: (u64, u64), codes: &[u64], present: u64) -> (u64, u64)
-    requires { length codes.now ≤ 64 }
+    requires few { length codes.now ≤ 64 }
+    requires order { so_far.0 ≤ so_far.1 }
     ensures least { IsLeastFrom so_far.0 (length codes.now) (bit_of present) (slice_index codes.now) result.0 }
     ensures greatest { IsGreatestFrom so_far.1 (length codes.now) (bit_of present) (slice_index codes.now) result.1 }
 {
-    let (least, greatest) = so_far;
-    // Most blocks change neither end. Most have no null, either, and then no bit is tested.
-    if present == u64::MAX {
-        if !has_beyond(codes, least, greatest) {
-            return so_far;
-        }
-    } else if !has_beyond_in(codes, present, least, greatest) {
+    // Most blocks change neither end.
+    if !may_be_beyond(codes, present, so_far) {
         return so_far;
     }
+    let (least, greatest) = so_far;
     (
         least_from(least, codes, present),
         greatest_from(greatest, codes, present),

@@ -4,12 +4,13 @@ ghost use Rattle.std.specs.Prelude.{All, List, Option, drop, false, length, slic
 ghost use Rattle.bw_mask.specs.Masks.{bit_of, row_in};
 ghost use Rattle.bw_code.specs.Encodings.{width};
 ghost use Rattle.bw_code.specs.Lists.{made};
+ghost use Rattle.bw_code.specs.Widths.{widest_code};
 ghost use Rattle.bw_code.specs.declared.encoding.Encoding.TheVariants as by;
 ghost use Rattle.bw_column.specs.Codes.{IsCoded, IsRowCode, codes_for, value_from};
 ghost use Rattle.bw_column.specs.PlaneSources.{ArePlanesOf};
 ghost use Rattle.bw_column.specs.Values.{IsNullOrHeld};
 ghost use Rattle.bw_code.specs.declared.kind.Layout.TheVariants as layouts;
-ghost use Rattle.bw_vertical.specs.Planes.{code_by};
+ghost use Rattle.bw_vertical.specs.Planes.{code_by, code_by_planes};
 
 use crate::codes::encode_all;
 use crate::column::Column;
@@ -29,6 +30,21 @@ fn push_words(mask: &mut Mask, n: usize, words: &[u64; 32])
 {
     for j in 0..n.div_ceil(64) {
         mask.push_bits((n - 64 * j).min(64), words[j]);
+    }
+}
+
+/// Fills `out` with the codes of k bits of the first rows of a block of planes.
+fn read_codes_of_planes(block: &PlaneBlock, k: usize, out: &mut [u64])
+    requires narrow { k ≤ widest_code }
+    requires few { length out.old ≤ 2048 }
+    ensures len { length out.new ≡ length out.old }
+    ensures codes { (r : ℕ) → r < length out.old → slice_index out.new r ≡ code_by_planes k block.now r }
+{
+    let mut words = [0; 64];
+    let n = out.len();
+    for j in 0..n.div_ceil(64) {
+        read_word_of_planes(block, k, j, &mut words);
+        put_codes_of_words(&words, k, &mut out[64 * j..n.min(64 * j + 64)]);
     }
 }
 
@@ -159,6 +175,7 @@ impl Column {
     }
 
     /// The same in any layout and from any row on, by the codes that the planes hold.
+    #[tactic(auto, using(bw_code::proofs::Lists::made_len))]
     fn extend_codes(&mut self, offset: Offset, block: &PlaneBlock, n: usize, present: &[u64; 32])
         requires encoding { self.old.encoding ≡ by.Offset offset }
         requires block { n ≤ 2048 }
@@ -170,15 +187,11 @@ impl Column {
         ensures encoding { self.new.encoding ≡ self.old.encoding }
         ensures room { self.old.room ≤ self.new.room }
     {
-        let k = offset.width as usize;
-        let mut words = [0; 64];
-        let mut list = [0; 64];
-        for j in 0..n.div_ceil(64) {
-            let codes = &mut list[..(n - 64 * j).min(64)];
-            read_word_of_planes(block, k, j, &mut words);
-            put_codes_of_words(&words, k, codes);
-            self.extend_rows(codes, present[j]);
-        }
+        let mut list = [0; BLOCK_ROWS];
+        let codes = &mut list[..n];
+        read_codes_of_planes(block, offset.width as usize, codes);
+        self.codes.extend(codes);
+        push_words(&mut self.nonnull, n, present);
     }
 
     /// Appends `codes.len()` cells, at most 64, from cell `at` on, within the room. Their codes are their distances

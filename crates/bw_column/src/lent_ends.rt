@@ -8,7 +8,7 @@ ghost use Rattle.bw_column.specs.Extremes.{IsGreatestFrom, IsLeastFrom};
 ghost use Rattle.bw_column.specs.Storing.{FitsLent};
 
 use crate::ends::ends_with;
-use bw_code::{LentCodes, rows_between};
+use bw_code::{LentCodes, rows_between, widen};
 use bw_mask::Mask;
 
 /// Whether one of 64 codes whose bit is set may lie beyond the ends so far: always, if there are fewer codes.
@@ -22,16 +22,6 @@ fn may_be_beyond(codes: &[u32], present: u64, so_far: (u64, u64)) -> bool
     }
     let (least, greatest) = so_far;
     present & !rows_between(codes, least as u32, (greatest - least) as u32) != 0
-}
-
-/// The codes, at most 64, as 64-bit numbers.
-fn widen(codes: &[u32], out: &mut [u64])
-    requires { length out.old ≡ length codes.now }
-    ensures { out.new ≡ codes.now }
-{
-    for i in 0..out.len() {
-        out[i] = u64::from(codes[i]);
-    }
 }
 
 /// The least and the greatest of those so far and of at most 64 codes whose bit is set.

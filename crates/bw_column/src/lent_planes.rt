@@ -1,4 +1,4 @@
-//! The planes of the distances of a column of kind OFFSET from a base, where its layout has planes.
+//! The planes of the distances of a column of kind OFFSET from a base, where blocks of them can be made of its codes.
 
 ghost use Rattle.std.specs.Prelude.{IfSome, None, [], drop, if◌then◌else◌, is_some, length, map, nat_lt, slice_index, slice_index_or, take, true, ℕ, ◌%◌, ◌&&◌, ◌+◌, ◌<◌, ◌^◌, ◌≡◌, ◌≤◌, ◌⊎◌};
 ghost use Rattle.bw_mask.specs.Masks.{bit_of, row_at, row_in};
