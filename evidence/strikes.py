@@ -191,7 +191,7 @@ STRIKES = [
     Strike("bw_column::storage::Codes::read_block", (of_column("put_lent_block", "in_memory.rt", "", "block.new"),)),
     Strike("bw_column::in_memory::put_lent_block", (of_codes_block("narrow"),)),
     Strike("bw_column::in_memory::put_lent_block", (of_codes_block("wide"),)),
-    Strike("bw_column::in_memory::Codes::in_memory", (Clause("bw_code/src/plain.rt", "lent", "codes", "result"),)),
+    Strike("bw_column::storage::Codes::in_memory", (Clause("bw_code/src/plain.rt", "lent", "codes", "result"),)),
     Strike("bw_column::lent_planes::lent_planes", (of_block("bw_column/src/storage.rt"),)),
     Strike("bw_column::ends::code_ends", (of_ends(),)),
     Strike("bw_column::ends::code_ends", (of_column("lent_ends", "lent_ends.rt", "least", "result.0"),)),
@@ -313,16 +313,17 @@ def try_strike(crates, tried, kept):
 
 
 def what_is_gone():
-    """What the strikes name that no longer exists: clauses, and upper calls in the file of their module."""
+    """What the strikes name that no longer exists: clauses, and upper calls in the file of their module. The prover names
+    a method by its type's module, and its file may be another."""
     for tried in STRIKES:
         for clause in tried.clauses:
             try:
                 clause.struck((TOP / "crates" / clause.file).read_text(encoding="utf-8"))
             except (AttributeError, OSError, ValueError):
                 yield f"{clause.file}: {clause.function} {clause.name}".rstrip()
-        crate, module, *_, call = tried.upper.split("::")
+        crate, module, *of_type, call = tried.upper.split("::")
         source = TOP / "crates" / crate / "src"
-        files = source.rglob("*.rt" if module == "column" else f"{module}.rt")
+        files = source.rglob("*.rt" if of_type else f"{module}.rt")
         texts = [file.read_text(encoding="utf-8") for file in files]
         if not any(re.search(rf"\bfn {call}\b", text) for text in texts):
             yield tried.upper
