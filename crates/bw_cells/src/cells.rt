@@ -1,15 +1,16 @@
 //! A list of cells.
 
-ghost use Rattle.std.specs.Prelude.{IfSome, List, None, Option, [], drop, is_some, length, map, slice_index, slice_index_or, take, ℕ, ℤ, ◌+◌, ◌<◌, ◌≡◌, ◌≤◌};
+ghost use Rattle.std.specs.Prelude.{All, IfSome, List, None, Option, [], drop, is_some, length, map, slice_index, slice_index_or, take, ℕ, ℤ, ◌+◌, ◌<◌, ◌≡◌, ◌≤◌};
 ghost use Rattle.bw_code.specs.Fittings.{AreEnds};
 ghost use Rattle.bw_cells.specs.Distances.{distance_from};
 ghost use Rattle.bw_cells.specs.Known.{known};
 ghost use Rattle.bw_mask.specs.Masks.{bit_of, row_in};
+ghost use Rattle.bw_code.specs.Encodings.{IsWithin};
 ghost use Rattle.bw_code.specs.Widths.{widest_code};
 
 use crate::distances::distances_in_run;
 use crate::ends::ends_in_runs;
-use bw_code::{Ends, PlaneBlock};
+use bw_code::{Ends, Offset, PlaneBlock};
 
 /// A list of cells, each an integer or NULL. It is read in blocks, so that it need not be stored as such a list: cells
 /// may be decoded, widened or gathered as they are read.
@@ -34,6 +35,14 @@ pub trait Measured: Cells {
         ensures { AreEnds (known (Self.cells self.now)) result }
     {
         ends_in_runs(self)
+    }
+
+    /// An offset encoding in which each of the integers has a code. Takes no memory. Where a type knows one without reading
+    /// its cells, the base may be lower than the least integer, and the codes wider than they have to be.
+    fn span(&self) -> Offset
+        ensures { All (IsWithin result) (known (Self.cells self.now)) }
+    {
+        Offset::spanning(self.ends())
     }
 
     /// Fills `out` with the distance from the base of each of at most 64 cells from index `at` on, modulo 2^64, and

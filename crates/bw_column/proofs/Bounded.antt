@@ -1,14 +1,14 @@
 -- Ends between which values lie that have codes.
-use Rattle.std.proofs.Common.{FitsSigned, List, None, Option, Some, [], ap, arith, get_or, inl, inr, length, negsuc, pos, refl, w64, ℤ, ◌-◌, ◌∙◌, ◌≡◌, ◌≤ℤ◌, ◌∷◌}
+use Rattle.std.proofs.Common.{FitsSigned, List, None, Option, Some, [], ap, arith, false, get_or, inl, inr, length, negsuc, pos, refl, w64, ℤ, ◌-◌, ◌<◌, ◌==◌, ◌∙◌, ◌≡◌, ◌≤ℤ◌, ◌∷◌}
 use Rattle.std.specs.List.{All, Contains}
 use Rattle.std.specs.Int.{saturate_signed}
 use Rattle.std.proofs.lemmas.Int.{ints}
 use Rattle.std.proofs.lemmas.Bool.{cases_lt}
 use Rattle.std.proofs.lemmas.List.{get_or_default}
-use Rattle.std.proofs.lemmas.List.Elements.{All-head, All-tail}
+use Rattle.std.proofs.lemmas.List.Elements.{All-contains, All-head, All-tail, Contains-get_or}
 use Rattle.bw_cells.proofs.Known.{all_known}
 use Rattle.bw_code.specs.Ascending.{IsAscending}
-use Rattle.bw_code.specs.Encodings.{IsWithin}
+use Rattle.bw_code.specs.Encodings.{IsGreatest, IsLeast, IsWithin}
 use Rattle.bw_code.specs.declared.encoding.Encoding.TheVariants as by
 use Rattle.bw_code.specs.declared.ends.Ends.{Ends}
 use Rattle.bw_code.specs.declared.kind.Layout.{Layout}
@@ -62,3 +62,25 @@ between_entries entries x rises (k, l, is) =
       | inr upto ↦ let same : get_or entries k (pos 0) ≡ get_or entries last (pos 0) = ap (λ j. get_or entries j (pos 0)) (omega (arith, upto, l)) in omega (arith, ints, same, here)
     ] in
     (low, high)
+
+pub not_empty : (entries : List ℤ) → (length entries == 0) ≡ false → 0 < length entries
+not_empty [] e = absurd cc
+not_empty (x ∷ xs) e = omega arith
+
+-- they are the least and the greatest of them
+pub entries_end : (entries : List ℤ) → IsAscending entries → 0 < length entries → IsLeast entries (get_or entries 0 (pos 0)) × IsGreatest entries (get_or entries (length entries - 1) (pos 0))
+entries_end entries rises some = (
+  record {
+    reached = Contains-get_or entries 0 (pos 0) some;
+    bound = λ k d h. (between_entries entries (get_or entries k d) rises (Contains-get_or entries k d h)).0;
+  },
+  record {
+    reached = Contains-get_or entries (length entries - 1) (pos 0) (omega (arith, some));
+    bound = λ k d h. (between_entries entries (get_or entries k d) rises (Contains-get_or entries k d h)).1;
+  },
+)
+
+-- what spans the entries spans the values that have codes
+pub within_entries : (o : Offset) (entries : List ℤ) (values : List (Option ℤ)) → All (IsWithin o) entries → All (IsCoded (by.Dictionary entries)) values → All (IsWithin o) (known values)
+within_entries o entries values within coded =
+    all_known (IsWithin o) values (λ i x is. All-contains (IsWithin o) entries x within (rw is at (holds_any (IsCoded (by.Dictionary entries)) values tt coded i)))

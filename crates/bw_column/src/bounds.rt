@@ -3,6 +3,7 @@
 ghost use Rattle.std.specs.Prelude.{ℤ, ◌≤ℤ◌};
 ghost use Rattle.bw_code.specs.Ascending.{IsAscending};
 ghost use Rattle.bw_code.specs.Encodings.{IsWithin};
+ghost use Rattle.bw_code.specs.Fittings.{AreEnds};
 ghost use Rattle.bw_column.specs.Extremes.{AreBounds, AreEntryBounds};
 ghost use Rattle.bw_column.specs.Values.{IsStorable, known};
 
@@ -18,9 +19,10 @@ fn greatest_of(offset: Offset) -> i64
 }
 
 /// The first and the last of ascending entries; `None` for an empty list.
-fn entry_ends(entries: &[i64]) -> Option<Ends>
+pub(crate) fn entry_ends(entries: &[i64]) -> Option<Ends>
     requires { IsAscending entries.now }
-    ensures { AreEntryBounds entries.now result }
+    ensures bounds { AreEntryBounds entries.now result }
+    ensures ends { AreEnds entries.now result }
 {
     if entries.is_empty() {
         return None;

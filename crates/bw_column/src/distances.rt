@@ -10,6 +10,7 @@ ghost use Rattle.bw_column.specs.Storing.{layout_of, list_of};
 
 use crate::column::Column;
 use crate::lent_planes::lent_planes;
+use crate::span::span_of;
 use crate::storage::Codes;
 use bw_cells::Measured;
 use bw_code::{Encoding, Ends, Offset, PlaneBlock};
@@ -126,6 +127,10 @@ fn distances_by_entries(
 impl Measured for Column {
     fn ends(&self) -> Option<Ends> {
         self.ends()
+    }
+
+    fn span(&self) -> Offset {
+        span_of(self.encoding())
     }
 
     fn distances(&self, at: usize, base: i64, out: &mut [u64]) -> u64 {

@@ -31,6 +31,7 @@ mod reading;
 mod rebuilding;
 mod runs;
 mod slice_ends;
+mod span;
 mod split;
 mod step;
 mod storage;

@@ -10,7 +10,7 @@ ghost use Rattle.bw_engine.specs.Stores.{rows_in};
 
 use crate::table::Table;
 use bw_cells::{Cells, Measured};
-use bw_code::PlaneBlock;
+use bw_code::{Ends, Offset, PlaneBlock};
 use bw_column::Column;
 use bw_sql::Value;
 use bw_table::ChosenCells;
@@ -46,6 +46,20 @@ impl Cells for LiveCells<'_> {
 }
 
 impl Measured for LiveCells<'_> {
+    fn ends(&self) -> Option<Ends> {
+        match self {
+            LiveCells::Whole(column) => column.ends(),
+            LiveCells::Chosen(cells) => cells.ends(),
+        }
+    }
+
+    fn span(&self) -> Offset {
+        match self {
+            LiveCells::Whole(column) => column.span(),
+            LiveCells::Chosen(cells) => cells.span(),
+        }
+    }
+
     fn distances(&self, at: usize, base: i64, out: &mut [u64]) -> u64 {
         match self {
             LiveCells::Whole(column) => column.distances(at, base, out),

@@ -1,10 +1,10 @@
 //! SAVE.
 
-ghost use Rattle.std.specs.Prelude.{◌≡◌, IfOk, length};
+ghost use Rattle.std.specs.Prelude.{◌≡◌, ◌<◌, ◌≤◌, IfOk, false, length, true};
 ghost use Rattle.std.specs.List.{AllZip};
 ghost use Rattle.bw_file.specs.Format.{AreEndsOf};
 ghost use Rattle.bw_file.specs.declared.version.Version.TheVariants.{Second};
-ghost use Rattle.bw_model.specs.Filing.{HoldsBy, filed, filed_length};
+ghost use Rattle.bw_model.specs.Filing.{HoldsBy, file_limit, filed, filed_length};
 ghost use Rattle.bw_sql.specs.Tree.{statement_of};
 ghost use Rattle.bw_sql.specs.declared.tree.Statement.TheVariants as statements;
 ghost use Rattle.bw_engine.specs.Files.{SavesOr};
@@ -16,7 +16,7 @@ use crate::live_ends::live_ends;
 use crate::outcome::Saving;
 use crate::table::Table;
 use bw_code::Ends;
-use bw_file::{encode_by_ends, length_by_ends};
+use bw_file::{encode, length_by_ends, longest_length};
 use bw_model::{FILE_LIMIT, Refusal};
 use bw_sql::{Name, Save};
 use indexmap::IndexMap;
@@ -34,15 +34,10 @@ pub(crate) fn save(
     let Some(table) = tables.get(&table) else {
         return Err(Refusal::NoSuchTable);
     };
-    // There are at most 64 columns.
-    let width = table.headers().len();
-    let mut list = [None; COLUMN_LIMIT];
-    let ends = &mut list[..width];
-    take_ends(table, ends);
-    if filed_length(table, ends) > FILE_LIMIT as u64 {
+    if is_too_long(table) {
         return Err(Refusal::FileTooLarge);
     }
-    let bytes = spelled(alloc, table, ends)?;
+    let bytes = spelled(alloc, table)?;
     Ok(Saving {
         file,
         bytes,
@@ -50,22 +45,40 @@ pub(crate) fn save(
     })
 }
 
-/// The bytes of a table file. `ends` are the least and greatest values of each column.
-fn spelled(alloc: Global, table: &Table, ends: &[Option<Ends>]) -> Result<Vec<u8>, AllocError>
-    requires { AllZip AreEndsOf ends.now (filed (table_in table.now)).columns }
+/// The bytes of a table file.
+fn spelled(alloc: Global, table: &Table) -> Result<Vec<u8>, AllocError>
     ensures { IfOk result (λ bytes. HoldsBy Second bytes.items (table_in table.now)) }
 {
     // Each row has a value for each column, and there are 1 to 64 columns with distinct names.
     let _wide = table.stored().live();
     let _valid = table.headers();
     let columns = live_columns(alloc, table)?;
-    encode_by_ends(
-        alloc,
-        table.stored().headers(),
-        table.row_count(),
-        &columns,
-        ends,
-    )
+    encode(alloc, table.stored().headers(), table.row_count(), &columns)
+}
+
+/// Whether the table file is longer than a file may be. Allocates nothing.
+fn is_too_long(table: &Table) -> bool
+    ensures long { result ≡ true → file_limit < filed_length (table_in table.now) }
+    ensures short { result ≡ false → filed_length (table_in table.now) ≤ file_limit }
+{
+    // Most tables are so small that no file of their shape is too long: no value has to be read.
+    if may_be_too_long(table) {
+        let mut list = [None; COLUMN_LIMIT];
+        let ends = &mut list[..table.headers().len()];
+        take_ends(table, ends);
+        filed_length(table, ends) > FILE_LIMIT as u64
+    } else {
+        false
+    }
+}
+
+/// Whether a file of this many columns and rows can be longer than a file may be.
+fn may_be_too_long(table: &Table) -> bool
+    ensures { result ≡ false → filed_length (table_in table.now) ≤ file_limit }
+{
+    // There are at most 64 columns.
+    let _few = table.headers();
+    longest_length(table.stored().headers(), table.row_count()) > FILE_LIMIT as u64
 }
 
 /// The length in bytes of the table file. `ends` are the least and greatest values of each column. Allocates nothing.

@@ -33,7 +33,7 @@ spans x xs =
       };
     }
 
-one_least : (values : List ℤ) (a b : ℤ) → IsLeast values a → IsLeast values b → a ≡ b
+pub one_least : (values : List ℤ) (a b : ℤ) → IsLeast values a → IsLeast values b → a ≡ b
 one_least values a b p q =
     let low = All-contains (λ y. a ≤ℤ y) values b p.bound q.reached in
     let high = All-contains (λ y. b ≤ℤ y) values a q.bound p.reached in

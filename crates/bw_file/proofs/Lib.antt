@@ -17,6 +17,7 @@ pub mod Joined
 pub mod Least
 pub mod Lengths
 pub mod Lent
+pub mod Longest
 pub mod Looked
 pub mod Near
 pub mod Parts
@@ -31,7 +32,9 @@ pub mod RunDistances
 pub mod Spare
 pub mod Spelled
 pub mod StrayBits
+pub mod Tight
 pub mod Turned
+pub mod WordBytes
 pub mod WordRows
 pub mod Words
 pub mod Written

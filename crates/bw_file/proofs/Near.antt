@@ -1,10 +1,13 @@
 -- A column of planes as it is written.
-use Rattle.std.proofs.Common.{All, FitsSigned, List, None, Option, Some, [], ap, append_assoc, arith, drop, drop-cons, get_or, length, refl, set, subst, sym, w64, ℕ, ℤ, ◌++◌, ◌<◌, ◌≡◌, ◌∙◌, ◌∷◌}
+use Rattle.std.proofs.Common.{All, FitsSigned, List, None, Option, Some, [], ap, append_assoc, arith, drop, drop-cons, get_or, length, pow_pos, refl, set, subst, sym, w64, ℕ, ℤ, ◌++◌, ◌<◌, ◌≡◌, ◌∙◌, ◌∷◌}
 use Rattle.std.specs.Int.{cast_unsigned}
+use Rattle.std.proofs.lemmas.Int.{ints}
 use Rattle.std.proofs.lemmas.List.{drop_all, get_or-set_same, length-set}
 use Rattle.std.proofs.lemmas.List.Elements.{All-contains, All-from_get_or, All-get_or}
 use Rattle.byteorder.specs.Endian.{little_bytes}
 use Rattle.bw_cells.specs.Known.{known}
+use Rattle.bw_code.specs.Encodings.{IsWithin}
+use Rattle.bw_code.specs.declared.offset.Offset.{Offset}
 use Rattle.bw_cells.proofs.Known.{known_at}
 use Rattle.bw_file.specs.Cells.{presence_bytes, presence_size}
 use Rattle.bw_file.specs.Planes.{IsNear, IsWideCell, column_bytes, frame_of, plane_bytes}
@@ -20,6 +23,17 @@ near_all cells all = All-from_get_or (IsNear (frame_of (known cells)).base (fram
         let place = All-contains (HasPlace (frame_of (known cells)).base (frame_of (known cells)).width) (known cells) z (is_framed cells all).places (known_at cells i z e) in
         let fits : FitsSigned w64 z = subst IsWideCell e (All-get_or IsWideCell cells i None h all) in
         rw e (fits, place.above, place.low)
+
+-- so does each that has a code by an offset
+pub near_within : (o : Offset) (cells : List (Option ℤ)) → All IsWideCell cells → All (IsWithin o) (known cells) → All (IsNear o.base o.width) cells
+near_within o cells all within = All-from_get_or (IsNear o.base o.width) cells None (λ i h. go i h (get_or cells i None) refl)
+  where
+    go : (i : ℕ) → i < length cells → (c : Option ℤ) → get_or cells i None ≡ c → IsNear o.base o.width (get_or cells i None)
+    go i h None e = rw e tt
+    go i h (Some z) e =
+        let place = All-contains (IsWithin o) (known cells) z within (known_at cells i z e) in
+        let fits : FitsSigned w64 z = subst IsWideCell e (All-get_or IsWideCell cells i None h all) in
+        rw e (fits, place.0, omega (arith, ints, place.0, place.1, pow_pos o.width))
 
 pub last_of_nine : (xs : List ℕ) (x : ℕ) → length xs ≡ 9 → drop 8 (set xs 8 x) ≡ x ∷ []
 last_of_nine xs x long =

@@ -2,7 +2,7 @@
 use Rattle.std.proofs.Common.{Bool, List, ap, arith, bit_and, bit_or, drop, false, get_or, nat_lt, not, refl, suc, sym, take, true, w8, zero, ℕ, ◌%◌, ◌&&◌, ◌*◌, ◌+◌, ◌-◌, ◌/◌, ◌<◌, ◌==◌, ◌||◌, ◌≡◌, ◌≤◌, ◌∙◌}
 use Rattle.std.specs.Int.{bit_at}
 use Rattle.std.proofs.lemmas.List.{get_or-drop, get_or-take}
-use Rattle.std.proofs.lemmas.Nat.{and_le_l}
+use Rattle.std.proofs.lemmas.Nat.{and_le_l, and_le_r}
 use Rattle.std.proofs.lemmas.Nat.Bits.{bit_at-lt, bit_at-zero, bit_at_not, same_from_bits, same_from_bits_below}
 use Rattle.bw_mask.specs.Masks.{bit_of}
 use Rattle.bw_mask.proofs.Bits.{bit_of_and, bit_of_or, bit_of_zero}
@@ -92,3 +92,21 @@ module _ (size p n : ℕ) (present planes : List ℕ) (long : size ≤ n) (small
       let place : (8 * j + i) % 8 ≡ i = omega (arith, low) in
       let here : bit_at (get_or present ((8 * j + i) / 8) 0) ((8 * j + i) % 8) ≡ 0 = ap (λ m. bit_at (get_or present m 0) ((8 * j + i) % 8)) byte ∙ ap (bit_at (get_or present j 0)) place ∙ null in
       ap (λ m. bit_at (get_or planes (p * size + m) 0) i) (sym byte) ∙ ap (bit_at (get_or planes (p * size + (8 * j + i) / 8) 0)) (sym place) ∙ clean (8 * j + i) (omega (arith, byte, h)) here)
+
+pub and_none : (w : ℕ) → bit_and w (255 - 255) ≡ 0
+and_none w = let few = and_le_r w 0 in omega (arith, few)
+
+-- a byte of a plane and of the rows, cut out together from some byte on
+module _ (size p full n m : ℕ) (present planes : List ℕ) (j : ℕ) (low : full + j < size) (in_plane : j < n) (in_rows : j < m) where
+  plane_is : get_or (take n (drop (p * size + full) planes)) j 0 ≡ get_or (take size (drop (p * size) planes)) (full + j) 0
+  plane_is =
+      let place : p * size + full + j ≡ p * size + (full + j) = omega arith in
+      get_or-take n (drop (p * size + full) planes) j 0 in_plane ∙ get_or-drop (p * size + full) planes j 0 ∙ ap (λ q. get_or planes q 0) place
+      ∙ sym (get_or-take size (drop (p * size) planes) (full + j) 0 low ∙ get_or-drop (p * size) planes (full + j) 0)
+
+  row_is : get_or (take m (drop full present)) j 0 ≡ get_or present (full + j) 0
+  row_is = get_or-take m (drop full present) j 0 in_rows ∙ get_or-drop full present j 0
+
+  pub cut_byte : bit_and (get_or (take n (drop (p * size + full) planes)) j 0) (255 - get_or (take m (drop full present)) j 0)
+      ≡ bit_and (get_or (take size (drop (p * size) planes)) (full + j) 0) (255 - get_or present (full + j) 0)
+  cut_byte = λ i. bit_and (plane_is i) (255 - row_is i)

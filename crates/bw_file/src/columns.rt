@@ -1,8 +1,9 @@
 //! The columns of a table file, one after another.
 
-ghost use Rattle.std.specs.Prelude.{All, IfOk, IfSome, List, None, OnOk, Option, length, map, ◌*◌, ◌++◌, ◌≡◌, ◌≤◌, ℕ, ℤ};
+ghost use Rattle.std.specs.Prelude.{All, IfOk, IfSome, List, None, OnOk, Option, length, map, take, true, vec_len, ◌*◌, ◌++◌, ◌≡◌, ◌≤◌, ℕ, ℤ};
 ghost use Rattle.std.specs.List.{flat_map, AllZip};
-ghost use Rattle.bw_code.specs.Fittings.{AreEnds};
+ghost use Rattle.bw_cells.specs.Known.{known};
+ghost use Rattle.bw_code.specs.Encodings.{IsWithin};
 ghost use Rattle.bw_code.specs.Headers.{column_limit, row_limit};
 ghost use Rattle.bw_file.specs.Format.{column_bytes, AreEndsOf, HasType};
 ghost use Rattle.bw_file.specs.Planes.{column_size as plane_column_size, frame_of, IsWideCell};
@@ -48,14 +49,6 @@ pub(crate) fn columns_in<'a>(
     Ok(Some((columns, rest)))
 }
 
-/// The base and the width of the codes, in version 2, of a column whose integers have these ends.
-fn frame(ends: Option<Ends>) -> Offset
-    ensures base { (values : List ℤ) → AreEnds values ends → result.base ≡ (frame_of values).base }
-    ensures width { (values : List ℤ) → AreEnds values ends → result.width ≡ (frame_of values).width }
-{
-    Offset::spanning(ends)
-}
-
 /// How many bytes the planes take for this width and number of rows, together with what precedes them in a column.
 pub(crate) fn planes_size(width: u32, rows: usize) -> u64
     requires narrow { width ≤ widest_code }
@@ -77,48 +70,70 @@ pub(crate) fn take_ends<C: Measured>(columns: &[C], ends: &mut [Option<Ends>])
     }
 }
 
-/// Appends the bytes of columns of `rows` rows, in version 2. `ends` are the ends of each column's integers.
+/// How many bytes columns of `rows` rows take at most, told without reading cells where a type knows a span of them.
+pub(crate) fn spans_size<C: Measured>(rows: usize, columns: &[C]) -> u64
+    requires few { rows ≤ row_limit }
+    requires some { length columns.now ≤ column_limit }
+    ensures { result ≤ 136314889 * length columns.now }
+{
+    let mut size = 0;
+    'columns: for i in 0..columns.len() {
+        size += planes_size(columns[i].span().width, rows);
+    }
+    size
+}
+
+/// Appends the bytes of columns of `rows` rows, in version 2.
 pub(crate) fn put_columns<C: Measured>(
     bytes: &mut Vec<u8>,
     rows: usize,
     columns: &[C],
-    ends: &[Option<Ends>],
 ) -> Result<(), AllocError>
     requires few { rows ≤ row_limit }
     requires long { All (λ cells. length cells ≡ rows) (map C.cells columns.now) }
     requires wide { All (All IsWideCell) (map C.cells columns.now) }
-    requires some { length ends.now ≤ column_limit }
-    requires ends { AllZip AreEndsOf ends.now (map C.cells columns.now) }
     ensures { OnOk result (bytes.new.items ≡ bytes.old.items ++ flat_map (column_bytes Second) (map C.cells columns.now)) }
 {
     'columns: for i in 0..columns.len() {
-        put_column(bytes, rows, &columns[i], ends[i])?;
+        put_column(bytes, rows, &columns[i])?;
     }
     Ok(())
 }
 
-/// Appends the bytes of a column of `rows` rows, in version 2. `ends` are the ends of its integers.
-fn put_column<C: Measured>(
-    bytes: &mut Vec<u8>,
-    rows: usize,
-    column: &C,
-    ends: Option<Ends>,
-) -> Result<(), AllocError>
+/// Appends the bytes of a column of `rows` rows, in version 2.
+fn put_column<C: Measured>(bytes: &mut Vec<u8>, rows: usize, column: &C) -> Result<(), AllocError>
     requires few { rows ≤ row_limit }
     requires long { length (C.cells column.now) ≡ rows }
     requires wide { All IsWideCell (C.cells column.now) }
-    requires ends { AreEndsOf ends (C.cells column.now) }
     ensures { OnOk result (bytes.new.items ≡ bytes.old.items ++ column_bytes Second (C.cells column.now)) }
 {
-    let frame = frame(ends);
     let start = bytes.len();
-    bytes.resize(start + planes_size(frame.width, rows) as usize, 0)?;
-    write_column(
-        &mut bytes[start..],
-        rows,
-        frame.base,
-        frame.width as usize,
-        column,
-    );
+    // Most columns are encoded as tightly as a file is: a pass over the cells to find their ends would be for nothing.
+    if put_codes(bytes, rows, column, column.span())? {
+        return Ok(());
+    }
+    bytes.truncate(start);
+    put_codes(bytes, rows, column, Offset::spanning(column.ends()))?;
     Ok(())
+}
+
+/// Appends a column of `rows` rows whose codes are by an offset encoding in which each of its integers has one. Returns
+/// whether its base and width are seen to be those of the file. Where they are not, these are not the column's bytes.
+fn put_codes<C: Measured>(
+    bytes: &mut Vec<u8>,
+    rows: usize,
+    column: &C,
+    offset: Offset,
+) -> Result<bool, AllocError>
+    requires few { rows ≤ row_limit }
+    requires long { length (C.cells column.now) ≡ rows }
+    requires wide { All IsWideCell (C.cells column.now) }
+    requires within { All (IsWithin offset) (known (C.cells column.now)) }
+    ensures kept { OnOk result (take (vec_len bytes.old) bytes.new.items ≡ bytes.old.items) }
+    ensures seen { IfOk result (λ seen. seen ≡ true → bytes.new.items ≡ bytes.old.items ++ column_bytes Second (C.cells column.now)) }
+    ensures framed { offset.base ≡ (frame_of (known (C.cells column.now))).base → offset.width ≡ (frame_of (known (C.cells column.now))).width → OnOk result (bytes.new.items ≡ bytes.old.items ++ column_bytes Second (C.cells column.now)) }
+{
+    let start = bytes.len();
+    bytes.resize(start + planes_size(offset.width, rows) as usize, 0)?;
+    Ok(write_column(&mut bytes[start..], rows, offset, column))
 }

@@ -3,18 +3,18 @@
 ghost use Rattle.std.specs.Prelude.{All, IfOk, length, map, ◌≡◌, ◌≤◌};
 ghost use Rattle.std.specs.List.{AllZip};
 ghost use Rattle.bw_code.specs.Headers.{row_limit, column_limit};
-ghost use Rattle.bw_file.specs.Format.{spelled_length, spelling, AreEndsOf, SpelledBy};
+ghost use Rattle.bw_file.specs.Format.{spelled_length, spelling, SpelledBy};
 ghost use Rattle.bw_code.specs.Types.{IsTyped};
 ghost use Rattle.bw_file.specs.Table.{AreHeaders};
 ghost use Rattle.bw_file.specs.declared.version.Version.TheVariants.{Second};
 
-use crate::columns::{put_columns, take_ends};
+use crate::columns::{put_columns, spans_size, take_ends};
 use crate::front::{COLUMN_LIMIT, front};
-use crate::headers::{have_names, put_headers};
+use crate::headers::{have_names, headers_size, put_headers};
 use crate::length::length_by_ends;
 use crate::version::Version;
 use bw_cells::Measured;
-use bw_code::{Ends, Header};
+use bw_code::Header;
 use bw_sql::Name;
 use std::alloc::{AllocError, Global};
 
@@ -54,32 +54,11 @@ pub fn encode<C: Measured>(
     ensures { IfOk result (λ bytes. SpelledBy Second bytes.items (record { headers = headers.now; rows = rows; columns = map C.cells columns.now })) }
 {
     are_few(headers, columns);
-    let mut list = [None; COLUMN_LIMIT];
-    let ends = &mut list[..columns.len()];
-    take_ends(columns, ends);
-    encode_by_ends(alloc, headers, rows, columns, ends)
-}
-
-/// The same where the ends of each column's integers are known: no column is read to find them.
-pub fn encode_by_ends<C: Measured>(
-    alloc: Global,
-    headers: &[Header<Name>],
-    rows: usize,
-    columns: &[C],
-    ends: &[Option<Ends>],
-) -> Result<Vec<u8>, AllocError>
-    requires headers { AreHeaders headers.now }
-    requires few { rows ≤ row_limit }
-    requires long { All (λ cells. length cells ≡ rows) (map C.cells columns.now) }
-    requires typed { AllZip IsTyped headers.now (map C.cells columns.now) }
-    requires ends { AllZip AreEndsOf ends.now (map C.cells columns.now) }
-    ensures { IfOk result (λ bytes. SpelledBy Second bytes.items (record { headers = headers.now; rows = rows; columns = map C.cells columns.now })) }
-{
     have_names(headers);
-    let length = length_by_ends(headers, rows, ends);
+    let length = 14 + headers_size(headers) + spans_size(rows, columns);
     let mut bytes = Vec::with_capacity(alloc, length as usize)?;
     bytes.extend_from_slice(&front(Version::Second, headers.len(), rows))?;
     put_headers(&mut bytes, headers)?;
-    put_columns(&mut bytes, rows, columns, ends)?;
+    put_columns(&mut bytes, rows, columns)?;
     Ok(bytes)
 }

@@ -37,3 +37,13 @@ fn sizes_by_ends(ends: &[Option<Ends>], rows: usize) -> u64
         }
     }
 }
+
+/// How many bytes encode a table of these headers and this number of rows at most, whatever its values. Takes no memory.
+pub fn longest_length(headers: &[Header<Name>], rows: usize) -> u64
+    requires few { length headers.now ≤ column_limit }
+    requires short { rows ≤ row_limit }
+    ensures { (columns : List (List (Option ℤ))) → length columns ≡ length headers.now → All (λ cells. length cells ≡ rows) columns
+        → spelled_length Second (record { headers = headers.now; rows = rows; columns = columns }) ≤ result }
+{
+    14 + headers_size(headers) + headers.len() as u64 * planes_size(64, rows)
+}

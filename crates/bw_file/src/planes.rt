@@ -1,18 +1,21 @@
 //! Writing the planes of a column, a block of rows at a time.
 
-ghost use Rattle.std.specs.Prelude.{All, None, [], drop, is_some, length, map, slice_index, slice_index_or, take, ℕ, ◌%◌, ◌*◌, ◌+◌, ◌-◌, ◌/◌, ◌<◌, ◌==◌, ◌^◌, ◌≡◌, ◌≤◌};
+ghost use Rattle.std.specs.Prelude.{All, None, [], drop, is_some, length, map, slice_index, slice_index_or, take, true, ℕ, ◌%◌, ◌*◌, ◌+◌, ◌-◌, ◌/◌, ◌<◌, ◌==◌, ◌^◌, ◌≡◌, ◌≤◌};
 ghost use Rattle.bw_mask.specs.Masks.{bit_of, row_in};
 ghost use Rattle.bw_cells.specs.Distances.{distance_from};
 ghost use Rattle.bw_cells.specs.Known.{known};
+ghost use Rattle.bw_code.specs.Encodings.{IsWithin};
 ghost use Rattle.bw_code.specs.Headers.{row_limit};
 ghost use Rattle.bw_code.specs.Widths.{widest_code};
 ghost use Rattle.bw_file.specs.Cells.{presence_bytes, presence_size};
 ghost use Rattle.bw_file.specs.Planes.{column_bytes, column_size, frame_of, plane_bit, plane_bytes, IsNear, IsWideCell};
 
+use crate::seen::Seen;
 use bw_cells::Measured;
-use bw_code::{BLOCK_ROWS, PlaneBlock};
+use bw_code::{BLOCK_ROWS, Offset, PlaneBlock};
 use bw_vertical::put_word_of_wide;
 use byteorder::{ByteOrder, LittleEndian};
+use std::simd::prelude::*;
 
 /// Writes the first bytes of a word, the lowest first.
 fn put_word(out: &mut [u8], word: u64)
@@ -28,6 +31,14 @@ fn put_word(out: &mut [u8], word: u64)
     }
 }
 
+/// The bytes of the first eight words, the lowest byte of each word first. They are one vector, which is stored at once.
+fn bytes_in(words: &[u64]) -> [u8; 64]
+    requires { 8 ≤ length words.now }
+    ensures { (i : ℕ) → i < 512 → bit_of (slice_index result (i / 8)) (i % 8) ≡ row_in words.now i }
+{
+    u64x8::from_slice(words).to_le_bytes().to_array()
+}
+
 /// Writes the words of one plane as bytes, the lowest first. The last words are left out where there are fewer bytes.
 fn put_plane(out: &mut [u8], words: &[u64; 32])
     requires few { length out.old ≤ 256 }
@@ -36,7 +47,9 @@ fn put_plane(out: &mut [u8], words: &[u64; 32])
 {
     // All blocks of rows but the last have all of the bytes.
     if out.len() == BLOCK_ROWS / 8 {
-        LittleEndian::write_u64_into(words, out);
+        for q in 0..4 {
+            out[64 * q..64 * q + 64].copy_from_slice(&bytes_in(&words[8 * q..]));
+        }
     } else {
         for j in 0..out.len().div_ceil(8) {
             let end = out.len().min(8 * j + 8);
@@ -118,7 +131,8 @@ fn planes_at<C: Measured>(
     }
 }
 
-/// Writes the bits and the planes of a column whose codes have k bits and are distances from the base.
+/// Writes the bits and the planes of a column whose codes have k bits and are distances from the base. Returns whether the
+/// base was seen to be the least value, and the width to be needed.
 pub(crate) fn write_planes<C: Measured>(
     present: &mut [u8],
     planes: &mut [u8],
@@ -126,7 +140,8 @@ pub(crate) fn write_planes<C: Measured>(
     base: i64,
     k: usize,
     column: &C,
-)
+) -> bool
+    requires some { 1 ≤ k }
     requires narrow { k ≤ widest_code }
     requires few { rows ≤ row_limit }
     requires count { length (C.cells column.now) ≡ rows }
@@ -135,8 +150,10 @@ pub(crate) fn write_planes<C: Measured>(
     requires near { All (IsNear base k) (C.cells column.now) }
     ensures bits { present.new ≡ presence_bytes (presence_size rows) (C.cells column.now) }
     ensures planes { planes.new ≡ plane_bytes base k (presence_size rows) (C.cells column.now) }
+    ensures frame { result ≡ true → (base ≡ (frame_of (known (C.cells column.now))).base) × (k ≡ (frame_of (known (C.cells column.now))).width) }
 {
     let mut block = [[0; 32]; 64];
+    let mut seen = Seen::nothing();
     let size = rows.div_ceil(8);
     for j in 0..rows.div_ceil(BLOCK_ROWS) {
         let at = j * BLOCK_ROWS;
@@ -145,28 +162,38 @@ pub(crate) fn write_planes<C: Measured>(
         let end = size.min((at + BLOCK_ROWS) / 8);
         put_plane(&mut present[at / 8..end], &bits);
         put_block(planes, size, k, at, &block);
+        seen = seen.with_block(&bits, &block, k);
     }
+    seen.both()
 }
 
-/// Writes a column of `rows` rows with this base and width.
+/// Writes a column of `rows` rows whose codes are by an offset encoding in which each of its integers has one. Returns
+/// whether its base and width are seen to be those of the file. Where they are not, these are not the column's bytes.
 pub(crate) fn write_column<C: Measured>(
     out: &mut [u8],
     rows: usize,
-    base: i64,
-    width: usize,
+    offset: Offset,
     column: &C,
-)
+) -> bool
     requires few { rows ≤ row_limit }
     requires count { length (C.cells column.now) ≡ rows }
-    requires base { base ≡ (frame_of (known (C.cells column.now))).base }
-    requires width { width ≡ (frame_of (known (C.cells column.now))).width }
-    requires long { length out.old ≡ column_size width rows }
+    requires long { length out.old ≡ column_size offset.width rows }
     requires wide { All IsWideCell (C.cells column.now) }
-    ensures { out.new ≡ column_bytes (C.cells column.now) }
+    requires within { All (IsWithin offset) (known (C.cells column.now)) }
+    ensures len { length out.new ≡ length out.old }
+    ensures seen { result ≡ true → out.new ≡ column_bytes (C.cells column.now) }
+    ensures framed { offset.base ≡ (frame_of (known (C.cells column.now))).base → offset.width ≡ (frame_of (known (C.cells column.now))).width → out.new ≡ column_bytes (C.cells column.now) }
 {
     let (present, rest) = out.split_at_mut(rows.div_ceil(8));
     let (head, planes) = rest.split_at_mut(9);
-    head[8] = width as u8;
-    LittleEndian::write_i64(head, base);
-    write_planes(present, planes, rows, base, width, column);
+    head[8] = offset.width as u8;
+    LittleEndian::write_i64(head, offset.base);
+    write_planes(
+        present,
+        planes,
+        rows,
+        offset.base,
+        offset.width as usize,
+        column,
+    )
 }

@@ -5,6 +5,7 @@ ghost use Rattle.bw_mask.specs.Masks.{bit_of, row_in};
 
 use bw_code::BLOCK_ROWS;
 use byteorder::{ByteOrder, LittleEndian};
+use std::simd::prelude::*;
 
 /// The bits from bit `at` on, which is the first in its byte. Only the first `count` can be set.
 pub(crate) fn bits_of_rows(bytes: &[u8], at: usize, count: usize) -> u64
@@ -15,6 +16,15 @@ pub(crate) fn bits_of_rows(bytes: &[u8], at: usize, count: usize) -> u64
     ensures { (k : ℕ) → bit_of result k ≡ (bit_of (slice_index bytes.now ((at + k) / 8)) ((at + k) % 8) && nat_lt k count) }
 {
     bits_of_bytes(&bytes[at / 8..]) & low_bits(count)
+}
+
+/// Eight words of the first 64 bytes, the lowest byte of each word first. They are read as a vector: word by word, a
+/// processor waits for fewer lines of the cache at once, and the planes of a file lie far apart.
+fn words_in(bytes: &[u8]) -> [u64; 8]
+    requires { 64 ≤ length bytes.now }
+    ensures { (i : ℕ) → i < 512 → row_in result i ≡ bit_of (slice_index bytes.now (i / 8)) (i % 8) }
+{
+    u64x8::from_le_bytes(u8x64::from_slice(bytes)).to_array()
 }
 
 /// The bits of `count` rows, at most 2,048, from bit `at` on, which is the first in its byte, as words of 64 rows. Rows
@@ -28,7 +38,10 @@ pub(crate) fn read_rows(bytes: &[u8], at: usize, count: usize, words: &mut [u64;
 {
     // All blocks but the last have 2,048 rows.
     if count == BLOCK_ROWS {
-        LittleEndian::read_u64_into(&bytes[at / 8..at / 8 + 256], words);
+        for q in 0..4 {
+            let eight = words_in(&bytes[at / 8 + 64 * q..]);
+            words[8 * q..8 * q + 8].copy_from_slice(&eight);
+        }
         return;
     }
     for j in 0..32 {

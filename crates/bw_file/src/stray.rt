@@ -18,6 +18,18 @@ fn has_bit_beyond(present: &[u8], plane: &[u8]) -> bool
     stray != 0
 }
 
+/// How many bytes at the start are full: each of their rows has a cell.
+fn full_bytes(bytes: &[u8]) -> usize
+    ensures few { result ≤ length bytes.now }
+    ensures full { (j : ℕ) → j < result → slice_index bytes.now j ≡ 255 }
+{
+    let mut n = 0;
+    while n < bytes.len() && bytes[n] == u8::MAX {
+        n += 1;
+    }
+    n
+}
+
 /// Whether a plane has a bit set at a row whose cell is null, or past the last row. Each plane has `size` bytes.
 pub(crate) fn has_stray_bit(present: &[u8], planes: &[u8], size: usize, k: usize) -> bool
     requires narrow { k ≤ widest_code }
@@ -27,8 +39,10 @@ pub(crate) fn has_stray_bit(present: &[u8], planes: &[u8], size: usize, k: usize
     ensures no { result ≡ false → HasNoStrayBit k size present.now planes.now }
     ensures yes { result ≡ true → HasNoStrayBit k size present.now planes.now → ⊥ }
 {
+    // No bit is stray where every row has a cell. Many columns have no null, and then their planes aren't read here.
+    let full = full_bytes(present);
     'planes: for p in 0..k {
-        if has_bit_beyond(present, &planes[p * size..p * size + size]) {
+        if has_bit_beyond(&present[full..], &planes[p * size + full..p * size + size]) {
             return true;
         }
     }

@@ -14,4 +14,5 @@ pub mod Readied
 pub mod SameKinds
 pub mod Typed
 pub mod Updated
+pub mod Within
 pub mod Written

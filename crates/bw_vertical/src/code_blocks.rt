@@ -13,7 +13,7 @@ use bw_code::{PlaneBlock, filled_up};
 /// word changes.
 ///
 /// A word goes to its plane at once: gathered in a list first, the words of two planes are put together in vector
-/// registers, which takes half as long again.
+/// registers, and a SAVE of plain codes takes a twentieth longer.
 pub fn put_planes_of_bytes(
     block: &mut PlaneBlock,
     j: usize,
@@ -39,7 +39,8 @@ pub fn put_planes_of_bytes(
     }
 }
 
-/// Word j of the planes from `low` on becomes the k lowest bits of the pairs of bytes. The other words stay.
+/// Word j of the planes from `low` on becomes the k lowest bits of the pairs of bytes. Word j of the planes from `low` + k
+/// on is unspecified; no other word changes.
 fn put_pairs(pairs: &[u16; 64], k: usize, j: usize, low: usize, block: &mut PlaneBlock)
     requires narrow { k ≤ 16 }
     requires word { j < 32 }
@@ -54,7 +55,8 @@ fn put_pairs(pairs: &[u16; 64], k: usize, j: usize, low: usize, block: &mut Plan
     }
 }
 
-/// Word j of the planes from `low` on becomes the k lowest bits of the codes. The other words stay.
+/// Word j of the planes from `low` on becomes the k lowest bits of the codes. Word j of the planes from `low` + k on is
+/// unspecified; no other word changes.
 fn put_word_of_codes(codes: &[u32; 64], k: usize, j: usize, low: usize, block: &mut PlaneBlock)
     requires narrow { k ≤ widest_half }
     requires word { j < 32 }
@@ -70,7 +72,7 @@ fn put_word_of_codes(codes: &[u32; 64], k: usize, j: usize, low: usize, block: &
 }
 
 /// Word j of the first k planes of a block becomes the bits of at most 64 codes of at most 32 bits. Rows after the codes
-/// are 0. The other words stay.
+/// are 0. Word j of the other planes is unspecified; no other word changes.
 fn put_word_of_narrow(codes: &[u32], k: usize, j: usize, block: &mut PlaneBlock)
     requires few { length codes.now ≤ 64 }
     requires narrow { k ≤ widest_half }
@@ -86,8 +88,8 @@ fn put_word_of_narrow(codes: &[u32], k: usize, j: usize, block: &mut PlaneBlock)
     }
 }
 
-/// Word j of the first k planes of a block becomes the bits of at most 64 codes. Rows after the codes are 0. The other
-/// words stay.
+/// Word j of the first k planes of a block becomes the bits of at most 64 codes. Rows after the codes are 0. Word j of the
+/// other planes is unspecified; no other word changes.
 pub fn put_word_of_wide(codes: &[u64], k: usize, j: usize, block: &mut PlaneBlock)
     requires few { length codes.now ≤ 64 }
     requires narrow { k ≤ widest_code }

@@ -188,6 +188,61 @@ fn in_every_layout_and_kind(rt: HostRuntime) {
     );
 }
 
+/// Statements after which a table has the rows of the saved one, though its column was encoded for values beyond, and the
+/// replies to them.
+const NARROWED: [(&str, &str); 4] = [
+    (
+        "INSERT INTO t VALUES (3), (NULL), (-100); UPDATE t SET a = -1 WHERE a = -100;",
+        "ok 3\nok 1\n",
+    ),
+    (
+        "INSERT INTO t VALUES (1000), (NULL), (-1); UPDATE t SET a = 3 WHERE a = 1000;",
+        "ok 3\nok 1\n",
+    ),
+    (
+        "INSERT INTO t VALUES (1000), (NULL), (-100); UPDATE t SET a = 3 WHERE a > 0; UPDATE t SET a = -1 WHERE a < 0;",
+        "ok 3\nok 1\nok 1\n",
+    ),
+    (
+        "INSERT INTO t VALUES (1000), (3), (NULL), (-100), (-1); DELETE FROM t WHERE a = 1000 OR a = -100;",
+        "ok 5\nok 2\n",
+    ),
+];
+
+/// Layouts and kinds, and the bytes that a file has for them.
+const LAID: [(&str, u8, u8); 8] = [
+    ("P", 0, 0),
+    ("V", 1, 0),
+    ("H", 2, 0),
+    ("S", 3, 0),
+    ("P DICTIONARY", 0, 1),
+    ("V DICTIONARY", 1, 1),
+    ("H DICTIONARY", 2, 1),
+    ("S DICTIONARY", 3, 1),
+];
+
+fn check_narrowed<R: Abort + AllocGlobal>(rt: &R, laid: &str, layout: u8, kind: u8) {
+    let mut bytes = SAVED;
+    bytes[17] = layout;
+    bytes[18] = kind;
+    for (statements, replies) in NARROWED {
+        let script = format!(in rt.alloc();
+            "CREATE TABLE t (a INT USING {laid}); {statements} SAVE t TO 'f';"
+        ).expect(rt, "memory");
+        let replies = format!(in rt.alloc(); "ok\n{replies}ok 3\n").expect(rt, "memory");
+        let mut folder = check_files(rt, &[], script.as_str(), replies.as_str());
+        check_file(rt, &mut folder, ("f", bytes.as_slice()));
+    }
+}
+
+// A file's base and width are those of the rows that are saved, whatever the column is encoded for.
+#[test]
+fn a_column_that_is_encoded_for_more(rt: HostRuntime) {
+    for (laid, layout, kind) in LAID {
+        check_narrowed(&rt, laid, layout, kind);
+    }
+}
+
 // The saved table with one byte replaced.
 fn saved_but(at: usize, byte: u8) -> [u8; 32] {
     let mut bytes = SAVED;

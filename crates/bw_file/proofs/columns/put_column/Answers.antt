@@ -1,12 +1,13 @@
-use Rattle.std.proofs.Common.{FitsSigned, rules, w64, ◌∙◌}
-use Rattle.std.proofs.lemmas.Int.{to_z-of_z}
+use Rattle.std.proofs.Common.{ap, take, ◌++◌, ◌≡◌, ◌∙◌}
 use Rattle.bw_cells.specs.Known.{known}
+use Rattle.bw_file.specs.Planes.{column_bytes}
+use Rattle.bw_file.proofs.Frames.{frame_fits}
 use Rattle.bw_file.proofs.columns.put_column.Goals as goal
 
-pub write_column-requires-clause-base : goal.write_column-requires-clause-base
-write_column-requires-clause-base g c =
-    let fits : FitsSigned w64 c.frame-frame.result.base = search rules in
-    to_z-of_z w64 c.frame-frame.result.base fits ∙ c.frame-frame.ensures.base (known (g.C.Cells.cells c.args.column.now)) c.requires.ends
-
-pub write_column-requires-clause-width : goal.write_column-requires-clause-width
-write_column-requires-clause-width g c = c.frame-frame.ensures.width (known (g.C.Cells.cells c.args.column.now)) c.requires.ends
+pub returns : goal.returns
+returns g c =
+    let cells = g.C.Cells.cells c.args.column.now in
+    let fits = frame_fits (known cells) c.spanning.result (c.spanning.ensures.fits (known cells) c.ends.ensures) in
+    let back : c.truncate.new.self.items ≡ c.args.bytes.now.items =
+    c.truncate.ensures.items ∙ ap (λ n. take n c.put_codes.new.bytes.items) c.len-start.ensures ∙ c.in_ok-put_codes.ensures.kept in
+    c.in_ok-put_codes-2.ensures.framed fits.0 fits.1 ∙ ap (λ xs. xs ++ column_bytes cells) back

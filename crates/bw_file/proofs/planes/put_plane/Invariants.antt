@@ -8,3 +8,10 @@ invariant-loop-j l = record {
   len : length l.out ≡ length l.fn.out;
   bits : (i : ℕ) → i / 64 < l.j → i / 8 < length l.out → bit_of (get_or l.out (i / 8) 0) (i % 8) ≡ bit_of (get_or l.words (i / 64) 0) (i % 64);
 }
+
+-- the bytes of eight words at a time
+abbrev pub invariant-loop-q : goal.invariant-loop-q
+invariant-loop-q l = record {
+  len : length l.out ≡ length l.fn.out;
+  bits : (i : ℕ) → i / 512 < l.q → i / 8 < length l.out → bit_of (get_or l.out (i / 8) 0) (i % 8) ≡ bit_of (get_or l.words (i / 64) 0) (i % 64);
+}

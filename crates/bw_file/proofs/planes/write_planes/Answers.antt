@@ -1,4 +1,4 @@
-use Rattle.std.proofs.Common.{ℕ, FitsSigned, None, ap, arith, drop, get_or, inl, inr, is_some, length, length-drop, length-take, map, of_z, rules, sym, take, to_z, w64, ◌%◌, ◌*◌, ◌+◌, ◌-◌, ◌/◌, ◌<◌, ◌==◌, ◌≡◌, ◌≤◌, ◌∙◌, ◌⊎◌}
+use Rattle.std.proofs.Common.{ℕ, FitsSigned, None, ap, arith, drop, false, get_or, inl, inr, is_some, length, length-drop, length-take, map, of_z, rules, subst, sym, take, true, to_z, w64, ◌%◌, ◌*◌, ◌+◌, ◌-◌, ◌/◌, ◌<◌, ◌==◌, ◌≡◌, ◌≤◌, ◌∙◌, ◌⊎◌}
 use Rattle.std.proofs.lemmas.Bool.{cases_lt}
 use Rattle.std.proofs.lemmas.Int.{to_z-of_z}
 use Rattle.std.proofs.lemmas.Nat.Bits.{bit_at-lt}
@@ -8,9 +8,10 @@ use Rattle.bw_code.proofs.Parts.{before_part, in_part, part_length}
 use Rattle.bw_file.specs.Cells.{presence_size}
 use Rattle.bw_file.specs.Planes.{bit_in, plane_bit}
 use Rattle.bw_file.proofs.Bits.{presence-by_known}
-use Rattle.bw_file.proofs.Filled.{bit_is, cell_is}
+use Rattle.bw_file.proofs.Filled.{bit_is, cell_is, near_at}
 use Rattle.bw_file.proofs.PlanePlaces.{few_in}
 use Rattle.bw_file.proofs.Spelled.{planes-by_bits, same_bit}
+use Rattle.bw_file.proofs.Tight.{HasBase, HasTop, base_seen, tight, top_seen, two}
 use Rattle.bw_file.proofs.planes.write_planes.Goals as goal
 
 pub loop-j-init : goal.loop-j-init
@@ -21,6 +22,8 @@ loop-j-init g c = record {
   long = c.requires.long;
   small = λ m. omega (arith, c.type_inv.planes m);
   bits = λ p i h l m. absurd (omega (arith, l));
+  base_seen = λ e. let no : false ≡ true = sym c.nothing-seen.ensures.base ∙ e in absurd cc;
+  top_seen = λ e. let no : false ≡ true = sym c.nothing-seen.ensures.top ∙ e in absurd cc;
 }
 
 pub loop-j-preserved : goal.loop-j-preserved
@@ -88,6 +91,35 @@ loop-j-preserved g c =
                 ∙ bit_is base k cells fits c.requires.near at count i b here (ends i here (omega (arith, l)))
                 ∙ ap (λ z. bit_in z b (get_or cells i None) == 1) (sym same))
           ];
+      base_seen = λ e.
+          subst (λ z. HasBase z cells) (sym same)
+          (elim (c.with_block-seen.ensures.base e) [
+            | inl before ↦ subst (λ z. HasBase z cells) same (inv.base_seen before)
+            | inr (r, low, is, none) ↦
+                let row : at + r - at ≡ r = omega arith in
+                let there = ends (at + r) (omega arith) (omega (arith, low)) in
+                let cell : is_some (get_or cells (at + r) None) ≡ true =
+                sym (ap is_some (cell_is cells at count (at + r) (omega arith) there)) ∙ ap (λ x. is_some (get_or (take count (drop at cells)) x None)) row ∙ sym (c.planes_at-bits.ensures.present r) ∙ is in
+                base_seen base k cells (at + r) (near_at base k cells fits c.requires.near (at + r)) cell (λ b h.
+                sym (bit_is base k cells fits c.requires.near at count (at + r) b (omega arith) there)
+                ∙ ap (λ x. bit_of (get_or (map (distance_from base) (take count (drop at cells))) x 0) b) row
+                ∙ ap (λ z. bit_of (get_or (map (distance_from z) (take count (drop at cells))) r 0) b) (sym same)
+                ∙ sym (c.planes_at-bits.ensures.planes b r h low) ∙ none b h)
+          ]);
+      top_seen = λ e.
+          subst (λ z. HasTop z k cells) (sym same)
+          (elim (c.with_block-seen.ensures.top e) [
+            | inl before ↦ subst (λ z. HasTop z k cells) same (inv.top_seen before)
+            | inr (r, low, is) ↦
+                let row : at + r - at ≡ r = omega arith in
+                let there = ends (at + r) (omega arith) (omega (arith, low)) in
+                let high : k - 1 < k = omega (arith, c.requires.some) in
+                top_seen base k cells (at + r)
+                (sym (bit_is base k cells fits c.requires.near at count (at + r) (k - 1) (omega arith) there)
+                ∙ ap (λ x. bit_of (get_or (map (distance_from base) (take count (drop at cells))) x 0) (k - 1)) row
+                ∙ ap (λ z. bit_of (get_or (map (distance_from z) (take count (drop at cells))) r 0) (k - 1)) (sym same)
+                ∙ sym (c.planes_at-bits.ensures.planes (k - 1) r high low) ∙ is)
+          ]);
     }
 
 pub returns-clause-bits : goal.returns-clause-bits
@@ -102,3 +134,13 @@ returns-clause-planes g c =
     let same : to_z w64 (of_z w64 c.args.base) ≡ c.args.base = to_z-of_z w64 c.args.base fits in
     planes-by_bits c.args.base c.args.k (presence_size c.args.rows) c.loop-j.planes cells c.loop-j.invariant.long c.loop-j.invariant.small
     (λ p i h l. c.loop-j.invariant.bits p i h (omega (arith, l, c.div_ceil-j-end.ensures, c.loop-j-test.false)) l ∙ ap (λ z. bit_in z (c.args.k - 1 - p) (get_or cells i None)) same)
+
+pub returns-clause-frame : goal.returns-clause-frame
+returns-clause-frame g c e =
+    let inv = c.loop-j.invariant in
+    let cells = g.C.Cells.cells c.args.column.now in
+    let base = c.args.base in
+    let fits : FitsSigned w64 base = search rules in
+    let same : to_z w64 (of_z w64 base) ≡ base = to_z-of_z w64 base fits in
+    let both = two c.loop-j.seen.base c.loop-j.seen.top (sym c.both.ensures ∙ e) in
+    tight base c.args.k cells c.requires.some c.requires.narrow (near_at base c.args.k cells fits c.requires.near) (subst (λ z. HasBase z cells) same (inv.base_seen both.0)) (subst (λ z. HasTop z c.args.k cells) same (inv.top_seen both.1))

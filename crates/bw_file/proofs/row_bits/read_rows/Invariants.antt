@@ -8,3 +8,10 @@ invariant-loop-j l = record {
   long : length l.words ≡ 32;
   rows : (i : ℕ) → i < 64 * l.j → row_in l.words i ≡ (bit_of (get_or l.bytes ((l.at + i) / 8) 0) ((l.at + i) % 8) && nat_lt i l.count);
 }
+
+-- eight words at a time
+abbrev pub invariant-loop-q : goal.invariant-loop-q
+invariant-loop-q l = record {
+  long : length l.words ≡ 32;
+  rows : (i : ℕ) → i < 512 * l.q → row_in l.words i ≡ bit_of (get_or l.bytes ((l.at + i) / 8) 0) ((l.at + i) % 8);
+}

@@ -23,4 +23,4 @@ returns-in-Dictionary c =
     let entries = c.in-Dictionary.dictionary in
     let is : self.encoding ≡ by.Dictionary entries = sym c.encoding.ensures.is ∙ c.in-Dictionary.is in
     let coded : All (IsCoded (by.Dictionary entries)) self.values = subst (λ (e : Encoding). All (IsCoded e) self.values) is c.encoding.ensures.coded in
-    entry_bounds entries c.entry_ends.result self.values (subst (λ es. AreEntryBounds es c.entry_ends.result) c.entries.ensures.is c.entry_ends.ensures) coded
+    entry_bounds entries c.entry_ends.result self.values (subst (λ es. AreEntryBounds es c.entry_ends.result) c.entries.ensures.is c.entry_ends.ensures.bounds) coded
