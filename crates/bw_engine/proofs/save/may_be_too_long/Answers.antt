@@ -1,6 +1,7 @@
-use Rattle.std.proofs.Common.{ap, arith, length, subst, sym, ◌∙◌, ◌≡◌, ◌≤◌}
+use Rattle.std.proofs.Common.{ap, arith, false, inl, inr, length, subst, sym, true, ◌∙◌, ◌≡◌, ◌≤◌}
 use Rattle.std.specs.Prelude.{map}
 use Rattle.std.specs.List.{All, range_with_len}
+use Rattle.std.proofs.lemmas.Bool.{cases_lt, lt-ltb}
 use Rattle.std.proofs.lemmas.List.{length-map}
 use Rattle.std.proofs.lemmas.List.FromFn.{length-map-range_with_len}
 use Rattle.bw_file.specs.Format.{spelled_length}
@@ -22,4 +23,10 @@ returns c e =
     All-map (column_of rows) c.row_count.result (range_with_len 0 (length table.headers)) (λ k. length-map rows (λ (row : Row). value_at row k) ∙ sym c.row_count.ensures.value) in
     let same : spelled_length Second (record { headers = c.headers.result.now; rows = c.row_count.result; columns = columns }) ≡ spelled_length Second (record { headers = table.headers; rows = length rows; columns = columns }) =
     λ j. spelled_length Second (record { headers = heads j; rows = c.row_count.ensures.value j; columns = columns }) in
-    subst (λ n. n ≤ file_limit) same (omega (arith, c.longest_length.ensures columns count long, e))
+    let most = c.longest_length.result in
+    let few : c.longest_length.result ≤ file_limit =
+    elim (cases_lt file_limit most) [
+      | inl more ↦ (let no : true ≡ false = sym (lt-ltb file_limit most more) ∙ e in absurd cc)
+      | inr fine ↦ omega (arith, fine)
+    ] in
+    subst (λ n. n ≤ file_limit) same (omega (arith, c.longest_length.ensures columns count long, few))
