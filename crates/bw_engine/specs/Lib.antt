@@ -6,6 +6,7 @@ pub mod Folds
 pub mod Found
 pub mod GroupLines
 pub mod Outcomes
+pub mod RowCells
 pub mod Runs
 pub mod Saving
 pub mod StoredChanges

@@ -6,6 +6,7 @@ mod code_cells;
 mod create;
 mod delete;
 mod drop;
+mod ended_cells;
 mod engine;
 mod file_answer;
 mod found;

@@ -5,9 +5,12 @@ ghost use Rattle.std.specs.List.{AllZip, range_with_len};
 ghost use Rattle.bw_model.specs.Store.{Header};
 ghost use Rattle.bw_code.specs.Types.{IsTyped};
 ghost use Rattle.bw_model.specs.Filing.{column_of};
+ghost use Rattle.bw_engine.specs.RowCells.{row_cells};
 ghost use Rattle.bw_engine.specs.Saving.{saved_cells};
 ghost use Rattle.bw_engine.specs.Stores.{rows_in};
 
+use crate::ended_cells::{EndedCells, RowCells};
+use crate::live_ends::live_ends;
 use crate::table::Table;
 use bw_cells::{Cells, Measured};
 use bw_code::{Ends, Offset, PlaneBlock};
@@ -16,13 +19,13 @@ use bw_sql::Value;
 use bw_table::ChosenCells;
 use std::alloc::{AllocError, Global};
 
-/// The cells of a column in the rows of its table, without dead slots.
+/// The cells of a column in the rows of its table, as a SAVE reads them.
 #[derive(Drop)]
 pub(crate) enum LiveCells<'a> {
-    /// Every slot is live: the column as it is.
-    Whole(&'a Column),
-    /// Some slots are dead: the values of the live ones.
-    Chosen(ChosenCells<'a>),
+    /// Every slot is live, and the encoding is taken to be as tight as the values allow: the column as it is.
+    Tight(&'a Column),
+    /// The cells with their ends.
+    Ended(EndedCells<'a>),
 }
 
 impl Cells for LiveCells<'_> {
@@ -32,15 +35,15 @@ impl Cells for LiveCells<'_> {
 
     fn len(&self) -> usize {
         match self {
-            LiveCells::Whole(column) => column.len(),
-            LiveCells::Chosen(cells) => cells.len(),
+            LiveCells::Tight(column) => column.len(),
+            LiveCells::Ended(cells) => cells.len(),
         }
     }
 
     fn read(&self, at: usize, out: &mut [Value]) {
         match self {
-            LiveCells::Whole(column) => column.read(at, out),
-            LiveCells::Chosen(cells) => cells.read(at, out),
+            LiveCells::Tight(column) => column.read(at, out),
+            LiveCells::Ended(cells) => cells.read(at, out),
         }
     }
 }
@@ -48,22 +51,22 @@ impl Cells for LiveCells<'_> {
 impl Measured for LiveCells<'_> {
     fn ends(&self) -> Option<Ends> {
         match self {
-            LiveCells::Whole(column) => column.ends(),
-            LiveCells::Chosen(cells) => cells.ends(),
+            LiveCells::Tight(column) => column.ends(),
+            LiveCells::Ended(cells) => cells.ends(),
         }
     }
 
     fn span(&self) -> Offset {
         match self {
-            LiveCells::Whole(column) => column.span(),
-            LiveCells::Chosen(cells) => cells.span(),
+            LiveCells::Tight(column) => column.span(),
+            LiveCells::Ended(cells) => cells.span(),
         }
     }
 
     fn distances(&self, at: usize, base: i64, out: &mut [u64]) -> u64 {
         match self {
-            LiveCells::Whole(column) => column.distances(at, base, out),
-            LiveCells::Chosen(cells) => cells.distances(at, base, out),
+            LiveCells::Tight(column) => column.distances(at, base, out),
+            LiveCells::Ended(cells) => cells.distances(at, base, out),
         }
     }
 
@@ -76,8 +79,8 @@ impl Measured for LiveCells<'_> {
         block: &mut PlaneBlock,
     ) -> Option<[u64; 32]> {
         match self {
-            LiveCells::Whole(column) => column.planes(at, count, base, k, block),
-            LiveCells::Chosen(cells) => cells.planes(at, count, base, k, block),
+            LiveCells::Tight(column) => column.planes(at, count, base, k, block),
+            LiveCells::Ended(cells) => cells.planes(at, count, base, k, block),
         }
     }
 }
@@ -104,12 +107,30 @@ fn live_column<'a>(alloc: Global, table: &'a Table, k: usize) -> Result<LiveCell
     ensures cells { IfOk result (λ column. saved_cells column ≡ column_of (rows_in table.entry.now.slots) k) }
     ensures typed { IfOk result (λ column. (h : Header) → IsTyped (slice_index_or table.entry.now.headers k h) (saved_cells column)) }
 {
+    if table.is_tight() {
+        let stored = table.stored();
+        let column = stored.column(k);
+        let slots = column.len();
+        if stored.row_count() == slots {
+            return Ok(LiveCells::Tight(column));
+        }
+    }
+    let cells = cells_of(alloc, table, k)?;
+    Ok(LiveCells::Ended(EndedCells::new(cells, live_ends(table, k))))
+}
+
+/// The cells of column k in the rows, read where they are.
+fn cells_of<'a>(alloc: Global, table: &'a Table, k: usize) -> Result<RowCells<'a>, AllocError>
+    requires { k < length table.now.headers }
+    ensures cells { IfOk result (λ column. row_cells column ≡ column_of (rows_in table.entry.now.slots) k) }
+    ensures typed { IfOk result (λ column. (h : Header) → IsTyped (slice_index_or table.entry.now.headers k h) (row_cells column)) }
+{
     let stored = table.stored();
     let column = stored.column(k);
     let slots = column.len();
     if stored.row_count() == slots {
-        return Ok(LiveCells::Whole(column));
+        return Ok(RowCells::Whole(column));
     }
     let cells = ChosenCells::new(alloc, column, stored.live())?;
-    Ok(LiveCells::Chosen(cells))
+    Ok(RowCells::Chosen(cells))
 }

@@ -25,11 +25,22 @@ use std::marker::Model;
 /// The largest number of rows in a table.
 const ROW_LIMIT: usize = 16_777_216;
 
+/// How tight the encodings of a table's columns are taken to be. What a SAVE does first depends on it, and not what it
+/// writes: no contract speaks of it.
+#[derive(Clone, Copy)]
+enum Tightness {
+    /// No narrower code and no higher base would do.
+    Tight,
+    /// Values were replaced or deleted, so that one would perhaps do.
+    PerhapsLoose,
+}
+
 /// A table of 1 to 64 columns with distinct names. Contracts see its headers, its slots and the encodings of its
 /// columns.
 #[derive(Drop)]
 pub struct Table {
     table: SlotTable<Name>,
+    tightness: Tightness,
 }
 
 impl Model for Table {
@@ -54,6 +65,7 @@ impl Table {
     {
         Ok(Table {
             table: SlotTable::create(alloc, headers)?,
+            tightness: Tightness::Tight,
         })
     }
 
@@ -75,6 +87,7 @@ impl Table {
     {
         Ok(Table {
             table: SlotTable::of_columns(alloc, headers, rows, columns)?,
+            tightness: Tightness::Tight,
         })
     }
 
@@ -91,6 +104,15 @@ impl Table {
         ensures { result.now ≡ self.now }
     {
         &self.table
+    }
+
+    /// Whether the encodings of the columns are taken to be as tight as their values allow: no row was updated or deleted
+    /// since the table was created or opened.
+    pub(crate) fn is_tight(&self) -> bool {
+        match self.tightness {
+            Tightness::Tight => true,
+            Tightness::PerhapsLoose => false,
+        }
     }
 
     /// The number of rows.
@@ -145,6 +167,7 @@ impl Table {
         ensures updated { OnOk result (AreUpdated found.now sets.now (slots_in self.old) (slots_in self.new)) }
         ensures unchanged { OnErr result (self.new ≡ self.old) }
     {
+        self.tightness = Tightness::PerhapsLoose;
         match self.table.update(alloc, found, sets) {
             Ok(()) => Ok(()),
             Err(TableFault::Range) => Err(Refusal::OutOfRange),
@@ -160,6 +183,7 @@ impl Table {
         ensures slots { self.new.slots ≡ slots_without found.now self.old.slots }
         ensures encodings { self.new.encodings ≡ self.old.encodings }
     {
+        self.tightness = Tightness::PerhapsLoose;
         self.table.delete(found);
     }
 

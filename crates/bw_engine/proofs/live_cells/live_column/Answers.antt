@@ -1,14 +1,14 @@
-use Rattle.std.proofs.Common.{◌≡◌, ◌∙◌, ap, arith, get_or, length, map, subst, sym}
-use Rattle.std.specs.List.{All}
+use Rattle.std.proofs.Common.{◌≡◌, ◌∙◌, List, ap, arith, get_or, length, map, subst, sym}
 use Rattle.std.proofs.lemmas.List.{length-map}
+use Rattle.bw_cells.specs.Known.{known}
+use Rattle.bw_code.specs.Fittings.{AreEnds}
+use Rattle.bw_code.specs.Types.{IsTyped}
 use Rattle.bw_column.specs.Values as values
-use Rattle.bw_code.specs.Types.{IsNullOrOfType}
-use Rattle.bw_table.specs.Slots.{Slot, live_slots, slot_column}
+use Rattle.bw_table.specs.Slots.{Slot, live_slots}
 use Rattle.bw_model.specs.Filing.{column_of}
-use Rattle.bw_model.specs.Store.{Row}
+use Rattle.bw_model.specs.Store.{Row, Value}
 use Rattle.bw_engine.specs.Stores.{StoredTable, rows_in}
-use Rattle.bw_engine.proofs.LiveValues.{live_chosen}
-use Rattle.bw_engine.proofs.Saved.{live_typed, whole_column}
+use Rattle.bw_engine.proofs.Saved.{whole_column}
 use Rattle.bw_engine.proofs.live_cells.live_column.Goals as goal
 
 pub returns-then-row_count-slots-clause-cells : goal.returns-then-row_count-slots-clause-cells
@@ -19,18 +19,11 @@ returns-then-row_count-slots-clause-cells c =
     let all : length (live_slots slots) ≡ length slots = omega (arith, c.row_count.ensures.count, c.len-slots.ensures.count, c.if-row_count-slots.true, ap length c.column-column.ensures.values, down, rows) in
     c.column-column.ensures.values ∙ whole_column slots c.args.k all ∙ ap (λ (table : StoredTable). column_of (rows_in table.slots) c.args.k) c.stored-stored.ensures
 
-pub returns-clause-cells : goal.returns-clause-cells
-returns-clause-cells c =
-    let slots = c.stored-stored.result.now.slots in
-    c.in_ok-cells.ensures.cells
-    ∙ live_chosen slots c.live.result.now c.args.k c.column-column.result.now.values c.column-column.ensures.values c.live.ensures.rows c.live.ensures.len
-    ∙ ap (λ (table : StoredTable). column_of (rows_in table.slots) c.args.k) c.stored-stored.ensures
-
 pub returns-then-row_count-slots-clause-typed : goal.returns-then-row_count-slots-clause-typed
 returns-then-row_count-slots-clause-typed c = rw c.stored-stored.ensures at c.column-column.ensures.typed
 
+pub new-requires : goal.new-requires
+new-requires c = subst (λ (cells : List Value). AreEnds (known cells) c.live_ends.result) (sym c.in_ok-cells.ensures.cells) c.live_ends.ensures
+
 pub returns-clause-typed : goal.returns-clause-typed
-returns-clause-typed c = λ h.
-    let P = IsNullOrOfType (get_or c.args.table.now.headers c.args.k h).column_type in
-    let typed : All P (slot_column c.args.table.now.slots c.args.k) = rw (c.column-column.ensures.values, c.stored-stored.ensures) at (c.column-column.ensures.typed h) in
-    subst (All P) (sym (returns-clause-cells c)) (live_typed P c.args.table.now.slots c.args.k typed)
+returns-clause-typed c = λ h. subst (λ (cells : List Value). IsTyped (get_or c.args.table.now.headers c.args.k h) cells) (sym c.new.ensures) (c.in_ok-cells.ensures.typed h)
