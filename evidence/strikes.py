@@ -202,7 +202,7 @@ STRIKES = [
     Strike("bw_column::column::Column::fill_places", (of_column("fill_rows", "storage.rt", "codes", "self.new"),)),
     Strike("bw_column::storage::Codes::exchange_rows", (of_every_column("exchange_rows", "codes", "self.new"),)),
     Strike("bw_column::column::Column::exchange_values", (of_column("exchange_rows", "storage.rt", "codes", "self.new"),)),
-    Strike("bw_file::planes::write_planes", (Clause("bw_file/src/planes.rt", "planes_at", "planes", "block.new"),)),
+    Strike("bw_file::planes::take_block", (Clause("bw_file/src/planes.rt", "planes_at", "planes", "block.new"),)),
 ]
 
 

@@ -75,14 +75,33 @@ fn distances_by_offset(
     present
 }
 
+/// The distance of an entry from a base, modulo 2^64.
+#[inline]
+fn distance_of(entry: i64, base: i64) -> u64
+    ensures { result ≡ distance_from base (Some entry) }
+{
+    entry.cast_unsigned().wrapping_sub(base.cast_unsigned())
+}
+
 /// The distance of an entry from a base, modulo 2^64, where its row is non-null, else 0. It is computed for a null,
 /// too, so that the choice needs no branch.
 #[inline]
 fn distance_where(there: bool, entry: i64, base: i64) -> u64
     ensures { result ≡ (if there then distance_from base (Some entry) else 0) }
 {
-    let distance = entry.cast_unsigned().wrapping_sub(base.cast_unsigned());
+    let distance = distance_of(entry, base);
     if there { distance } else { 0 }
+}
+
+/// Replaces each code by the distance of its entry from a base, modulo 2^64.
+fn measure_each_entry(codes: &mut [u64], entries: &[i64], base: i64)
+    requires inside { (k : ℕ) → k < length codes.old → slice_index codes.old k < length entries.now }
+    ensures count { length codes.new ≡ length codes.old }
+    ensures each { (k : ℕ) → k < length codes.old → slice_index codes.new k ≡ distance_from base (Some (slice_index_or entries.now (slice_index codes.old k) (pos 0))) }
+{
+    for i in 0..codes.len() {
+        codes[i] = distance_of(entries[codes[i] as usize], base);
+    }
 }
 
 /// Replaces each code of at most 64 rows by the distance of its entry from a base, modulo 2^64, where its bit is set,
@@ -93,6 +112,11 @@ fn measure_entries(codes: &mut [u64], set: u64, entries: &[i64], base: i64)
     ensures count { length codes.new ≡ length codes.old }
     ensures each { (k : ℕ) → k < length codes.old → slice_index codes.new k ≡ (if bit_of set k then distance_from base (Some (slice_index_or entries.now (slice_index codes.old k) (pos 0))) else 0) }
 {
+    // Most words of rows have no null, and then no bit is tested.
+    if set == u64::MAX {
+        measure_each_entry(codes, entries, base);
+        return;
+    }
     // The code of a null is 0, which is the index of an entry, too.
     for i in 0..codes.len() {
         let entry = entries[codes[i] as usize];

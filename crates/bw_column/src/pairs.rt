@@ -22,6 +22,13 @@ fn units_of_rows(rows: &Mask) -> u64
     2 * rows.count() as u64
 }
 
+/// Buffers for the distances of 64 rows of two columns, which are filled again for each 64 rows.
+#[derive(Drop)]
+struct Rises {
+    left: [u64; 64],
+    right: [u64; 64],
+}
+
 impl Column {
     /// Fills `out` with the distances of the values of the 64 rows from row `at` on, as far as they exist, from the
     /// least 64-bit integer: numbers in the order of the values, whatever the encoding. Returns which of the rows are
@@ -36,7 +43,7 @@ impl Column {
     }
 
     /// Bit i says whether the values of row `at + i` satisfy the comparison, as far as that row exists.
-    fn compared_block(&self, op: CmpOp, other: &Column, at: usize) -> u64
+    fn compared_block(&self, op: CmpOp, other: &Column, at: usize, rises: &mut Rises) -> u64
         requires at { at ≤ length self.now.values }
         requires other { length other.now.values ≡ length self.now.values }
         ensures { (i : ℕ) → i < 64 → at + i < length self.now.values
@@ -44,16 +51,21 @@ impl Column {
     {
         let _held = self.len();
         let _others_held = other.len();
-        let mut left = [0; 64];
-        let mut right = [0; 64];
-        let present = self.rise_of_block(at, &mut left);
-        let others = other.rise_of_block(at, &mut right);
-        present & others & compared_rows(op, &left, &right)
+        let present = self.rise_of_block(at, &mut rises.left);
+        let others = other.rise_of_block(at, &mut rises.right);
+        present & others & compared_rows(op, &rises.left, &rises.right)
     }
 
     /// Of the 64 rows from row `at` on, the needed ones whose values satisfy the comparison.
     #[tactic(auto, using(bw_mask::proofs::Bits::bit_of_and))]
-    fn chosen_of_block(&self, op: CmpOp, other: &Column, at: usize, needed: u64) -> u64
+    fn chosen_of_block(
+        &self,
+        op: CmpOp,
+        other: &Column,
+        at: usize,
+        needed: u64,
+        rises: &mut Rises,
+    ) -> u64
         requires at { at ≤ length self.now.values }
         requires other { length other.now.values ≡ length self.now.values }
         ensures { (i : ℕ) → i < 64 → at + i < length self.now.values
@@ -62,7 +74,7 @@ impl Column {
         if needed == 0 {
             0
         } else {
-            needed & self.compared_block(op, other, at)
+            needed & self.compared_block(op, other, at, rises)
         }
     }
 
@@ -74,8 +86,13 @@ impl Column {
         ensures shape { SameShape out.new out.old }
         ensures rows { (i : ℕ) → row_at out.new i ≡ (row_at need.now i && compare_so op (value_at self.now.values i) (value_at other.now.values i)) }
     {
+        let mut rises = Rises {
+            left: [0; 64],
+            right: [0; 64],
+        };
         for q in 0..self.len().div_ceil(64) {
-            let found = self.chosen_of_block(op, other, 64 * q, need.bits(64 * q, 64));
+            let needed = need.bits(64 * q, 64);
+            let found = self.chosen_of_block(op, other, 64 * q, needed, &mut rises);
             out.put_word(q, found);
         }
     }

@@ -14,15 +14,7 @@ use Rattle.bw_code.proofs.Widths.{IsWidthOf, bits_of_is}
 use Rattle.bw_code.specs.Encodings.{IsLeast, bits_of, distance}
 use Rattle.bw_vertical.proofs.Descending.{some_bit}
 use Rattle.bw_file.proofs.Frames.{Spans, one_least, spans}
-use Rattle.bw_file.specs.Planes.{IsNear, bit_in, frame_of}
-
--- some cell is the base
-abbrev pub HasBase : ℤ → List (Option ℤ) → Type 0
-HasBase base cells = (i : ℕ) × (get_or cells i None ≡ Some base)
-
--- the code of some cell has the highest of k bits
-abbrev pub HasTop : ℤ → ℕ → List (Option ℤ) → Type 0
-HasTop base k cells = (i : ℕ) × (z : ℤ) × (get_or cells i None ≡ Some z) × (2 ^ (k - 1) ≤ distance z base)
+use Rattle.bw_file.specs.Planes.{HasBase, HasTop, IsNear, bit_in, frame_of}
 
 -- a code of which no bit is set
 no_bits : (k n : ℕ) → n < 2 ^ k → ((b : ℕ) → b < k → bit_of n b ≡ false) → n ≡ 0

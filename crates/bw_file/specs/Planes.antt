@@ -1,6 +1,6 @@
 -- A column of a table file, version 2: one bit per row (cell non-null); the base, 8 bytes in two's complement; the width; and
 -- one plane for each bit of the width, highest bit first, laid out like the bits of the rows. Numbers are little-endian.
-use Rattle.std.specs.Prelude.{All, Bool, FitsSigned, List, None, Option, Some, [], drop, fold, if◌then◌else◌, length, map, pos, slice_index, suc, take, zero, ℕ, ℤ, ⊤, ◌%◌, ◌*◌, ◌+ℤ◌, ◌+◌, ◌++◌, ◌-◌, ◌/◌, ◌<◌, ◌==◌, ◌^◌, ◌≡◌, ◌≤ℤ◌, ◌≤◌, ◌∷◌}
+use Rattle.std.specs.Prelude.{All, Bool, FitsSigned, List, None, Option, Some, [], drop, fold, if◌then◌else◌, length, map, pos, slice_index, slice_index_or, suc, take, zero, ℕ, ℤ, ⊤, ◌%◌, ◌*◌, ◌+ℤ◌, ◌+◌, ◌++◌, ◌-◌, ◌/◌, ◌<◌, ◌==◌, ◌^◌, ◌≡◌, ◌≤ℤ◌, ◌≤◌, ◌∷◌}
 use Rattle.std.specs.Int.{bit_at, cast_unsigned, int_max, int_min, w64}
 use Rattle.std.specs.List.{range_with_len}
 use Rattle.std.specs.Simd.Lanes.{mask_l}
@@ -104,3 +104,11 @@ pub record IsPlaneColumn (rows : ℕ) (base : ℤ) (k : ℕ) (present planes : L
   pub are : ArePlanes rows k present planes
   pub wide : All IsWideCell (cells_in rows base k present planes)
   pub measured : AreEnds (known (cells_in rows base k present planes)) ends
+
+-- some cell is the base
+abbrev pub HasBase : ℤ → List (Option ℤ) → Type 0
+HasBase base cells = (i : ℕ) × (slice_index_or cells i None ≡ Some base)
+
+-- the code of some cell has the highest of k bits
+abbrev pub HasTop : ℤ → ℕ → List (Option ℤ) → Type 0
+HasTop base k cells = (i : ℕ) × (z : ℤ) × (slice_index_or cells i None ≡ Some z) × (2 ^ (k - 1) ≤ distance z base)

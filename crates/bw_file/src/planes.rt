@@ -1,6 +1,6 @@
 //! Writing the planes of a column, a block of rows at a time.
 
-ghost use Rattle.std.specs.Prelude.{All, None, [], drop, is_some, length, map, slice_index, slice_index_or, take, true, ℕ, ◌%◌, ◌*◌, ◌+◌, ◌-◌, ◌/◌, ◌<◌, ◌==◌, ◌^◌, ◌≡◌, ◌≤◌};
+ghost use Rattle.std.specs.Prelude.{All, None, [], drop, is_some, length, map, slice_index, slice_index_or, take, true, ℕ, ◌%◌, ◌*◌, ◌+◌, ◌-◌, ◌/◌, ◌<◌, ◌==◌, ◌^◌, ◌≡◌, ◌≤◌, ◌⊎◌};
 ghost use Rattle.bw_mask.specs.Masks.{bit_of, row_in};
 ghost use Rattle.bw_cells.specs.Distances.{distance_from};
 ghost use Rattle.bw_cells.specs.Known.{known};
@@ -8,7 +8,7 @@ ghost use Rattle.bw_code.specs.Encodings.{IsWithin};
 ghost use Rattle.bw_code.specs.Headers.{row_limit};
 ghost use Rattle.bw_code.specs.Widths.{widest_code};
 ghost use Rattle.bw_file.specs.Cells.{presence_bytes, presence_size};
-ghost use Rattle.bw_file.specs.Planes.{column_bytes, column_size, frame_of, plane_bit, plane_bytes, IsNear, IsWideCell};
+ghost use Rattle.bw_file.specs.Planes.{bit_in, column_bytes, column_size, frame_of, plane_bit, plane_bytes, HasBase, HasTop, IsNear, IsWideCell};
 
 use crate::seen::Seen;
 use bw_cells::Measured;
@@ -58,9 +58,36 @@ fn put_plane(out: &mut [u8], words: &[u64; 32])
     }
 }
 
-/// Writes the bits of a block of rows, the first of which is row `at`, the first row of a byte. Plane b of the block has
-/// bit b of their codes. Each plane has `size` bytes; bits past them are left out.
-fn put_block(planes: &mut [u8], size: usize, k: usize, at: usize, block: &PlaneBlock)
+/// Writes the bits of 2,048 rows from row `at` on, the first row of a byte, to plane p. Each plane has `size` bytes; bits
+/// past them are left out.
+fn put_run(planes: &mut [u8], size: usize, k: usize, p: usize, at: usize, rows: &[u64; 32])
+    requires narrow { k ≤ widest_code }
+    requires plane { p < k }
+    requires first { at % 8 ≡ 0 }
+    requires short { size ≤ 2 ^ 24 }
+    requires planes { length planes.old ≡ k * size }
+    ensures len { length planes.new ≡ length planes.old }
+    ensures small { (j : ℕ) → slice_index planes.new j < 256 }
+    ensures inside { (i : ℕ) → i / 8 < size → at ≤ i → i < at + 2048 → (plane_bit size planes.new p i == 1) ≡ row_in rows.now (i - at) }
+    ensures outside { (q i : ℕ) → i / 8 < size → (q ≡ p → at ≤ i → at + 2048 ≤ i) → plane_bit size planes.new q i ≡ plane_bit size planes.old q i }
+{
+    if at / 8 < size {
+        let end = size.min((at + BLOCK_ROWS) / 8);
+        put_plane(&mut planes[p * size + at / 8..p * size + end], rows);
+    }
+}
+
+/// Writes the bits of two blocks of rows, one after the other, the first of which begins with row `at`, the first row of
+/// a byte. Plane b of a block has bit b of their codes. Each plane has `size` bytes; bits past them are left out. The
+/// planes lie far apart, so that the less often the loop comes back to one, the faster it is.
+fn put_blocks(
+    planes: &mut [u8],
+    size: usize,
+    k: usize,
+    at: usize,
+    first: &PlaneBlock,
+    second: &PlaneBlock,
+)
     requires narrow { k ≤ widest_code }
     requires first { at % 8 ≡ 0 }
     requires short { size ≤ 2 ^ 24 }
@@ -68,15 +95,13 @@ fn put_block(planes: &mut [u8], size: usize, k: usize, at: usize, block: &PlaneB
     requires planes { length planes.old ≡ k * size }
     ensures len { length planes.new ≡ length planes.old }
     ensures small { (j : ℕ) → slice_index planes.new j < 256 }
-    ensures inside { (p i : ℕ) → p < k → i / 8 < size → at ≤ i → i < at + 2048 → (plane_bit size planes.new p i == 1) ≡ row_in (slice_index_or block.now (k - 1 - p) []) (i - at) }
-    ensures outside { (p i : ℕ) → p < k → i / 8 < size → (at ≤ i → at + 2048 ≤ i) → plane_bit size planes.new p i ≡ plane_bit size planes.old p i }
+    ensures first { (p i : ℕ) → p < k → i / 8 < size → at ≤ i → i < at + 2048 → (plane_bit size planes.new p i == 1) ≡ row_in (slice_index_or first.now (k - 1 - p) []) (i - at) }
+    ensures second { (p i : ℕ) → p < k → i / 8 < size → at + 2048 ≤ i → i < at + 4096 → (plane_bit size planes.new p i == 1) ≡ row_in (slice_index_or second.now (k - 1 - p) []) (i - (at + 2048)) }
+    ensures outside { (p i : ℕ) → p < k → i / 8 < size → (at ≤ i → at + 4096 ≤ i) → plane_bit size planes.new p i ≡ plane_bit size planes.old p i }
 {
-    let end = size.min((at + BLOCK_ROWS) / 8);
     for p in 0..k {
-        put_plane(
-            &mut planes[p * size + at / 8..p * size + end],
-            &block[k - 1 - p],
-        );
+        put_run(planes, size, k, p, at, &first[k - 1 - p]);
+        put_run(planes, size, k, p, at + BLOCK_ROWS, &second[k - 1 - p]);
     }
 }
 
@@ -131,6 +156,41 @@ fn planes_at<C: Measured>(
     }
 }
 
+/// Fills a block with the planes of at most 2,048 cells from cell `at` on, the first of a byte, and writes the bits that
+/// say which of them are integers. Returns what was seen of the codes so far.
+fn take_block<C: Measured>(
+    column: &C,
+    at: usize,
+    base: i64,
+    k: usize,
+    present: &mut [u8],
+    block: &mut PlaneBlock,
+    seen: Seen,
+) -> Seen
+    requires some { 1 ≤ k }
+    requires narrow { k ≤ widest_code }
+    requires first { at % 8 ≡ 0 }
+    requires inside { at < length (C.cells column.now) }
+    requires few { length (C.cells column.now) ≤ row_limit }
+    requires present { length present.old ≡ presence_size (length (C.cells column.now)) }
+    requires near { All (IsNear base k) (C.cells column.now) }
+    ensures len { length present.new ≡ length present.old }
+    ensures small { (j : ℕ) → slice_index present.new j < 256 }
+    ensures told { (i : ℕ) → at ≤ i → i < at + 2048 → i / 8 < presence_size (length (C.cells column.now)) → bit_of (slice_index present.new (i / 8)) (i % 8) ≡ is_some (slice_index_or (C.cells column.now) i None) }
+    ensures before { (i : ℕ) → i < at → bit_of (slice_index present.new (i / 8)) (i % 8) ≡ bit_of (slice_index present.old (i / 8)) (i % 8) }
+    ensures planes { (b r : ℕ) → b < k → r < 2048 → row_in (slice_index_or block.new b []) r ≡ (bit_in base b (slice_index_or (C.cells column.now) (at + r) None) == 1) }
+    ensures base { result.base ≡ true → (seen.base ≡ true) ⊎ HasBase base (C.cells column.now) }
+    ensures top { result.top ≡ true → (seen.top ≡ true) ⊎ HasTop base k (C.cells column.now) }
+{
+    let rows = column.len();
+    let size = rows.div_ceil(8);
+    let count = (rows - at).min(BLOCK_ROWS);
+    let bits = planes_at(column, at, count, base, k, block);
+    let end = size.min((at + BLOCK_ROWS) / 8);
+    put_plane(&mut present[at / 8..end], &bits);
+    seen.with_block(&bits, block, k)
+}
+
 /// Writes the bits and the planes of a column whose codes have k bits and are distances from the base. Returns whether the
 /// base was seen to be the least value, and the width to be needed.
 pub(crate) fn write_planes<C: Measured>(
@@ -152,17 +212,17 @@ pub(crate) fn write_planes<C: Measured>(
     ensures planes { planes.new ≡ plane_bytes base k (presence_size rows) (C.cells column.now) }
     ensures frame { result ≡ true → (base ≡ (frame_of (known (C.cells column.now))).base) × (k ≡ (frame_of (known (C.cells column.now))).width) }
 {
-    let mut block = [[0; 32]; 64];
+    let mut first = [[0; 32]; 64];
+    let mut second = [[0; 32]; 64];
     let mut seen = Seen::nothing();
-    let size = rows.div_ceil(8);
-    for j in 0..rows.div_ceil(BLOCK_ROWS) {
-        let at = j * BLOCK_ROWS;
-        let count = (rows - at).min(BLOCK_ROWS);
-        let bits = planes_at(column, at, count, base, k, &mut block);
-        let end = size.min((at + BLOCK_ROWS) / 8);
-        put_plane(&mut present[at / 8..end], &bits);
-        put_block(planes, size, k, at, &block);
-        seen = seen.with_block(&bits, &block, k);
+    for j in 0..rows.div_ceil(2 * BLOCK_ROWS) {
+        let at = j * (2 * BLOCK_ROWS);
+        let middle = at + BLOCK_ROWS;
+        seen = take_block(column, at, base, k, present, &mut first, seen);
+        if middle < rows {
+            seen = take_block(column, middle, base, k, present, &mut second, seen);
+        }
+        put_blocks(planes, rows.div_ceil(8), k, at, &first, &second);
     }
     seen.both()
 }

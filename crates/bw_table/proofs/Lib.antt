@@ -14,5 +14,4 @@ pub mod Readied
 pub mod SameKinds
 pub mod Typed
 pub mod Updated
-pub mod Within
 pub mod Written

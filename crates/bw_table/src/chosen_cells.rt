@@ -9,7 +9,6 @@ ghost use Rattle.bw_table.specs.Choosing.{AreCounts};
 
 use crate::gathering::pick;
 use bw_cells::{Cells, Measured};
-use bw_code::Offset;
 use bw_column::Column;
 use bw_mask::Mask;
 use std::alloc::{AllocError, Global};
@@ -137,8 +136,4 @@ impl<'a> Cells for ChosenCells<'a> {
     }
 }
 
-impl<'a> Measured for ChosenCells<'a> {
-    fn span(&self) -> Offset {
-        self.column.span()
-    }
-}
+impl<'a> Measured for ChosenCells<'a> {}

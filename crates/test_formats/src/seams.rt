@@ -9,8 +9,10 @@ use bw_cells::Cells;
 use bw_file::FileColumn;
 use std::process::Abort;
 
-// How many rows: around 64 and 2,048, and many.
-const ROWS: [usize; 8] = [63, 64, 65, 257, 2_047, 2_048, 2_049, 5_000];
+// How many rows: around 64, 2,048 and 4,096, and many.
+const ROWS: [usize; 11] = [
+    63, 64, 65, 257, 2_047, 2_048, 2_049, 4_095, 4_096, 4_097, 5_000,
+];
 
 // How many bits the codes have.
 const WIDTHS: [u32; 7] = [1, 8, 31, 32, 33, 63, 64];

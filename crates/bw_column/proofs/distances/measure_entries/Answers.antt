@@ -1,8 +1,16 @@
-use Rattle.std.proofs.Common.{FitsSigned, Some, arith, below_more, cond, get_or, get_or-set_other, get_or-set_same, length, of_z, pos, rules, to_z, w64, ◌<◌, ◌≡◌, ◌≢◌}
+use Rattle.std.proofs.Common.{FitsSigned, Some, ap, arith, below_more, cond, get_or, get_or-set_other, get_or-set_same, length, of_z, pos, rules, to_z, true, w64, ◌<◌, ◌≡◌, ◌≢◌, ◌∙◌}
 use Rattle.std.proofs.lemmas.Int.{ints, to_z-of_z}
 use Rattle.bw_mask.specs.Masks.{bit_of}
 use Rattle.bw_cells.specs.Distances.{distance_from}
+use Rattle.bw_column.proofs.Full.{full}
 use Rattle.bw_column.proofs.distances.measure_entries.Goals as goal
+
+pub returns-then-set-eq18446744073709551615-clause-each : goal.returns-then-set-eq18446744073709551615-clause-each
+returns-then-set-eq18446744073709551615-clause-each c k h =
+    let set : bit_of c.args.set k ≡ true = ap (λ w. bit_of w k) c.if-set-eq18446744073709551615.true ∙ full k (omega (arith, h, c.requires.few)) in
+    let fits : FitsSigned w64 c.args.base = search rules in
+    let base : to_z w64 (of_z w64 c.args.base) ≡ c.args.base = to_z-of_z w64 c.args.base fits in
+    rw set (rw base at (c.measure_each_entry.ensures.each k h))
 
 pub loop-i-preserved : goal.loop-i-preserved
 loop-i-preserved c =

@@ -1,18 +1,17 @@
-use Rattle.std.proofs.Common.{ℕ, FitsSigned, None, ap, arith, drop, false, get_or, inl, inr, is_some, length, length-drop, length-take, map, of_z, rules, subst, sym, take, true, to_z, w64, ◌%◌, ◌*◌, ◌+◌, ◌-◌, ◌/◌, ◌<◌, ◌==◌, ◌≡◌, ◌≤◌, ◌∙◌, ◌⊎◌}
+use Rattle.std.proofs.Common.{[], ℕ, FitsSigned, None, ap, arith, false, get_or, inl, inr, is_some, of_z, rules, subst, sym, true, to_z, w64, ◌%◌, ◌*◌, ◌+◌, ◌-◌, ◌/◌, ◌<◌, ◌==◌, ◌≡◌, ◌∙◌}
 use Rattle.std.proofs.lemmas.Bool.{cases_lt}
 use Rattle.std.proofs.lemmas.Int.{to_z-of_z}
 use Rattle.std.proofs.lemmas.Nat.Bits.{bit_at-lt}
-use Rattle.bw_mask.specs.Masks.{bit_of}
-use Rattle.bw_cells.specs.Distances.{distance_from}
-use Rattle.bw_code.proofs.Parts.{before_part, in_part, part_length}
+use Rattle.bw_mask.specs.Masks.{bit_of, row_in}
 use Rattle.bw_file.specs.Cells.{presence_size}
-use Rattle.bw_file.specs.Planes.{bit_in, plane_bit}
+use Rattle.bw_file.specs.Planes.{HasBase, HasTop, bit_in, plane_bit}
 use Rattle.bw_file.proofs.Bits.{presence-by_known}
-use Rattle.bw_file.proofs.Filled.{bit_is, cell_is, near_at}
+use Rattle.bw_file.proofs.Filled.{near_at}
 use Rattle.bw_file.proofs.PlanePlaces.{few_in}
 use Rattle.bw_file.proofs.Spelled.{planes-by_bits, same_bit}
-use Rattle.bw_file.proofs.Tight.{HasBase, HasTop, base_seen, tight, top_seen, two}
+use Rattle.bw_file.proofs.Tight.{tight, two}
 use Rattle.bw_file.proofs.planes.write_planes.Goals as goal
+use Rattle.bw_file.proofs.planes.write_planes.Goals.{then-middle-rows, else-middle-rows}
 
 pub loop-j-init : goal.loop-j-init
 loop-j-init g c = record {
@@ -30,97 +29,80 @@ pub loop-j-preserved : goal.loop-j-preserved
 loop-j-preserved g c =
     let inv = c.loop-j.invariant in
     let cells = g.C.Cells.cells c.args.column.now in
-    let base = c.args.base in
+    let base = to_z w64 (of_z w64 c.args.base) in
     let k = c.args.k in
     let rows = c.args.rows in
-    let size = c.div_ceil-size.result in
-    let at = c.loop-j.j * 2048 in
-    let count = c.min-count.result in
-    let m = c.min-end.result - at / 8 in
-    let old = c.loop-j.present in
-    let new = c.put_plane.new.out in
-    let block = c.planes_at-bits.new.block in
-    let planes = c.put_block.new.planes in
-    let fits : FitsSigned w64 base = search rules in
-    let same : to_z w64 (of_z w64 base) ≡ base = to_z-of_z w64 base fits in
-    let below : at < rows = omega (arith, c.div_ceil-j-end.ensures, c.loop-j-test.true) in
-    let size_is : size ≡ presence_size rows = omega (arith, c.div_ceil-size.ensures) in
-    let part = take m (drop (at / 8) old) in
-    let room : at / 8 + m ≤ length old = omega (arith, inv.present, size_is, c.min-end.ensures, below) in
-    let old_size : length part ≡ m = omega (arith, length-take m (drop (at / 8) old), length-drop (at / 8) old, room) in
-    let new_size : length new ≡ m = c.put_plane.ensures.len ∙ old_size in
-    let ends : (i : ℕ) → at ≤ i → i < at + 2048 → i - at < count ⊎ (length cells ≤ at + count) =
-    λ i h l.
-    elim (cases_lt (i - at) count) [
-      | inl low ↦ inl low
-      | inr past ↦ inr (omega (arith, past, c.min-count.ensures, l, c.requires.count, h))
+    let size = c.div_ceil.result in
+    let at = c.loop-j.j * 4096 in
+    let middle = c.loop-j.j * 4096 + 2048 in
+    let planes = c.put_blocks.new.planes in
+    let one = c.take_block-seen.ensures in
+    let put = c.put_blocks.ensures in
+    let size_is : size ≡ presence_size rows = omega (arith, c.div_ceil.ensures) in
+    let told : (i : ℕ) → i < middle → i / 8 < presence_size rows → bit_of (get_or c.take_block-seen.new.present (i / 8) 0) (i % 8) ≡ is_some (get_or cells i None) =
+    λ i l n.
+    elim (cases_lt i at) [
+      | inl before ↦ one.before i before ∙ inv.told i before n
+      | inr here ↦ one.told i here l (omega (arith, n, c.requires.count))
     ] in
-    record {
-      present = part_length (at / 8) m old new 0 room new_size ∙ inv.present;
-      whole = λ q. omega (arith, c.type_inv.present q);
-      told = λ i h l.
-          elim (cases_lt i at) [
-            | inl before ↦ ap (λ b. bit_of b (i % 8)) (before_part (at / 8) m old new 0 room new_size (i / 8) (omega (arith, before))) ∙ inv.told i before l
-            | inr here ↦
-                let there : i / 8 < at / 8 + m = omega (arith, h, l, size_is, c.min-end.ensures) in
-                let byte : i / 8 - at / 8 ≡ (i - at) / 8 = omega (arith, here) in
-                let bit : i % 8 ≡ (i - at) % 8 = omega (arith, here) in
-                ap (λ b. bit_of b (i % 8)) (in_part (at / 8) m old new 0 room new_size (i / 8) (omega (arith, here)) there)
-                ∙ ap (λ q. bit_of (get_or new q 0) (i % 8)) byte ∙ ap (bit_of (get_or new ((i - at) / 8) 0)) bit
-                ∙ c.put_plane.ensures.bits (i - at) (omega (arith, old_size, there, here))
-                ∙ c.planes_at-bits.ensures.present (i - at)
-                ∙ ap is_some (cell_is cells at count i here (ends i here (omega (arith, h))))
-          ];
-      long = c.put_block.ensures.len ∙ inv.long;
-      small = c.put_block.ensures.small;
-      bits = λ p i h l n.
-          let there : i / 8 < size = omega (arith, n, size_is) in
-          ap (λ s. plane_bit s planes p i) (sym size_is)
-          ∙ elim (cases_lt i at) [
-            | inl before ↦
-                c.put_block.ensures.outside p i h there (λ high. absurd (omega (arith, high, before)))
-                ∙ ap (λ s. plane_bit s c.loop-j.planes p i) size_is ∙ inv.bits p i h before n
-            | inr here ↦
-                let b = k - 1 - p in
-                let low : b < k = omega (arith, h) in
-                let row : i - at < 2048 = omega (arith, l, here) in
-                same_bit (plane_bit size planes p i) (bit_in (to_z w64 (of_z w64 base)) b (get_or cells i None)) (bit_at-lt (get_or planes (p * size + i / 8) 0) (i % 8)) (few_in (to_z w64 (of_z w64 base)) b (get_or cells i None))
-                (c.put_block.ensures.inside p i h there here (omega (arith, l))
-                ∙ c.planes_at-bits.ensures.planes b (i - at) low row
-                ∙ ap (λ z. bit_of (get_or (map (distance_from z) (take count (drop at cells))) (i - at) 0) b) same
-                ∙ bit_is base k cells fits c.requires.near at count i b here (ends i here (omega (arith, l)))
-                ∙ ap (λ z. bit_in z b (get_or cells i None) == 1) (sym same))
-          ];
-      base_seen = λ e.
-          subst (λ z. HasBase z cells) (sym same)
-          (elim (c.with_block-seen.ensures.base e) [
-            | inl before ↦ subst (λ z. HasBase z cells) same (inv.base_seen before)
-            | inr (r, low, is, none) ↦
-                let row : at + r - at ≡ r = omega arith in
-                let there = ends (at + r) (omega arith) (omega (arith, low)) in
-                let cell : is_some (get_or cells (at + r) None) ≡ true =
-                sym (ap is_some (cell_is cells at count (at + r) (omega arith) there)) ∙ ap (λ x. is_some (get_or (take count (drop at cells)) x None)) row ∙ sym (c.planes_at-bits.ensures.present r) ∙ is in
-                base_seen base k cells (at + r) (near_at base k cells fits c.requires.near (at + r)) cell (λ b h.
-                sym (bit_is base k cells fits c.requires.near at count (at + r) b (omega arith) there)
-                ∙ ap (λ x. bit_of (get_or (map (distance_from base) (take count (drop at cells))) x 0) b) row
-                ∙ ap (λ z. bit_of (get_or (map (distance_from z) (take count (drop at cells))) r 0) b) (sym same)
-                ∙ sym (c.planes_at-bits.ensures.planes b r h low) ∙ none b h)
-          ]);
-      top_seen = λ e.
-          subst (λ z. HasTop z k cells) (sym same)
-          (elim (c.with_block-seen.ensures.top e) [
-            | inl before ↦ subst (λ z. HasTop z k cells) same (inv.top_seen before)
-            | inr (r, low, is) ↦
-                let row : at + r - at ≡ r = omega arith in
-                let there = ends (at + r) (omega arith) (omega (arith, low)) in
-                let high : k - 1 < k = omega (arith, c.requires.some) in
-                top_seen base k cells (at + r)
-                (sym (bit_is base k cells fits c.requires.near at count (at + r) (k - 1) (omega arith) there)
-                ∙ ap (λ x. bit_of (get_or (map (distance_from base) (take count (drop at cells))) x 0) (k - 1)) row
-                ∙ ap (λ z. bit_of (get_or (map (distance_from z) (take count (drop at cells))) r 0) (k - 1)) (sym same)
-                ∙ sym (c.planes_at-bits.ensures.planes (k - 1) r high low) ∙ is)
-          ]);
-    }
+    let bits : (p i : ℕ) → p < k → i < middle → i / 8 < presence_size rows → plane_bit (presence_size rows) planes p i ≡ bit_in base (k - 1 - p) (get_or cells i None) =
+    λ p i h l n.
+    let there : i / 8 < size = omega (arith, n, size_is) in
+    ap (λ s. plane_bit s planes p i) (sym size_is)
+    ∙ elim (cases_lt i at) [
+      | inl before ↦
+          put.outside p i h there (λ high. absurd (omega (arith, high, before)))
+          ∙ ap (λ s. plane_bit s c.loop-j.planes p i) size_is ∙ inv.bits p i h before n
+      | inr here ↦
+          let b = k - 1 - p in
+          let low : b < k = omega (arith, h) in
+          let row : at + (i - at) ≡ i = omega (arith, here) in
+          same_bit (plane_bit size planes p i) (bit_in base b (get_or cells i None)) (bit_at-lt (get_or planes (p * size + i / 8) 0) (i % 8)) (few_in base b (get_or cells i None))
+          (put.first p i h there here l ∙ one.planes b (i - at) low (omega (arith, here, l)) ∙ ap (λ x. bit_in base b (get_or cells x None) == 1) row)
+    ] in
+    let has_base : c.take_block-seen.result.base ≡ true → HasBase base cells = λ e. elim (one.base e) [ inl before ↦ inv.base_seen before | inr here ↦ here ] in
+    let has_top : c.take_block-seen.result.top ≡ true → HasTop base k cells = λ e. elim (one.top e) [ inl before ↦ inv.top_seen before | inr here ↦ here ] in
+    elim c.if-middle-rows.branch [
+      | then-middle-rows w ↦
+          let two = w.take_block-seen-then-middle-rows.ensures in
+          rw (w.present-is, w.seen-is) (record {
+            present = two.len ∙ one.len ∙ inv.present;
+            whole = two.small;
+            told = λ i l n.
+                elim (cases_lt i middle) [
+                  | inl before ↦ two.before i before ∙ told i before n
+                  | inr here ↦ two.told i here (omega (arith, l)) (omega (arith, n, c.requires.count))
+                ];
+            long = put.len ∙ inv.long;
+            small = put.small;
+            bits = λ p i h l n.
+                elim (cases_lt i middle) [
+                  | inl before ↦ bits p i h before n
+                  | inr here ↦
+                      let b = k - 1 - p in
+                      let low : b < k = omega (arith, h) in
+                      let there : i / 8 < size = omega (arith, n, size_is) in
+                      let row : middle + (i - middle) ≡ i = omega (arith, here) in
+                      ap (λ s. plane_bit s planes p i) (sym size_is)
+                      ∙ same_bit (plane_bit size planes p i) (bit_in base b (get_or cells i None)) (bit_at-lt (get_or planes (p * size + i / 8) 0) (i % 8)) (few_in base b (get_or cells i None))
+                      (put.second p i h there here (omega (arith, l)) ∙ ap (λ bs. row_in (get_or bs b []) (i - middle)) w.second-is ∙ two.planes b (i - middle) low (omega (arith, here, l))
+                      ∙ ap (λ x. bit_in base b (get_or cells x None) == 1) row)
+                ];
+            base_seen = λ e. elim (two.base e) [ inl before ↦ has_base before | inr here ↦ here ];
+            top_seen = λ e. elim (two.top e) [ inl before ↦ has_top before | inr here ↦ here ];
+          })
+      | else-middle-rows w ↦
+          rw (w.present-is, w.seen-is) (record {
+            present = one.len ∙ inv.present;
+            whole = one.small;
+            told = λ i l n. told i (omega (arith, n, w.if-middle-rows.false)) n;
+            long = put.len ∙ inv.long;
+            small = put.small;
+            bits = λ p i h l n. bits p i h (omega (arith, n, w.if-middle-rows.false)) n;
+            base_seen = has_base;
+            top_seen = has_top;
+          })
+    ]
 
 pub returns-clause-bits : goal.returns-clause-bits
 returns-clause-bits g c =

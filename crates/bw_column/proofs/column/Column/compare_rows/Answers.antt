@@ -17,7 +17,7 @@ loop-q-preserved c =
     let same : len c.loop-q.out ≡ n = c.loop-q.invariant.shape.0 ∙ c.requires.out in
     let inside : (i : ℕ) → i < 64 → at + i < n → row_at c.put_word.new.self (at + i) ≡ bit_of c.chosen_of_block-found.result i = λ i h l. c.put_word.ensures.inside i h (omega (arith, l, same)) in
     let found : (i : ℕ) → i < 64 → at + i < n → bit_of c.chosen_of_block-found.result i ≡ wanted (at + i) = λ i h l.
-    c.chosen_of_block-found.ensures i h l ∙ rw (c.bits.ensures i, lt-ltb i 64 h) refl in
+    c.chosen_of_block-found.ensures i h l ∙ rw (c.bits-needed.ensures i, lt-ltb i 64 h) refl in
     let past : (m : MaskRows) → len m ≡ n → (i : ℕ) → n ≤ i → row_at m i ≡ false = λ m e i h. get_or_past m.rows i false (omega (arith, e, h)) in
     let more = rows_more wanted (row_at c.loop-q.out) (row_at c.put_word.new.self) at n c.chosen_of_block-found.result c.loop-q.invariant.rows inside c.put_word.ensures.outside found in
     record {
